@@ -1,0 +1,6 @@
+pub mod Names
+pub mod Stamps
+pub mod Founding
+pub mod Lists
+pub mod Fronts
+pub mod Votes

@@ -1,0 +1,117 @@
+ghost use Rattle.std.specs.Prelude.{◌≡◌, ◌≤◌, ◌↔◌, ◌+◌, ◌++◌, [], length, IsSome, IfSome};
+
+use arrayvec::ArrayVec;
+use std::marker::Model;
+
+/// The body of a send: 0 to 1,024 bytes. Contracts see it as its bytes.
+#[derive(Drop, Clone, Debug)]
+pub struct Body(ArrayVec<u8, 1024>);
+
+impl Model for Body {
+    ghost use Rattle.std.specs.Prelude.{ℕ, List, ◌≤◌, length};
+
+    ghost Value = { List ℕ };
+
+    ghost view = { λ b. b.0.items };
+
+    ghost invariant = { λ b. length b.0.items ≤ 1024 };
+}
+
+impl Default for Body {
+    fn default() -> Body {
+        Body(ArrayVec::new())
+    }
+}
+
+impl Body {
+    /// The body of these bytes; None exactly where there are more than 1,024.
+    pub fn of(bytes: &[u8]) -> Option<Body>
+        ensures variant { IsSome result ↔ (length bytes.now ≤ 1024) }
+        ensures value { IfSome result (λ b. b ≡ bytes.now) }
+    {
+        let mut body = ArrayVec::new();
+        match body.try_extend_from_slice(bytes) {
+            Ok(()) => Some(Body(body)),
+            Err(_) => None,
+        }
+    }
+
+    /// Its bytes.
+    pub fn bytes(&self) -> &[u8]
+        ensures value { result.now ≡ self.now }
+        ensures fits { length result.now ≤ 1024 }
+    {
+        self.0.as_slice()
+    }
+
+    /// The same body. It takes no memory.
+    pub fn copied(&self) -> Body
+        ensures { result ≡ self.now }
+    {
+        self.clone().unwrap()
+    }
+}
+
+/// The bytes of a packet: at most 1,152. Contracts see it as its bytes.
+#[derive(Drop, Clone, Debug)]
+pub struct PacketBytes(ArrayVec<u8, 1152>);
+
+impl Model for PacketBytes {
+    ghost use Rattle.std.specs.Prelude.{ℕ, List, ◌≤◌, length};
+
+    ghost Value = { List ℕ };
+
+    ghost view = { λ b. b.0.items };
+
+    ghost invariant = { λ b. length b.0.items ≤ 1152 };
+}
+
+impl Default for PacketBytes {
+    fn default() -> PacketBytes {
+        PacketBytes(ArrayVec::new())
+    }
+}
+
+impl PacketBytes {
+    /// These bytes; None exactly where there are more than 1,152.
+    pub fn of(bytes: &[u8]) -> Option<PacketBytes>
+        ensures variant { IsSome result ↔ (length bytes.now ≤ 1152) }
+        ensures value { IfSome result (λ b. b ≡ bytes.now) }
+    {
+        let mut packet = ArrayVec::new();
+        match packet.try_extend_from_slice(bytes) {
+            Ok(()) => Some(PacketBytes(packet)),
+            Err(_) => None,
+        }
+    }
+
+    /// The bytes.
+    pub fn bytes(&self) -> &[u8]
+        ensures value { result.now ≡ self.now }
+        ensures fits { length result.now ≤ 1152 }
+    {
+        self.0.as_slice()
+    }
+
+    /// Takes all bytes out.
+    pub fn clear(&mut self)
+        ensures { self.new ≡ [] }
+    {
+        self.0.clear();
+    }
+
+    /// Adds bytes at the end.
+    pub fn extend(&mut self, bytes: &[u8])
+        requires { length self.old + length bytes.now ≤ 1152 }
+        ensures { self.new ≡ self.old ++ bytes.now }
+    {
+        let _ = self.0.try_extend_from_slice(bytes);
+    }
+
+    /// The same bytes. It takes no memory.
+    pub fn copied(&self) -> PacketBytes
+        ensures { result ≡ self.now }
+    {
+        self.clone().unwrap()
+    }
+}

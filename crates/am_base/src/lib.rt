@@ -1,0 +1,13 @@
+//! The plain data of a group, and the definitions that speak of its list.
+#![tactic(auto)]
+
+pub mod body;
+pub mod entry;
+pub mod founding;
+pub mod image;
+pub mod items;
+pub mod name;
+pub mod names;
+pub mod outcome;
+
+pub use std::alloc::AllocError as NoMemory;

@@ -1,0 +1,78 @@
+ghost use Rattle.std.specs.Prelude.{◌≡◌};
+
+use am_base::body::Body;
+use am_base::items::Items;
+use am_base::name::Name;
+use am_base::outcome::Outcome;
+use am_packet::letter::Letter;
+
+/// What is done at a node (docs/PROTOCOL.md, "Events").
+#[derive(Drop, Clone, Debug)]
+pub enum Act {
+    /// Sends a body to the group.
+    Send(Body),
+    /// Asks what came of a send.
+    Done(u32),
+    /// Takes the next accepted entry.
+    Take,
+    /// Asks to join.
+    Join,
+    /// Asks how the node stands.
+    State,
+    /// Asks to leave.
+    Leave,
+    /// Begins a ballot for a view of at least so many members.
+    Reset { least: u8, resilience: u8 },
+    /// Asks how the ballot of a round stands.
+    Ask(u32),
+    /// Gives up a stopped name in the ballot.
+    GiveUp(Name),
+    /// The node stops for good.
+    Stop,
+    /// Time passes.
+    Tick,
+    /// Hears a packet, by its number in the run, from 1.
+    Hear(u32),
+    /// Hears the first bytes of a packet.
+    Cut { packet: u32, keep: u32 },
+    /// The place returns with a greater life.
+    Return,
+}
+
+/// An act of a place: the place of `node` counts.
+#[derive(Drop, Clone, Debug)]
+pub struct Event {
+    pub node: Name,
+    pub act: Act,
+}
+
+/// Which part of a blocking call an event is.
+#[derive(Clone, Copy, PartialEq, Eq, Debug)]
+pub enum Part {
+    /// The call's own act.
+    Call,
+    /// A turn between two looks, with the number of the packet that it lost, or 0.
+    Turn(u32),
+    /// The look at its end.
+    Check,
+}
+
+/// Whose event it is: a caller, the number of its call, and the part.
+#[derive(Clone, Copy, PartialEq, Eq, Debug)]
+pub struct By {
+    pub caller: u32,
+    pub call: u32,
+    pub part: Part,
+}
+
+/// One event of a run with all that came of it.
+#[derive(Drop)]
+pub struct Record {
+    pub event: Event,
+    /// The life of the place that acted, 1 to 16.
+    pub life: u8,
+    pub by: By,
+    pub outcome: Outcome,
+    /// The letters that went out, in their order.
+    pub packets: Items<Letter>,
+}

@@ -1,0 +1,6 @@
+//! What nodes tell each other.
+#![tactic(auto)]
+
+pub mod event;
+pub mod letter;
+pub mod packet;

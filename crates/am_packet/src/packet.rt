@@ -1,0 +1,380 @@
+ghost use Rattle.std.specs.Prelude.{◌≡◌};
+ghost use Rattle.am_packet.specs.Kinds.{kind_of};
+
+use am_base::body::Body;
+use am_base::entry::Entry;
+use am_base::image::{Image, Report, Vote};
+use am_base::name::{Name, Stamp};
+use am_base::names::Names;
+
+/// What nodes tell each other (docs/PROTOCOL.md, "Packets"). Each has its sender and a stamp. Numbers, rounds and
+/// requests are at most 2,000,000,000.
+#[derive(Drop, Clone, Debug)]
+pub enum Packet {
+    /// A send for the sequencer to number.
+    Request {
+        sender: Name,
+        stamp: Stamp,
+        report: Report,
+        req: u32,
+        body: Body,
+    },
+    /// A send for everybody, which the sequencer is to number.
+    Spread {
+        sender: Name,
+        stamp: Stamp,
+        report: Report,
+        req: u32,
+        body: Body,
+    },
+    /// A numbered entry.
+    Bcast {
+        sender: Name,
+        stamp: Stamp,
+        base: u32,
+        acc: u32,
+        number: u32,
+        entry: Entry,
+    },
+    /// The number of a send that was spread.
+    Order {
+        sender: Name,
+        stamp: Stamp,
+        base: u32,
+        acc: u32,
+        number: u32,
+        from: Name,
+        req: u32,
+    },
+    /// How far the list is accepted; with a poll each member is to report.
+    Accept {
+        sender: Name,
+        stamp: Stamp,
+        base: u32,
+        acc: u32,
+        top: u32,
+        poll: bool,
+    },
+    /// A report.
+    Ack {
+        sender: Name,
+        stamp: Stamp,
+        report: Report,
+    },
+    /// A report that asks for what comes next.
+    Nack {
+        sender: Name,
+        stamp: Stamp,
+        report: Report,
+    },
+    /// There is no room for this send.
+    Hold {
+        sender: Name,
+        stamp: Stamp,
+        base: u32,
+        top: u32,
+        req: u32,
+    },
+    /// The sender would join.
+    JoinAsk {
+        sender: Name,
+        stamp: Stamp,
+    },
+    /// A joiner's start.
+    Welcome {
+        sender: Name,
+        stamp: Stamp,
+        base: u32,
+        join: u32,
+        image: Image,
+    },
+    /// The sender would leave.
+    LeaveAsk {
+        sender: Name,
+        stamp: Stamp,
+        report: Report,
+    },
+    /// A leaver may go.
+    Gone {
+        sender: Name,
+        stamp: Stamp,
+        number: u32,
+    },
+    /// A ballot asks for a vote.
+    Invite {
+        sender: Name,
+        stamp: Stamp,
+    },
+    /// What the voter has.
+    Vote {
+        sender: Name,
+        stamp: Stamp,
+        vote: Vote,
+    },
+    /// Asks for entries above a number.
+    Fetch {
+        sender: Name,
+        stamp: Stamp,
+        stored: u32,
+    },
+    /// An entry that was fetched.
+    Piece {
+        sender: Name,
+        stamp: Stamp,
+        base: u32,
+        number: u32,
+        entry: Entry,
+    },
+    /// A ballot's view.
+    Result {
+        sender: Name,
+        stamp: Stamp,
+        base: u32,
+        number: u32,
+        members: Names,
+        resilience: u8,
+    },
+    /// The sequencer leaves; the addressee is to begin a ballot.
+    HandOver {
+        sender: Name,
+        stamp: Stamp,
+    },
+}
+
+impl Default for Packet {
+    fn default() -> Packet {
+        Packet::Invite {
+            sender: Name::default(),
+            stamp: Stamp::default(),
+        }
+    }
+}
+
+impl Packet {
+    /// The number of its kind, 1 to 18.
+    pub fn kind(&self) -> u8
+        ensures value { result ≡ kind_of self.now }
+    {
+        match self {
+            Packet::Request { .. } => 1,
+            Packet::Spread { .. } => 2,
+            Packet::Bcast { .. } => 3,
+            Packet::Order { .. } => 4,
+            Packet::Accept { .. } => 5,
+            Packet::Ack { .. } => 6,
+            Packet::Nack { .. } => 7,
+            Packet::Hold { .. } => 8,
+            Packet::JoinAsk { .. } => 9,
+            Packet::Welcome { .. } => 10,
+            Packet::LeaveAsk { .. } => 11,
+            Packet::Gone { .. } => 12,
+            Packet::Invite { .. } => 13,
+            Packet::Vote { .. } => 14,
+            Packet::Fetch { .. } => 15,
+            Packet::Piece { .. } => 16,
+            Packet::Result { .. } => 17,
+            Packet::HandOver { .. } => 18,
+        }
+    }
+
+    /// The same packet. It takes no memory.
+    pub fn copied(&self) -> Packet
+        ensures { result ≡ self.now }
+    {
+        match self {
+            Packet::Request {
+                sender,
+                stamp,
+                report,
+                req,
+                body,
+            } => Packet::Request {
+                sender: *sender,
+                stamp: *stamp,
+                report: *report,
+                req: *req,
+                body: body.copied(),
+            },
+            Packet::Spread {
+                sender,
+                stamp,
+                report,
+                req,
+                body,
+            } => Packet::Spread {
+                sender: *sender,
+                stamp: *stamp,
+                report: *report,
+                req: *req,
+                body: body.copied(),
+            },
+            Packet::Bcast {
+                sender,
+                stamp,
+                base,
+                acc,
+                number,
+                entry,
+            } => Packet::Bcast {
+                sender: *sender,
+                stamp: *stamp,
+                base: *base,
+                acc: *acc,
+                number: *number,
+                entry: entry.copied(),
+            },
+            Packet::Order {
+                sender,
+                stamp,
+                base,
+                acc,
+                number,
+                from,
+                req,
+            } => Packet::Order {
+                sender: *sender,
+                stamp: *stamp,
+                base: *base,
+                acc: *acc,
+                number: *number,
+                from: *from,
+                req: *req,
+            },
+            Packet::Accept {
+                sender,
+                stamp,
+                base,
+                acc,
+                top,
+                poll,
+            } => Packet::Accept {
+                sender: *sender,
+                stamp: *stamp,
+                base: *base,
+                acc: *acc,
+                top: *top,
+                poll: *poll,
+            },
+            Packet::Ack {
+                sender,
+                stamp,
+                report,
+            } => Packet::Ack {
+                sender: *sender,
+                stamp: *stamp,
+                report: *report,
+            },
+            Packet::Nack {
+                sender,
+                stamp,
+                report,
+            } => Packet::Nack {
+                sender: *sender,
+                stamp: *stamp,
+                report: *report,
+            },
+            Packet::Hold {
+                sender,
+                stamp,
+                base,
+                top,
+                req,
+            } => Packet::Hold {
+                sender: *sender,
+                stamp: *stamp,
+                base: *base,
+                top: *top,
+                req: *req,
+            },
+            Packet::JoinAsk { sender, stamp } => Packet::JoinAsk {
+                sender: *sender,
+                stamp: *stamp,
+            },
+            Packet::Welcome {
+                sender,
+                stamp,
+                base,
+                join,
+                image,
+            } => Packet::Welcome {
+                sender: *sender,
+                stamp: *stamp,
+                base: *base,
+                join: *join,
+                image: *image,
+            },
+            Packet::LeaveAsk {
+                sender,
+                stamp,
+                report,
+            } => Packet::LeaveAsk {
+                sender: *sender,
+                stamp: *stamp,
+                report: *report,
+            },
+            Packet::Gone {
+                sender,
+                stamp,
+                number,
+            } => Packet::Gone {
+                sender: *sender,
+                stamp: *stamp,
+                number: *number,
+            },
+            Packet::Invite { sender, stamp } => Packet::Invite {
+                sender: *sender,
+                stamp: *stamp,
+            },
+            Packet::Vote {
+                sender,
+                stamp,
+                vote,
+            } => Packet::Vote {
+                sender: *sender,
+                stamp: *stamp,
+                vote: *vote,
+            },
+            Packet::Fetch {
+                sender,
+                stamp,
+                stored,
+            } => Packet::Fetch {
+                sender: *sender,
+                stamp: *stamp,
+                stored: *stored,
+            },
+            Packet::Piece {
+                sender,
+                stamp,
+                base,
+                number,
+                entry,
+            } => Packet::Piece {
+                sender: *sender,
+                stamp: *stamp,
+                base: *base,
+                number: *number,
+                entry: entry.copied(),
+            },
+            Packet::Result {
+                sender,
+                stamp,
+                base,
+                number,
+                members,
+                resilience,
+            } => Packet::Result {
+                sender: *sender,
+                stamp: *stamp,
+                base: *base,
+                number: *number,
+                members: *members,
+                resilience: *resilience,
+            },
+            Packet::HandOver { sender, stamp } => Packet::HandOver {
+                sender: *sender,
+                stamp: *stamp,
+            },
+        }
+    }
+}
