@@ -1,0 +1,3 @@
+pub mod FirstNode
+pub mod FirstTable
+pub mod FirstRun
