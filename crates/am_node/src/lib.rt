@@ -1,0 +1,4 @@
+//! One node of a group.
+#![tactic(auto)]
+
+pub mod node;
