@@ -1,2 +1,5 @@
 pub mod Least
 pub mod Settles
+pub mod Lasts
+pub mod Cases
+pub mod Served

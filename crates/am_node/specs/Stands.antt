@@ -30,9 +30,11 @@ HasSpare n = vec_len n.log < vec_capacity n.log
 abbrev pub Makes : (model.Node → Step) → Node → Outcome → List Letter → Node → Type 0
 Makes f old outcome letters new = f (state_of old) ≡ record { node = state_of new; outcome = outcome; letters = letters }
 
--- the node changes so, and keeps its memory
+-- the node changes so, and keeps its list and the memory for it
 pub record Becomes (f : model.Node → model.Node) (old new : Node) : Type 0 where
   pub state : state_of new ≡ f (state_of old)
+  pub entries : new.log.items ≡ old.log.items
+  pub stored : vec_len new.log ≡ vec_len old.log
   pub memory : vec_capacity new.log ≡ vec_capacity old.log
 
 -- the lesser of a number and of what a place's founder has reported as taken, where there is one
