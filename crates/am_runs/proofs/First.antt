@@ -1,5 +1,5 @@
 -- The steps of the sequencer's node.
-use Rattle.std.proofs.Common.{◌≡◌, ℕ, ◌+◌, ◌-◌, ◌<◌, ◌≤◌, ◌==◌, true, false, not, nat_lt, nat_le, if◌then◌else◌, List, [], ◌∷◌, ◌++◌, length, drop, take, Option, Some, None, slice_get, inl, inr, refl, sym, ap, ◌∙◌, subst, arith, length-append}
+use Rattle.std.proofs.Common.{◌≡◌, ℕ, ◌+◌, ◌-◌, ◌<◌, ◌≤◌, ◌==◌, true, not, nat_lt, nat_le, List, [], ◌∷◌, ◌++◌, length, drop, Option, Some, None, slice_get, inl, inr, refl, sym, ap, ◌∙◌, subst, arith, length-append}
 use Rattle.std.specs.Prelude.{All}
 use Rattle.std.proofs.lemmas.Bool.Decides.{nat_tests}
 use Rattle.std.proofs.lemmas.List.Elements.{All-nil, All-push, All-filter}
@@ -18,10 +18,10 @@ use Rattle.am_packet.specs.declared.event.NodeEvent.TheVariants as does
 use Rattle.am_packet.specs.Boxes.{with_letter}
 use Rattle.am_group.specs.declared.event.Record.{Record}
 use Rattle.am_model.specs.declared.send.QueuedSend.{QueuedSend}
-use Rattle.am_model.specs.FirstNode.{Node, top, others, sequencer_of, is_member, is_sequencer, last_of, last_from, refresh, fronts, with_report, first_stamp}
-use Rattle.am_model.specs.FirstTable.{Step, finish, only, just, pushed, bcast, number, has_room, queued, is_idle, emit, send_step, send_of, without_send, collected, done_of, done_step, taken_of, take_step, is_fit, held, request_taken, request_step, bcasts, above, nack_taken, nack_step, is_of_view, for_sequencer, from_sequencer, hear_step, step}
+use Rattle.am_model.specs.FirstNode.{Node, top, others, sequencer_of, is_member, last_of, last_from, refresh, fronts, with_report, first_stamp}
+use Rattle.am_model.specs.FirstTable.{finish, only, just, pushed, bcast, number, has_room, queued, is_idle, emit, send_step, send_of, without_send, collected, done_of, done_step, taken_of, take_step, is_fit, held, request_taken, request_step, bcasts, above, nack_taken, nack_step, is_of_view, for_sequencer, hear_step, step}
 use Rattle.am_runs.specs.FirstClaims.{WasSent}
-use Rattle.am_runs.specs.FirstKept.{IsPrefixOf, StandsAt, IsSettled, SendOk, NodeOk, EntryOk, PacketOk, LetterOk, InOrder, follows, OwnOk, FirstOk, Gave, SentOk, StepOk, FirstStep}
+use Rattle.am_runs.specs.FirstKept.{IsPrefixOf, StandsAt, IsSettled, SendOk, EntryOk, PacketOk, LetterOk, follows, FirstOk, Gave, SentOk, FirstStep}
 use Rattle.am_runs.proofs.Lists.{split, prefix_refl, prefix_trans, prefix_more, get_last, get_drop, get_take, All-find}
 use Rattle.am_runs.proofs.Order.{InOrder-push, last_push, after_le, request_bounds}
 use Rattle.am_runs.proofs.Sends.{send_more, stands_more, own_more, waits_push, idle_low, own_filter}

@@ -1,5 +1,5 @@
 -- What holds of each letter of a step, and what the outcomes of steps are.
-use Rattle.std.proofs.Common.{◌≡◌, ℕ, suc, ◌+◌, ◌-◌, ◌<◌, ◌≤◌, ◌==◌, ◌&&◌, Bool, true, false, not, nat_le, if◌then◌else◌, List, [], ◌∷◌, length, Some, slice_get, refl, sym, ap, ◌∙◌, arith}
+use Rattle.std.proofs.Common.{◌≡◌, ℕ, suc, ◌+◌, ◌-◌, ◌<◌, ◌≤◌, ◌==◌, ◌&&◌, Bool, false, not, nat_le, List, [], ◌∷◌, length, Some, slice_get, refl, sym, ap, ◌∙◌, arith}
 use Rattle.std.specs.Prelude.{All, insert}
 use Rattle.std.proofs.lemmas.List.Elements.{All-cons, All-append, All-take, All-drop}
 use Rattle.am_base.specs.declared.entry.Entry.{Entry}
@@ -12,7 +12,7 @@ use Rattle.am_packet.specs.Kinds.{kind_of}
 use Rattle.am_packet.specs.Boxes.{with_letter, letter_to, place_for}
 use Rattle.am_group.specs.declared.event.Record.{Record}
 use Rattle.am_model.specs.FirstNode.{Node, last_of, is_member, is_sequencer}
-use Rattle.am_model.specs.FirstTable.{Step, emit, has_room, is_idle, send_step, bcasts, bcast, just}
+use Rattle.am_model.specs.FirstTable.{emit, has_room, is_idle, send_step, bcasts, bcast, just}
 use Rattle.am_model.specs.FirstRun.{given}
 use Rattle.am_runs.specs.FirstKept.{LetterOk, SentOk}
 use Rattle.am_runs.proofs.Lists.{if_either, split}

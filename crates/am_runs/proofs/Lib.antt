@@ -5,3 +5,6 @@ pub mod Refreshes
 pub mod Letters
 pub mod Others
 pub mod First
+pub mod Worlds
+pub mod Founders
+pub mod FirstRuns

@@ -1,5 +1,5 @@
 -- The steps of the nodes other than the sequencer's.
-use Rattle.std.proofs.Common.{◌≡◌, ◌≢◌, ℕ, ◌+◌, ◌-◌, ◌<◌, ◌≤◌, ◌==◌, true, false, not, nat_lt, nat_le, if◌then◌else◌, List, [], ◌∷◌, length, Option, Some, None, slice_get, inl, inr, refl, sym, ap, ◌∙◌, subst, arith, length-append}
+use Rattle.std.proofs.Common.{◌≡◌, ◌≢◌, ℕ, ◌+◌, ◌-◌, ◌<◌, ◌≤◌, ◌==◌, not, nat_lt, nat_le, List, [], ◌∷◌, length, Option, Some, None, slice_get, inl, inr, refl, sym, ◌∙◌, subst, arith, length-append}
 use Rattle.std.specs.Prelude.{All}
 use Rattle.std.proofs.lemmas.Bool.Decides.{nat_tests}
 use Rattle.std.proofs.lemmas.List.Elements.{All-nil, All-push, All-filter}
@@ -16,10 +16,10 @@ use Rattle.am_packet.specs.Boxes.{with_letter}
 use Rattle.am_group.specs.declared.event.Record.{Record}
 use Rattle.am_model.specs.declared.send.QueuedSend.{QueuedSend}
 use Rattle.am_model.specs.FirstNode.{Node, top, sequencer_of, is_member, is_sequencer, last_of, refresh, first_stamp}
-use Rattle.am_model.specs.FirstTable.{Step, finish, only, just, own_state, request, nack, pushed, queued, is_idle, emit, send_step, send_of, without_send, collected, done_of, done_step, taken_of, take_step, note, is_next, stored_step, is_of_view, for_sequencer, from_sequencer, hear_step, step}
+use Rattle.am_model.specs.FirstTable.{finish, only, just, own_state, request, nack, pushed, queued, is_idle, emit, send_step, send_of, without_send, collected, done_of, done_step, taken_of, take_step, note, is_next, stored_step, is_of_view, from_sequencer, hear_step, step}
 use Rattle.am_runs.specs.FirstClaims.{WasSent}
 use Rattle.am_runs.specs.FirstKept.{IsSettled, SendOk, NodeOk, PacketOk, LetterOk, Gave, SentOk, StepOk}
-use Rattle.am_runs.proofs.Lists.{split, prefix_get, prefix_push, All-find}
+use Rattle.am_runs.proofs.Lists.{split, prefix_push, All-find}
 use Rattle.am_runs.proofs.Letters.{with_letter_ok, Quiet, send_says, last_false}
 use Rattle.am_runs.proofs.Refreshes.{refresh_who, refresh_taken, is_other, refresh_other}
 

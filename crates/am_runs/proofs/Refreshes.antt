@@ -1,12 +1,12 @@
 -- What a refresh leaves.
-use Rattle.std.proofs.Common.{◌≡◌, ◌≢◌, ℕ, ◌+◌, ◌-◌, ◌<◌, ◌≤◌, max, min, ◌==◌, Bool, true, false, if◌then◌else◌, List, length, drop, Option, Some, position, refl, sym, ap, ◌∙◌, subst, arith}
+use Rattle.std.proofs.Common.{◌≡◌, ◌≢◌, ℕ, ◌≤◌, max, min, Bool, true, false, if◌then◌else◌, List, length, drop, position, refl, sym, ap, ◌∙◌, subst, arith}
 use Rattle.std.specs.Prelude.{All}
 use Rattle.std.proofs.lemmas.Bool.Decides.{nat_tests}
 use Rattle.am_base.specs.declared.image.Report.{Report}
 use Rattle.am_base.specs.declared.entry.Entry.{Entry}
 use Rattle.am_base.specs.Founding.{Rules}
 use Rattle.am_group.specs.declared.event.Record.{Record}
-use Rattle.am_model.specs.FirstNode.{Node, top, is_data, is_sequencer, sequencer_of, settled_sends, accepted_at, accepted_number, own_report, with_report, tell, advance, trim, settle, fronts, refresh, last_from}
+use Rattle.am_model.specs.FirstNode.{Node, top, is_data, is_sequencer, sequencer_of, settled_sends, accepted_at, own_report, with_report, tell, advance, trim, settle, fronts, refresh, last_from}
 use Rattle.am_runs.specs.FirstKept.{SendOk, NodeOk, FirstOk, OwnOk}
 use Rattle.am_runs.proofs.Lists.{split, prefix_refl}
 use Rattle.am_runs.proofs.Sends.{settled_ok, send_more, own_settled, numbered_low}

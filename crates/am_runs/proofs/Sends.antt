@@ -1,10 +1,10 @@
 -- Sends that are settled stand in the list.
-use Rattle.std.proofs.Common.{◌≡◌, ◌⊎◌, ℕ, ◌+◌, ◌-◌, ◌<◌, ◌≤◌, ◌==◌, Bool, true, false, not, nat_le, if◌then◌else◌, List, [], ◌∷◌, ◌++◌, length, drop, get_or, Option, Some, None, is_some, slice_get, position, inl, inr, refl, sym, ap, ◌∙◌, subst, arith}
+use Rattle.std.proofs.Common.{◌≡◌, ℕ, ◌+◌, ◌-◌, ◌<◌, ◌≤◌, ◌==◌, true, not, nat_le, List, [], ◌∷◌, ◌++◌, length, drop, get_or, Option, Some, None, is_some, slice_get, position, inl, inr, refl, sym, ap, ◌∙◌, arith}
 use Rattle.std.specs.Prelude.{All, filter}
 use Rattle.std.specs.List.{list_all}
 use Rattle.std.proofs.lemmas.Bool.Decides.{nat_tests}
 use Rattle.std.proofs.lemmas.List.{length-drop, get_or-drop}
-use Rattle.std.proofs.lemmas.List.Elements.{All-nil, All-cons, All-head, All-tail}
+use Rattle.std.proofs.lemmas.List.Elements.{All-cons, All-head, All-tail}
 use Rattle.std.proofs.lemmas.List.Quantifiers.{position-Some}
 use Rattle.std.proofs.lemmas.Option.{slice_get-get_or}
 use Rattle.am_base.specs.declared.entry.Entry.{Entry}
@@ -14,7 +14,7 @@ use Rattle.am_model.specs.declared.send.QueuedSend.{QueuedSend}
 use Rattle.am_model.specs.FirstNode.{is_data, settled_sends, accepted_at, last_from}
 use Rattle.am_runs.specs.FirstClaims.{WasSent}
 use Rattle.am_runs.specs.FirstKept.{IsPrefixOf, StandsAt, IsSettled, SendOk, InOrder, Waits, OwnOk}
-use Rattle.am_runs.proofs.Lists.{if_either, split, prefix_refl, prefix_get, get_front}
+use Rattle.am_runs.proofs.Lists.{if_either, split, prefix_get}
 use Rattle.am_runs.proofs.Order.{request_bounds}
 
 is_data_is : (who req : ℕ) (x : Entry) → is_data who req x ≡ true → (b : List ℕ) × (x ≡ Data who req b)
