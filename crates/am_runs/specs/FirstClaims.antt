@@ -62,6 +62,6 @@ pub record FirstHolds (w : World) : Type 0 where
   -- and before it was given out
   pub before : (k : ℕ) (r : Record) (number from req : ℕ) (body : List ℕ) → slice_get w.records k ≡ Some r → r.outcome ≡ said.Took number (Data from req body) → WasSent (take k w.records) from req body
 
--- Every run of a lawful founding whose entries need one holder.
+-- Every run of a founding with resilience 0.
 abbrev pub FirstRunsHold : Type 0
 FirstRunsHold = (rules : Rules) (events : List Event) → MayFound rules → rules.resilience ≡ 0 → FirstHolds (run rules events)
