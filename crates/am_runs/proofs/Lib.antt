@@ -1,0 +1,10 @@
+pub mod Lists
+pub mod Order
+pub mod Sends
+pub mod Refreshes
+pub mod Letters
+pub mod Others
+pub mod First
+pub mod Worlds
+pub mod Founders
+pub mod FirstRuns

@@ -1,0 +1,2 @@
+pub mod FirstClaims
+pub mod FirstKept
