@@ -1,4 +1,4 @@
-ghost use Rattle.std.specs.Prelude.{◌≡◌, ℕ, ◌<◌, ◌≤◌, ◌+◌, ◌-◌, ◌==◌, ◌++◌, ◌∷◌, List, [], length, drop, vec_len, vec_capacity, OnOk, OnErr, IfOk, IsTrue, true, find, position, slice_index, slice_index_or, IfSome, not, is_some, option_map, Some, IsSome, ◌↔◌, slice_get};
+ghost use Rattle.std.specs.Prelude.{◌≡◌, ℕ, ◌<◌, ◌≤◌, ◌+◌, ◌-◌, ◌==◌, ◌++◌, ◌∷◌, List, [], length, drop, vec_len, vec_capacity, OnOk, OnErr, IfOk, IsTrue, true, find, position, slice_index, slice_index_or, IfSome, not, is_some, option_map, take};
 ghost use Rattle.arrayvec.specs.ArrayVec.{array_vec_len};
 ghost use Rattle.am_base.specs.Founding.{Rules};
 ghost use Rattle.am_model.specs.FirstNode.{is_data, last_from, last_after};
@@ -801,15 +801,20 @@ impl Node {
         self.acc
     }
 
-    /// Its stored entry of a number; None exactly where there is none.
-    pub fn entry(&self, number: u32) -> Option<&Entry>
-        ensures variant { IsSome result ↔ ((0 < number) × (number ≤ top (state_of self.now))) }
-        ensures value { IfSome result (λ e. Some e.now ≡ slice_get (state_of self.now).log (number - 1)) }
+    /// The number of its last entry.
+    pub fn stored(&self) -> u32
+        ensures value { result ≡ top (state_of self.now) }
+        ensures within { (state_of self.now).acc ≤ result }
+        ensures fits { result ≤ 2000000000 }
     {
-        if number == 0 {
-            return None;
-        }
-        self.log.get(number as usize - 1)
+        self.top()
+    }
+
+    /// The entries that it knows to be accepted.
+    pub fn accepted(&self) -> &[Entry]
+        ensures { result.now ≡ take (state_of self.now).acc (state_of self.now).log }
+    {
+        &self.log[..self.acc as usize]
     }
 }
 
