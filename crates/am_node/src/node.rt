@@ -1,4 +1,4 @@
-ghost use Rattle.std.specs.Prelude.{◌≡◌, ℕ, ◌<◌, ◌≤◌, ◌+◌, ◌-◌, ◌==◌, ◌++◌, ◌∷◌, List, [], length, drop, vec_len, vec_capacity, OnOk, OnErr, IfOk, IsTrue, true, find, position, slice_index, slice_index_or, IfSome, not, is_some, option_map, take};
+ghost use Rattle.std.specs.Prelude.{◌≡◌, ℕ, ◌<◌, ◌≤◌, ◌+◌, ◌-◌, ◌==◌, ◌++◌, ◌∷◌, List, [], length, drop, vec_len, vec_capacity, OnOk, OnErr, IfOk, IsTrue, true, find, position, slice_index, slice_index_or, IfSome, not, is_some, option_map, take, max};
 ghost use Rattle.arrayvec.specs.ArrayVec.{array_vec_len};
 ghost use Rattle.am_base.specs.Founding.{Rules};
 ghost use Rattle.am_model.specs.FirstNode.{is_data, last_from, last_after};
@@ -810,11 +810,14 @@ impl Node {
         self.top()
     }
 
-    /// The entries that it knows to be accepted.
-    pub fn accepted(&self) -> &[Entry]
-        ensures { result.now ≡ take (state_of self.now).acc (state_of self.now).log }
+    /// The entries above a number that it knows to be accepted.
+    #[tactic(auto, using(crate::proofs::Lasts::drop_least))]
+    pub fn accepted_above(&self, number: usize) -> &[Entry]
+        ensures value { result.now ≡ drop number (take (state_of self.now).acc (state_of self.now).log) }
+        ensures few { length result.now + number ≤ max (state_of self.now).acc number }
     {
-        &self.log[..self.acc as usize]
+        let accepted = &self.log[..self.acc as usize];
+        &accepted[number.min(accepted.len())..]
     }
 }
 

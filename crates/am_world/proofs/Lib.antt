@@ -1,0 +1,4 @@
+pub mod PlanLaws
+pub mod Grown
+pub mod Bounds
+pub mod RunLaws
