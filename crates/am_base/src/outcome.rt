@@ -1,3 +1,5 @@
+ghost use Rattle.std.specs.Prelude.{◌≡◌};
+
 use crate::entry::Entry;
 use crate::name::{Name, Stamp};
 use crate::names::Names;
@@ -115,4 +117,97 @@ pub enum Outcome {
     NoLife,
     /// The place's new life.
     Returned { life: u8 },
+}
+
+impl Outcome {
+    /// The same outcome. It takes no memory.
+    pub fn copied(&self) -> Outcome
+        ensures { result ≡ self.now }
+    {
+        match self {
+            Outcome::Queued { req } => Outcome::Queued { req: *req },
+            Outcome::Busy { queued } => Outcome::Busy { queued: *queued },
+            Outcome::Pending { req } => Outcome::Pending { req: *req },
+            Outcome::Sent { req, number } => Outcome::Sent {
+                req: *req,
+                number: *number,
+            },
+            Outcome::Unknown => Outcome::Unknown,
+            Outcome::Took { number, entry } => Outcome::Took {
+                number: *number,
+                entry: entry.copied(),
+            },
+            Outcome::Empty => Outcome::Empty,
+            Outcome::Asked => Outcome::Asked,
+            Outcome::Joined { number } => Outcome::Joined { number: *number },
+            Outcome::Leaving => Outcome::Leaving,
+            Outcome::Departed => Outcome::Departed,
+            Outcome::Stranger => Outcome::Stranger,
+            Outcome::NotMember => Outcome::NotMember,
+            Outcome::Ticked => Outcome::Ticked,
+            Outcome::Idle => Outcome::Idle,
+            Outcome::PutOff { req, base, top } => Outcome::PutOff {
+                req: *req,
+                base: *base,
+                top: *top,
+            },
+            Outcome::Numbered { number } => Outcome::Numbered { number: *number },
+            Outcome::Again => Outcome::Again,
+            Outcome::Early { last } => Outcome::Early { last: *last },
+            Outcome::Held { base, top } => Outcome::Held {
+                base: *base,
+                top: *top,
+            },
+            Outcome::Kept => Outcome::Kept,
+            Outcome::Known => Outcome::Known,
+            Outcome::Stored { number } => Outcome::Stored { number: *number },
+            Outcome::Gap { want } => Outcome::Gap { want: *want },
+            Outcome::NoBody { from, req } => Outcome::NoBody {
+                from: *from,
+                req: *req,
+            },
+            Outcome::Behind => Outcome::Behind,
+            Outcome::Unfit => Outcome::Unfit,
+            Outcome::Advanced { acc } => Outcome::Advanced { acc: *acc },
+            Outcome::Noted => Outcome::Noted,
+            Outcome::Accepted { acc } => Outcome::Accepted { acc: *acc },
+            Outcome::Served { count } => Outcome::Served { count: *count },
+            Outcome::Welcomed { number } => Outcome::Welcomed { number: *number },
+            Outcome::LetGo { number } => Outcome::LetGo { number: *number },
+            Outcome::Elsewhere => Outcome::Elsewhere,
+            Outcome::Refused { cause } => Outcome::Refused { cause: *cause },
+            Outcome::Voted => Outcome::Voted,
+            Outcome::Newer { promise } => Outcome::Newer { promise: *promise },
+            Outcome::Catching { want } => Outcome::Catching { want: *want },
+            Outcome::Waiting { names } => Outcome::Waiting { names: *names },
+            Outcome::Fetching { from, want } => Outcome::Fetching {
+                from: *from,
+                want: *want,
+            },
+            Outcome::TooFew { got, least } => Outcome::TooFew {
+                got: *got,
+                least: *least,
+            },
+            Outcome::Crowded { base, top } => Outcome::Crowded {
+                base: *base,
+                top: *top,
+            },
+            Outcome::Overtaken { by } => Outcome::Overtaken { by: *by },
+            Outcome::NotIn { best } => Outcome::NotIn { best: *best },
+            Outcome::Decided { number, members } => Outcome::Decided {
+                number: *number,
+                members: *members,
+            },
+            Outcome::NotCoordinator => Outcome::NotCoordinator,
+            Outcome::Stopped => Outcome::Stopped,
+            Outcome::NoPacket => Outcome::NoPacket,
+            Outcome::NotAddressed => Outcome::NotAddressed,
+            Outcome::IsStopped => Outcome::IsStopped,
+            Outcome::NotStopped => Outcome::NotStopped,
+            Outcome::Occupied { name } => Outcome::Occupied { name: *name },
+            Outcome::Running { life } => Outcome::Running { life: *life },
+            Outcome::NoLife => Outcome::NoLife,
+            Outcome::Returned { life } => Outcome::Returned { life: *life },
+        }
+    }
 }

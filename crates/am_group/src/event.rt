@@ -39,11 +39,53 @@ pub enum Act {
     Return,
 }
 
+impl Act {
+    /// The same act. It takes no memory.
+    pub fn copied(&self) -> Act
+        ensures { result ≡ self.now }
+    {
+        match self {
+            Act::Send(body) => Act::Send(body.copied()),
+            Act::Done(req) => Act::Done(*req),
+            Act::Take => Act::Take,
+            Act::Join => Act::Join,
+            Act::State => Act::State,
+            Act::Leave => Act::Leave,
+            Act::Reset { least, resilience } => Act::Reset {
+                least: *least,
+                resilience: *resilience,
+            },
+            Act::Ask(round) => Act::Ask(*round),
+            Act::GiveUp(name) => Act::GiveUp(*name),
+            Act::Stop => Act::Stop,
+            Act::Tick => Act::Tick,
+            Act::Hear(packet) => Act::Hear(*packet),
+            Act::Cut { packet, keep } => Act::Cut {
+                packet: *packet,
+                keep: *keep,
+            },
+            Act::Return => Act::Return,
+        }
+    }
+}
+
 /// An act of a place: the place of `node` counts.
 #[derive(Drop, Clone, Debug)]
 pub struct Event {
     pub node: Name,
     pub act: Act,
+}
+
+impl Event {
+    /// The same event. It takes no memory.
+    pub fn copied(&self) -> Event
+        ensures { result ≡ self.now }
+    {
+        Event {
+            node: self.node,
+            act: self.act.copied(),
+        }
+    }
 }
 
 /// Which part of a blocking call an event is.

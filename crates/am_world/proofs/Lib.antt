@@ -2,3 +2,5 @@ pub mod PlanLaws
 pub mod Grown
 pub mod Bounds
 pub mod RunLaws
+pub mod Nodes
+pub mod Goes

@@ -29,6 +29,11 @@ pub record AreNodes (nodes : List Node) (w : model.World) : Type 0 where
   pub count : length nodes ≡ 16
   pub each : (i : ℕ) (n : Node) → slice_get nodes i ≡ Some n → state_of n ≡ w.nodes i
 
+-- these are the first of them
+pub record AreFirst (many : ℕ) (nodes : List Node) (w : model.World) : Type 0 where
+  pub count : length nodes ≡ many
+  pub each : (i : ℕ) (n : Node) → slice_get nodes i ≡ Some n → state_of n ≡ w.nodes i
+
 -- the nodes, the records with their letters, and the group list are those of the run
 pub record IsRun (p : Play) (nodes : List Node) (records : List Record) (group : List Entry) : Type 0 where
   pub few : length p.events ≤ 100000
