@@ -1,0 +1,2 @@
+//! Definitions of a whole group: what its nodes do, and what is printed of it.
+#![tactic(auto)]
