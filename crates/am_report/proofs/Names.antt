@@ -1,19 +1,10 @@
 -- Sets of names, place by place.
-use Rattle.std.proofs.Common.{◌≡◌, ℕ, zero, suc, ◌+◌, ◌<◌, ◌≤◌, List, [], ◌∷◌, length, drop, slice_index, Bool, true, false, IsTrue, ◌↔◌, EachIndex, nat_le, refl, sym, ◌∙◌, arith}
+use Rattle.std.proofs.Common.{◌≡◌, ℕ, suc, ◌≤◌, List, [], ◌∷◌, length, drop, slice_index, Bool, true, false, IsTrue, ◌↔◌, EachIndex, nat_le, refl, sym, arith}
 use Rattle.std.specs.List.{list_all}
-use Rattle.std.proofs.lemmas.List.{at_drop_more, at_drop_all}
+use Rattle.std.proofs.lemmas.List.{at_drop_all}
 use Rattle.std.proofs.lemmas.List.Folds.{list_all_at}
 use Rattle.std.proofs.lemmas.Bool.Decides.{nat_tests}
 use Rattle.am_base.specs.Names.{names_from}
-use Rattle.am_report.specs.Names.{with_life}
-
-names_from-cons : (place life : ℕ) (lives : List ℕ) → names_from place (life ∷ lives) ≡ with_life place life (names_from (place + 1) lives)
-names_from-cons place zero lives = refl
-names_from-cons place (suc before) lives = refl
-
--- the names from a place on: the one that is there, if any, and those from the next place on
-pub names_from_more : (set : List ℕ) (place : ℕ) → place < length set → names_from place (drop place set) ≡ with_life place (slice_index set place) (names_from (place + 1) (drop (place + 1) set))
-names_from_more set place h = at_drop_more (λ lives. names_from place lives) set place 0 h ∙ names_from-cons place (slice_index set place) (drop (place + 1) set)
 
 -- behind the last place nobody is left
 pub names_from_none : (set : List ℕ) (place : ℕ) → length set ≤ place → names_from place (drop place set) ≡ []

@@ -7,3 +7,5 @@ pub mod letter;
 pub mod lines;
 pub mod name;
 pub mod outcome;
+#[cfg(test)]
+mod tests;
