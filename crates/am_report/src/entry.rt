@@ -1,0 +1,79 @@
+ghost use Rattle.std.specs.Prelude.{◌≡◌, ◌++◌, OnOk, string_bytes};
+ghost use Rattle.am_model.specs.Text.{hex_byte, body_text, resilience_text, entry_text};
+
+use crate::name::{push_name, push_names, push_stamp};
+use am_base::NoMemory;
+use am_base::body::Body;
+use am_base::entry::Entry;
+use am_base::founding::Founding;
+
+#[tactic(auto, using(std::proofs::lemmas::Fmt::hex_byte))]
+fn push_byte(out: &mut String, byte: u8) -> Result<(), NoMemory>
+    ensures { OnOk result (string_bytes out.new ≡ string_bytes out.old ++ hex_byte byte) }
+{
+    write!(out, "{byte:02x}")
+}
+
+/// Adds a body: two lower-case hexadecimal digits for each byte, or a dash.
+#[tactic(auto, unfolding(am_model::specs::Text::body_text))]
+pub fn push_body(out: &mut String, body: &Body) -> Result<(), NoMemory>
+    ensures { OnOk result (string_bytes out.new ≡ string_bytes out.old ++ body_text body.now) }
+{
+    let bytes = body.bytes();
+    if bytes.len() == 0 {
+        return out.push_str("-");
+    }
+    for at in 0..bytes.len() {
+        push_byte(out, bytes[at])?;
+    }
+    Ok(())
+}
+
+/// Adds a resilience, where it isn't the founding's.
+#[tactic(auto, unfolding(am_model::specs::Text::resilience_text))]
+pub fn push_resilience(
+    out: &mut String,
+    founding: &Founding,
+    resilience: u8,
+) -> Result<(), NoMemory>
+    ensures { OnOk result (string_bytes out.new ≡ string_bytes out.old ++ resilience_text founding.now resilience) }
+{
+    if resilience == founding.resilience() {
+        return Ok(());
+    }
+    write!(out, " r{resilience}")
+}
+
+/// Adds an entry.
+#[tactic(auto, unfolding(am_model::specs::Text::entry_text))]
+pub fn push_entry(out: &mut String, founding: &Founding, entry: &Entry) -> Result<(), NoMemory>
+    ensures { OnOk result (string_bytes out.new ≡ string_bytes out.old ++ entry_text founding.now entry.now) }
+{
+    match entry {
+        Entry::Data { from, req, body } => {
+            out.push_str("data ")?;
+            push_name(out, *from)?;
+            write!(out, " {req} ")?;
+            push_body(out, body)
+        }
+        Entry::Join(name) => {
+            out.push_str("join ")?;
+            push_name(out, *name)
+        }
+        Entry::Leave(name) => {
+            out.push_str("leave ")?;
+            push_name(out, *name)
+        }
+        Entry::View {
+            stamp,
+            members,
+            resilience,
+        } => {
+            out.push_str("view ")?;
+            push_stamp(out, *stamp)?;
+            out.push_str(" ")?;
+            push_names(out, *members)?;
+            push_resilience(out, founding, *resilience)
+        }
+    }
+}

@@ -1,0 +1,70 @@
+ghost use Rattle.std.specs.Prelude.{◌≡◌, ◌++◌, OnOk, string_bytes};
+ghost use Rattle.am_model.specs.Text.{act_word, act_parts, event_text};
+
+use crate::entry::{push_body, push_resilience};
+use crate::name::push_name;
+use am_base::NoMemory;
+use am_base::founding::Founding;
+use am_group::event::{Act, Event};
+
+/// An act's word.
+#[tactic(auto, unfolding(am_model::specs::Text::act_word))]
+pub fn act_word(act: &Act) -> &'static str
+    ensures { result.now ≡ act_word act.now }
+{
+    match act {
+        Act::Send(_) => "send",
+        Act::Done(_) => "done",
+        Act::Take => "take",
+        Act::Join => "join",
+        Act::State => "state",
+        Act::Leave => "leave",
+        Act::Reset { .. } => "reset",
+        Act::Ask(_) => "ask",
+        Act::GiveUp(_) => "giveup",
+        Act::Stop => "stop",
+        Act::Tick => "tick",
+        Act::Hear(_) => "hear",
+        Act::Cut { .. } => "cut",
+        Act::Return => "return",
+    }
+}
+
+// Adds what stands behind an act's node, with a blank before each part.
+#[tactic(auto, unfolding(am_model::specs::Text::act_parts))]
+fn push_parts(out: &mut String, founding: &Founding, act: &Act) -> Result<(), NoMemory>
+    ensures { OnOk result (string_bytes out.new ≡ string_bytes out.old ++ act_parts founding.now act.now) }
+{
+    match act {
+        Act::Send(body) => {
+            out.push_str(" ")?;
+            push_body(out, body)
+        }
+        Act::Done(req) => write!(out, " {req}"),
+        Act::Reset { least, resilience } => {
+            write!(out, " {least}")?;
+            push_resilience(out, founding, *resilience)
+        }
+        Act::Ask(round) => write!(out, " {round}"),
+        Act::GiveUp(name) => {
+            out.push_str(" ")?;
+            push_name(out, *name)
+        }
+        Act::Hear(packet) => write!(out, " {packet}"),
+        Act::Cut { packet, keep } => write!(out, " {packet} {keep}"),
+        Act::Take | Act::Join | Act::State | Act::Leave | Act::Stop | Act::Tick | Act::Return => {
+            Ok(())
+        }
+    }
+}
+
+/// Adds an event: its act's word, the place of its node, and the rest.
+#[tactic(auto, unfolding(am_model::specs::Text::event_text))]
+pub fn push_event(out: &mut String, founding: &Founding, event: &Event) -> Result<(), NoMemory>
+    ensures { OnOk result (string_bytes out.new ≡ string_bytes out.old ++ event_text founding.now event.now) }
+{
+    let word = act_word(&event.act);
+    let place = event.node.place();
+    write!(out, "{word} {place}")?;
+    push_parts(out, founding, &event.act)
+}

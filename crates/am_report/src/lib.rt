@@ -1,0 +1,11 @@
+//! What is printed of a run, part by part, at the end of a text.
+#![tactic(auto)]
+
+pub mod entry;
+pub mod event;
+pub mod letter;
+pub mod lines;
+pub mod name;
+pub mod outcome;
+#[cfg(test)]
+mod tests;

@@ -1,0 +1,91 @@
+ghost use Rattle.std.specs.Prelude.{◌≡◌, ◌++◌, OnOk, string_bytes};
+ghost use Rattle.am_model.specs.Text.{record_line, group_line, log_line, empty_log_line, mark_line};
+
+use crate::entry::push_entry;
+use crate::event::push_event;
+use crate::letter::push_letters;
+use crate::name::push_name;
+use crate::outcome::push_outcome;
+use am_base::NoMemory;
+use am_base::entry::Entry;
+use am_base::founding::Founding;
+use am_base::name::Name;
+use am_group::event::Record;
+
+/// Adds the line of an event of this number, before which so many letters were sent.
+#[tactic(auto, unfolding(am_model::specs::Text::record_line))]
+pub fn push_record(
+    out: &mut String,
+    founding: &Founding,
+    number: u32,
+    before: u32,
+    happened: &Record,
+) -> Result<(), NoMemory>
+    ensures { OnOk result (string_bytes out.new ≡ string_bytes out.old ++ record_line founding.now number before happened.now) }
+{
+    write!(out, "{number} ")?;
+    push_event(out, founding, &happened.event)?;
+    out.push_str(" : ")?;
+    push_outcome(out, founding, &happened.outcome)?;
+    push_letters(
+        out,
+        happened.event.node.place(),
+        before,
+        happened.packets.as_slice(),
+    )?;
+    out.push_str("\n")
+}
+
+/// Adds the line of an entry of the group's list.
+#[tactic(auto, unfolding(am_model::specs::Text::group_line))]
+pub fn push_group_line(
+    out: &mut String,
+    founding: &Founding,
+    number: u32,
+    entry: &Entry,
+) -> Result<(), NoMemory>
+    ensures { OnOk result (string_bytes out.new ≡ string_bytes out.old ++ group_line founding.now number entry.now) }
+{
+    write!(out, "group {number} ")?;
+    push_entry(out, founding, entry)?;
+    out.push_str("\n")
+}
+
+/// Adds the line of an entry that was given to a name's application.
+#[tactic(auto, unfolding(am_model::specs::Text::log_line))]
+pub fn push_log_line(
+    out: &mut String,
+    founding: &Founding,
+    name: Name,
+    number: u32,
+    entry: &Entry,
+) -> Result<(), NoMemory>
+    ensures { OnOk result (string_bytes out.new ≡ string_bytes out.old ++ log_line founding.now name number entry.now) }
+{
+    out.push_str("log ")?;
+    push_name(out, name)?;
+    write!(out, " {number} ")?;
+    push_entry(out, founding, entry)?;
+    out.push_str("\n")
+}
+
+/// Adds the line of a name whose application was given nothing.
+#[tactic(auto, unfolding(am_model::specs::Text::empty_log_line))]
+pub fn push_empty_log(out: &mut String, name: Name) -> Result<(), NoMemory>
+    ensures { OnOk result (string_bytes out.new ≡ string_bytes out.old ++ empty_log_line name) }
+{
+    out.push_str("log ")?;
+    push_name(out, name)?;
+    out.push_str(" empty\n")
+}
+
+/// Adds the last line: `lawful`, or which event broke the run.
+#[tactic(auto, unfolding(am_model::specs::Text::mark_line))]
+pub fn push_mark(out: &mut String, broken: Option<u32>) -> Result<(), NoMemory>
+    ensures { OnOk result (string_bytes out.new ≡ string_bytes out.old ++ mark_line broken) }
+{
+    match broken {
+        None => out.push_str("lawful\n"),
+        Some(number) => writeln!(out, "void from {number}"),
+    }
+}
