@@ -1,5 +1,6 @@
--- What reads take and writes append, and how faults are counted. A source or sink may tell its bytes or not.
-use Rattle.std.specs.Prelude.{◌≡◌, ◌⊎◌, ℕ, ◌-◌, ◌^◌, ◌<◌, ◌≤◌, ◌++◌, [], List, Option, Some, None, length}
+-- What reads take and how faults are counted. A source or sink may tell its bytes or not, as std's readers and writers do.
+use Rattle.std.specs.Prelude.{◌≡◌, ◌⊎◌, ℕ, ◌-◌, ◌^◌, ◌<◌, ◌≤◌, [], List, Option, Some, None, length}
+use Rattle.std.specs.Io.KnownBytes.{Consumes}
 use Rattle.am_io.specs.declared.outside.Got.{Got}
 use Rattle.am_io.specs.declared.outside.Got.TheVariants.{Took, End, Failed}
 use Rattle.am_io.specs.declared.outside.Put.{Put}
@@ -9,30 +10,18 @@ use Rattle.am_io.specs.declared.outside.Put.TheVariants.{Took as Wrote, Failed a
 abbrev pub Rises : ℕ → ℕ → Type 0
 Rises before after = (before < after) ⊎ (before ≡ 2 ^ 64 - 1)
 
--- these bytes were taken from the front of what was left
-abbrev pub Takes : Option (List ℕ) → Option (List ℕ) → List ℕ → Type 0
-Takes (Some before) (Some after) bytes = before ≡ bytes ++ after
-Takes (Some before) None bytes = ⊥
-Takes None after bytes = after ≡ None
-
 -- these bytes are all that was left, and nothing is left
 abbrev pub ReadToEnd : Option (List ℕ) → Option (List ℕ) → List ℕ → Type 0
 ReadToEnd (Some before) after bytes = (before ≡ bytes) × (after ≡ Some [])
-ReadToEnd None after bytes = after ≡ None
+ReadToEnd None after bytes = Unit {0}
 
 -- more bytes than the limit were taken
 abbrev pub GaveMore : ℕ → Option (List ℕ) → Option (List ℕ) → Type 0
-GaveMore limit before after = (bytes : List ℕ) × Takes before after bytes × (limit < length bytes)
+GaveMore limit before after = (bytes : List ℕ) × Consumes before after bytes × (limit < length bytes)
 
 -- at most so many bytes were taken
 abbrev pub GaveAtMost : ℕ → Option (List ℕ) → Option (List ℕ) → Type 0
-GaveAtMost limit before after = (bytes : List ℕ) × Takes before after bytes × (length bytes ≤ limit)
-
--- these bytes were added at the end
-abbrev pub Appends : Option (List ℕ) → Option (List ℕ) → List ℕ → Type 0
-Appends (Some before) (Some after) bytes = after ≡ before ++ bytes
-Appends (Some before) None bytes = ⊥
-Appends None after bytes = after ≡ None
+GaveAtMost limit before after = (bytes : List ℕ) × Consumes before after bytes × (length bytes ≤ limit)
 
 -- what holds of the number of bytes that a read took
 abbrev pub IfTook : Got → (ℕ → Type 0) → Type 0

@@ -1,5 +1,6 @@
 ghost use Rattle.std.specs.Prelude.{◌≡◌, ◌⊎◌, ◌↔◌, ℕ, ◌+◌, ◌<◌, ◌≤◌, [], length, take, drop, min, Some, IfOk, Contains};
-ghost use Rattle.am_io.specs.Outside.{Rises, Takes, ReadToEnd, Appends, IfTook, OnEnd, OnFailed, IfPut, OnRefused};
+ghost use Rattle.std.specs.Io.KnownBytes.{Consumes, Appends, Keeps};
+ghost use Rattle.am_io.specs.Outside.{Rises, ReadToEnd, IfTook, OnEnd, OnFailed, IfPut, OnRefused};
 ghost use Rattle.am_io.specs.Memory.{Supply, Store, next};
 
 use crate::outside::{Got, Put, Sink, Source};
@@ -92,10 +93,10 @@ impl Source for MemSource<'_> {
     fn read(&mut self, into: &mut [u8]) -> Got
         requires { 0 < length into.old }
         ensures some { IfTook result (λ n. (0 < n) × (n ≤ length into.new)) }
-        ensures took { IfTook result (λ n. Takes (Some self.old.left) (Some self.new.left) (take n into.new)) }
+        ensures took { IfTook result (λ n. Consumes (Some self.old.left) (Some self.new.left) (take n into.new)) }
         ensures end { OnEnd result (ReadToEnd (Some self.old.left) (Some self.new.left) []) }
         ensures failed { OnFailed result (Rises self.old.faults self.new.faults) }
-        ensures untouched { OnFailed result (Some self.new.left ≡ Some self.old.left) }
+        ensures untouched { OnFailed result (Keeps (Some self.old.left) (Some self.new.left)) }
         ensures counts { self.old.faults ≤ self.new.faults }
         ensures amount { IfTook result (λ n. n ≡ min (min (length self.old.left) (length into.new)) self.old.most) }
         ensures fails { (result ≡ Got.Failed) ↔ Contains self.old.fail (next self.old.calls) }
@@ -184,7 +185,7 @@ impl Sink for MemSink<'_> {
         ensures some { IfPut result (λ n. (0 < n) × (n ≤ length piece.now)) }
         ensures took { IfPut result (λ n. Appends (Some self.old.held) (Some self.new.held) (take n piece.now)) }
         ensures failed { OnRefused result (Rises self.old.faults self.new.faults) }
-        ensures untouched { OnRefused result (Some self.new.held ≡ Some self.old.held) }
+        ensures untouched { OnRefused result (Keeps (Some self.old.held) (Some self.new.held)) }
         ensures counts { self.old.faults ≤ self.new.faults }
         ensures amount { IfPut result (λ n. n ≡ min (length piece.now) self.old.most) }
         ensures fails { (result ≡ Put.Failed) ↔ (Contains self.old.fail (next self.old.calls) ⊎ (self.old.size < length self.old.held + min (length piece.now) self.old.most)) }

@@ -1,5 +1,6 @@
 ghost use Rattle.std.specs.Prelude.{◌≡◌, ℕ, ◌<◌, ◌≤◌, [], List, Option, length, take};
-ghost use Rattle.am_io.specs.Outside.{Rises, Takes, ReadToEnd, Appends, IfTook, OnEnd, OnFailed, IfPut, OnRefused};
+ghost use Rattle.std.specs.Io.KnownBytes.{Consumes, Appends, Keeps};
+ghost use Rattle.am_io.specs.Outside.{Rises, ReadToEnd, IfTook, OnEnd, OnFailed, IfPut, OnRefused};
 
 /// What a read gave.
 #[derive(Clone, Copy, PartialEq, Eq, Debug)]
@@ -37,10 +38,10 @@ pub trait Source {
     fn read(&mut self, into: &mut [u8]) -> Got
         requires { 0 < length into.old }
         ensures some { IfTook result (λ n. (0 < n) × (n ≤ length into.new)) }
-        ensures took { IfTook result (λ n. Takes (left self.old) (left self.new) (take n into.new)) }
+        ensures took { IfTook result (λ n. Consumes (left self.old) (left self.new) (take n into.new)) }
         ensures end { OnEnd result (ReadToEnd (left self.old) (left self.new) []) }
         ensures failed { OnFailed result (Rises (count self.old) (count self.new)) }
-        ensures untouched { OnFailed result (left self.new ≡ left self.old) }
+        ensures untouched { OnFailed result (Keeps (left self.old) (left self.new)) }
         ensures counts { count self.old ≤ count self.new };
 }
 
@@ -62,6 +63,6 @@ pub trait Sink {
         ensures some { IfPut result (λ n. (0 < n) × (n ≤ length piece.now)) }
         ensures took { IfPut result (λ n. Appends (contents self.old) (contents self.new) (take n piece.now)) }
         ensures failed { OnRefused result (Rises (count self.old) (count self.new)) }
-        ensures untouched { OnRefused result (contents self.new ≡ contents self.old) }
+        ensures untouched { OnRefused result (Keeps (contents self.old) (contents self.new)) }
         ensures counts { count self.old ≤ count self.new };
 }

@@ -3,7 +3,7 @@ ghost use Rattle.std.specs.Prelude.{◌≡◌, None};
 use crate::outside::{Got, Put, Sink, Source};
 use std::io::{Read, Write};
 
-/// A reader of std's as a source, which tells nothing of its bytes. Each error counts as a fault.
+/// A reader of std's as a source, which tells of its bytes what the reader tells. Each error counts as a fault.
 #[derive(Drop)]
 pub struct StdSource<R: Read + Drop> {
     reader: R,
@@ -13,14 +13,15 @@ pub struct StdSource<R: Read + Drop> {
 impl<R: Read + Drop> StdSource<R> {
     /// The source of a reader, with no fault so far.
     pub fn new(reader: R) -> StdSource<R>
-        ensures { ⟦<StdSource<R> as Source>⟧.count result ≡ 0 }
+        ensures left { ⟦<StdSource<R> as Source>⟧.left result ≡ R.remaining reader }
+        ensures count { ⟦<StdSource<R> as Source>⟧.count result ≡ 0 }
     {
         StdSource { reader, faults: 0 }
     }
 }
 
 impl<R: Read + Drop> Source for StdSource<R> {
-    ghost left = { λ _. None };
+    ghost left = { λ s. R.remaining s.reader };
 
     ghost count = { λ s. s.faults };
 
@@ -40,8 +41,8 @@ impl<R: Read + Drop> Source for StdSource<R> {
     }
 }
 
-/// A writer of std's as a sink, which tells nothing of what it holds. Each error counts as a fault, and so does a write
-/// that takes no byte.
+/// A writer of std's as a sink, which tells of its bytes what the writer tells. Each error counts as a fault, and so
+/// does a write that takes no byte.
 #[derive(Drop)]
 pub struct StdSink<W: Write + Drop> {
     writer: W,
@@ -51,14 +52,15 @@ pub struct StdSink<W: Write + Drop> {
 impl<W: Write + Drop> StdSink<W> {
     /// The sink of a writer, with no fault so far.
     pub fn new(writer: W) -> StdSink<W>
-        ensures { ⟦<StdSink<W> as Sink>⟧.count result ≡ 0 }
+        ensures contents { ⟦<StdSink<W> as Sink>⟧.contents result ≡ W.contents writer }
+        ensures count { ⟦<StdSink<W> as Sink>⟧.count result ≡ 0 }
     {
         StdSink { writer, faults: 0 }
     }
 }
 
 impl<W: Write + Drop> Sink for StdSink<W> {
-    ghost contents = { λ _. None };
+    ghost contents = { λ s. W.contents s.writer };
 
     ghost count = { λ s. s.faults };
 

@@ -1,5 +1,5 @@
 use Rattle.std.proofs.Common.{◌-◌, ◌≤◌, length, take}
-use Rattle.am_io.specs.Outside.{Appends}
+use Rattle.std.specs.Io.KnownBytes.{Appends}
 use Rattle.am_io.proofs.whole.write_all.Given as goal
 
 abbrev pub invariant-loop-written : goal.invariant-loop-written
