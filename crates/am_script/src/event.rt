@@ -1,8 +1,9 @@
 ghost use Rattle.std.specs.Prelude.{◌≡◌, option_and_then};
+ghost use Rattle.std.specs.List.{list_any};
 ghost use Rattle.std.specs.Result.{result_ok};
 ghost use Rattle.serde_json.specs.View.{view};
 ghost use Rattle.am_script.specs.Refusals.{Answers};
-ghost use Rattle.am_script.specs.Scripts.{kind_of, body_of, act_of, event_as, event_of};
+ghost use Rattle.am_script.specs.Scripts.{kind_of, is_capital, body_of, act_of, event_as, event_of};
 ghost use Rattle.am_script.specs.Keys.{text_at};
 
 use crate::fields::{number_of, only, text_in};
@@ -36,6 +37,13 @@ fn kind(event: &Value, place: u32) -> Result<Kind, ScriptRefusal>
     }
 }
 
+/// Whether a text has one of the letters A to F.
+fn has_capital(text: &str) -> bool
+    ensures { result ≡ list_any is_capital text.now }
+{
+    text.bytes().any(|c| 65 <= c && c <= 70)
+}
+
 /// The body that a text of digits gives.
 #[tactic(auto, unfolding(crate::specs::Scripts::body_of))]
 fn body(alloc: Global, text: &str, place: u32) -> Result<Body, ScriptRefusal>
@@ -45,7 +53,7 @@ fn body(alloc: Global, text: &str, place: u32) -> Result<Body, ScriptRefusal>
         key: Key::Body,
         place,
     };
-    if text.bytes().any(|c| 65 <= c && c <= 70) {
+    if has_capital(text) {
         return Err(refusal);
     }
     let bytes = match hex::decode(alloc, text) {

@@ -1,11 +1,12 @@
-ghost use Rattle.std.specs.Prelude.{◌≡◌, option_map, string_bytes};
+ghost use Rattle.std.specs.Prelude.{◌≡◌, map, option_map, string_bytes};
+ghost use Rattle.std.specs.List.{list_all};
 ghost use Rattle.std.specs.Result.{result_ok};
 ghost use Rattle.serde_json.specs.View.{view};
 ghost use Rattle.am_script.specs.Keys.{word_of, is_among, has_only, value_at, text_at, number_in, number_at};
 
 use crate::key::Key;
 use crate::refusal::ScriptRefusal;
-use serde_json::Value;
+use serde_json::{Map, Value};
 
 /// Whether a word is that of one of the keys.
 fn is_known(keys: &[Key], word: &str) -> bool
@@ -14,12 +15,19 @@ fn is_known(keys: &[Key], word: &str) -> bool
     keys.iter().any(|key| key.word() == word)
 }
 
+/// Whether each key of a map is one of these.
+fn are_known(keys: &[Key], members: &Map<String, Value>) -> bool
+    ensures { result ≡ list_all (λ word. is_among keys.now (string_bytes word)) (map (λ m. m.0) members.now.entries) }
+{
+    members.keys().all(|word| is_known(keys, word.as_str()))
+}
+
 /// Whether an object has no other keys than these.
 pub fn only(keys: &[Key], value: &Value) -> bool
     ensures { result ≡ has_only keys.now (view value.now) }
 {
     match value.as_object() {
-        Some(members) => members.keys().all(|word| is_known(keys, word.as_str())),
+        Some(members) => are_known(keys, members),
         None => false,
     }
 }
