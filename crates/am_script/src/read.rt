@@ -17,7 +17,12 @@ use std::alloc::Global;
 
 /// The script of a document.
 #[tactic(auto, unfolding(crate::specs::Scripts::script_of))]
-fn document(alloc: Global, value: &Value) -> Result<(Founding, Items<Event>), ScriptRefusal>
+fn document(
+    alloc: Global,
+    asked: Key,
+    value: &Value,
+) -> Result<(Founding, Items<Event>), ScriptRefusal>
+    requires { asked ≡ Key.Play }
     ensures { Answers (script_of (view value.now)) result }
 {
     if !value.is_object() {
@@ -26,14 +31,15 @@ fn document(alloc: Global, value: &Value) -> Result<(Founding, Items<Event>), Sc
             place: 0,
         });
     }
-    let inner = value_in(value, Key::Play, 0)?;
-    if !only(&[Key::Play], value) {
+    let inner = value_in(value, asked, 0)?;
+    if !only(&[asked], value) {
         return Err(ScriptRefusal::Unknown { place: 0 });
     }
     play(alloc, inner)
 }
 
-/// Reads a script. It is refused for another cause than memory exactly where the bytes aren't JSON of a script.
+/// Reads a script of the key that is asked for. It is refused for another cause than memory exactly where the bytes
+/// aren't JSON of such a script.
 pub fn read_script(alloc: Global, asked: Key, bytes: &[u8]) -> Result<Script, ScriptRefusal>
     requires { asked ≡ Key.Play }
     ensures ok { IfOk result (λ script. IsScriptOf bytes.now script) }
@@ -48,10 +54,142 @@ pub fn read_script(alloc: Global, asked: Key, bytes: &[u8]) -> Result<Script, Sc
             return Err(ScriptRefusal::NotJson);
         }
     };
-    let (founding, events) = document(alloc, &value)?;
+    let (founding, events) = document(alloc, asked, &value)?;
     Ok(Script::Play {
         founding,
         events,
         settle: false,
     })
+}
+
+#[cfg(test)]
+mod tests {
+    use super::*;
+    use am_group::event::Act;
+    use std::test::Fail;
+
+    /// Bytes that aren't scripts, and what they are refused for.
+    const REFUSED: [(&str, ScriptRefusal); 12] = [
+        ("{", ScriptRefusal::NotJson),
+        (
+            "[]",
+            ScriptRefusal::BadValue {
+                key: Key::Top,
+                place: 0,
+            },
+        ),
+        (
+            "{\"race\":{}}",
+            ScriptRefusal::Missing {
+                key: Key::Play,
+                place: 0,
+            },
+        ),
+        (
+            "{\"play\":{},\"race\":{}}",
+            ScriptRefusal::Unknown { place: 0 },
+        ),
+        (
+            "{\"play\":{\"founders\":[0]}}",
+            ScriptRefusal::Missing {
+                key: Key::Events,
+                place: 0,
+            },
+        ),
+        (
+            "{\"play\":{\"founders\":[0,0],\"events\":[]}}",
+            ScriptRefusal::BadValue {
+                key: Key::Founders,
+                place: 0,
+            },
+        ),
+        (
+            "{\"play\":{\"founders\":[],\"events\":[]}}",
+            ScriptRefusal::OutOfRange {
+                key: Key::Founders,
+                place: 0,
+                found: 0,
+                least: 1,
+                most: 16,
+            },
+        ),
+        (
+            "{\"play\":{\"founders\":[0],\"events\":[{\"do\":\"fly\",\"node\":0}]}}",
+            ScriptRefusal::BadValue {
+                key: Key::Do,
+                place: 1,
+            },
+        ),
+        (
+            "{\"play\":{\"founders\":[0],\"events\":[{\"do\":\"take\",\"node\":0},{\"do\":\"take\",\"node\":0,\"req\":1}]}}",
+            ScriptRefusal::Unknown { place: 2 },
+        ),
+        (
+            "{\"play\":{\"founders\":[0],\"events\":[{\"do\":\"take\",\"node\":16}]}}",
+            ScriptRefusal::OutOfRange {
+                key: Key::Node,
+                place: 1,
+                found: 16,
+                least: 0,
+                most: 15,
+            },
+        ),
+        (
+            "{\"play\":{\"founders\":[0],\"events\":[{\"do\":\"send\",\"node\":0,\"body\":\"6A\"}]}}",
+            ScriptRefusal::BadValue {
+                key: Key::Body,
+                place: 1,
+            },
+        ),
+        (
+            "{\"play\":{\"founders\":[0],\"events\":[{\"do\":\"hear\",\"node\":0,\"packet\":0}]}}",
+            ScriptRefusal::OutOfRange {
+                key: Key::Packet,
+                place: 1,
+                found: 0,
+                least: 1,
+                most: 2_000_000_000,
+            },
+        ),
+    ];
+
+    #[test]
+    fn refused(rt: HostRuntime) -> Result<(), Fail> {
+        for (text, wanted) in REFUSED {
+            match read_script(rt.alloc(), Key::Play, text.as_bytes()) {
+                Ok(_) => assert!(rt; false),
+                Err(refusal) => assert!(rt; refusal == wanted),
+            }
+        }
+        Ok(())
+    }
+
+    #[test]
+    fn reads(rt: HostRuntime) -> Result<(), Fail> {
+        let text =
+            "{\"play\": {\"founders\": [3, 1], \"events\": [{\"do\": \"send\", \"node\": 1, \"body\": \"616f\"}, {\"do\": \"take\", \"node\": 3}]}}";
+        match read_script(rt.alloc(), Key::Play, text.as_bytes()) {
+            Ok(
+                Script::Play {
+                    founding,
+                    events,
+                    settle,
+                },
+            ) => {
+                assert!(rt; !settle && founding.founders().len() == 2 && founding.window() == 64);
+                assert!(rt; events.as_slice().len() == 2);
+                for event in events.as_slice() {
+                    match &event.act {
+                        Act::Send(body) => assert!(rt;
+                            body.bytes() == b"ao".as_slice() && event.node.get() == 1
+                        ),
+                        Act::Take => assert!(rt; event.node.get() == 3),
+                        _ => assert!(rt; false),
+                    }
+                }
+            }
+            Err(_) => assert!(rt; false),
+        }
+        Ok(())
+    }
 }
