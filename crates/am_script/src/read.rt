@@ -168,28 +168,21 @@ mod tests {
     fn reads(rt: HostRuntime) -> Result<(), Fail> {
         let text =
             "{\"play\": {\"founders\": [3, 1], \"events\": [{\"do\": \"send\", \"node\": 1, \"body\": \"616f\"}, {\"do\": \"take\", \"node\": 3}]}}";
-        match read_script(rt.alloc(), Key::Play, text.as_bytes()) {
-            Ok(
-                Script::Play {
-                    founding,
-                    events,
-                    settle,
-                },
-            ) => {
-                assert!(rt; !settle && founding.founders().len() == 2 && founding.window() == 64);
-                assert!(rt; events.as_slice().len() == 2);
-                for event in events.as_slice() {
-                    match &event.act {
-                        Act::Send(body) => assert!(rt;
-                            body.bytes() == b"ao".as_slice() && event.node.get() == 1
-                        ),
-                        Act::Take => assert!(rt; event.node.get() == 3),
-                        _ => assert!(rt; false),
-                    }
-                }
-            }
-            Err(_) => assert!(rt; false),
-        }
+        let script = read_script(rt.alloc(), Key::Play, text.as_bytes());
+        let Script::Play {
+            founding,
+            events,
+            settle,
+        } = script.ok().ok_or("a script")?;
+        assert!(rt; !settle && founding.founders().len() == 2 && founding.window() == 64);
+        let events = events.as_slice();
+        assert!(rt; events.len() == 2);
+        let sends = match &events[0].act {
+            Act::Send(body) => body.bytes() == b"ao".as_slice(),
+            _ => false,
+        };
+        assert!(rt; sends && events[0].node.get() == 1);
+        assert!(rt; matches!(events[1].act, Act::Take) && events[1].node.get() == 3);
         Ok(())
     }
 }

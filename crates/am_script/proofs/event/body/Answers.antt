@@ -1,4 +1,4 @@
-use Rattle.std.proofs.Common.{◌≡◌, ◌≤◌, length, Some, ap, sym, ◌∙◌, arith, rules}
+use Rattle.std.proofs.Common.{◌≡◌, ◌≤◌, length, Some, ap, sym, ◌∙◌, rules}
 use Rattle.am_script.proofs.Json.{body_there}
 use Rattle.am_script.proofs.event.body.Goals as goal
 
