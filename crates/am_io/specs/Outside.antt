@@ -1,0 +1,52 @@
+-- What reads take and how faults are counted. A source or sink may tell its bytes or not, as std's readers and writers do.
+use Rattle.std.specs.Prelude.{◌≡◌, ◌⊎◌, ℕ, ◌-◌, ◌^◌, ◌<◌, ◌≤◌, [], List, Option, Some, None, length}
+use Rattle.std.specs.Io.KnownBytes.{Consumes}
+use Rattle.am_io.specs.declared.outside.Got.{Got}
+use Rattle.am_io.specs.declared.outside.Got.TheVariants.{Took, End, Failed}
+use Rattle.am_io.specs.declared.outside.Put.{Put}
+use Rattle.am_io.specs.declared.outside.Put.TheVariants.{Took as Wrote, Failed as Refused}
+
+-- the count of faults rose, or stood where it can't rise
+abbrev pub Rises : ℕ → ℕ → Type 0
+Rises before after = (before < after) ⊎ (before ≡ 2 ^ 64 - 1)
+
+-- these bytes are all that was left, and nothing is left
+abbrev pub ReadToEnd : Option (List ℕ) → Option (List ℕ) → List ℕ → Type 0
+ReadToEnd (Some before) after bytes = (before ≡ bytes) × (after ≡ Some [])
+ReadToEnd None after bytes = Unit {0}
+
+-- more bytes than the limit were taken
+abbrev pub GaveMore : ℕ → Option (List ℕ) → Option (List ℕ) → Type 0
+GaveMore limit before after = (bytes : List ℕ) × Consumes before after bytes × (limit < length bytes)
+
+-- at most so many bytes were taken
+abbrev pub GaveAtMost : ℕ → Option (List ℕ) → Option (List ℕ) → Type 0
+GaveAtMost limit before after = (bytes : List ℕ) × Consumes before after bytes × (length bytes ≤ limit)
+
+-- what holds of the number of bytes that a read took
+abbrev pub IfTook : Got → (ℕ → Type 0) → Type 0
+IfTook (Took n) claim = claim n
+IfTook End claim = Unit {0}
+IfTook Failed claim = Unit {0}
+
+-- what holds where a read found the end
+abbrev pub OnEnd : Got → Type 0 → Type 0
+OnEnd (Took n) claim = Unit {0}
+OnEnd End claim = claim
+OnEnd Failed claim = Unit {0}
+
+-- what holds where a read failed
+abbrev pub OnFailed : Got → Type 0 → Type 0
+OnFailed (Took n) claim = Unit {0}
+OnFailed End claim = Unit {0}
+OnFailed Failed claim = claim
+
+-- what holds of the number of bytes that a write took
+abbrev pub IfPut : Put → (ℕ → Type 0) → Type 0
+IfPut (Wrote n) claim = claim n
+IfPut Refused claim = Unit {0}
+
+-- what holds where a write failed
+abbrev pub OnRefused : Put → Type 0 → Type 0
+OnRefused (Wrote n) claim = Unit {0}
+OnRefused Refused claim = claim

@@ -1,0 +1,74 @@
+ghost use Rattle.std.specs.Prelude.{◌≡◌};
+ghost use Rattle.am_script.specs.Refusals.{number_of, place_of};
+ghost use Rattle.am_script.specs.declared.refusal.ScriptRefusal.TheVariants.{NoMemory};
+
+use crate::key::Key;
+use std::alloc::AllocError;
+
+/// Why bytes aren't a script. A place is the number of an event, from 1, or 0 elsewhere.
+#[derive(Clone, Copy, PartialEq, Eq, Debug)]
+pub enum ScriptRefusal {
+    /// The bytes aren't JSON.
+    NotJson,
+    /// A key isn't there.
+    Missing {
+        key: Key,
+        place: u32,
+    },
+    /// A key is there that doesn't belong.
+    Unknown {
+        place: u32,
+    },
+    /// The value at a key isn't of its kind.
+    BadValue {
+        key: Key,
+        place: u32,
+    },
+    /// A number isn't within its limits.
+    OutOfRange {
+        key: Key,
+        place: u32,
+        found: u64,
+        least: u64,
+        most: u64,
+    },
+    /// There was no memory.
+    NoMemory,
+}
+
+impl ScriptRefusal {
+    /// Its number, 1 to 6.
+    pub fn number(self) -> u8
+        ensures { result ≡ number_of self }
+    {
+        match self {
+            ScriptRefusal::NotJson => 1,
+            ScriptRefusal::Missing { .. } => 2,
+            ScriptRefusal::Unknown { .. } => 3,
+            ScriptRefusal::BadValue { .. } => 4,
+            ScriptRefusal::OutOfRange { .. } => 5,
+            ScriptRefusal::NoMemory => 6,
+        }
+    }
+
+    /// The number of the event that is refused, or 0.
+    pub fn place(self) -> u32
+        ensures { result ≡ place_of self }
+    {
+        match self {
+            ScriptRefusal::NotJson | ScriptRefusal::NoMemory => 0,
+            ScriptRefusal::Missing { place, .. } => place,
+            ScriptRefusal::Unknown { place } => place,
+            ScriptRefusal::BadValue { place, .. } => place,
+            ScriptRefusal::OutOfRange { place, .. } => place,
+        }
+    }
+}
+
+impl From<AllocError> for ScriptRefusal {
+    ghost from_gives = { λ _ e. e ≡ NoMemory };
+
+    fn from(_e: AllocError) -> ScriptRefusal {
+        ScriptRefusal::NoMemory
+    }
+}
