@@ -1,0 +1,4 @@
+pub mod Kinds
+pub mod Limits
+pub mod Spelling
+pub mod Reading

@@ -1,0 +1,11 @@
+//! Packets as bytes: one spelling for each packet, and a reader that takes nothing else.
+#![tactic(auto)]
+
+mod kind;
+mod reader;
+mod refusal;
+mod writer;
+
+pub use reader::decode;
+pub use refusal::PacketRefusal;
+pub use writer::encode;
