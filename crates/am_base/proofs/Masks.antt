@@ -170,3 +170,16 @@ back xs set = places_of-set 16 xs set.places (any_life xs set)
 
 pub fit : (xs : List ℕ) → IsSet xs → is_masked 16 (mask_of xs) (lives_of xs) ≡ true
 fit xs set = is_masked-set 16 xs set.places (any_life xs set)
+
+pub mask_of-lt : (xs : List ℕ) → mask_of xs < 2 ^ length xs
+unfolding mask_of
+mask_of-lt [] = omega arith
+mask_of-lt (x ∷ xs) = digit_more 2 (length xs) (suc (length xs)) (if x == 0 then 0 else 1) (mask_of xs) refl (grind (arith, nat_tests)) (mask_of-lt xs)
+
+lives_of-lt-each : (xs : List ℕ) → ((k : ℕ) → get_or xs k 0 ≤ 16) → lives_of xs < 16 ^ length xs
+unfolding lives_of
+lives_of-lt-each [] each = omega arith
+lives_of-lt-each (x ∷ xs) each = digit_more 16 (length xs) (suc (length xs)) (x - 1) (lives_of xs) refl (omega (arith, each 0)) (lives_of-lt-each xs (λ k. each (suc k)))
+
+pub lives_of-lt : (xs : List ℕ) → IsSet xs → lives_of xs < 16 ^ length xs
+lives_of-lt xs set = lives_of-lt-each xs (any_life xs set)

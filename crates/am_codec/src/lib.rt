@@ -2,6 +2,7 @@
 #![tactic(auto)]
 
 mod kind;
+pub mod laws;
 mod reader;
 mod refusal;
 mod writer;
@@ -9,3 +10,6 @@ mod writer;
 pub use reader::decode;
 pub use refusal::PacketRefusal;
 pub use writer::encode;
+
+#[cfg(test)]
+mod tests;

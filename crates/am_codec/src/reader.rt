@@ -1,10 +1,13 @@
-ghost use Rattle.std.specs.Prelude.{◌≡◌, ℕ, ◌+◌, ◌-◌, ◌≤◌, ◌<◌, ◌≢◌, ◌↔◌, ◌⊎◌, length, drop, Ok, Err, IfOk, IsTrue, slice_index};
+ghost use Rattle.std.specs.Prelude.{◌≡◌, ℕ, ◌+◌, ◌≤◌, ◌<◌, ◌≢◌, ◌↔◌, false, length, drop, Some, None, Ok, Err, IfOk, slice_index};
 ghost use Rattle.am_packet.specs.declared.packet.Packet.{Packet};
 ghost use Rattle.am_codec.specs.declared.kind.Kind.TheVariants as kinds;
+ghost use Rattle.am_codec.specs.declared.refusal.PacketRefusal.TheVariants.{Short, BadMark, BadVersion, BadKind, BadLength, BadField};
+ghost use Rattle.am_codec.specs.Causes.{HasMark, HasVersion, HasKind, HasTotal};
+ghost use Rattle.am_codec.specs.Faults.{wrong_in};
 ghost use Rattle.am_codec.specs.Kinds.{kind_at, least_total, most_total};
-ghost use Rattle.am_codec.specs.Limits.{IsWithin, IsPacket};
+ghost use Rattle.am_codec.specs.Limits.{IsPacket};
 ghost use Rattle.am_codec.specs.Spelling.{spelling};
-ghost use Rattle.am_codec.specs.Reading.{reading, of_kind_at, kind_in, fields_at, packet_at, number_at, report_at, stamp_at, set_at, resilience_at, flag_at, life_at, row_at, rows_at, image_at, vote_at, entry_at, data_at, join_at, leave_at, view_at, view_fields_at};
+ghost use Rattle.am_codec.specs.Reading.{reading, of_kind_at, has_mark, version_in, kind_in, total_in, found_in, fields_at, packet_at, number_at, report_at, stamp_at, set_at, resilience_at, flag_at, life_at, row_at, rows_at, image_at, vote_at, entry_at, data_at, join_at, leave_at, view_at, view_fields_at};
 
 use crate::kind::Kind;
 use crate::refusal::PacketRefusal;
@@ -585,9 +588,21 @@ fn read(bytes: &[u8]) -> Result<Packet, PacketRefusal>
     of_kind(bytes)
 }
 
-/// The packet that these bytes spell, all of them, or the first cause that they spell none.
+/// The packet that these bytes spell, all of them, or the first cause that they spell none. A count of bytes above
+/// 4,294,967,295 is told as that number.
 pub fn decode(bytes: &[u8]) -> Result<Packet, PacketRefusal>
     ensures exact { result ≡ reading bytes.now }
+    // What is read is spelled so.
+    ensures found { IfOk result (λ packet. IsPacket packet × (bytes.now ≡ spelling packet)) }
+    // What is spelled so is read.
+    ensures only { (packet : Packet) → IsPacket packet → bytes.now ≡ spelling packet → result ≡ Ok packet }
+    // Each refusal comes exactly where it is the first cause.
+    ensures short { (result ≡ Err Short) ↔ (length bytes.now < 12) }
+    ensures bad_mark { (result ≡ Err BadMark) ↔ ((12 ≤ length bytes.now) × (has_mark bytes.now ≡ false)) }
+    ensures bad_version { (version : ℕ) → (result ≡ Err (BadVersion version)) ↔ (HasMark bytes.now × (version_in bytes.now ≡ version) × (version ≢ 3)) }
+    ensures bad_kind { (kind : ℕ) → (result ≡ Err (BadKind kind)) ↔ (HasVersion bytes.now × (kind_in bytes.now ≡ kind) × (kind_at kind ≡ None)) }
+    ensures bad_length { (said found : ℕ) → (result ≡ Err (BadLength said found)) ↔ (HasKind bytes.now × (total_in bytes.now ≡ said) × (found_in bytes.now ≡ found) × (said ≢ length bytes.now)) }
+    ensures bad_field { (at : ℕ) → (result ≡ Err (BadField at)) ↔ (HasTotal bytes.now × (wrong_in (kind_at (kind_in bytes.now)) bytes.now ≡ Some at)) }
 {
     read(bytes)
 }
