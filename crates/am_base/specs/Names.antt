@@ -1,7 +1,6 @@
 -- Names and sets of names. A name is the number of its byte: its place, and sixteen times its life less one.
 -- A set of names has at most one life of each place: it is the list of the sixteen lives, 0 where a place isn't there.
-use Rattle.std.specs.Prelude.{◌≡◌, ℕ, zero, suc, ◌+◌, ◌-◌, ◌*◌, ◌/◌, ◌%◌, ◌≤◌, max, List, [], ◌∷◌, length, map, Bool, if◌then◌else◌, ◌==◌, ◌||◌, nat_lt, Option, Some, None, slice_index, slice_set, count_by, EachIndex, replicate}
-use Rattle.std.specs.Int.{bit_at}
+use Rattle.std.specs.Prelude.{◌≡◌, ℕ, zero, suc, ◌+◌, ◌-◌, ◌*◌, ◌/◌, ◌%◌, ◌≤◌, max, List, [], ◌∷◌, length, map, Bool, true, if◌then◌else◌, ◌==◌, ◌||◌, ◌&&◌, nat_lt, Option, Some, None, slice_index, slice_set, count_by, EachIndex, replicate}
 use Rattle.std.specs.List.{range_with_len, list_all}
 use Rattle.std.specs.Ordering.{nat_cmp, on, then_cmp}
 use Rattle.std.specs.declared.cmp.Ordering.{Ordering}
@@ -87,21 +86,33 @@ first_of (name ∷ names) = Some name
 abbrev pub lowest_of : List ℕ → Option ℕ
 lowest_of set = first_of (names_of set)
 
--- life 1 of each place whose bit is set
+-- the mask of a set's places: bit 0 is the first place's, bit 1 the next one's, and so on
+unfoldable pub mask_of : List ℕ → ℕ
+mask_of [] = 0
+mask_of (life ∷ lives) = (if life == 0 then 0 else 1) + 2 * mask_of lives
+
+-- a set's lives less one in four bits each, the lowest bits for the first place, and 0 where a place isn't there
+unfoldable pub lives_of : List ℕ → ℕ
+lives_of [] = 0
+lives_of (life ∷ lives) = (life - 1) + 16 * lives_of lives
+
+-- the lives of so many places, by a mask and by lives less one
+unfoldable pub places_of : ℕ → ℕ → ℕ → List ℕ
+places_of zero mask lives = []
+places_of (suc places) mask lives = (if mask % 2 == 0 then 0 else lives % 16 + 1) ∷ places_of places (mask / 2) (lives / 16)
+
+-- where the mask hasn't a place, its four bits are 0
+unfoldable pub is_masked : ℕ → ℕ → ℕ → Bool
+is_masked zero mask lives = true
+is_masked (suc places) mask lives = (if mask % 2 == 0 then lives % 16 == 0 else true) && is_masked places (mask / 2) (lives / 16)
+
+-- the set with this mask and these lives, and whether there is one
+abbrev pub of_parts : ℕ → ℕ → List ℕ
+of_parts mask lives = places_of 16 mask lives
+
+abbrev pub are_parts : ℕ → ℕ → Bool
+are_parts mask lives = is_masked 16 mask lives
+
+-- life 1 of each place of a mask
 abbrev pub of_mask : ℕ → List ℕ
-of_mask mask = by_place (λ place. bit_at mask place)
-
--- the places of a set as a mask, and their lives less one in four bits each, from a place on
-abbrev pub mask_from : ℕ → List ℕ → ℕ
-mask_from weight [] = 0
-mask_from weight (life ∷ lives) = (if life == 0 then 0 else weight) + mask_from (2 * weight) lives
-
-abbrev pub lives_from : ℕ → List ℕ → ℕ
-lives_from weight [] = 0
-lives_from weight (life ∷ lives) = (life - 1) * weight + lives_from (16 * weight) lives
-
-abbrev pub mask_of : List ℕ → ℕ
-mask_of set = mask_from 1 set
-
-abbrev pub lives_of : List ℕ → ℕ
-lives_of set = lives_from 1 set
+of_mask mask = of_parts mask 0

@@ -1,8 +1,59 @@
-ghost use Rattle.std.specs.Prelude.{◌≡◌, ℕ, ◌+◌, ◌-◌, ◌*◌, ◌^◌, ◌<◌, ◌≤◌, ◌↔◌, IsTrue, IsSome, IfSome, EachIndex, max, slice_index};
-ghost use Rattle.am_base.specs.Names.{IsSet, nobody, has, with_name, without_name, union_of, minus, size, lowest_of, of_mask, mask_of, lives_of};
+ghost use Rattle.std.specs.Prelude.{◌≡◌, ◌==◌, if◌then◌else◌, ℕ, ◌+◌, ◌-◌, ◌*◌, ◌%◌, ◌^◌, ◌<◌, ◌≤◌, ◌↔◌, List, IsTrue, IsSome, IfSome, Some, EachIndex, max, slice_index};
+ghost use Rattle.am_base.specs.Names.{IsSet, nobody, has, with_name, without_name, union_of, minus, size, lowest_of, of_mask, of_parts, are_parts, mask_of, lives_of};
 
 use crate::name::Name;
 use std::marker::Model;
+
+/// The life that a mask's lowest bit and four bits of lives give: 0 where the bit isn't set.
+fn life_in(mask: u16, lives: u64) -> u8
+    ensures { result ≡ (if mask % 2 == 0 then 0 else lives % 16 + 1) }
+{
+    if mask % 2 == 0 {
+        0
+    } else {
+        (lives % 16) as u8 + 1
+    }
+}
+
+/// The bit of a place with this life.
+fn bit_of(life: u8) -> u16
+    ensures { result ≡ (if life == 0 then 0 else 1) }
+{
+    if life == 0 { 0 } else { 1 }
+}
+
+#[tactic(auto, using(crate::proofs::Masks::filled, crate::proofs::Masks::fills))]
+/// The lives that a mask of places and their lives less one give.
+fn lives_in(mask: u16, lives: u64) -> [u8; 16]
+    ensures { result ≡ of_parts mask lives }
+{
+    let mut set = [0; 16];
+    let mut bits = mask;
+    let mut rest = lives;
+    for place in 0..16usize {
+        set[place] = life_in(bits, rest);
+        bits /= 2;
+        rest /= 16;
+    }
+    set
+}
+
+#[tactic(auto, using(crate::proofs::Masks::unmasked, crate::proofs::Masks::masked, crate::proofs::Masks::all_masked))]
+/// Whether each place outside the mask has no life.
+fn are_parts(mask: u16, lives: u64) -> bool
+    ensures { result ≡ are_parts mask lives }
+{
+    let mut bits = mask;
+    let mut rest = lives;
+    for step in 0..16usize {
+        if life_in(bits, rest) == 0 && rest % 16 != 0 {
+            return false;
+        }
+        bits /= 2;
+        rest /= 16;
+    }
+    true
+}
 
 /// A set of names with at most one life of each place. Contracts see it as the list of the sixteen places' lives, 0
 /// where a place isn't there (docs/PROTOCOL.md, "Names").
@@ -36,6 +87,55 @@ impl Names {
         ensures { result ≡ nobody }
     {
         Names { lives: [0; 16] }
+    }
+
+    #[tactic(auto, using(crate::proofs::Masks::is_set))]
+    /// Life 1 of each place of a mask, whose bit 0 is place 0's.
+    pub fn of_mask(mask: u16) -> Names
+        ensures value { result ≡ of_mask mask }
+    {
+        Names {
+            lives: lives_in(mask, 0),
+        }
+    }
+
+    #[tactic(auto, using(crate::proofs::Masks::is_set))]
+    /// The set with this mask of places and these lives less one, four bits for each place; None exactly where there is
+    /// none, since a place outside the mask has such bits that aren't 0.
+    pub fn of_parts(mask: u16, lives: u64) -> Option<Names>
+        ensures variant { IsSome result ↔ IsTrue (are_parts mask lives) }
+        ensures value { IfSome result (λ set. set ≡ of_parts mask lives) }
+        ensures only { (set : List ℕ) → IsSet set → mask ≡ mask_of set → lives ≡ lives_of set → result ≡ Some set }
+        ensures parts { IfSome result (λ set. (mask_of set ≡ mask) × (lives_of set ≡ lives)) }
+    {
+        if !are_parts(mask, lives) {
+            return None;
+        }
+        Some(Names {
+            lives: lives_in(mask, lives),
+        })
+    }
+
+    /// Its places, place 0 in bit 0.
+    pub fn mask(self) -> u16
+        ensures value { result ≡ mask_of self }
+    {
+        let mut mask = 0;
+        for place in (0..16usize).rev() {
+            mask = bit_of(self.lives[place]) + 2 * mask;
+        }
+        mask
+    }
+
+    /// The lives less one of its places, four bits for each place, place 0 in the lowest; 0 where a place isn't there.
+    pub fn lives(self) -> u64
+        ensures value { result ≡ lives_of self }
+    {
+        let mut lives = 0;
+        for place in (0..16usize).rev() {
+            lives = u64::from(self.lives[place].saturating_sub(1)) + 16 * lives;
+        }
+        lives
     }
 
     /// Whether exactly this name is in the set.

@@ -1,0 +1,248 @@
+-- A spelling is read as its packet.
+use Rattle.std.proofs.Common.{◌≡◌, ℕ, ◌+◌, ◌≤◌, ◌&&◌, true, List, length, drop, Some, Ok, refl, sym, ◌∙◌, arith}
+use Rattle.std.specs.Prelude.{nat_le}
+use Rattle.std.proofs.lemmas.Bool.{le-leb, le-ltb, eq-eqb, and_from}
+use Rattle.byteorder.specs.Numbers.{big_number-reads_back}
+use Rattle.am_base.specs.declared.entry.Entry.{Entry}
+use Rattle.am_base.specs.declared.entry.Entry.TheVariants.{Data, Join, Leave, View}
+use Rattle.am_packet.specs.declared.packet.Packet.{Packet}
+use Rattle.am_packet.specs.declared.packet.Packet.TheVariants as packets
+use Rattle.am_packet.specs.Kinds.{kind_of}
+use Rattle.am_codec.specs.declared.kind.Kind.{Kind}
+use Rattle.am_codec.specs.declared.kind.Kind.TheVariants as kinds
+use Rattle.am_codec.specs.Kinds.{kind_at, is_total}
+use Rattle.am_codec.specs.Limits.{IsNumber, IsWithin, HasParts, HasEntryParts, IsPacket}
+use Rattle.am_codec.specs.Spelling.{spelling, fields_of, sender_of, stamp_of, entry_bytes}
+use Rattle.am_codec.specs.Reading.{packet_at, fields_at, of_kind_at, reading, total_in}
+use Rattle.am_codec.proofs.Pieces.{length-rows_bytes}
+use Rattle.am_codec.proofs.Fields.{later, peek, number_again, report_again, stamp_again, set_again, resilience_again, flag_again}
+use Rattle.am_codec.proofs.Parts.{image_again, vote_again, entry_again}
+
+abbrev pub kind_for : Packet → Kind
+kind_for (packets.Request sender stamp report req body) = kinds.Request
+kind_for (packets.Spread sender stamp report req body) = kinds.Spread
+kind_for (packets.Bcast sender stamp base acc number entry) = kinds.Bcast
+kind_for (packets.Order sender stamp base acc number from req) = kinds.Order
+kind_for (packets.Accept sender stamp base acc top poll) = kinds.Accept
+kind_for (packets.Ack sender stamp report) = kinds.Ack
+kind_for (packets.Nack sender stamp report) = kinds.Nack
+kind_for (packets.Hold sender stamp base top req) = kinds.Hold
+kind_for (packets.JoinAsk sender stamp) = kinds.JoinAsk
+kind_for (packets.Welcome sender stamp base join image) = kinds.Welcome
+kind_for (packets.LeaveAsk sender stamp report) = kinds.LeaveAsk
+kind_for (packets.Gone sender stamp number) = kinds.Gone
+kind_for (packets.Invite sender stamp) = kinds.Invite
+kind_for (packets.Vote sender stamp vote) = kinds.Vote
+kind_for (packets.Fetch sender stamp stored) = kinds.Fetch
+kind_for (packets.Piece sender stamp base number entry) = kinds.Piece
+kind_for (packets.Result sender stamp base number members resilience) = kinds.Result
+kind_for (packets.HandOver sender stamp) = kinds.HandOver
+
+pub kind_back : (packet : Packet) → kind_at (kind_of packet) ≡ Some (kind_for packet)
+unfolding kind_at
+kind_back (packets.Request sender stamp report req body) = refl
+kind_back (packets.Spread sender stamp report req body) = refl
+kind_back (packets.Bcast sender stamp base acc number entry) = refl
+kind_back (packets.Order sender stamp base acc number from req) = refl
+kind_back (packets.Accept sender stamp base acc top poll) = refl
+kind_back (packets.Ack sender stamp report) = refl
+kind_back (packets.Nack sender stamp report) = refl
+kind_back (packets.Hold sender stamp base top req) = refl
+kind_back (packets.JoinAsk sender stamp) = refl
+kind_back (packets.Welcome sender stamp base join image) = refl
+kind_back (packets.LeaveAsk sender stamp report) = refl
+kind_back (packets.Gone sender stamp number) = refl
+kind_back (packets.Invite sender stamp) = refl
+kind_back (packets.Vote sender stamp vote) = refl
+kind_back (packets.Fetch sender stamp stored) = refl
+kind_back (packets.Piece sender stamp base number entry) = refl
+kind_back (packets.Result sender stamp base number members resilience) = refl
+kind_back (packets.HandOver sender stamp) = refl
+
+round_within : (packet : Packet) → IsWithin packet → IsNumber (stamp_of packet).round
+unfolding IsWithin
+round_within (packets.Request sender stamp report req body) within = within.0
+round_within (packets.Spread sender stamp report req body) within = within.0
+round_within (packets.Bcast sender stamp base acc number entry) within = within.0
+round_within (packets.Order sender stamp base acc number from req) within = within.0
+round_within (packets.Accept sender stamp base acc top poll) within = within.0
+round_within (packets.Ack sender stamp report) within = within.0
+round_within (packets.Nack sender stamp report) within = within.0
+round_within (packets.Hold sender stamp base top req) within = within.0
+round_within (packets.JoinAsk sender stamp) within = within
+round_within (packets.Welcome sender stamp base join image) within = within.0
+round_within (packets.LeaveAsk sender stamp report) within = within.0
+round_within (packets.Gone sender stamp number) within = within.0
+round_within (packets.Invite sender stamp) within = within
+round_within (packets.Vote sender stamp vote) within = within.0
+round_within (packets.Fetch sender stamp stored) within = within.0
+round_within (packets.Piece sender stamp base number entry) within = within.0
+round_within (packets.Result sender stamp base number members resilience) within = within.0
+round_within (packets.HandOver sender stamp) within = within
+
+-- ---- how long fields are
+
+entry_short : (entry : Entry) → HasEntryParts entry → length (entry_bytes entry) ≤ 1030
+unfolding entry_bytes
+entry_short (Data from req body) parts = omega (arith, parts)
+entry_short (Join name) parts = omega arith
+entry_short (Leave name) parts = omega arith
+entry_short (View stamp members resilience) parts = omega arith
+
+entry_some : (entry : Entry) → 1 ≤ length (entry_bytes entry)
+unfolding entry_bytes
+entry_some (Data from req body) = omega arith
+entry_some (Join name) = omega arith
+entry_some (Leave name) = omega arith
+entry_some (View stamp members resilience) = omega arith
+
+within_total : (n least most : ℕ) → least ≤ n → n ≤ most → (nat_le least n && nat_le n most) ≡ true
+within_total n least most low high = and_from (nat_le least n) (nat_le n most) (le-leb least n low) (le-leb n most high)
+
+total_fits : (packet : Packet) → HasParts packet → is_total (kind_for packet) (12 + length (fields_of packet)) ≡ true
+unfolding HasParts fields_of
+total_fits (packets.Request sender stamp report req body) parts = within_total (12 + length (fields_of (packets.Request sender stamp report req body))) 24 1048 (omega arith) (omega (arith, parts))
+total_fits (packets.Spread sender stamp report req body) parts = within_total (12 + length (fields_of (packets.Spread sender stamp report req body))) 24 1048 (omega arith) (omega (arith, parts))
+total_fits (packets.Bcast sender stamp base acc number entry) parts = within_total (12 + length (fields_of (packets.Bcast sender stamp base acc number entry))) 25 65535 (omega (arith, entry_some entry)) (omega (arith, entry_short entry parts))
+total_fits (packets.Order sender stamp base acc number from req) parts = refl
+total_fits (packets.Accept sender stamp base acc top poll) parts = refl
+total_fits (packets.Ack sender stamp report) parts = refl
+total_fits (packets.Nack sender stamp report) parts = refl
+total_fits (packets.Hold sender stamp base top req) parts = refl
+total_fits (packets.JoinAsk sender stamp) parts = refl
+total_fits (packets.Welcome sender stamp base join image) parts = within_total (12 + length (fields_of (packets.Welcome sender stamp base join image))) 238 238 (omega (arith, length-rows_bytes image.rows, parts)) (omega (arith, length-rows_bytes image.rows, parts))
+total_fits (packets.LeaveAsk sender stamp report) parts = refl
+total_fits (packets.Gone sender stamp number) parts = refl
+total_fits (packets.Invite sender stamp) parts = refl
+total_fits (packets.Vote sender stamp vote) parts = refl
+total_fits (packets.Fetch sender stamp stored) parts = refl
+total_fits (packets.Piece sender stamp base number entry) parts = within_total (12 + length (fields_of (packets.Piece sender stamp base number entry))) 21 65535 (omega (arith, entry_some entry)) (omega (arith, entry_short entry parts))
+total_fits (packets.Result sender stamp base number members resilience) parts = refl
+total_fits (packets.HandOver sender stamp) parts = refl
+
+pub fields_short : (packet : Packet) → HasParts packet → length (fields_of packet) ≤ 1100
+unfolding HasParts fields_of
+fields_short (packets.Request sender stamp report req body) parts = omega (arith, parts)
+fields_short (packets.Spread sender stamp report req body) parts = omega (arith, parts)
+fields_short (packets.Bcast sender stamp base acc number entry) parts = omega (arith, entry_short entry parts)
+fields_short (packets.Order sender stamp base acc number from req) parts = omega arith
+fields_short (packets.Accept sender stamp base acc top poll) parts = omega arith
+fields_short (packets.Ack sender stamp report) parts = omega arith
+fields_short (packets.Nack sender stamp report) parts = omega arith
+fields_short (packets.Hold sender stamp base top req) parts = omega arith
+fields_short (packets.JoinAsk sender stamp) parts = omega arith
+fields_short (packets.Welcome sender stamp base join image) parts = omega (arith, length-rows_bytes image.rows, parts)
+fields_short (packets.LeaveAsk sender stamp report) parts = omega arith
+fields_short (packets.Gone sender stamp number) parts = omega arith
+fields_short (packets.Invite sender stamp) parts = omega arith
+fields_short (packets.Vote sender stamp vote) parts = omega arith
+fields_short (packets.Fetch sender stamp stored) parts = omega arith
+fields_short (packets.Piece sender stamp base number entry) parts = omega (arith, entry_short entry parts)
+fields_short (packets.Result sender stamp base number members resilience) parts = omega arith
+fields_short (packets.HandOver sender stamp) parts = omega arith
+
+-- ---- the fields of each kind
+
+packet_again : (packet : Packet) (bytes : List ℕ) → drop 12 bytes ≡ fields_of packet → length bytes ≡ 12 + length (fields_of packet) → IsWithin packet → HasParts packet
+    → packet_at (kind_for packet) (sender_of packet) (stamp_of packet) bytes ≡ Ok packet
+unfolding packet_at fields_of IsWithin HasParts
+packet_again (packets.Request sender stamp report req body) bytes h long within parts =
+    rw (
+      report_again bytes _ 12 report h within.1,
+      number_again bytes _ 20 req (later bytes _ 12 8 h) within.2,
+      later bytes _ 12 12 h,
+    ) refl
+packet_again (packets.Spread sender stamp report req body) bytes h long within parts =
+    rw (
+      report_again bytes _ 12 report h within.1,
+      number_again bytes _ 20 req (later bytes _ 12 8 h) within.2,
+      later bytes _ 12 12 h,
+    ) refl
+packet_again (packets.Bcast sender stamp base acc number entry) bytes h long within parts =
+    rw (
+      number_again bytes _ 12 base h within.1,
+      number_again bytes _ 16 acc (later bytes _ 12 4 h) within.2,
+      number_again bytes _ 20 number (later bytes _ 12 8 h) within.3,
+      entry_again bytes 24 entry (later bytes _ 12 12 h) (omega (arith, long)) within.4 parts,
+    ) refl
+packet_again (packets.Order sender stamp base acc number from req) bytes h long within parts =
+    rw (
+      number_again bytes _ 12 base h within.1,
+      number_again bytes _ 16 acc (later bytes _ 12 4 h) within.2,
+      number_again bytes _ 20 number (later bytes _ 12 8 h) within.3,
+      number_again bytes _ 25 req (later bytes _ 12 13 h) within.4,
+      peek bytes _ 12 12 h,
+    ) refl
+packet_again (packets.Accept sender stamp base acc top poll) bytes h long within parts =
+    rw (
+      number_again bytes _ 12 base h within.1,
+      number_again bytes _ 16 acc (later bytes _ 12 4 h) within.2,
+      number_again bytes _ 20 top (later bytes _ 12 8 h) within.3,
+      flag_again bytes 24 poll (peek bytes _ 12 12 h),
+    ) refl
+packet_again (packets.Ack sender stamp report) bytes h long within parts =
+    rw (report_again bytes _ 12 report h within.1) refl
+packet_again (packets.Nack sender stamp report) bytes h long within parts =
+    rw (report_again bytes _ 12 report h within.1) refl
+packet_again (packets.Hold sender stamp base top req) bytes h long within parts =
+    rw (
+      number_again bytes _ 12 base h within.1,
+      number_again bytes _ 16 top (later bytes _ 12 4 h) within.2,
+      number_again bytes _ 20 req (later bytes _ 12 8 h) within.3,
+    ) refl
+packet_again (packets.JoinAsk sender stamp) bytes h long within parts = refl
+packet_again (packets.Welcome sender stamp base join image) bytes h long within parts =
+    rw (
+      number_again bytes _ 12 base h within.1,
+      number_again bytes _ 16 join (later bytes _ 12 4 h) within.2,
+      image_again bytes 20 image (later bytes _ 12 8 h) within.3 parts,
+    ) refl
+packet_again (packets.LeaveAsk sender stamp report) bytes h long within parts =
+    rw (report_again bytes _ 12 report h within.1) refl
+packet_again (packets.Gone sender stamp number) bytes h long within parts =
+    rw (number_again bytes _ 12 number h within.1) refl
+packet_again (packets.Invite sender stamp) bytes h long within parts = refl
+packet_again (packets.Vote sender stamp vote) bytes h long within parts =
+    rw (vote_again bytes 12 vote h within.1 parts) refl
+packet_again (packets.Fetch sender stamp stored) bytes h long within parts =
+    rw (number_again bytes _ 12 stored h within.1) refl
+packet_again (packets.Piece sender stamp base number entry) bytes h long within parts =
+    rw (
+      number_again bytes _ 12 base h within.1,
+      number_again bytes _ 16 number (later bytes _ 12 4 h) within.2,
+      entry_again bytes 20 entry (later bytes _ 12 8 h) (omega (arith, long)) within.3 parts,
+    ) refl
+packet_again (packets.Result sender stamp base number members resilience) bytes h long within parts =
+    rw (
+      number_again bytes _ 12 base h within.1,
+      number_again bytes _ 16 number (later bytes _ 12 4 h) within.2,
+      set_again bytes _ 20 members (later bytes _ 12 8 h) parts,
+      resilience_again bytes 30 resilience (peek bytes _ 12 18 h) within.3,
+    ) refl
+packet_again (packets.HandOver sender stamp) bytes h long within parts = refl
+
+-- ---- all of a spelling
+
+pub length-spelling : (packet : Packet) → length (spelling packet) ≡ 12 + length (fields_of packet)
+unfolding spelling
+length-spelling packet = omega arith
+
+pub total-spelling : (packet : Packet) → HasParts packet → total_in (spelling packet) ≡ 12 + length (fields_of packet)
+unfolding spelling
+total-spelling packet parts = big_number-reads_back 2 (12 + length (fields_of packet)) (fields_of packet) (omega (arith, fields_short packet parts))
+
+pub spelling_again : (packet : Packet) → IsPacket packet → reading (spelling packet) ≡ Ok packet
+unfolding reading of_kind_at fields_at spelling
+spelling_again packet is =
+    let bytes = spelling packet in
+    let long : length bytes ≡ 12 + length (fields_of packet) = length-spelling packet in
+    let same : total_in bytes ≡ length bytes = total-spelling packet is.parts ∙ sym long in
+    rw (
+      le-ltb (length bytes) 12 (omega arith),
+      kind_back packet,
+      eq-eqb (total_in bytes) (length bytes) same,
+      stamp_again bytes _ 5 (stamp_of packet) refl (round_within packet is.within),
+      long,
+      total_fits packet is.parts,
+    )
+    (packet_again packet bytes refl long is.within is.parts)

@@ -1,0 +1,10 @@
+pub mod Rows
+pub mod Pieces
+pub mod Numbers
+pub mod Fields
+pub mod Parts
+pub mod Found
+pub mod Again
+pub mod Faults
+pub mod Causes
+pub mod Whole

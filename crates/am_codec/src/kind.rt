@@ -1,0 +1,97 @@
+ghost use Rattle.std.specs.Prelude.{◌≡◌};
+ghost use Rattle.am_codec.specs.Kinds.{kind_at, least_total, most_total, is_total};
+
+/// The kinds of packets.
+#[derive(Clone, Copy)]
+pub enum Kind {
+    Request,
+    Spread,
+    Bcast,
+    Order,
+    Accept,
+    Ack,
+    Nack,
+    Hold,
+    JoinAsk,
+    Welcome,
+    LeaveAsk,
+    Gone,
+    Invite,
+    Vote,
+    Fetch,
+    Piece,
+    Result,
+    HandOver,
+}
+
+impl Kind {
+    /// The kind of a number, 1 to 18.
+    #[tactic(auto, unfolding(crate::specs::Kinds::kind_at))]
+    pub fn of_byte(byte: u8) -> Option<Kind>
+        ensures { result ≡ kind_at byte }
+    {
+        match byte {
+            1 => Some(Kind::Request),
+            2 => Some(Kind::Spread),
+            3 => Some(Kind::Bcast),
+            4 => Some(Kind::Order),
+            5 => Some(Kind::Accept),
+            6 => Some(Kind::Ack),
+            7 => Some(Kind::Nack),
+            8 => Some(Kind::Hold),
+            9 => Some(Kind::JoinAsk),
+            10 => Some(Kind::Welcome),
+            11 => Some(Kind::LeaveAsk),
+            12 => Some(Kind::Gone),
+            13 => Some(Kind::Invite),
+            14 => Some(Kind::Vote),
+            15 => Some(Kind::Fetch),
+            16 => Some(Kind::Piece),
+            17 => Some(Kind::Result),
+            18 => Some(Kind::HandOver),
+            _ => None,
+        }
+    }
+
+    fn least_total(self) -> usize
+        ensures { result ≡ least_total self }
+    {
+        match self {
+            Kind::Request | Kind::Spread | Kind::Hold => 24,
+            Kind::Bcast | Kind::Accept => 25,
+            Kind::Order => 29,
+            Kind::Ack | Kind::Nack | Kind::LeaveAsk => 20,
+            Kind::JoinAsk | Kind::Invite | Kind::HandOver => 12,
+            Kind::Welcome => 238,
+            Kind::Gone | Kind::Fetch => 16,
+            Kind::Vote => 35,
+            Kind::Piece => 21,
+            Kind::Result => 31,
+        }
+    }
+
+    fn most_total(self) -> usize
+        ensures { result ≡ most_total self }
+    {
+        match self {
+            Kind::Request | Kind::Spread => 1048,
+            Kind::Bcast | Kind::Piece => 65535,
+            Kind::Hold => 24,
+            Kind::Accept => 25,
+            Kind::Order => 29,
+            Kind::Ack | Kind::Nack | Kind::LeaveAsk => 20,
+            Kind::JoinAsk | Kind::Invite | Kind::HandOver => 12,
+            Kind::Welcome => 238,
+            Kind::Gone | Kind::Fetch => 16,
+            Kind::Vote => 35,
+            Kind::Result => 31,
+        }
+    }
+
+    /// Whether a packet of this kind can have so many bytes.
+    pub fn is_total(self, total: usize) -> bool
+        ensures { result ≡ is_total self total }
+    {
+        self.least_total() <= total && total <= self.most_total()
+    }
+}

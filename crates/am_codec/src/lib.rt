@@ -1,0 +1,15 @@
+//! Packets as bytes: one spelling for each packet, and a reader that takes nothing else.
+#![tactic(auto)]
+
+mod kind;
+pub mod laws;
+mod reader;
+mod refusal;
+mod writer;
+
+pub use reader::decode;
+pub use refusal::PacketRefusal;
+pub use writer::encode;
+
+#[cfg(test)]
+mod tests;

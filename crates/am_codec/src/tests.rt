@@ -1,0 +1,974 @@
+use super::*;
+use am_base::body::PacketBytes;
+use std::alloc::Global;
+use std::test::*;
+
+struct Vector {
+    bytes: &'static [u8],
+    text: &'static str,
+}
+
+struct Fault {
+    bytes: &'static [u8],
+    at: usize,
+    byte: u8,
+    refused: u32,
+}
+
+const REQUEST: &[u8] =
+    b"AG\x03\x01\x01\x00\x00\x00\x02\x00\x00\x1a\x00\x00\x00\x05\x00\x00\x00\x04\x00\x00\x00\x03ab";
+
+const SPREAD: &[u8] =
+    b"AG\x03\x02\x01\x00\x00\x00\x02\x00\x00\x18\x00\x00\x00\x05\x00\x00\x00\x04w5\x94\x00";
+
+const BCAST_DATA: &[u8] =
+    b"AG\x03\x03\x01\x00\x00\x00\x02\x00\x00\x1f\x00\x00\x00\x06\x00\x00\x00\x07\x00\x00\x00\x08\x01\x11\x00\x00\x00\x09\xff";
+
+const BCAST_JOIN: &[u8] =
+    b"AG\x03\x03\x01\x00\x00\x00\x02\x00\x00\x1a\x00\x00\x00\x06\x00\x00\x00\x07\x00\x00\x00\x08\x02\x12";
+
+const BCAST_LEAVE: &[u8] =
+    b"AG\x03\x03\x01\x00\x00\x00\x02\x00\x00\x1a\x00\x00\x00\x06\x00\x00\x00\x07\x00\x00\x00\x08\x03\x13";
+
+const BCAST_VIEW: &[u8] =
+    b"AG\x03\x03\x01\x00\x00\x00\x02\x00\x00\x29\x00\x00\x00\x06\x00\x00\x00\x07\x00\x00\x00\x08\x04\x00\x00\x00\x0a\x01\x80\x03\xf0\x00\x00\x00\x00\x00\x00\x10\x0f";
+
+const ORDER: &[u8] =
+    b"AG\x03\x04\x01\x00\x00\x00\x02\x00\x00\x1d\x00\x00\x00\x06\x00\x00\x00\x07\x00\x00\x00\x08\x14\x00\x00\x00\x0b";
+
+const ACCEPT: &[u8] =
+    b"AG\x03\x05\x01\x00\x00\x00\x02\x00\x00\x19\x00\x00\x00\x06\x00\x00\x00\x07\x00\x00\x00\x08\x01";
+
+const ACK: &[u8] = b"AG\x03\x06\x01\x00\x00\x00\x02\x00\x00\x14\x00\x00\x00\x05\x00\x00\x00\x04";
+
+const NACK: &[u8] = b"AG\x03\x07\x01\x00\x00\x00\x02\x00\x00\x14\x00\x00\x00\x05\x00\x00\x00\x04";
+
+const HOLD: &[u8] =
+    b"AG\x03\x08\x01\x00\x00\x00\x02\x00\x00\x18\x00\x00\x00\x06\x00\x00\x00\x07\x00\x00\x00\x08";
+
+const JOIN_ASK: &[u8] = b"AG\x03\x09\x01\x00\x00\x00\x02\x00\x00\x0c";
+
+const WELCOME: &[u8] =
+    b"AG\x03\x0a\x01\x00\x00\x00\x02\x00\x00\xee\x00\x00\x00\x06\x00\x00\x00\x07\x00\x00\x00\x02\x00\x00\x00\x00\x05\x03\x01\x00\x00\x00\x01\x00\x00\x00\x00\x00\x00\x00\x0c\x02\x00\x00\x00\x0d\x00\x00\x00\x0e\x00\x00\x00\x0f\x00\x00\x00\x00\x00\x00\x00\x00\x00\x00\x00\x00\x00\x00\x00\x00\x00\x00\x00\x00\x00\x00\x00\x00\x00\x00\x00\x00\x00\x00\x00\x00\x00\x00\x00\x00\x00\x00\x00\x00\x00\x00\x00\x00\x00\x00\x00\x00\x00\x00\x00\x00\x00\x00\x00\x00\x00\x00\x00\x00\x00\x00\x00\x00\x00\x00\x00\x00\x00\x00\x00\x00\x00\x00\x00\x00\x00\x00\x00\x00\x00\x00\x00\x00\x00\x00\x00\x00\x00\x00\x00\x00\x00\x00\x00\x00\x00\x00\x00\x00\x00\x00\x00\x00\x00\x00\x00\x00\x00\x00\x00\x00\x00\x00\x00\x00\x00\x00\x00\x00\x00\x00\x00\x00\x00\x00\x00\x00\x00\x00\x00\x00\x00\x00\x00\x00\x00\x00\x00\x00\x00\x00\x00\x00\x00\x00\x00\x00\x00\x00\x00\x00\x00\x00\x00\x00\x00\x00\x00\x00\x00\x00\x00\x00\x00\x00\x00\x00\x00\x10\x00\x00\x00\x10\x00\x00\x00\x00\x00\x00\x00\x11";
+
+const LEAVE_ASK: &[u8] =
+    b"AG\x03\x0b\x01\x00\x00\x00\x02\x00\x00\x14\x00\x00\x00\x05\x00\x00\x00\x04";
+
+const GONE: &[u8] = b"AG\x03\x0c\x01\x00\x00\x00\x02\x00\x00\x10\x00\x00\x00\x08";
+
+const INVITE: &[u8] = b"AG\x03\x0d\x01\x00\x00\x00\x02\x00\x00\x0c";
+
+const VOTE: &[u8] =
+    b"AG\x03\x0e\x01\x00\x00\x00\x02\x00\x00\x23\x00\x00\x00\x02\x00\x00\x00\x00\x07\x00\x00\x00\x06\x80\x03\xf0\x00\x00\x00\x00\x00\x00\x10";
+
+const FETCH: &[u8] = b"AG\x03\x0f\x01\x00\x00\x00\x02\x00\x00\x10\x00\x00\x00\x08";
+
+const PIECE_DATA: &[u8] =
+    b"AG\x03\x10\x01\x00\x00\x00\x02\x00\x00\x1a\x00\x00\x00\x06\x00\x00\x00\x08\x01\x11\x00\x00\x00\x09";
+
+const PIECE_JOIN: &[u8] =
+    b"AG\x03\x10\x01\x00\x00\x00\x02\x00\x00\x16\x00\x00\x00\x06\x00\x00\x00\x08\x02\x12";
+
+const PIECE_LEAVE: &[u8] =
+    b"AG\x03\x10\x01\x00\x00\x00\x02\x00\x00\x16\x00\x00\x00\x06\x00\x00\x00\x08\x03\x13";
+
+const PIECE_VIEW: &[u8] =
+    b"AG\x03\x10\x01\x00\x00\x00\x02\x00\x00\x25\x00\x00\x00\x06\x00\x00\x00\x08\x04\x00\x00\x00\x0a\x01\x80\x03\xf0\x00\x00\x00\x00\x00\x00\x10\x0f";
+
+const RESULT: &[u8] =
+    b"AG\x03\x11\x01\x00\x00\x00\x02\x00\x00\x1f\x00\x00\x00\x06\x00\x00\x00\x08\x80\x03\xf0\x00\x00\x00\x00\x00\x00\x10\x0f";
+
+const HAND_OVER: &[u8] = b"AG\x03\x12\x01\x00\x00\x00\x02\x00\x00\x0c";
+
+/// Each kind and each tag, with what its packet prints.
+const VECTORS: [Vector; 24] = [
+    Vector {
+        bytes: REQUEST,
+        text: "Request { sender: Name(1), stamp: Stamp { round: 2, by: Name(0) }, report: Report { stored: 5, taken: 4 }, req: 3, body: Body([97, 98]) }",
+    },
+    Vector {
+        bytes: SPREAD,
+        text: "Spread { sender: Name(1), stamp: Stamp { round: 2, by: Name(0) }, report: Report { stored: 5, taken: 4 }, req: 2000000000, body: Body([]) }",
+    },
+    Vector {
+        bytes: BCAST_DATA,
+        text: "Bcast { sender: Name(1), stamp: Stamp { round: 2, by: Name(0) }, base: 6, acc: 7, number: 8, entry: Data { from: Name(17), req: 9, body: Body([255]) } }",
+    },
+    Vector {
+        bytes: BCAST_JOIN,
+        text: "Bcast { sender: Name(1), stamp: Stamp { round: 2, by: Name(0) }, base: 6, acc: 7, number: 8, entry: Join(Name(18)) }",
+    },
+    Vector {
+        bytes: BCAST_LEAVE,
+        text: "Bcast { sender: Name(1), stamp: Stamp { round: 2, by: Name(0) }, base: 6, acc: 7, number: 8, entry: Leave(Name(19)) }",
+    },
+    Vector {
+        bytes: BCAST_VIEW,
+        text: "Bcast { sender: Name(1), stamp: Stamp { round: 2, by: Name(0) }, base: 6, acc: 7, number: 8, entry: View { stamp: Stamp { round: 10, by: Name(1) }, members: Names { lives: [1, 2, 0, 0, 0, 0, 0, 0, 0, 0, 0, 0, 0, 0, 0, 16] }, resilience: 15 } }",
+    },
+    Vector {
+        bytes: ORDER,
+        text: "Order { sender: Name(1), stamp: Stamp { round: 2, by: Name(0) }, base: 6, acc: 7, number: 8, from: Name(20), req: 11 }",
+    },
+    Vector {
+        bytes: ACCEPT,
+        text: "Accept { sender: Name(1), stamp: Stamp { round: 2, by: Name(0) }, base: 6, acc: 7, top: 8, poll: true }",
+    },
+    Vector {
+        bytes: ACK,
+        text: "Ack { sender: Name(1), stamp: Stamp { round: 2, by: Name(0) }, report: Report { stored: 5, taken: 4 } }",
+    },
+    Vector {
+        bytes: NACK,
+        text: "Nack { sender: Name(1), stamp: Stamp { round: 2, by: Name(0) }, report: Report { stored: 5, taken: 4 } }",
+    },
+    Vector {
+        bytes: HOLD,
+        text: "Hold { sender: Name(1), stamp: Stamp { round: 2, by: Name(0) }, base: 6, top: 7, req: 8 }",
+    },
+    Vector {
+        bytes: JOIN_ASK,
+        text: "JoinAsk { sender: Name(1), stamp: Stamp { round: 2, by: Name(0) } }",
+    },
+    Vector {
+        bytes: WELCOME,
+        text: "Welcome { sender: Name(1), stamp: Stamp { round: 2, by: Name(0) }, base: 6, join: 7, image: Image { view: Stamp { round: 2, by: Name(0) }, view_number: 5, resilience: 3, rows: [Row { life: 1, joined: 1, left: 0, last: 12 }, Row { life: 2, joined: 13, left: 14, last: 15 }, Row { life: 0, joined: 0, left: 0, last: 0 }, Row { life: 0, joined: 0, left: 0, last: 0 }, Row { life: 0, joined: 0, left: 0, last: 0 }, Row { life: 0, joined: 0, left: 0, last: 0 }, Row { life: 0, joined: 0, left: 0, last: 0 }, Row { life: 0, joined: 0, left: 0, last: 0 }, Row { life: 0, joined: 0, left: 0, last: 0 }, Row { life: 0, joined: 0, left: 0, last: 0 }, Row { life: 0, joined: 0, left: 0, last: 0 }, Row { life: 0, joined: 0, left: 0, last: 0 }, Row { life: 0, joined: 0, left: 0, last: 0 }, Row { life: 0, joined: 0, left: 0, last: 0 }, Row { life: 0, joined: 0, left: 0, last: 0 }, Row { life: 16, joined: 16, left: 0, last: 17 }] } }",
+    },
+    Vector {
+        bytes: LEAVE_ASK,
+        text: "LeaveAsk { sender: Name(1), stamp: Stamp { round: 2, by: Name(0) }, report: Report { stored: 5, taken: 4 } }",
+    },
+    Vector {
+        bytes: GONE,
+        text: "Gone { sender: Name(1), stamp: Stamp { round: 2, by: Name(0) }, number: 8 }",
+    },
+    Vector {
+        bytes: INVITE,
+        text: "Invite { sender: Name(1), stamp: Stamp { round: 2, by: Name(0) } }",
+    },
+    Vector {
+        bytes: VOTE,
+        text: "Vote { sender: Name(1), stamp: Stamp { round: 2, by: Name(0) }, vote: Vote { view: Stamp { round: 2, by: Name(0) }, top: 7, taken: 6, members: Names { lives: [1, 2, 0, 0, 0, 0, 0, 0, 0, 0, 0, 0, 0, 0, 0, 16] } } }",
+    },
+    Vector {
+        bytes: FETCH,
+        text: "Fetch { sender: Name(1), stamp: Stamp { round: 2, by: Name(0) }, stored: 8 }",
+    },
+    Vector {
+        bytes: PIECE_DATA,
+        text: "Piece { sender: Name(1), stamp: Stamp { round: 2, by: Name(0) }, base: 6, number: 8, entry: Data { from: Name(17), req: 9, body: Body([]) } }",
+    },
+    Vector {
+        bytes: PIECE_JOIN,
+        text: "Piece { sender: Name(1), stamp: Stamp { round: 2, by: Name(0) }, base: 6, number: 8, entry: Join(Name(18)) }",
+    },
+    Vector {
+        bytes: PIECE_LEAVE,
+        text: "Piece { sender: Name(1), stamp: Stamp { round: 2, by: Name(0) }, base: 6, number: 8, entry: Leave(Name(19)) }",
+    },
+    Vector {
+        bytes: PIECE_VIEW,
+        text: "Piece { sender: Name(1), stamp: Stamp { round: 2, by: Name(0) }, base: 6, number: 8, entry: View { stamp: Stamp { round: 10, by: Name(1) }, members: Names { lives: [1, 2, 0, 0, 0, 0, 0, 0, 0, 0, 0, 0, 0, 0, 0, 16] }, resilience: 15 } }",
+    },
+    Vector {
+        bytes: RESULT,
+        text: "Result { sender: Name(1), stamp: Stamp { round: 2, by: Name(0) }, base: 6, number: 8, members: Names { lives: [1, 2, 0, 0, 0, 0, 0, 0, 0, 0, 0, 0, 0, 0, 0, 16] }, resilience: 15 }",
+    },
+    Vector {
+        bytes: HAND_OVER,
+        text: "HandOver { sender: Name(1), stamp: Stamp { round: 2, by: Name(0) } }",
+    },
+];
+
+/// Each field with a value that it can't have: the byte at an offset, and the offset that is refused.
+const FAULTS: [Fault; 103] = [
+    Fault {
+        bytes: REQUEST,
+        at: 5,
+        byte: 128,
+        refused: 5,
+    },
+    Fault {
+        bytes: SPREAD,
+        at: 5,
+        byte: 128,
+        refused: 5,
+    },
+    Fault {
+        bytes: BCAST_DATA,
+        at: 5,
+        byte: 128,
+        refused: 5,
+    },
+    Fault {
+        bytes: BCAST_JOIN,
+        at: 5,
+        byte: 128,
+        refused: 5,
+    },
+    Fault {
+        bytes: BCAST_LEAVE,
+        at: 5,
+        byte: 128,
+        refused: 5,
+    },
+    Fault {
+        bytes: BCAST_VIEW,
+        at: 5,
+        byte: 128,
+        refused: 5,
+    },
+    Fault {
+        bytes: ORDER,
+        at: 5,
+        byte: 128,
+        refused: 5,
+    },
+    Fault {
+        bytes: ACCEPT,
+        at: 5,
+        byte: 128,
+        refused: 5,
+    },
+    Fault {
+        bytes: ACK,
+        at: 5,
+        byte: 128,
+        refused: 5,
+    },
+    Fault {
+        bytes: NACK,
+        at: 5,
+        byte: 128,
+        refused: 5,
+    },
+    Fault {
+        bytes: HOLD,
+        at: 5,
+        byte: 128,
+        refused: 5,
+    },
+    Fault {
+        bytes: JOIN_ASK,
+        at: 5,
+        byte: 128,
+        refused: 5,
+    },
+    Fault {
+        bytes: WELCOME,
+        at: 5,
+        byte: 128,
+        refused: 5,
+    },
+    Fault {
+        bytes: LEAVE_ASK,
+        at: 5,
+        byte: 128,
+        refused: 5,
+    },
+    Fault {
+        bytes: GONE,
+        at: 5,
+        byte: 128,
+        refused: 5,
+    },
+    Fault {
+        bytes: INVITE,
+        at: 5,
+        byte: 128,
+        refused: 5,
+    },
+    Fault {
+        bytes: VOTE,
+        at: 5,
+        byte: 128,
+        refused: 5,
+    },
+    Fault {
+        bytes: FETCH,
+        at: 5,
+        byte: 128,
+        refused: 5,
+    },
+    Fault {
+        bytes: PIECE_DATA,
+        at: 5,
+        byte: 128,
+        refused: 5,
+    },
+    Fault {
+        bytes: PIECE_JOIN,
+        at: 5,
+        byte: 128,
+        refused: 5,
+    },
+    Fault {
+        bytes: PIECE_LEAVE,
+        at: 5,
+        byte: 128,
+        refused: 5,
+    },
+    Fault {
+        bytes: PIECE_VIEW,
+        at: 5,
+        byte: 128,
+        refused: 5,
+    },
+    Fault {
+        bytes: RESULT,
+        at: 5,
+        byte: 128,
+        refused: 5,
+    },
+    Fault {
+        bytes: HAND_OVER,
+        at: 5,
+        byte: 128,
+        refused: 5,
+    },
+    Fault {
+        bytes: REQUEST,
+        at: 12,
+        byte: 128,
+        refused: 12,
+    },
+    Fault {
+        bytes: REQUEST,
+        at: 16,
+        byte: 128,
+        refused: 16,
+    },
+    Fault {
+        bytes: REQUEST,
+        at: 20,
+        byte: 128,
+        refused: 20,
+    },
+    Fault {
+        bytes: SPREAD,
+        at: 12,
+        byte: 128,
+        refused: 12,
+    },
+    Fault {
+        bytes: SPREAD,
+        at: 16,
+        byte: 128,
+        refused: 16,
+    },
+    Fault {
+        bytes: SPREAD,
+        at: 20,
+        byte: 128,
+        refused: 20,
+    },
+    Fault {
+        bytes: BCAST_DATA,
+        at: 12,
+        byte: 128,
+        refused: 12,
+    },
+    Fault {
+        bytes: BCAST_DATA,
+        at: 16,
+        byte: 128,
+        refused: 16,
+    },
+    Fault {
+        bytes: BCAST_DATA,
+        at: 20,
+        byte: 128,
+        refused: 20,
+    },
+    Fault {
+        bytes: ORDER,
+        at: 12,
+        byte: 128,
+        refused: 12,
+    },
+    Fault {
+        bytes: ORDER,
+        at: 16,
+        byte: 128,
+        refused: 16,
+    },
+    Fault {
+        bytes: ORDER,
+        at: 20,
+        byte: 128,
+        refused: 20,
+    },
+    Fault {
+        bytes: ACCEPT,
+        at: 12,
+        byte: 128,
+        refused: 12,
+    },
+    Fault {
+        bytes: ACCEPT,
+        at: 16,
+        byte: 128,
+        refused: 16,
+    },
+    Fault {
+        bytes: ACCEPT,
+        at: 20,
+        byte: 128,
+        refused: 20,
+    },
+    Fault {
+        bytes: HOLD,
+        at: 12,
+        byte: 128,
+        refused: 12,
+    },
+    Fault {
+        bytes: HOLD,
+        at: 16,
+        byte: 128,
+        refused: 16,
+    },
+    Fault {
+        bytes: HOLD,
+        at: 20,
+        byte: 128,
+        refused: 20,
+    },
+    Fault {
+        bytes: ACK,
+        at: 12,
+        byte: 128,
+        refused: 12,
+    },
+    Fault {
+        bytes: ACK,
+        at: 16,
+        byte: 128,
+        refused: 16,
+    },
+    Fault {
+        bytes: NACK,
+        at: 12,
+        byte: 128,
+        refused: 12,
+    },
+    Fault {
+        bytes: NACK,
+        at: 16,
+        byte: 128,
+        refused: 16,
+    },
+    Fault {
+        bytes: LEAVE_ASK,
+        at: 12,
+        byte: 128,
+        refused: 12,
+    },
+    Fault {
+        bytes: LEAVE_ASK,
+        at: 16,
+        byte: 128,
+        refused: 16,
+    },
+    Fault {
+        bytes: PIECE_DATA,
+        at: 12,
+        byte: 128,
+        refused: 12,
+    },
+    Fault {
+        bytes: PIECE_DATA,
+        at: 16,
+        byte: 128,
+        refused: 16,
+    },
+    Fault {
+        bytes: RESULT,
+        at: 12,
+        byte: 128,
+        refused: 12,
+    },
+    Fault {
+        bytes: RESULT,
+        at: 16,
+        byte: 128,
+        refused: 16,
+    },
+    Fault {
+        bytes: WELCOME,
+        at: 12,
+        byte: 128,
+        refused: 12,
+    },
+    Fault {
+        bytes: WELCOME,
+        at: 16,
+        byte: 128,
+        refused: 16,
+    },
+    Fault {
+        bytes: GONE,
+        at: 12,
+        byte: 128,
+        refused: 12,
+    },
+    Fault {
+        bytes: FETCH,
+        at: 12,
+        byte: 128,
+        refused: 12,
+    },
+    Fault {
+        bytes: VOTE,
+        at: 12,
+        byte: 128,
+        refused: 12,
+    },
+    Fault {
+        bytes: ORDER,
+        at: 25,
+        byte: 128,
+        refused: 25,
+    },
+    Fault {
+        bytes: ACCEPT,
+        at: 24,
+        byte: 2,
+        refused: 24,
+    },
+    Fault {
+        bytes: BCAST_DATA,
+        at: 24,
+        byte: 0,
+        refused: 24,
+    },
+    Fault {
+        bytes: BCAST_DATA,
+        at: 24,
+        byte: 5,
+        refused: 24,
+    },
+    Fault {
+        bytes: BCAST_DATA,
+        at: 24,
+        byte: 2,
+        refused: 10,
+    },
+    Fault {
+        bytes: BCAST_DATA,
+        at: 24,
+        byte: 3,
+        refused: 10,
+    },
+    Fault {
+        bytes: BCAST_DATA,
+        at: 24,
+        byte: 4,
+        refused: 10,
+    },
+    Fault {
+        bytes: BCAST_DATA,
+        at: 26,
+        byte: 128,
+        refused: 26,
+    },
+    Fault {
+        bytes: BCAST_JOIN,
+        at: 24,
+        byte: 1,
+        refused: 10,
+    },
+    Fault {
+        bytes: BCAST_JOIN,
+        at: 24,
+        byte: 4,
+        refused: 10,
+    },
+    Fault {
+        bytes: BCAST_LEAVE,
+        at: 24,
+        byte: 1,
+        refused: 10,
+    },
+    Fault {
+        bytes: BCAST_VIEW,
+        at: 24,
+        byte: 3,
+        refused: 10,
+    },
+    Fault {
+        bytes: BCAST_VIEW,
+        at: 25,
+        byte: 128,
+        refused: 25,
+    },
+    Fault {
+        bytes: BCAST_VIEW,
+        at: 30,
+        byte: 0,
+        refused: 32,
+    },
+    Fault {
+        bytes: BCAST_VIEW,
+        at: 32,
+        byte: 241,
+        refused: 32,
+    },
+    Fault {
+        bytes: BCAST_VIEW,
+        at: 40,
+        byte: 16,
+        refused: 40,
+    },
+    Fault {
+        bytes: PIECE_DATA,
+        at: 20,
+        byte: 0,
+        refused: 20,
+    },
+    Fault {
+        bytes: PIECE_DATA,
+        at: 20,
+        byte: 5,
+        refused: 20,
+    },
+    Fault {
+        bytes: PIECE_DATA,
+        at: 20,
+        byte: 3,
+        refused: 10,
+    },
+    Fault {
+        bytes: PIECE_DATA,
+        at: 22,
+        byte: 128,
+        refused: 22,
+    },
+    Fault {
+        bytes: PIECE_JOIN,
+        at: 20,
+        byte: 1,
+        refused: 10,
+    },
+    Fault {
+        bytes: PIECE_LEAVE,
+        at: 20,
+        byte: 4,
+        refused: 10,
+    },
+    Fault {
+        bytes: PIECE_VIEW,
+        at: 20,
+        byte: 2,
+        refused: 10,
+    },
+    Fault {
+        bytes: PIECE_VIEW,
+        at: 21,
+        byte: 128,
+        refused: 21,
+    },
+    Fault {
+        bytes: PIECE_VIEW,
+        at: 26,
+        byte: 0,
+        refused: 28,
+    },
+    Fault {
+        bytes: PIECE_VIEW,
+        at: 36,
+        byte: 16,
+        refused: 36,
+    },
+    Fault {
+        bytes: WELCOME,
+        at: 20,
+        byte: 128,
+        refused: 20,
+    },
+    Fault {
+        bytes: WELCOME,
+        at: 25,
+        byte: 128,
+        refused: 25,
+    },
+    Fault {
+        bytes: WELCOME,
+        at: 29,
+        byte: 16,
+        refused: 29,
+    },
+    Fault {
+        bytes: WELCOME,
+        at: 30,
+        byte: 0,
+        refused: 30,
+    },
+    Fault {
+        bytes: WELCOME,
+        at: 30,
+        byte: 17,
+        refused: 30,
+    },
+    Fault {
+        bytes: WELCOME,
+        at: 31,
+        byte: 128,
+        refused: 31,
+    },
+    Fault {
+        bytes: WELCOME,
+        at: 34,
+        byte: 0,
+        refused: 30,
+    },
+    Fault {
+        bytes: WELCOME,
+        at: 35,
+        byte: 128,
+        refused: 35,
+    },
+    Fault {
+        bytes: WELCOME,
+        at: 39,
+        byte: 128,
+        refused: 39,
+    },
+    Fault {
+        bytes: WELCOME,
+        at: 56,
+        byte: 1,
+        refused: 56,
+    },
+    Fault {
+        bytes: WELCOME,
+        at: 225,
+        byte: 17,
+        refused: 225,
+    },
+    Fault {
+        bytes: WELCOME,
+        at: 226,
+        byte: 128,
+        refused: 226,
+    },
+    Fault {
+        bytes: WELCOME,
+        at: 230,
+        byte: 128,
+        refused: 230,
+    },
+    Fault {
+        bytes: WELCOME,
+        at: 234,
+        byte: 128,
+        refused: 234,
+    },
+    Fault {
+        bytes: VOTE,
+        at: 17,
+        byte: 128,
+        refused: 17,
+    },
+    Fault {
+        bytes: VOTE,
+        at: 21,
+        byte: 128,
+        refused: 21,
+    },
+    Fault {
+        bytes: VOTE,
+        at: 25,
+        byte: 0,
+        refused: 27,
+    },
+    Fault {
+        bytes: VOTE,
+        at: 28,
+        byte: 1,
+        refused: 27,
+    },
+    Fault {
+        bytes: RESULT,
+        at: 20,
+        byte: 0,
+        refused: 22,
+    },
+    Fault {
+        bytes: RESULT,
+        at: 30,
+        byte: 16,
+        refused: 30,
+    },
+];
+
+/// Totals that a kind or a tag can't have.
+const TOTALS: [(&[u8], usize); 47] = [
+    (REQUEST, 23),
+    (REQUEST, 1049),
+    (SPREAD, 23),
+    (SPREAD, 1049),
+    (BCAST_DATA, 24),
+    (BCAST_DATA, 29),
+    (BCAST_DATA, 1055),
+    (BCAST_JOIN, 25),
+    (BCAST_JOIN, 27),
+    (BCAST_LEAVE, 25),
+    (BCAST_LEAVE, 27),
+    (BCAST_VIEW, 40),
+    (BCAST_VIEW, 42),
+    (ORDER, 28),
+    (ORDER, 30),
+    (ACCEPT, 24),
+    (ACCEPT, 26),
+    (ACK, 19),
+    (ACK, 21),
+    (NACK, 19),
+    (NACK, 21),
+    (HOLD, 23),
+    (HOLD, 25),
+    (JOIN_ASK, 13),
+    (WELCOME, 237),
+    (WELCOME, 239),
+    (LEAVE_ASK, 19),
+    (LEAVE_ASK, 21),
+    (GONE, 15),
+    (GONE, 17),
+    (INVITE, 13),
+    (VOTE, 34),
+    (VOTE, 36),
+    (FETCH, 15),
+    (FETCH, 17),
+    (PIECE_DATA, 20),
+    (PIECE_DATA, 25),
+    (PIECE_DATA, 1051),
+    (PIECE_JOIN, 21),
+    (PIECE_JOIN, 23),
+    (PIECE_LEAVE, 21),
+    (PIECE_LEAVE, 23),
+    (PIECE_VIEW, 36),
+    (PIECE_VIEW, 38),
+    (RESULT, 30),
+    (RESULT, 32),
+    (HAND_OVER, 13),
+];
+
+/// A Bcast of ten bytes, `0123456789`.
+const TEN: &[u8] =
+    b"AG\x03\x03\x00\x00\x00\x00\x01\x00\x00\x28\x00\x00\x00\x00\x00\x00\x00\x02\x00\x00\x00\x02\x01\x01\x00\x00\x00\x010123456789";
+
+#[test]
+fn each_kind_has_its_bytes(rt: HostRuntime) -> Result<(), Fail> {
+    let mut written = PacketBytes::default();
+    for vector in &VECTORS {
+        let packet = decode(vector.bytes).ok().ok_or("the bytes are a packet")?;
+        let text = format!(in rt.alloc(); "{packet:?}")?;
+        assert_eq!(rt; text.as_str(), vector.text);
+        encode(&packet, &mut written);
+        assert_eq!(rt; written.bytes(), vector.bytes);
+    }
+    Ok(())
+}
+
+/// The bytes with another one at an offset.
+fn with_byte(alloc: Global, bytes: &[u8], at: usize, byte: u8) -> Result<Vec<u8>, Fail> {
+    let mut changed = Vec::from_slice(alloc, bytes)?;
+    let place = changed.get_mut(at).ok_or("the offset is within")?;
+    *place = byte;
+    Ok(changed)
+}
+
+/// The first so many of the bytes and zeros, with this total in their header.
+fn with_total(alloc: Global, bytes: &[u8], total: usize) -> Result<Vec<u8>, Fail> {
+    let mut changed = Vec::from_slice(alloc, bytes)?;
+    changed.resize(total, 0)?;
+    let high = changed.get_mut(10).ok_or("there is a header")?;
+    *high = (total / 256 % 256) as u8;
+    let low = changed.get_mut(11).ok_or("there is a header")?;
+    *low = (total % 256) as u8;
+    Ok(changed)
+}
+
+#[test]
+fn a_wrong_field_is_refused_at_its_offset(rt: HostRuntime) -> Result<(), Fail> {
+    for fault in &FAULTS {
+        let bytes = with_byte(rt.alloc(), fault.bytes, fault.at, fault.byte)?;
+        let refused = decode(&bytes).err();
+        assert_eq!(rt;
+            refused,
+            Some(PacketRefusal::BadField { at: fault.refused }),
+            "at {}",
+            fault.at
+        );
+    }
+    Ok(())
+}
+
+#[test]
+fn a_wrong_total_is_refused(rt: HostRuntime) -> Result<(), Fail> {
+    for (bytes, total) in TOTALS {
+        let changed = with_total(rt.alloc(), bytes, total)?;
+        let refused = decode(&changed).err();
+        assert_eq!(rt;
+            refused,
+            Some(PacketRefusal::BadField { at: 10 }),
+            "with {total}"
+        );
+    }
+    for (bytes, total) in [(REQUEST, 1048), (BCAST_DATA, 1054), (PIECE_DATA, 1050)] {
+        let changed = with_total(rt.alloc(), bytes, total)?;
+        assert!(rt; decode(&changed).is_ok(), "with {total}");
+    }
+    Ok(())
+}
+
+#[test]
+fn a_wrong_header_is_refused(rt: HostRuntime) -> Result<(), Fail> {
+    for (at, byte, refused) in [
+        (0, b'B', PacketRefusal::BadMark),
+        (1, b'A', PacketRefusal::BadMark),
+        (2, 2, PacketRefusal::BadVersion(2)),
+        (2, 4, PacketRefusal::BadVersion(4)),
+        (3, 0, PacketRefusal::BadKind(0)),
+        (3, 19, PacketRefusal::BadKind(19)),
+        (
+            11,
+            41,
+            PacketRefusal::BadLength {
+                said: 41,
+                found: 40,
+            },
+        ),
+    ] {
+        let bytes = with_byte(rt.alloc(), TEN, at, byte)?;
+        assert_eq!(rt; decode(&bytes).err(), Some(refused), "at {at}");
+    }
+    Ok(())
+}
+
+#[test]
+fn no_part_and_no_more_is_a_packet(rt: HostRuntime) -> Result<(), Fail> {
+    let mut more = Vec::from_slice(rt.alloc(), TEN)?;
+    more.push(0)?;
+    for (found, _) in more.iter().enumerate() {
+        let refused = decode(&more[..found]).err();
+        let wanted = match found {
+            0..12 => Some(PacketRefusal::Short),
+            12..40 => Some(PacketRefusal::BadLength {
+                said: 40,
+                found: found as u32,
+            }),
+            _ => None,
+        };
+        assert_eq!(rt; refused, wanted, "of {found}");
+    }
+    let refused = decode(&more).err();
+    assert_eq!(rt;
+        refused,
+        Some(PacketRefusal::BadLength {
+            said: 40,
+            found: 41
+        })
+    );
+    Ok(())
+}

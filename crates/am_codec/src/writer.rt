@@ -1,0 +1,436 @@
+ghost use Rattle.std.specs.Prelude.{◌≡◌, ℕ, ◌+◌, ◌≤◌, ◌<◌, ◌++◌, ◌∷◌, [], length};
+ghost use Rattle.byteorder.specs.Endian.{big_bytes};
+ghost use Rattle.am_packet.specs.Kinds.{kind_of};
+ghost use Rattle.am_codec.specs.Limits.{IsWithin};
+ghost use Rattle.am_codec.specs.Spelling.{spelling, header, fields_of, entry_bytes, image_bytes, vote_bytes, rows_bytes, row_bytes, set_bytes, report_bytes, stamp_bytes, flag_byte, sender_of, stamp_of};
+
+use am_base::body::{Body, PacketBytes};
+use am_base::entry::Entry;
+use am_base::image::{Image, Report, Row, Vote};
+use am_base::name::{Name, Stamp};
+use am_base::names::Names;
+use am_packet::packet::Packet;
+use byteorder::{BigEndian, ByteOrder};
+
+const VERSION: u8 = 3;
+
+fn put_byte(into: &mut PacketBytes, byte: u8)
+    requires { length into.old < 1152 }
+    ensures { into.new ≡ into.old ++ byte ∷ [] }
+{
+    into.extend(&[byte]);
+}
+
+fn put_short(into: &mut PacketBytes, number: u16)
+    requires { length into.old + 2 ≤ 1152 }
+    ensures { into.new ≡ into.old ++ big_bytes 2 number }
+{
+    let mut bytes = [0; 2];
+    BigEndian::write_u16(&mut bytes, number);
+    into.extend(&bytes);
+}
+
+fn put_number(into: &mut PacketBytes, number: u32)
+    requires { length into.old + 4 ≤ 1152 }
+    ensures { into.new ≡ into.old ++ big_bytes 4 number }
+{
+    let mut bytes = [0; 4];
+    BigEndian::write_u32(&mut bytes, number);
+    into.extend(&bytes);
+}
+
+fn put_long(into: &mut PacketBytes, number: u64)
+    requires { length into.old + 8 ≤ 1152 }
+    ensures { into.new ≡ into.old ++ big_bytes 8 number }
+{
+    let mut bytes = [0; 8];
+    BigEndian::write_u64(&mut bytes, number);
+    into.extend(&bytes);
+}
+
+fn put_flag(into: &mut PacketBytes, flag: bool)
+    requires { length into.old < 1152 }
+    ensures { into.new ≡ into.old ++ flag_byte flag ∷ [] }
+{
+    if flag {
+        put_byte(into, 1);
+    } else {
+        put_byte(into, 0);
+    }
+}
+
+fn put_stamp(into: &mut PacketBytes, stamp: Stamp)
+    requires { length into.old + 5 ≤ 1152 }
+    ensures { into.new ≡ into.old ++ stamp_bytes stamp }
+{
+    put_number(into, stamp.round);
+    put_byte(into, stamp.by.get());
+}
+
+fn put_report(into: &mut PacketBytes, report: Report)
+    requires { length into.old + 8 ≤ 1152 }
+    ensures { into.new ≡ into.old ++ report_bytes report }
+{
+    put_number(into, report.stored);
+    put_number(into, report.taken);
+}
+
+fn put_set(into: &mut PacketBytes, set: Names)
+    requires { length into.old + 10 ≤ 1152 }
+    ensures { into.new ≡ into.old ++ set_bytes set }
+{
+    put_short(into, set.mask());
+    put_long(into, set.lives());
+}
+
+fn put_row(into: &mut PacketBytes, row: Row)
+    requires { length into.old + 13 ≤ 1152 }
+    ensures { into.new ≡ into.old ++ row_bytes row }
+{
+    put_byte(into, row.life);
+    put_number(into, row.joined);
+    put_number(into, row.left);
+    put_number(into, row.last);
+}
+
+fn put_rows(into: &mut PacketBytes, rows: &[Row; 16])
+    requires { length into.old + 208 ≤ 1152 }
+    ensures { into.new ≡ into.old ++ rows_bytes rows.now }
+{
+    for row in rows {
+        put_row(into, *row);
+    }
+}
+
+fn put_image(into: &mut PacketBytes, image: &Image)
+    requires { length into.old + 218 ≤ 1152 }
+    ensures { into.new ≡ into.old ++ image_bytes image.now }
+{
+    put_stamp(into, image.view);
+    put_number(into, image.view_number);
+    put_byte(into, image.resilience);
+    put_rows(into, &image.rows);
+}
+
+fn rows_len(rows: &[Row; 16]) -> usize
+    ensures value { result ≡ length (rows_bytes rows.now) }
+    ensures fits { result ≤ 208 }
+{
+    13 * rows.len()
+}
+
+fn image_len(image: &Image) -> usize
+    ensures value { result ≡ length (image_bytes image.now) }
+    ensures fits { result ≤ 218 }
+{
+    10 + rows_len(&image.rows)
+}
+
+fn put_vote(into: &mut PacketBytes, vote: Vote)
+    requires { length into.old + 23 ≤ 1152 }
+    ensures { into.new ≡ into.old ++ vote_bytes vote }
+{
+    put_stamp(into, vote.view);
+    put_number(into, vote.top);
+    put_number(into, vote.taken);
+    put_set(into, vote.members);
+}
+
+#[tactic(auto, unfolding(crate::specs::Spelling::entry_bytes))]
+fn entry_len(entry: &Entry) -> usize
+    ensures value { result ≡ length (entry_bytes entry.now) }
+    ensures fits { result ≤ 1030 }
+{
+    match entry {
+        Entry::Data { body, .. } => 6 + body.bytes().len(),
+        Entry::Join(_) => 2,
+        Entry::Leave(_) => 2,
+        Entry::View { .. } => 17,
+    }
+}
+
+#[tactic(auto, unfolding(crate::specs::Spelling::entry_bytes))]
+fn put_entry(into: &mut PacketBytes, entry: &Entry)
+    requires { length into.old ≤ 24 }
+    ensures { into.new ≡ into.old ++ entry_bytes entry.now }
+{
+    match entry {
+        Entry::Data { from, req, body } => {
+            put_byte(into, 1);
+            put_byte(into, from.get());
+            put_number(into, *req);
+            into.extend(body.bytes());
+        }
+        Entry::Join(name) => {
+            put_byte(into, 2);
+            put_byte(into, name.get());
+        }
+        Entry::Leave(name) => {
+            put_byte(into, 3);
+            put_byte(into, name.get());
+        }
+        Entry::View {
+            stamp,
+            members,
+            resilience,
+        } => {
+            put_byte(into, 4);
+            put_stamp(into, *stamp);
+            put_set(into, *members);
+            put_byte(into, *resilience);
+        }
+    }
+}
+
+fn body_len(body: &Body) -> usize
+    ensures value { result ≡ length body.now }
+    ensures fits { result ≤ 1024 }
+{
+    body.bytes().len()
+}
+
+#[tactic(auto, unfolding(crate::specs::Spelling::fields_of))]
+fn fields_len(packet: &Packet) -> usize
+    ensures value { result ≡ length (fields_of packet.now) }
+    ensures fits { result ≤ 1100 }
+{
+    match packet {
+        Packet::Request { body, .. } => 12 + body_len(body),
+        Packet::Spread { body, .. } => 12 + body_len(body),
+        Packet::Bcast { entry, .. } => 12 + entry_len(entry),
+        Packet::Order { .. } => 17,
+        Packet::Accept { .. } => 13,
+        Packet::Ack { .. } => 8,
+        Packet::Nack { .. } => 8,
+        Packet::Hold { .. } => 12,
+        Packet::JoinAsk { .. } => 0,
+        Packet::Welcome { image, .. } => 8 + image_len(image),
+        Packet::LeaveAsk { .. } => 8,
+        Packet::Gone { .. } => 4,
+        Packet::Invite { .. } => 0,
+        Packet::Vote { .. } => 23,
+        Packet::Fetch { .. } => 4,
+        Packet::Piece { entry, .. } => 8 + entry_len(entry),
+        Packet::Result { .. } => 19,
+        Packet::HandOver { .. } => 0,
+    }
+}
+
+fn put_send(into: &mut PacketBytes, report: Report, req: u32, body: &Body)
+    requires { length into.old ≤ 12 }
+    ensures { into.new ≡ into.old ++ (report_bytes report ++ big_bytes 4 req ++ body.now) }
+{
+    put_report(into, report);
+    put_number(into, req);
+    into.extend(body.bytes());
+}
+
+fn put_numbers(into: &mut PacketBytes, first: u32, second: u32, third: u32)
+    requires { length into.old + 12 ≤ 1152 }
+    ensures { into.new ≡ into.old ++ (big_bytes 4 first ++ big_bytes 4 second ++ big_bytes 4 third) }
+{
+    put_number(into, first);
+    put_number(into, second);
+    put_number(into, third);
+}
+
+fn put_two(into: &mut PacketBytes, first: u32, second: u32)
+    requires { length into.old + 8 ≤ 1152 }
+    ensures { into.new ≡ into.old ++ (big_bytes 4 first ++ big_bytes 4 second) }
+{
+    put_number(into, first);
+    put_number(into, second);
+}
+
+fn put_bcast(into: &mut PacketBytes, base: u32, acc: u32, number: u32, entry: &Entry)
+    requires { length into.old ≤ 12 }
+    ensures { into.new ≡ into.old ++ (big_bytes 4 base ++ big_bytes 4 acc ++ big_bytes 4 number ++ entry_bytes entry.now) }
+{
+    put_numbers(into, base, acc, number);
+    put_entry(into, entry);
+}
+
+fn put_order(into: &mut PacketBytes, base: u32, acc: u32, number: u32, from: Name, req: u32)
+    requires { length into.old ≤ 12 }
+    ensures { into.new ≡ into.old ++ (big_bytes 4 base ++ big_bytes 4 acc ++ big_bytes 4 number ++ from ∷ [] ++ big_bytes 4 req) }
+{
+    put_numbers(into, base, acc, number);
+    put_byte(into, from.get());
+    put_number(into, req);
+}
+
+fn put_accept(into: &mut PacketBytes, base: u32, acc: u32, top: u32, poll: bool)
+    requires { length into.old ≤ 12 }
+    ensures { into.new ≡ into.old ++ (big_bytes 4 base ++ big_bytes 4 acc ++ big_bytes 4 top ++ flag_byte poll ∷ []) }
+{
+    put_numbers(into, base, acc, top);
+    put_flag(into, poll);
+}
+
+fn put_welcome(into: &mut PacketBytes, base: u32, join: u32, image: &Image)
+    requires { length into.old ≤ 12 }
+    ensures { into.new ≡ into.old ++ (big_bytes 4 base ++ big_bytes 4 join ++ image_bytes image.now) }
+{
+    put_two(into, base, join);
+    put_image(into, image);
+}
+
+fn put_piece(into: &mut PacketBytes, base: u32, number: u32, entry: &Entry)
+    requires { length into.old ≤ 12 }
+    ensures { into.new ≡ into.old ++ (big_bytes 4 base ++ big_bytes 4 number ++ entry_bytes entry.now) }
+{
+    put_two(into, base, number);
+    put_entry(into, entry);
+}
+
+fn put_result(into: &mut PacketBytes, base: u32, number: u32, members: Names, resilience: u8)
+    requires { length into.old ≤ 12 }
+    ensures { into.new ≡ into.old ++ (big_bytes 4 base ++ big_bytes 4 number ++ set_bytes members ++ resilience ∷ []) }
+{
+    put_two(into, base, number);
+    put_set(into, members);
+    put_byte(into, resilience);
+}
+
+#[tactic(auto, using(crate::proofs::Pieces::nothing), unfolding(crate::specs::Spelling::fields_of))]
+fn put_fields(into: &mut PacketBytes, packet: &Packet)
+    requires { length into.old ≤ 12 }
+    ensures { into.new ≡ into.old ++ fields_of packet.now }
+{
+    match packet {
+        Packet::Request {
+            report,
+            req,
+            body,
+            ..
+        } => put_send(into, *report, *req, body),
+        Packet::Spread {
+            report,
+            req,
+            body,
+            ..
+        } => put_send(into, *report, *req, body),
+        Packet::Bcast {
+            base,
+            acc,
+            number,
+            entry,
+            ..
+        } => put_bcast(into, *base, *acc, *number, entry),
+        Packet::Order {
+            base,
+            acc,
+            number,
+            from,
+            req,
+            ..
+        } => put_order(into, *base, *acc, *number, *from, *req),
+        Packet::Accept {
+            base,
+            acc,
+            top,
+            poll,
+            ..
+        } => put_accept(into, *base, *acc, *top, *poll),
+        Packet::Ack { report, .. } => put_report(into, *report),
+        Packet::Nack { report, .. } => put_report(into, *report),
+        Packet::Hold { base, top, req, .. } => put_numbers(into, *base, *top, *req),
+        Packet::JoinAsk { .. } => {}
+        Packet::Welcome {
+            base,
+            join,
+            image,
+            ..
+        } => put_welcome(into, *base, *join, image),
+        Packet::LeaveAsk { report, .. } => put_report(into, *report),
+        Packet::Gone { number, .. } => put_number(into, *number),
+        Packet::Invite { .. } => {}
+        Packet::Vote { vote, .. } => put_vote(into, *vote),
+        Packet::Fetch { stored, .. } => put_number(into, *stored),
+        Packet::Piece {
+            base,
+            number,
+            entry,
+            ..
+        } => put_piece(into, *base, *number, entry),
+        Packet::Result {
+            base,
+            number,
+            members,
+            resilience,
+            ..
+        } => put_result(into, *base, *number, *members, *resilience),
+        Packet::HandOver { .. } => {}
+    }
+}
+
+fn sender(packet: &Packet) -> Name
+    ensures { result ≡ sender_of packet.now }
+{
+    match packet {
+        Packet::Request { sender, .. } => *sender,
+        Packet::Spread { sender, .. } => *sender,
+        Packet::Bcast { sender, .. } => *sender,
+        Packet::Order { sender, .. } => *sender,
+        Packet::Accept { sender, .. } => *sender,
+        Packet::Ack { sender, .. } => *sender,
+        Packet::Nack { sender, .. } => *sender,
+        Packet::Hold { sender, .. } => *sender,
+        Packet::JoinAsk { sender, .. } => *sender,
+        Packet::Welcome { sender, .. } => *sender,
+        Packet::LeaveAsk { sender, .. } => *sender,
+        Packet::Gone { sender, .. } => *sender,
+        Packet::Invite { sender, .. } => *sender,
+        Packet::Vote { sender, .. } => *sender,
+        Packet::Fetch { sender, .. } => *sender,
+        Packet::Piece { sender, .. } => *sender,
+        Packet::Result { sender, .. } => *sender,
+        Packet::HandOver { sender, .. } => *sender,
+    }
+}
+
+fn stamp(packet: &Packet) -> Stamp
+    ensures { result ≡ stamp_of packet.now }
+{
+    match packet {
+        Packet::Request { stamp, .. } => *stamp,
+        Packet::Spread { stamp, .. } => *stamp,
+        Packet::Bcast { stamp, .. } => *stamp,
+        Packet::Order { stamp, .. } => *stamp,
+        Packet::Accept { stamp, .. } => *stamp,
+        Packet::Ack { stamp, .. } => *stamp,
+        Packet::Nack { stamp, .. } => *stamp,
+        Packet::Hold { stamp, .. } => *stamp,
+        Packet::JoinAsk { stamp, .. } => *stamp,
+        Packet::Welcome { stamp, .. } => *stamp,
+        Packet::LeaveAsk { stamp, .. } => *stamp,
+        Packet::Gone { stamp, .. } => *stamp,
+        Packet::Invite { stamp, .. } => *stamp,
+        Packet::Vote { stamp, .. } => *stamp,
+        Packet::Fetch { stamp, .. } => *stamp,
+        Packet::Piece { stamp, .. } => *stamp,
+        Packet::Result { stamp, .. } => *stamp,
+        Packet::HandOver { stamp, .. } => *stamp,
+    }
+}
+
+fn put_header(into: &mut PacketBytes, kind: u8, sender: Name, stamp: Stamp, total: u16)
+    requires { length into.old + 12 ≤ 1152 }
+    ensures { into.new ≡ into.old ++ header kind sender stamp total }
+{
+    into.extend(&[b'A', b'G', VERSION, kind, sender.get()]);
+    put_stamp(into, stamp);
+    put_short(into, total);
+}
+
+/// Leaves in `into` exactly the packet's spelling.
+#[tactic(auto, unfolding(crate::specs::Spelling::spelling))]
+pub fn encode(packet: &Packet, into: &mut PacketBytes)
+    requires { IsWithin packet.now }
+    ensures { into.new ≡ spelling packet.now }
+{
+    let total = 12 + fields_len(packet) as u16;
+    into.clear();
+    put_header(into, packet.kind(), sender(packet), stamp(packet), total);
+    put_fields(into, packet);
+}
