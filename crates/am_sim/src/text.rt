@@ -1,11 +1,11 @@
-ghost use Rattle.std.specs.Prelude.{◌≡◌, ◌+◌, ◌<◌, ◌≤◌, ◌++◌, ◌==◌, ◌∷◌, [], length, map, not, OnOk, string_bytes};
+ghost use Rattle.std.specs.Prelude.{◌≡◌, ◌+◌, ◌<◌, ◌≤◌, ◌++◌, ◌==◌, ◌∷◌, [], length, map, not, OnOk, IfOk, None, string_bytes};
 ghost use Rattle.std.specs.List.{flat_map};
 ghost use Rattle.am_base.specs.Names.{names_of};
 ghost use Rattle.am_group.specs.Journals.{letters_of};
 ghost use Rattle.am_model.specs.FirstRun.{deliveries};
 ghost use Rattle.am_model.specs.FirstPlay.{logs_of};
-ghost use Rattle.am_model.specs.Text.{records_text, group_text, log_text, logs_text, log_line};
-ghost use Rattle.am_sim.specs.Logs.{given_at, given_lines, gave_none};
+ghost use Rattle.am_model.specs.Text.{records_text, group_text, log_text, logs_text, log_line, play_text};
+ghost use Rattle.am_sim.specs.Logs.{given_at, given_lines, gave_none, place_text};
 
 use am_base::NoMemory;
 use am_base::entry::Entry;
@@ -14,6 +14,7 @@ use am_base::name::Name;
 use am_base::outcome::Outcome;
 use am_group::event::Record;
 use am_report::lines::{push_empty_log, push_group_line, push_log_line, push_mark, push_record};
+use std::alloc::Global;
 
 /// Adds the lines of a run's events.
 #[tactic(auto, using(crate::proofs::Lines::lines), unfolding(am_model::specs::Text::records_text))]
@@ -47,6 +48,7 @@ pub fn push_group(out: &mut String, founding: &Founding, group: &[Entry]) -> Res
 }
 
 // Adds the line of what a record gave out at a place, where it did.
+#[tactic(auto, unfolding(crate::specs::Logs::given_at, crate::specs::Logs::given_lines))]
 fn push_given(
     out: &mut String,
     founding: &Founding,
@@ -65,6 +67,7 @@ fn push_given(
     }
 }
 
+#[tactic(auto, unfolding(crate::specs::Logs::given_at))]
 fn gives(happened: &Record, name: Name) -> bool
     requires { name < 16 }
     ensures { result ≡ not (gave_none (given_at name happened.now)) }
@@ -73,4 +76,101 @@ fn gives(happened: &Record, name: Name) -> bool
         return false;
     }
     matches!(happened.outcome, Outcome::Took { .. })
+}
+
+#[tactic(auto, using(crate::proofs::Logged::gives))]
+fn gives_any(records: &[Record], name: Name) -> bool
+    requires { name < 16 }
+    ensures { result ≡ not (gave_none (deliveries name records.now)) }
+{
+    for at in 0..records.len() {
+        if gives(&records[at], name) {
+            return true;
+        }
+    }
+    false
+}
+
+// Adds the lines of what the records gave out at a place.
+#[tactic(auto, using(crate::proofs::Logged::logged))]
+fn push_lines(
+    out: &mut String,
+    founding: &Founding,
+    name: Name,
+    records: &[Record],
+) -> Result<(), NoMemory>
+    requires { name < 16 }
+    ensures { OnOk result (string_bytes out.new ≡ string_bytes out.old ++ given_lines founding.now name (deliveries name records.now)) }
+{
+    for at in 0..records.len() {
+        push_given(out, founding, name, &records[at])?;
+    }
+    Ok(())
+}
+
+// Adds the lines of a founder's deliveries.
+#[tactic(auto, using(crate::proofs::Logged::log_texts))]
+fn push_log(
+    out: &mut String,
+    founding: &Founding,
+    name: Name,
+    records: &[Record],
+) -> Result<(), NoMemory>
+    requires { name < 16 }
+    ensures { OnOk result (string_bytes out.new ≡ string_bytes out.old ++ log_text founding.now name (deliveries name records.now)) }
+{
+    if gives_any(records, name) {
+        return push_lines(out, founding, name, records);
+    }
+    push_empty_log(out, name)
+}
+
+// Adds the lines of a place, where a founder has it.
+fn push_place(
+    out: &mut String,
+    founding: &Founding,
+    place: u8,
+    life: u8,
+    records: &[Record],
+) -> Result<(), NoMemory>
+    requires { place < 16 }
+    ensures { OnOk result (string_bytes out.new ≡ string_bytes out.old ++ place_text founding.now place life records.now) }
+{
+    if life == 0 {
+        return Ok(());
+    }
+    push_log(out, founding, Name::of_byte(place), records)
+}
+
+// Adds the lines of all founders' deliveries.
+#[tactic(auto, using(crate::proofs::Logged::places))]
+fn push_logs(out: &mut String, founding: &Founding, records: &[Record]) -> Result<(), NoMemory>
+    ensures { OnOk result (string_bytes out.new ≡ string_bytes out.old ++ logs_text founding.now (logs_of founding.now records.now)) }
+{
+    let founders = founding.founders();
+    for place in 0..16u8 {
+        push_place(out, founding, place, founders.life_at(place), records)?;
+    }
+    Ok(())
+}
+
+/// All that is printed of a run that nothing broke.
+#[tactic(auto, unfolding(am_model::specs::Text::play_text))]
+pub fn play_text(
+    alloc: Global,
+    founding: &Founding,
+    records: &[Record],
+    group: &[Entry],
+) -> Result<String, NoMemory>
+    requires events { length records.now ≤ 100000 }
+    requires letters { length (letters_of records.now) ≤ 2400000 }
+    requires entries { length group.now ≤ 2000000000 }
+    ensures { IfOk result (λ text. string_bytes text ≡ play_text founding.now records.now group.now (logs_of founding.now records.now) None) }
+{
+    let mut out = String::new(alloc);
+    push_records(&mut out, founding, records)?;
+    push_group(&mut out, founding, group)?;
+    push_logs(&mut out, founding, records)?;
+    push_mark(&mut out, None)?;
+    Ok(out)
 }
