@@ -1,5 +1,5 @@
 -- Every script keeps to the limits.
-use Rattle.std.proofs.Common.{◌≡◌, ℕ, zero, suc, ◌+◌, ◌/◌, ◌%◌, ◌<◌, ◌≤◌, List, [], ◌∷◌, length, get_or, set, Option, Some, None, option_map, Bool, true, false, not, ◌&&◌, nat_le, nat_lt, lit<, lit≤, refl, ap, sym, ◌∙◌, subst, arith, rules, cond, All, count_by}
+use Rattle.std.proofs.Common.{◌≡◌, ℕ, suc, ◌+◌, ◌/◌, ◌%◌, ◌<◌, ◌≤◌, List, [], ◌∷◌, length, get_or, set, Option, Some, None, option_map, Bool, true, false, ◌&&◌, nat_le, nat_lt, lit<, lit≤, refl, ap, subst, arith, cond, All, count_by}
 use Rattle.std.specs.Prelude.{option_and_then}
 use Rattle.std.proofs.lemmas.Option.{option_and_then_some, cond_some, same_Some, none-some}
 use Rattle.std.proofs.lemmas.Bool.{leb-true}
@@ -9,15 +9,14 @@ use Rattle.std.proofs.lemmas.List.Elements.{All-cons}
 use Rattle.std.specs.Result.{result_ok}
 use Rattle.std.specs.List.{list_any}
 use Rattle.hex.specs.Hex.{decode_of}
-use Rattle.am_base.specs.Names.{IsSet, nobody, has, with_name, size}
+use Rattle.am_base.specs.Names.{nobody, has, with_name, size}
 use Rattle.am_base.specs.Founding.{Rules, MayFound}
 use Rattle.am_group.specs.declared.event.Act.{Act}
 use Rattle.am_group.specs.declared.event.Act.TheVariants as act
 use Rattle.am_group.specs.declared.event.Event.{Event}
 use Rattle.serde_json.specs.Data.{Data, Items, no_items, item}
 use Rattle.serde_json.specs.Events.{items_len}
-use Rattle.serde_json.specs.Find.{as_array, as_number, as_u64}
-use Rattle.serde_json.specs.Read.{read}
+use Rattle.serde_json.specs.Find.{as_array}
 use Rattle.am_script.specs.declared.key.Key.{Key}
 use Rattle.am_script.specs.declared.key.Key.TheVariants as key
 use Rattle.am_script.specs.declared.kind.Kind.{Kind}
@@ -100,10 +99,13 @@ somebody lives place life within above =
     omega (arith, counts, one)
 
 good_with : (set : List ℕ) (place : ℕ) → place ≤ 15 → Good set → Good (with_name set place) × (0 < size (with_name set place))
-good_with set place le good = (record {
-  places = grind (arith, common_steps);
-  first_lives = λ k lt. grind (arith, common_steps);
-}, somebody set (place % 16) (place / 16 + 1) (omega arith) (omega arith))
+good_with set place le good = (
+  record {
+    places = grind (arith, common_steps);
+    first_lives = λ k lt. grind (arith, common_steps);
+  },
+  somebody set (place % 16) (place / 16 + 1) (omega arith) (omega arith),
+)
 
 founders_good : (set : List ℕ) (ds : Items) (out : List ℕ) → founders_from set ds ≡ Some out → Good set → Good out × (0 < size set → 0 < size out)
 founders_good set no_items out h good = subst (λ (xs : List ℕ). Good xs × (0 < size set → 0 < size xs)) (same_Some set out h) (good, λ some. some)

@@ -1,6 +1,7 @@
 ghost use Rattle.std.specs.Prelude.{◌≡◌, ◌≢◌, IfOk, IfErr};
 ghost use Rattle.serde_json.specs.View.{view};
 ghost use Rattle.am_script.specs.Refusals.{Answers};
+ghost use Rattle.am_script.specs.Limits.{ScriptWithin};
 ghost use Rattle.am_script.specs.Scripts.{script_of, IsScriptOf, NoScript};
 
 use crate::fields::{only, value_in};
@@ -40,9 +41,11 @@ fn document(
 
 /// Reads a script of the key that is asked for. It is refused for another cause than memory exactly where the bytes
 /// aren't JSON of such a script.
+#[tactic(auto, using(crate::proofs::Limits::script_within))]
 pub fn read_script(alloc: Global, asked: Key, bytes: &[u8]) -> Result<Script, ScriptRefusal>
     requires { asked ≡ Key.Play }
     ensures ok { IfOk result (λ script. IsScriptOf bytes.now script) }
+    ensures within { IfOk result ScriptWithin }
     ensures refused { IfErr result (λ e. e ≢ ScriptRefusal.NoMemory → NoScript bytes.now) }
 {
     let value = match Value::from_slice(alloc, bytes) {
