@@ -1,3 +1,5 @@
 pub mod Keys
 pub mod Refusals
 pub mod Scripts
+pub mod Causes
+pub mod Limits

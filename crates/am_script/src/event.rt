@@ -1,8 +1,9 @@
-ghost use Rattle.std.specs.Prelude.{◌≡◌, option_and_then};
+ghost use Rattle.std.specs.Prelude.{◌≡◌, ◌≢◌, IfErr, option_and_then};
 ghost use Rattle.std.specs.List.{list_any};
 ghost use Rattle.std.specs.Result.{result_ok};
 ghost use Rattle.serde_json.specs.View.{view};
-ghost use Rattle.am_script.specs.Refusals.{Answers};
+ghost use Rattle.am_script.specs.Causes.{body_refusal, act_refusal, event_as_refusal, event_refusal};
+ghost use Rattle.am_script.specs.Refusals.{Answers, text_refusal};
 ghost use Rattle.am_script.specs.Scripts.{kind_of, is_capital, body_of, act_of, event_as, event_of};
 ghost use Rattle.am_script.specs.Keys.{text_at};
 
@@ -25,7 +26,8 @@ const MOST_BYTES: usize = 256;
 
 /// The kind of an event.
 fn kind(event: &Value, place: u32) -> Result<Kind, ScriptRefusal>
-    ensures { result_ok result ≡ option_and_then kind_of (text_at Key.Do (view event.now)) }
+    ensures answer { result_ok result ≡ option_and_then kind_of (text_at Key.Do (view event.now)) }
+    ensures refused { IfErr result (λ e. e ≡ text_refusal Key.Do place (view event.now)) }
 {
     let word = text_in(event, Key::Do, place)?;
     match Kind::of(word) {
@@ -45,9 +47,10 @@ fn has_capital(text: &str) -> bool
 }
 
 /// The body that a text of digits gives.
-#[tactic(auto, unfolding(crate::specs::Scripts::body_of))]
+#[tactic(auto, unfolding(crate::specs::Scripts::body_of, crate::specs::Causes::body_refusal))]
 fn body(alloc: Global, text: &str, place: u32) -> Result<Body, ScriptRefusal>
-    ensures { Answers (body_of text.now) result }
+    ensures answer { Answers (body_of text.now) result }
+    ensures refused { IfErr result (λ e. e ≢ ScriptRefusal.NoMemory → e ≡ body_refusal place text.now) }
 {
     let refusal = ScriptRefusal::BadValue {
         key: Key::Body,
@@ -74,9 +77,10 @@ fn body(alloc: Global, text: &str, place: u32) -> Result<Body, ScriptRefusal>
 }
 
 /// The act of an event of a kind.
-#[tactic(auto, unfolding(crate::specs::Scripts::act_of))]
+#[tactic(auto, unfolding(crate::specs::Scripts::act_of, crate::specs::Causes::act_refusal))]
 fn act(alloc: Global, kind: Kind, event: &Value, place: u32) -> Result<Act, ScriptRefusal>
-    ensures { Answers (act_of kind (view event.now)) result }
+    ensures answer { Answers (act_of kind (view event.now)) result }
+    ensures refused { IfErr result (λ e. e ≢ ScriptRefusal.NoMemory → e ≡ act_refusal kind place (view event.now)) }
 {
     match kind {
         Kind::Send => Ok(Act::Send(body(alloc, text_in(event, Key::Body, place)?, place)?)),
@@ -87,14 +91,15 @@ fn act(alloc: Global, kind: Kind, event: &Value, place: u32) -> Result<Act, Scri
 }
 
 /// An event of a kind.
-#[tactic(auto, unfolding(crate::specs::Scripts::event_as))]
+#[tactic(auto, unfolding(crate::specs::Scripts::event_as, crate::specs::Causes::event_as_refusal))]
 fn event_of_kind(
     alloc: Global,
     kind: Kind,
     event: &Value,
     place: u32,
 ) -> Result<Event, ScriptRefusal>
-    ensures { Answers (event_as kind (view event.now)) result }
+    ensures answer { Answers (event_as kind (view event.now)) result }
+    ensures refused { IfErr result (λ e. e ≢ ScriptRefusal.NoMemory → e ≡ event_as_refusal kind place (view event.now)) }
 {
     if !only(kind.keys(), event) {
         return Err(ScriptRefusal::Unknown { place });
@@ -108,9 +113,10 @@ fn event_of_kind(
 }
 
 /// The event that a value tells; `place` is its number.
-#[tactic(auto, unfolding(crate::specs::Scripts::event_of))]
+#[tactic(auto, unfolding(crate::specs::Scripts::event_of, crate::specs::Causes::event_refusal))]
 pub fn event(alloc: Global, value: &Value, place: u32) -> Result<Event, ScriptRefusal>
-    ensures { Answers (event_of (view value.now)) result }
+    ensures answer { Answers (event_of (view value.now)) result }
+    ensures refused { IfErr result (λ e. e ≢ ScriptRefusal.NoMemory → e ≡ event_refusal place (view value.now)) }
 {
     if !value.is_object() {
         return Err(ScriptRefusal::BadValue {

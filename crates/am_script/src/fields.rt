@@ -1,7 +1,8 @@
-ghost use Rattle.std.specs.Prelude.{◌≡◌, map, option_map, string_bytes};
+ghost use Rattle.std.specs.Prelude.{◌≡◌, IfErr, map, option_map, string_bytes};
 ghost use Rattle.std.specs.List.{list_all};
 ghost use Rattle.std.specs.Result.{result_ok};
 ghost use Rattle.serde_json.specs.View.{view};
+ghost use Rattle.am_script.specs.Refusals.{text_refusal, number_refusal, number_at_refusal};
 ghost use Rattle.am_script.specs.Keys.{word_of, is_among, has_only, value_at, text_at, number_in, number_at};
 
 use crate::key::Key;
@@ -34,7 +35,8 @@ pub fn only(keys: &[Key], value: &Value) -> bool
 
 /// The value at a key of an object.
 pub fn value_in(object: &Value, key: Key, place: u32) -> Result<&Value, ScriptRefusal>
-    ensures { option_map (λ v. view v.now) (result_ok result) ≡ value_at key (view object.now) }
+    ensures answer { option_map (λ v. view v.now) (result_ok result) ≡ value_at key (view object.now) }
+    ensures refused { IfErr result (λ e. e ≡ ScriptRefusal.Missing key place) }
 {
     match object.get(key.word()) {
         Some(value) => Ok(value),
@@ -44,7 +46,8 @@ pub fn value_in(object: &Value, key: Key, place: u32) -> Result<&Value, ScriptRe
 
 /// The text at a key of an object.
 pub fn text_in(object: &Value, key: Key, place: u32) -> Result<&str, ScriptRefusal>
-    ensures { option_map (λ s. s.now) (result_ok result) ≡ text_at key (view object.now) }
+    ensures answer { option_map (λ s. s.now) (result_ok result) ≡ text_at key (view object.now) }
+    ensures refused { IfErr result (λ e. e ≡ text_refusal key place (view object.now)) }
 {
     let value = value_in(object, key, place)?;
     match value.as_str() {
@@ -61,7 +64,8 @@ pub fn number(
     least: u64,
     most: u64,
 ) -> Result<u64, ScriptRefusal>
-    ensures { result_ok result ≡ number_in least most (view value.now) }
+    ensures answer { result_ok result ≡ number_in least most (view value.now) }
+    ensures refused { IfErr result (λ e. e ≡ number_refusal key place least most (view value.now)) }
 {
     let Some(found) = value.as_u64() else {
         return Err(ScriptRefusal::BadValue { key, place });
@@ -86,7 +90,8 @@ pub fn number_of(
     least: u64,
     most: u64,
 ) -> Result<u64, ScriptRefusal>
-    ensures { result_ok result ≡ number_at least most key (view object.now) }
+    ensures answer { result_ok result ≡ number_at least most key (view object.now) }
+    ensures refused { IfErr result (λ e. e ≡ number_at_refusal key place least most (view object.now)) }
 {
     let value = value_in(object, key, place)?;
     number(value, key, place, least, most)

@@ -1,8 +1,9 @@
-ghost use Rattle.std.specs.Prelude.{◌≡◌, ◌≤◌, ◌<◌, IfOk, length, EachIndex, slice_index};
+ghost use Rattle.std.specs.Prelude.{◌≡◌, ◌≢◌, IfErr, ◌≤◌, ◌<◌, IfOk, length, EachIndex, slice_index};
 ghost use Rattle.std.specs.Result.{result_ok};
 ghost use Rattle.serde_json.specs.View.{view, items_view};
 ghost use Rattle.am_base.specs.Founding.{MayFound};
 ghost use Rattle.am_base.specs.Names.{nobody};
+ghost use Rattle.am_script.specs.Causes.{first_refusal, events_refusal, founder_refusal, founders_refusal, play_refusal};
 ghost use Rattle.am_script.specs.Refusals.{Answers};
 ghost use Rattle.am_script.specs.Scripts.{is_send, events_from, events_of, founders_from, founders_of, rules_of, play_of};
 
@@ -32,7 +33,9 @@ fn is_send(event: &Event) -> bool
 }
 
 /// The refusal of a number of items.
-fn too_many(key: Key, found: usize, least: u64, most: usize) -> ScriptRefusal {
+fn too_many(key: Key, found: usize, least: u64, most: usize) -> ScriptRefusal
+    ensures { result ≡ ScriptRefusal.OutOfRange key 0 found least most }
+{
     ScriptRefusal::OutOfRange {
         key,
         place: 0,
@@ -45,7 +48,8 @@ fn too_many(key: Key, found: usize, least: u64, most: usize) -> ScriptRefusal {
 /// The events that values tell, in order.
 fn each_event(alloc: Global, list: &[Value]) -> Result<Items<Event>, ScriptRefusal>
     requires { length list.now ≤ 100000 }
-    ensures { Answers (events_from (items_view list.now)) result }
+    ensures answer { Answers (events_from (items_view list.now)) result }
+    ensures refused { IfErr result (λ e. e ≢ ScriptRefusal.NoMemory → e ≡ first_refusal 1 (items_view list.now)) }
 {
     let mut events = Items::new(alloc);
     for (before, value) in list.iter().enumerate() {
@@ -55,9 +59,10 @@ fn each_event(alloc: Global, list: &[Value]) -> Result<Items<Event>, ScriptRefus
 }
 
 /// The events of a play.
-#[tactic(auto, using(crate::proofs::Json::items_len_view), unfolding(crate::specs::Scripts::events_of))]
+#[tactic(auto, using(crate::proofs::Json::items_len_view), unfolding(crate::specs::Scripts::events_of, crate::specs::Causes::events_refusal))]
 fn events(alloc: Global, value: &Value) -> Result<Items<Event>, ScriptRefusal>
-    ensures { Answers (events_of (view value.now)) result }
+    ensures answer { Answers (events_of (view value.now)) result }
+    ensures refused { IfErr result (λ e. e ≢ ScriptRefusal.NoMemory → e ≡ events_refusal (view value.now)) }
 {
     let Some(list) = value.as_array() else {
         return Err(ScriptRefusal::BadValue {
@@ -84,6 +89,7 @@ fn events(alloc: Global, value: &Value) -> Result<Items<Event>, ScriptRefusal>
 fn each_founder(list: &[Value]) -> Result<Names, ScriptRefusal>
     requires { 0 < length list.now }
     ensures answer { result_ok result ≡ founders_from nobody (items_view list.now) }
+    ensures refused { IfErr result (λ e. e ≡ founder_refusal nobody (items_view list.now)) }
     ensures may_found { IfOk result (λ names. MayFound (rules_of names)) }
 {
     let mut names = Names::empty();
@@ -102,9 +108,10 @@ fn each_founder(list: &[Value]) -> Result<Names, ScriptRefusal>
 }
 
 /// The founders of a play.
-#[tactic(auto, using(crate::proofs::Json::items_len_view), unfolding(crate::specs::Scripts::founders_of))]
+#[tactic(auto, using(crate::proofs::Json::items_len_view), unfolding(crate::specs::Scripts::founders_of, crate::specs::Causes::founders_refusal))]
 fn founders(value: &Value) -> Result<Names, ScriptRefusal>
     ensures answer { result_ok result ≡ founders_of (view value.now) }
+    ensures refused { IfErr result (λ e. e ≡ founders_refusal (view value.now)) }
     ensures may_found { IfOk result (λ names. MayFound (rules_of names)) }
 {
     let refusal = ScriptRefusal::BadValue {
@@ -121,9 +128,10 @@ fn founders(value: &Value) -> Result<Names, ScriptRefusal>
 }
 
 /// A play: how its group begins, and its events.
-#[tactic(auto, unfolding(crate::specs::Scripts::play_of))]
+#[tactic(auto, unfolding(crate::specs::Scripts::play_of, crate::specs::Causes::play_refusal))]
 pub fn play(alloc: Global, value: &Value) -> Result<(Founding, Items<Event>), ScriptRefusal>
-    ensures { Answers (play_of (view value.now)) result }
+    ensures answer { Answers (play_of (view value.now)) result }
+    ensures refused { IfErr result (λ e. e ≢ ScriptRefusal.NoMemory → e ≡ play_refusal (view value.now)) }
 {
     if !value.is_object() {
         return Err(ScriptRefusal::BadValue {

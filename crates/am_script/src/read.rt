@@ -1,6 +1,8 @@
 ghost use Rattle.std.specs.Prelude.{◌≡◌, ◌≢◌, IfOk, IfErr};
 ghost use Rattle.serde_json.specs.View.{view};
 ghost use Rattle.am_script.specs.Refusals.{Answers};
+ghost use Rattle.am_script.specs.Causes.{script_refusal, IsCause};
+ghost use Rattle.am_script.specs.Limits.{ScriptWithin};
 ghost use Rattle.am_script.specs.Scripts.{script_of, IsScriptOf, NoScript};
 
 use crate::fields::{only, value_in};
@@ -16,14 +18,15 @@ use serde_json::error::Category;
 use std::alloc::Global;
 
 /// The script of a document.
-#[tactic(auto, unfolding(crate::specs::Scripts::script_of))]
+#[tactic(auto, unfolding(crate::specs::Scripts::script_of, crate::specs::Causes::script_refusal))]
 fn document(
     alloc: Global,
     asked: Key,
     value: &Value,
 ) -> Result<(Founding, Items<Event>), ScriptRefusal>
     requires { asked ≡ Key.Play }
-    ensures { Answers (script_of (view value.now)) result }
+    ensures answer { Answers (script_of (view value.now)) result }
+    ensures refused { IfErr result (λ e. e ≢ ScriptRefusal.NoMemory → e ≡ script_refusal (view value.now)) }
 {
     if !value.is_object() {
         return Err(ScriptRefusal::BadValue {
@@ -39,11 +42,14 @@ fn document(
 }
 
 /// Reads a script of the key that is asked for. It is refused for another cause than memory exactly where the bytes
-/// aren't JSON of such a script.
+/// aren't JSON of such a script, and the refusal tells the first cause.
+#[tactic(auto, using(crate::proofs::Limits::script_within))]
 pub fn read_script(alloc: Global, asked: Key, bytes: &[u8]) -> Result<Script, ScriptRefusal>
     requires { asked ≡ Key.Play }
     ensures ok { IfOk result (λ script. IsScriptOf bytes.now script) }
+    ensures within { IfOk result ScriptWithin }
     ensures refused { IfErr result (λ e. e ≢ ScriptRefusal.NoMemory → NoScript bytes.now) }
+    ensures cause { IfErr result (λ e. e ≢ ScriptRefusal.NoMemory → IsCause bytes.now e) }
 {
     let value = match Value::from_slice(alloc, bytes) {
         Ok(value) => value,
