@@ -1,4 +1,4 @@
-ghost use Rattle.std.specs.Prelude.{◌≡◌, ◌+◌, ◌<◌, ◌≤◌, ◌++◌, ◌∷◌, ◌↔◌, [], length, OnOk, OnErr, IsSome, IfSome, option_map, true, vec_len, vec_capacity, slice_get};
+ghost use Rattle.std.specs.Prelude.{◌≡◌, ◌+◌, ◌*◌, ◌<◌, ◌≤◌, ◌++◌, ◌∷◌, ◌↔◌, [], length, OnOk, OnErr, IsSome, IfSome, option_map, true, vec_len, vec_capacity, slice_get};
 ghost use Rattle.std.specs.Option.{option_copied};
 ghost use Rattle.am_group.specs.Journals.{letters_of, letter_at, letter_of, item_at, places_of};
 
@@ -56,9 +56,10 @@ impl Journal {
         &self.founding
     }
 
-    /// The records in order.
+    /// The records in order. Each has at most 24 letters.
     pub fn records(&self) -> &[Record]
-        ensures { result.now ≡ self.now.records }
+        ensures value { result.now ≡ self.now.records }
+        ensures few { length (letters_of result.now) ≤ 24 * length result.now }
     {
         self.records.as_slice()
     }
