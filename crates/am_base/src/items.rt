@@ -26,6 +26,13 @@ impl<T> Items<T> {
         Items(Vec::new(alloc))
     }
 
+    /// These items.
+    pub fn of(items: Vec<T>) -> Items<T>
+        ensures { result ≡ items.items }
+    {
+        Items(items)
+    }
+
     /// Adds an item at the end. Without memory all stays as it was.
     pub fn push(&mut self, item: T) -> Result<(), AllocError>
     where

@@ -1,0 +1,4 @@
+pub mod Journals
+pub mod Addressed
+pub mod Deliveries
+pub mod Groups

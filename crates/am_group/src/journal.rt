@@ -1,0 +1,134 @@
+ghost use Rattle.std.specs.Prelude.{◌≡◌, ◌+◌, ◌<◌, ◌≤◌, ◌++◌, ◌∷◌, ◌↔◌, [], length, OnOk, OnErr, IsSome, IfSome, option_map, true, vec_len, vec_capacity, slice_get};
+ghost use Rattle.std.specs.Option.{option_copied};
+ghost use Rattle.am_group.specs.Journals.{letters_of, letter_at, letter_of, item_at, places_of};
+
+use crate::event::Record;
+use am_base::NoMemory;
+use am_base::founding::Founding;
+use am_packet::letter::Letter;
+use std::alloc::Global;
+use std::marker::Model;
+
+/// Where a letter stands: the number of its record and its index among that record's letters, both from 0.
+#[derive(Clone, Copy, PartialEq, Eq, Debug)]
+pub struct Place {
+    pub number: u32,
+    pub index: u32,
+}
+
+/// What happened in a group, record by record, with each letter by its number in the whole, from 1. Contracts see it as
+/// its founding and its records (docs/PROTOCOL.md, "The journal").
+#[derive(Drop)]
+pub struct Journal {
+    founding: Founding,
+    records: Vec<Record>,
+    places: Vec<Place>,
+}
+
+impl Model for Journal {
+    ghost use Rattle.am_group.specs.Journals.{History, ArePlaces, has_spare};
+    ghost use Rattle.std.specs.Prelude.{vec_len, vec_capacity};
+
+    ghost Value = { History };
+
+    ghost view = { λ j. record { founding = j.founding; records = j.records.items; has_room = has_spare (vec_len j.records) (vec_capacity j.records) (vec_len j.places) (vec_capacity j.places) } };
+
+    ghost invariant = { λ j. ArePlaces j.records.items j.places.items };
+}
+
+impl Journal {
+    /// The journal of a group to which nothing has happened.
+    pub fn new(alloc: Global, founding: &Founding) -> Journal
+        ensures founding { result.founding ≡ founding.now }
+        ensures records { result.records ≡ [] }
+    {
+        Journal {
+            founding: *founding,
+            records: Vec::new(alloc),
+            places: Vec::new(alloc),
+        }
+    }
+
+    /// How the group began.
+    pub fn founding(&self) -> &Founding
+        ensures { result.now ≡ self.now.founding }
+    {
+        &self.founding
+    }
+
+    /// The records in order.
+    pub fn records(&self) -> &[Record]
+        ensures { result.now ≡ self.now.records }
+    {
+        self.records.as_slice()
+    }
+
+    /// Makes room for one record, and changes nothing else.
+    pub fn reserve(&mut self) -> Result<(), NoMemory>
+        ensures room { OnOk result (self.new.has_room ≡ true) }
+        ensures founding { self.new.founding ≡ self.old.founding }
+        ensures records { self.new.records ≡ self.old.records }
+    {
+        self.records.reserve(1)?;
+        self.places.reserve(24)
+    }
+
+    /// Adds a record at the end. It takes no memory.
+    pub fn push(&mut self, item: Record)
+        requires room { self.old.has_room ≡ true }
+        requires few { length self.old.records < 100000 }
+        requires letters { length item.packets ≤ 24 }
+        ensures founding { self.new.founding ≡ self.old.founding }
+        ensures records { self.new.records ≡ self.old.records ++ item ∷ [] }
+    {
+        let number = self.records.len() as u32;
+        let many = item.packets.as_slice().len() as u32;
+        push_places(&mut self.places, number, many);
+        self.records.push_reserved(item);
+    }
+
+    /// How many letters the records sent.
+    pub fn packets(&self) -> u32
+        ensures { result ≡ length (letters_of self.now.records) }
+    {
+        self.places.len() as u32
+    }
+
+    /// A letter by its number, from 1; None exactly where there is none.
+    pub fn packet(&self, number: u32) -> Option<&Letter>
+        ensures { option_copied result ≡ letter_at (letters_of self.now.records) number }
+    {
+        match place_at(self.places.as_slice(), number) {
+            Some(place) => letter_in(self.records.as_slice(), place),
+            None => None,
+        }
+    }
+}
+
+fn place_at(places: &[Place], number: u32) -> Option<Place>
+    ensures { result ≡ item_at places.now number }
+{
+    if number == 0 {
+        return None;
+    }
+    places.get(number as usize - 1).copied()
+}
+
+fn letter_in(records: &[Record], place: Place) -> Option<&Letter>
+    ensures { option_copied result ≡ letter_of (slice_get records.now place.number) place.index }
+{
+    match records.get(place.number as usize) {
+        Some(item) => item.packets.as_slice().get(place.index as usize),
+        None => None,
+    }
+}
+
+#[tactic(auto, using(crate::proofs::Places::places_next))]
+fn push_places(places: &mut Vec<Place>, number: u32, many: u32)
+    requires { vec_len places.old + many ≤ vec_capacity places.old }
+    ensures { places.new.items ≡ places.old.items ++ places_of number many }
+{
+    for index in 0..many {
+        places.push_reserved(Place { number, index });
+    }
+}
