@@ -6,6 +6,6 @@ pub mod delivered;
 pub mod event;
 pub mod group;
 pub mod journal;
-pub mod race;
+pub mod plan;
 #[cfg(test)]
 mod tests;
