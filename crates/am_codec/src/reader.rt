@@ -1,4 +1,4 @@
-ghost use Rattle.std.specs.Prelude.{◌≡◌, ℕ, ◌+◌, ◌≤◌, ◌<◌, ◌≢◌, ◌↔◌, false, length, drop, Some, None, Ok, Err, IfOk, slice_index};
+ghost use Rattle.std.specs.Prelude.{◌≡◌, ℕ, ◌+◌, ◌≤◌, ◌<◌, ◌≢◌, ◌↔◌, false, length, drop, Some, None, Ok, Err, IfOk, OnOk, IfErr, slice_index};
 ghost use Rattle.am_packet.specs.declared.packet.Packet.{Packet};
 ghost use Rattle.am_packet.specs.declared.packet.Packet.TheVariants as packets;
 ghost use Rattle.am_codec.specs.declared.kind.Kind.TheVariants as kinds;
@@ -578,23 +578,28 @@ fn packet(kind: Kind, sender: Name, stamp: Stamp, bytes: &[u8]) -> Result<Packet
     }
 }
 
+/// The stamp of a packet of this kind, where the packet has a total that the kind can have.
 #[tactic(auto, unfolding(crate::specs::Reading::fields_at))]
-fn fields(kind: Kind, bytes: &[u8]) -> Result<Packet, PacketRefusal>
+fn begin(kind: Kind, bytes: &[u8]) -> Result<Stamp, PacketRefusal>
     requires { 12 ≤ length bytes.now }
-    ensures { result ≡ fields_at kind bytes.now }
+    ensures least { OnOk result (least_total kind ≤ length bytes.now) }
+    ensures most { OnOk result (length bytes.now ≤ most_total kind) }
+    ensures ok { IfOk result (λ stamp. fields_at kind bytes.now ≡ packet_at kind (slice_index bytes.now 4) stamp bytes.now) }
+    ensures err { IfErr result (λ refusal. fields_at kind bytes.now ≡ Err refusal) }
 {
     let stamp = stamp(bytes, 5)?;
-    if !kind.is_total(bytes.len()) {
-        return Err(PacketRefusal::BadField { at: 10 });
+    if kind.is_total(bytes.len()) {
+        return Ok(stamp);
     }
-    let sender = name(bytes, 4);
-    packet(kind, sender, stamp, bytes)
+    Err(PacketRefusal::BadField { at: 10 })
 }
 
+/// The kind behind a mark and a version, where the header says how many bytes there are.
 #[tactic(auto, unfolding(crate::specs::Reading::of_kind_at))]
-fn of_kind(bytes: &[u8]) -> Result<Packet, PacketRefusal>
+fn kind_of(bytes: &[u8]) -> Result<Kind, PacketRefusal>
     requires { 12 ≤ length bytes.now }
-    ensures { result ≡ of_kind_at (kind_at (kind_in bytes.now)) bytes.now }
+    ensures ok { IfOk result (λ kind. of_kind_at (kind_at (kind_in bytes.now)) bytes.now ≡ fields_at kind bytes.now) }
+    ensures err { IfErr result (λ refusal. of_kind_at (kind_at (kind_in bytes.now)) bytes.now ≡ Err refusal) }
 {
     let Some(kind) = Kind::of_byte(bytes[3]) else {
         return Err(PacketRefusal::BadKind(bytes[3]));
@@ -606,12 +611,15 @@ fn of_kind(bytes: &[u8]) -> Result<Packet, PacketRefusal>
             found: bytes.len().min(u32::MAX as usize) as u32,
         });
     }
-    fields(kind, bytes)
+    Ok(kind)
 }
 
+/// The kind of the packet, where the header is right.
 #[tactic(auto, unfolding(crate::specs::Reading::reading))]
-fn read(bytes: &[u8]) -> Result<Packet, PacketRefusal>
-    ensures { result ≡ reading bytes.now }
+fn header(bytes: &[u8]) -> Result<Kind, PacketRefusal>
+    ensures long { OnOk result (12 ≤ length bytes.now) }
+    ensures ok { IfOk result (λ kind. reading bytes.now ≡ fields_at kind bytes.now) }
+    ensures err { IfErr result (λ refusal. reading bytes.now ≡ Err refusal) }
 {
     if bytes.len() < 12 {
         return Err(PacketRefusal::Short);
@@ -622,7 +630,15 @@ fn read(bytes: &[u8]) -> Result<Packet, PacketRefusal>
     if bytes[2] != VERSION {
         return Err(PacketRefusal::BadVersion(bytes[2]));
     }
-    of_kind(bytes)
+    kind_of(bytes)
+}
+
+fn read(bytes: &[u8]) -> Result<Packet, PacketRefusal>
+    ensures { result ≡ reading bytes.now }
+{
+    let kind = header(bytes)?;
+    let stamp = begin(kind, bytes)?;
+    packet(kind, name(bytes, 4), stamp, bytes)
 }
 
 /// The packet that these bytes spell, all of them, or the first cause that they spell none. A count of bytes above
