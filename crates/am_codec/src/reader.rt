@@ -1,5 +1,6 @@
-ghost use Rattle.std.specs.Prelude.{◌≡◌, ℕ, ◌+◌, ◌≤◌, ◌<◌, ◌≢◌, ◌↔◌, false, length, drop, Some, None, Ok, Err, IfOk, slice_index};
+ghost use Rattle.std.specs.Prelude.{◌≡◌, ℕ, ◌+◌, ◌≤◌, ◌<◌, ◌≢◌, ◌↔◌, false, length, drop, Some, None, Ok, Err, IfOk, OnOk, IfErr, slice_index};
 ghost use Rattle.am_packet.specs.declared.packet.Packet.{Packet};
+ghost use Rattle.am_packet.specs.declared.packet.Packet.TheVariants as packets;
 ghost use Rattle.am_codec.specs.declared.kind.Kind.TheVariants as kinds;
 ghost use Rattle.am_codec.specs.declared.refusal.PacketRefusal.TheVariants.{Short, BadMark, BadVersion, BadKind, BadLength, BadField};
 ghost use Rattle.am_codec.specs.Causes.{HasMark, HasVersion, HasKind, HasTotal};
@@ -271,6 +272,7 @@ fn entry(bytes: &[u8], at: u32) -> Result<Entry, PacketRefusal>
 }
 
 #[tactic(auto, unfolding(crate::specs::Reading::packet_at))]
+#[inline(never)]
 fn request(sender: Name, stamp: Stamp, bytes: &[u8]) -> Result<Packet, PacketRefusal>
     requires least { 24 ≤ length bytes.now }
     requires most { length bytes.now ≤ 1048 }
@@ -289,6 +291,7 @@ fn request(sender: Name, stamp: Stamp, bytes: &[u8]) -> Result<Packet, PacketRef
 }
 
 #[tactic(auto, unfolding(crate::specs::Reading::packet_at))]
+#[inline(never)]
 fn spread(sender: Name, stamp: Stamp, bytes: &[u8]) -> Result<Packet, PacketRefusal>
     requires least { 24 ≤ length bytes.now }
     requires most { length bytes.now ≤ 1048 }
@@ -307,6 +310,7 @@ fn spread(sender: Name, stamp: Stamp, bytes: &[u8]) -> Result<Packet, PacketRefu
 }
 
 #[tactic(auto, unfolding(crate::specs::Reading::packet_at))]
+#[inline(never)]
 fn bcast(sender: Name, stamp: Stamp, bytes: &[u8]) -> Result<Packet, PacketRefusal>
     requires { 25 ≤ length bytes.now }
     ensures { result ≡ packet_at kinds.Bcast sender stamp bytes.now }
@@ -326,6 +330,7 @@ fn bcast(sender: Name, stamp: Stamp, bytes: &[u8]) -> Result<Packet, PacketRefus
 }
 
 #[tactic(auto, unfolding(crate::specs::Reading::packet_at))]
+#[inline(never)]
 fn order(sender: Name, stamp: Stamp, bytes: &[u8]) -> Result<Packet, PacketRefusal>
     requires { 29 ≤ length bytes.now }
     ensures { result ≡ packet_at kinds.Order sender stamp bytes.now }
@@ -347,6 +352,7 @@ fn order(sender: Name, stamp: Stamp, bytes: &[u8]) -> Result<Packet, PacketRefus
 }
 
 #[tactic(auto, unfolding(crate::specs::Reading::packet_at))]
+#[inline(never)]
 fn accept(sender: Name, stamp: Stamp, bytes: &[u8]) -> Result<Packet, PacketRefusal>
     requires { 25 ≤ length bytes.now }
     ensures { result ≡ packet_at kinds.Accept sender stamp bytes.now }
@@ -366,6 +372,7 @@ fn accept(sender: Name, stamp: Stamp, bytes: &[u8]) -> Result<Packet, PacketRefu
 }
 
 #[tactic(auto, unfolding(crate::specs::Reading::packet_at))]
+#[inline(never)]
 fn ack(sender: Name, stamp: Stamp, bytes: &[u8]) -> Result<Packet, PacketRefusal>
     requires { 20 ≤ length bytes.now }
     ensures { result ≡ packet_at kinds.Ack sender stamp bytes.now }
@@ -379,6 +386,7 @@ fn ack(sender: Name, stamp: Stamp, bytes: &[u8]) -> Result<Packet, PacketRefusal
 }
 
 #[tactic(auto, unfolding(crate::specs::Reading::packet_at))]
+#[inline(never)]
 fn nack(sender: Name, stamp: Stamp, bytes: &[u8]) -> Result<Packet, PacketRefusal>
     requires { 20 ≤ length bytes.now }
     ensures { result ≡ packet_at kinds.Nack sender stamp bytes.now }
@@ -392,6 +400,7 @@ fn nack(sender: Name, stamp: Stamp, bytes: &[u8]) -> Result<Packet, PacketRefusa
 }
 
 #[tactic(auto, unfolding(crate::specs::Reading::packet_at))]
+#[inline(never)]
 fn hold(sender: Name, stamp: Stamp, bytes: &[u8]) -> Result<Packet, PacketRefusal>
     requires { 24 ≤ length bytes.now }
     ensures { result ≡ packet_at kinds.Hold sender stamp bytes.now }
@@ -409,6 +418,7 @@ fn hold(sender: Name, stamp: Stamp, bytes: &[u8]) -> Result<Packet, PacketRefusa
 }
 
 #[tactic(auto, unfolding(crate::specs::Reading::packet_at))]
+#[inline(never)]
 fn welcome(sender: Name, stamp: Stamp, bytes: &[u8]) -> Result<Packet, PacketRefusal>
     requires { 238 ≤ length bytes.now }
     ensures { result ≡ packet_at kinds.Welcome sender stamp bytes.now }
@@ -426,6 +436,7 @@ fn welcome(sender: Name, stamp: Stamp, bytes: &[u8]) -> Result<Packet, PacketRef
 }
 
 #[tactic(auto, unfolding(crate::specs::Reading::packet_at))]
+#[inline(never)]
 fn leave_ask(sender: Name, stamp: Stamp, bytes: &[u8]) -> Result<Packet, PacketRefusal>
     requires { 20 ≤ length bytes.now }
     ensures { result ≡ packet_at kinds.LeaveAsk sender stamp bytes.now }
@@ -439,6 +450,7 @@ fn leave_ask(sender: Name, stamp: Stamp, bytes: &[u8]) -> Result<Packet, PacketR
 }
 
 #[tactic(auto, unfolding(crate::specs::Reading::packet_at))]
+#[inline(never)]
 fn gone(sender: Name, stamp: Stamp, bytes: &[u8]) -> Result<Packet, PacketRefusal>
     requires { 16 ≤ length bytes.now }
     ensures { result ≡ packet_at kinds.Gone sender stamp bytes.now }
@@ -452,6 +464,7 @@ fn gone(sender: Name, stamp: Stamp, bytes: &[u8]) -> Result<Packet, PacketRefusa
 }
 
 #[tactic(auto, unfolding(crate::specs::Reading::packet_at))]
+#[inline(never)]
 fn vote_of(sender: Name, stamp: Stamp, bytes: &[u8]) -> Result<Packet, PacketRefusal>
     requires { 35 ≤ length bytes.now }
     ensures { result ≡ packet_at kinds.Vote sender stamp bytes.now }
@@ -465,6 +478,7 @@ fn vote_of(sender: Name, stamp: Stamp, bytes: &[u8]) -> Result<Packet, PacketRef
 }
 
 #[tactic(auto, unfolding(crate::specs::Reading::packet_at))]
+#[inline(never)]
 fn fetch(sender: Name, stamp: Stamp, bytes: &[u8]) -> Result<Packet, PacketRefusal>
     requires { 16 ≤ length bytes.now }
     ensures { result ≡ packet_at kinds.Fetch sender stamp bytes.now }
@@ -478,6 +492,7 @@ fn fetch(sender: Name, stamp: Stamp, bytes: &[u8]) -> Result<Packet, PacketRefus
 }
 
 #[tactic(auto, unfolding(crate::specs::Reading::packet_at))]
+#[inline(never)]
 fn piece(sender: Name, stamp: Stamp, bytes: &[u8]) -> Result<Packet, PacketRefusal>
     requires { 21 ≤ length bytes.now }
     ensures { result ≡ packet_at kinds.Piece sender stamp bytes.now }
@@ -495,6 +510,7 @@ fn piece(sender: Name, stamp: Stamp, bytes: &[u8]) -> Result<Packet, PacketRefus
 }
 
 #[tactic(auto, unfolding(crate::specs::Reading::packet_at))]
+#[inline(never)]
 fn result_of(sender: Name, stamp: Stamp, bytes: &[u8]) -> Result<Packet, PacketRefusal>
     requires { 31 ≤ length bytes.now }
     ensures { result ≡ packet_at kinds.Result sender stamp bytes.now }
@@ -513,6 +529,27 @@ fn result_of(sender: Name, stamp: Stamp, bytes: &[u8]) -> Result<Packet, PacketR
     })
 }
 
+#[inline(never)]
+fn join_ask(sender: Name, stamp: Stamp) -> Result<Packet, PacketRefusal>
+    ensures { result ≡ Ok (packets.JoinAsk sender stamp) }
+{
+    Ok(Packet::JoinAsk { sender, stamp })
+}
+
+#[inline(never)]
+fn invite(sender: Name, stamp: Stamp) -> Result<Packet, PacketRefusal>
+    ensures { result ≡ Ok (packets.Invite sender stamp) }
+{
+    Ok(Packet::Invite { sender, stamp })
+}
+
+#[inline(never)]
+fn hand_over(sender: Name, stamp: Stamp) -> Result<Packet, PacketRefusal>
+    ensures { result ≡ Ok (packets.HandOver sender stamp) }
+{
+    Ok(Packet::HandOver { sender, stamp })
+}
+
 #[tactic(auto, unfolding(crate::specs::Reading::packet_at))]
 fn packet(kind: Kind, sender: Name, stamp: Stamp, bytes: &[u8]) -> Result<Packet, PacketRefusal>
     requires least { least_total kind ≤ length bytes.now }
@@ -528,36 +565,41 @@ fn packet(kind: Kind, sender: Name, stamp: Stamp, bytes: &[u8]) -> Result<Packet
         Kind::Ack => ack(sender, stamp, bytes),
         Kind::Nack => nack(sender, stamp, bytes),
         Kind::Hold => hold(sender, stamp, bytes),
-        Kind::JoinAsk => Ok(Packet::JoinAsk { sender, stamp }),
+        Kind::JoinAsk => join_ask(sender, stamp),
         Kind::Welcome => welcome(sender, stamp, bytes),
         Kind::LeaveAsk => leave_ask(sender, stamp, bytes),
         Kind::Gone => gone(sender, stamp, bytes),
-        Kind::Invite => Ok(Packet::Invite { sender, stamp }),
+        Kind::Invite => invite(sender, stamp),
         Kind::Vote => vote_of(sender, stamp, bytes),
         Kind::Fetch => fetch(sender, stamp, bytes),
         Kind::Piece => piece(sender, stamp, bytes),
         Kind::Result => result_of(sender, stamp, bytes),
-        Kind::HandOver => Ok(Packet::HandOver { sender, stamp }),
+        Kind::HandOver => hand_over(sender, stamp),
     }
 }
 
+/// The stamp of a packet of this kind, where the packet has a total that the kind can have.
 #[tactic(auto, unfolding(crate::specs::Reading::fields_at))]
-fn fields(kind: Kind, bytes: &[u8]) -> Result<Packet, PacketRefusal>
+fn begin(kind: Kind, bytes: &[u8]) -> Result<Stamp, PacketRefusal>
     requires { 12 ≤ length bytes.now }
-    ensures { result ≡ fields_at kind bytes.now }
+    ensures least { OnOk result (least_total kind ≤ length bytes.now) }
+    ensures most { OnOk result (length bytes.now ≤ most_total kind) }
+    ensures ok { IfOk result (λ stamp. fields_at kind bytes.now ≡ packet_at kind (slice_index bytes.now 4) stamp bytes.now) }
+    ensures err { IfErr result (λ refusal. fields_at kind bytes.now ≡ Err refusal) }
 {
     let stamp = stamp(bytes, 5)?;
-    if !kind.is_total(bytes.len()) {
-        return Err(PacketRefusal::BadField { at: 10 });
+    if kind.is_total(bytes.len()) {
+        return Ok(stamp);
     }
-    let sender = name(bytes, 4);
-    packet(kind, sender, stamp, bytes)
+    Err(PacketRefusal::BadField { at: 10 })
 }
 
+/// The kind behind a mark and a version, where the header says how many bytes there are.
 #[tactic(auto, unfolding(crate::specs::Reading::of_kind_at))]
-fn of_kind(bytes: &[u8]) -> Result<Packet, PacketRefusal>
+fn kind_of(bytes: &[u8]) -> Result<Kind, PacketRefusal>
     requires { 12 ≤ length bytes.now }
-    ensures { result ≡ of_kind_at (kind_at (kind_in bytes.now)) bytes.now }
+    ensures ok { IfOk result (λ kind. of_kind_at (kind_at (kind_in bytes.now)) bytes.now ≡ fields_at kind bytes.now) }
+    ensures err { IfErr result (λ refusal. of_kind_at (kind_at (kind_in bytes.now)) bytes.now ≡ Err refusal) }
 {
     let Some(kind) = Kind::of_byte(bytes[3]) else {
         return Err(PacketRefusal::BadKind(bytes[3]));
@@ -569,12 +611,15 @@ fn of_kind(bytes: &[u8]) -> Result<Packet, PacketRefusal>
             found: bytes.len().min(u32::MAX as usize) as u32,
         });
     }
-    fields(kind, bytes)
+    Ok(kind)
 }
 
+/// The kind of the packet, where the header is right.
 #[tactic(auto, unfolding(crate::specs::Reading::reading))]
-fn read(bytes: &[u8]) -> Result<Packet, PacketRefusal>
-    ensures { result ≡ reading bytes.now }
+fn header(bytes: &[u8]) -> Result<Kind, PacketRefusal>
+    ensures long { OnOk result (12 ≤ length bytes.now) }
+    ensures ok { IfOk result (λ kind. reading bytes.now ≡ fields_at kind bytes.now) }
+    ensures err { IfErr result (λ refusal. reading bytes.now ≡ Err refusal) }
 {
     if bytes.len() < 12 {
         return Err(PacketRefusal::Short);
@@ -585,7 +630,15 @@ fn read(bytes: &[u8]) -> Result<Packet, PacketRefusal>
     if bytes[2] != VERSION {
         return Err(PacketRefusal::BadVersion(bytes[2]));
     }
-    of_kind(bytes)
+    kind_of(bytes)
+}
+
+fn read(bytes: &[u8]) -> Result<Packet, PacketRefusal>
+    ensures { result ≡ reading bytes.now }
+{
+    let kind = header(bytes)?;
+    let stamp = begin(kind, bytes)?;
+    packet(kind, name(bytes, 4), stamp, bytes)
 }
 
 /// The packet that these bytes spell, all of them, or the first cause that they spell none. A count of bytes above

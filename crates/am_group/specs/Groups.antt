@@ -1,0 +1,65 @@
+-- A group as its users see it: one list, and a front for each name that was admitted. It knows of no packet, no poll and
+-- no ballot. Its three steps are to append an entry, to admit a name at a number, and to take the next entry of a name.
+use Rattle.std.specs.Prelude.{◌≡◌, ℕ, ◌+◌, ◌-◌, ◌≤◌, List, [], ◌∷◌, ◌++◌, length, map, Option, Some, None, if◌then◌else◌, slice_get, slice_set, slice_index_or}
+use Rattle.std.specs.List.{range_with_len}
+use Rattle.am_base.specs.declared.entry.Entry.{Entry}
+use Rattle.am_base.specs.declared.entry.Entry.TheVariants.{View}
+use Rattle.am_base.specs.declared.name.Stamp.{Stamp}
+use Rattle.am_base.specs.Names.{has, lowest_of}
+use Rattle.am_base.specs.Founding.{Rules}
+
+-- the list, the front of each of the 256 names that has one, and for how many entries more there is memory
+pub record Standing : Type 0 where
+  pub entries : List Entry
+  pub fronts : List (Option ℕ)
+  pub room : ℕ
+
+-- how far a name has taken the list; None where it wasn't admitted
+abbrev pub front_of : Standing → ℕ → Option ℕ
+front_of g name = slice_index_or g.fronts name None
+
+abbrev pub numbered : ℕ → Option Entry → Option (ℕ × Entry)
+numbered number None = None
+numbered number (Some entry) = Some (number, entry)
+
+-- the entry above a front, with its number
+abbrev pub above : List Entry → Option ℕ → Option (ℕ × Entry)
+above entries None = None
+above entries (Some front) = numbered (front + 1) (slice_get entries front)
+
+-- what a name takes next
+abbrev pub next_of : Standing → ℕ → Option (ℕ × Entry)
+next_of g name = above g.entries (front_of g name)
+
+-- the list with one entry more
+abbrev pub appended : List Entry → Entry → List Entry
+appended entries entry = entries ++ entry ∷ []
+
+-- the fronts where a name is admitted at a number: its front is the number before
+abbrev pub admitted : List (Option ℕ) → ℕ → ℕ → List (Option ℕ)
+admitted fronts name number = slice_set fronts name (Some (number - 1))
+
+-- the fronts where a name took what was next for it
+abbrev pub moved : List (Option ℕ) → ℕ → Option (ℕ × Entry) → List (Option ℕ)
+moved fronts name None = fronts
+moved fronts name (Some taken) = slice_set fronts name (Some taken.0)
+
+-- each front is within the list
+pub record AreFronts (entries : List Entry) (fronts : List (Option ℕ)) : Type 0 where
+  pub few : length entries ≤ 2000000000
+  pub names : length fronts ≡ 256
+  pub within : (name front : ℕ) → slice_get fronts name ≡ Some (Some front) → front ≤ length entries
+
+-- ---- how a group begins
+
+-- the founders' View, of round 1 and the lowest founder
+abbrev pub stamp_for : Option ℕ → Stamp
+stamp_for None = record { round = 1; by = 0 }
+stamp_for (Some name) = record { round = 1; by = name }
+
+abbrev pub founders_view : Rules → Entry
+founders_view rules = View (stamp_for (lowest_of rules.founders)) rules.founders rules.resilience
+
+-- each founder is admitted at 1
+unfoldable pub founders_fronts : List ℕ → List (Option ℕ)
+founders_fronts founders = map (λ name. if has founders name then Some 0 else None) (range_with_len 0 256)

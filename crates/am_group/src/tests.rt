@@ -1,0 +1,153 @@
+use crate::addressed::is_for;
+use crate::delivered::deliveries;
+use crate::event::{Act, By, Event, Part, Record};
+use crate::group::Group;
+use crate::journal::Journal;
+use am_base::body::Body;
+use am_base::entry::Entry;
+use am_base::founding::Founding;
+use am_base::items::Items;
+use am_base::name::{Name, Stamp};
+use am_base::names::Names;
+use am_base::outcome::Outcome;
+use am_packet::letter::Letter;
+use am_packet::packet::Packet;
+use std::alloc::Global;
+use std::test::*;
+
+fn founding_of(founders: u16) -> Result<Founding, Fail> {
+    Ok(Founding::new(Names::of_mask(founders), 0, 64, 256).ok_or("a founding")?)
+}
+
+fn record_of(alloc: Global, node: u8, outcome: Outcome, to: &[u16]) -> Result<Record, Fail> {
+    let mut packets = Items::new(alloc);
+    for mask in to {
+        packets.push(Letter {
+            to: Names::of_mask(*mask),
+            any: false,
+            packet: Packet::default(),
+        })?;
+    }
+    Ok(Record {
+        event: Event {
+            node: Name::of_byte(node),
+            act: Act::Take,
+        },
+        life: 1,
+        by: By {
+            caller: 0,
+            call: 0,
+            part: Part::Call,
+        },
+        outcome,
+        packets,
+    })
+}
+
+#[test]
+fn letters_have_their_numbers(rt: HostRuntime) -> Result<(), Fail> {
+    let alloc = rt.alloc();
+    let mut journal = Journal::new(alloc, &founding_of(7)?);
+    for to in [[2u16, 4].as_slice(), [].as_slice(), [2, 6, 1].as_slice()] {
+        journal.reserve()?;
+        let item = record_of(alloc, 0, Outcome::Idle, to)?;
+        if item.packets.as_slice().len() <= 24 && journal.records().len() < 100000 {
+            journal.push(item);
+        }
+    }
+    assert_eq!(rt; journal.packets(), 5);
+    assert!(rt; journal.packet(0).is_none());
+    assert!(rt; journal.packet(6).is_none());
+    for (number, mask) in [(1, 2), (2, 4), (3, 2), (4, 6), (5, 1)] {
+        let letter = journal.packet(number).ok_or("a letter")?;
+        assert_eq!(rt; letter.to.mask(), mask, "of {number}");
+    }
+    let second = Name::of_byte(1);
+    for (after, next) in [
+        (0, Some(1)),
+        (1, Some(3)),
+        (3, Some(4)),
+        (4, None),
+        (9, None),
+    ] {
+        assert_eq!(rt; journal.next_for(second, after), next, "after {after}");
+    }
+    assert!(rt; journal.next_for(Name::of_byte(17), 0).is_none());
+    Ok(())
+}
+
+#[test]
+fn a_letter_with_any_is_for_each_life(rt: HostRuntime) {
+    let letter = Letter {
+        to: Names::of_mask(2),
+        any: true,
+        packet: Packet::default(),
+    };
+    for (name, wanted) in [(1, true), (17, true), (241, true), (0, false), (2, false)] {
+        assert_eq!(rt; is_for(&letter, Name::of_byte(name)), wanted, "of {name}");
+    }
+}
+
+#[test]
+fn a_group_gives_its_entries(rt: HostRuntime) -> Result<(), Fail> {
+    let mut group = Group::new(rt.alloc(), &founding_of(3)?)?;
+    group.reserve(1)?;
+    if group.entries().len() < 2 {
+        group.append(Entry::Join(Name::of_byte(2)))?;
+    }
+    if group.entries().len() == 2 {
+        group.admit(Name::of_byte(2), 2);
+    }
+    for (name, numbers) in [
+        (0, [Some(1), Some(2), None]),
+        (2, [Some(2), None, None]),
+        (3, [None, None, None]),
+    ] {
+        for number in numbers {
+            let taken = group.take(Name::of_byte(name));
+            assert_eq!(rt; taken.map(|taken| taken.0), number, "of {name}");
+        }
+    }
+    let view = Stamp {
+        round: 1,
+        by: Name::of_byte(0),
+    };
+    let begins = match group.entries().first() {
+        Some(
+            Entry::View {
+                stamp,
+                members,
+                resilience,
+            },
+        ) => *stamp == view && members.mask() == 3 && *resilience == 0,
+        _ => false,
+    };
+    assert!(rt; begins);
+    Ok(())
+}
+
+#[test]
+fn a_name_has_its_deliveries(rt: HostRuntime) -> Result<(), Fail> {
+    let alloc = rt.alloc();
+    let mut records = Vec::new(alloc);
+    let body = Body::of(b"a").ok_or("a body")?;
+    let sent = Entry::Data {
+        from: Name::of_byte(1),
+        req: 1,
+        body,
+    };
+    for (node, number) in [(1, 1), (0, 1), (1, 2)] {
+        let outcome = Outcome::Took {
+            number,
+            entry: sent.copied(),
+        };
+        records.push(record_of(alloc, node, outcome, &[])?)?;
+    }
+    records.push(record_of(alloc, 1, Outcome::Empty, &[])?)?;
+    for (node, many, last) in [(1, 2, Some(2)), (0, 1, Some(1)), (17, 0, None)] {
+        let given = deliveries(alloc, &records, Name::of_byte(node))?;
+        assert_eq!(rt; given.len(), many, "of {node}");
+        assert_eq!(rt; given.last().map(|given| given.0), last, "of {node}");
+    }
+    Ok(())
+}
