@@ -1,0 +1,4 @@
+pub mod Group
+pub mod Moves
+pub mod Runs
+pub mod Kept
