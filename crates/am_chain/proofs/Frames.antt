@@ -1,14 +1,12 @@
 -- What a change of one node leaves as it was.
-use Rattle.std.proofs.Common.{◌≡◌, ◌≢◌, ◌⊎◌, ⊎_elim, inl, inr, ℕ, zero, suc, ◌+◌, ◌<◌, ◌≤◌, min, Bool, true, false, List, [], ◌∷◌, ◌++◌, length, take, Option, Some, None, refl, sym, ap, ◌∙◌, subst, arith}
-use Rattle.am_base.specs.declared.name.Stamp.{Stamp}
+use Rattle.std.proofs.Common.{◌≡◌, ◌≢◌, ◌⊎◌, ⊎_elim, inl, inr, ℕ, ◌≤◌, true, false, List, length, Some, refl, sym, ap, ◌∙◌, subst, arith}
 use Rattle.am_base.specs.declared.entry.Entry.{Entry}
-use Rattle.am_base.specs.Names.{has}
-use Rattle.am_chain_lists.specs.Whole.{Begins, mem, view_of, key}
+use Rattle.am_chain_lists.specs.Whole.{Begins, key}
 use Rattle.am_chain_lists.proofs.Prefixes.{begins_refl, begins_trans, begins_length}
-use Rattle.am_chain.specs.Group.{put, how_many, need_of, counted, Node, Chosen, opening, Views, Group, chain_of, IsThere, IsUp}
+use Rattle.am_chain.specs.Group.{put, Node, opening, Views, Group, IsThere, IsUp}
 use Rattle.am_chain.specs.Moves.{with_node}
-use Rattle.am_chain.specs.Kept.{NodeOk, ShownOk, ServedOk, Witness, DepartedOk, ViewsOk, Kept}
-use Rattle.am_chain.proofs.Puts.{by_cases, put_cases, put_same, put_other, put_at}
+use Rattle.am_chain.specs.Kept.{NodeOk, ShownOk, ServedOk, Witness, DepartedOk, Kept}
+use Rattle.am_chain.proofs.Puts.{by_cases, put_cases, put_same, put_at}
 
 -- a node later on: it has no less, and it isn't there again nor stays again
 pub record Later (a b : Node) : Type 0 where

@@ -1,22 +1,20 @@
 -- The group list grows, and the chain does.
-use Rattle.std.proofs.Common.{◌≡◌, ◌≢◌, ◌⊎◌, ⊎_elim, inl, inr, ℕ, zero, suc, ◌+◌, ◌-◌, ◌<◌, ◌≤◌, min, Bool, true, false, List, [], ◌∷◌, ◌++◌, length, take, Option, Some, None, slice_get, refl, sym, ap, ◌∙◌, subst, arith}
+use Rattle.std.proofs.Common.{◌≡◌, ◌≢◌, ◌⊎◌, ⊎_elim, ℕ, zero, suc, ◌+◌, ◌-◌, ◌<◌, ◌≤◌, min, true, false, List, [], ◌∷◌, ◌++◌, length, take, Some, slice_get, refl, sym, ap, ◌∙◌, subst, arith}
 use Rattle.std.proofs.lemmas.List.{take-append-le}
-use Rattle.am_base.specs.declared.name.Stamp.{Stamp}
 use Rattle.am_base.specs.declared.entry.Entry.{Entry}
 use Rattle.am_base.specs.declared.entry.Entry.TheVariants.{Data, Join, Leave, View}
 use Rattle.am_base.specs.Names.{has}
 use Rattle.am_base.specs.Lists.{members_of, fits}
 use Rattle.am_base.specs.Fronts.{counted_of}
-use Rattle.am_chain_lists.specs.Whole.{Begins, BeginsBelow, IsGood, NotView, SmallName, told, mem, view_of, key, resilience_of}
-use Rattle.am_chain_lists.proofs.Prefixes.{begins_refl, begins_nil, begins_more, begins_trans, begins_length, begins_both, begins_same, begins_push, length_push, below_begins, below_length, below_of, begins_pushed, begins_take, length_take}
+use Rattle.am_chain_lists.specs.Whole.{Begins, IsGood, NotView, SmallName, told, mem, view_of, key, resilience_of}
+use Rattle.am_chain_lists.proofs.Prefixes.{begins_refl, begins_more, begins_trans, begins_length, begins_both, begins_pushed, begins_take, length_take}
 use Rattle.am_chain_lists.proofs.Rows.{Spares}
-use Rattle.am_chain_lists.proofs.Members.{mem_between, mem_push, good_begins, good_push}
-use Rattle.am_chain_lists.proofs.Order.{view_up, view_push}
-use Rattle.am_chain.specs.Group.{put, how_many, counted, need_of, Node, Chosen, opening, Views, Group, chain_of, current_of, IsThere, IsUp, Leads, IsOngoing, IsHeld, MayAccept}
-use Rattle.am_chain.specs.Moves.{longer, MayNumber, with_line}
-use Rattle.am_chain.specs.Kept.{FrontsOk, LeadsOk, JoinedOk, LateOk, BallotOk, NodeOk, ShownOk, ServedOk, Witness, DepartedOk, ViewsOk, Kept}
-use Rattle.am_chain.proofs.Puts.{put_cases, put_same, put_other, put_at, by_cases}
-use Rattle.am_chain.proofs.Frames.{Later, later_all, later_refl, shown_later, served_later, witness_later, departed_later}
+use Rattle.am_chain_lists.proofs.Members.{mem_push, good_push}
+use Rattle.am_chain_lists.proofs.Order.{view_push}
+use Rattle.am_chain.specs.Group.{put, how_many, counted, need_of, Node, opening, Views, Group, chain_of, IsThere, IsUp, Leads, MayAccept}
+use Rattle.am_chain.specs.Kept.{NodeOk, ServedOk, Witness, DepartedOk, ViewsOk, Kept}
+use Rattle.am_chain.proofs.Puts.{put_cases, put_same, put_at, by_cases}
+use Rattle.am_chain.proofs.Frames.{Later, later_all, shown_later, served_later, witness_later, departed_later}
 
 pub take_more : {a b : List Entry} (n : ℕ) → Begins a b → n ≤ length a → take n b ≡ take n a
 take_more {a} {b} n h l = ap (take n) (sym h.same) ∙ take-append-le n a h.rest l
@@ -74,6 +72,7 @@ node_accepts views a b i m h ok =
       late = ok.late;
       ballot = ok.ballot;
       complete = ok.complete;
+      heard = ok.heard;
     }
 
 -- an entry that is held as the list is accepted up to a number
@@ -128,16 +127,16 @@ group_change s k list to is may =
 
 -- One entry more of the chain, by its sequencer.
 module _ (s : Group) (k : Kept s) (i : ℕ) (e : Entry) (leads : Leads i (s.node i)) (fit : fits (told (s.node i).list) e ≡ true) (plain : NotView e) where
-  list_is : (s.node i).list ≡ chain_of s.views
+  pub list_is : (s.node i).list ≡ chain_of s.views
   list_is = ((k.each i).leads leads).chain
 
-  view_is : view_of (s.node i).list ≡ s.views.current
+  pub view_is : view_of (s.node i).list ≡ s.views.current
   view_is = ap view_of list_is ∙ k.views.view
 
   abbrev pub grown : Views
   grown = record s.views { line = put s.views.line (key (view_of (s.node i).list)) ((s.node i).list ++ e ∷ []) }
 
-  chain_is : chain_of grown ≡ (s.node i).list ++ e ∷ []
+  pub chain_is : chain_of grown ≡ (s.node i).list ++ e ∷ []
   chain_is = ap (λ x. put s.views.line x ((s.node i).list ++ e ∷ []) (key s.views.current)) (ap key view_is) ∙ put_same s.views.line (key s.views.current) ((s.node i).list ++ e ∷ [])
 
   chain_grows : Begins (chain_of s.views) (chain_of grown)
@@ -158,7 +157,7 @@ module _ (s : Group) (k : Kept s) (i : ℕ) (e : Entry) (leads : Leads i (s.node
   small_plain (Leave name) h = tt
   small_plain (View stamp members resilience) h = absurd h
 
-  good_grown : IsGood ((s.node i).list ++ e ∷ [])
+  pub good_grown : IsGood ((s.node i).list ++ e ∷ [])
   good_grown = good_push (s.node i).list e (subst IsGood (sym list_is) k.views.good) fit (small_plain e plain)
 
   pub views_grow : ViewsOk grown
@@ -171,6 +170,7 @@ module _ (s : Group) (k : Kept s) (i : ℕ) (e : Entry) (leads : Leads i (s.node
     opens = begins_trans k.views.opens chain_grows;
     complete = λ x c. begins_trans (k.views.complete x c) chain_grows;
     marked = k.views.marked;
+    some = k.views.some;
   }
 
   -- what each other name keeps
@@ -195,6 +195,7 @@ module _ (s : Group) (k : Kept s) (i : ℕ) (e : Entry) (leads : Leads i (s.node
         late = λ u l. let o = ok.late u l in record { before = o.before; last = o.last; list = o.list; member = o.member; ended = o.ended; lines = λ x d h. begins_trans (o.lines x d h) (line_grows x) };
         ballot = λ u b. let o = ok.ballot u b in record { small = o.small; above = o.above; by = o.by; staying = o.staying; member = o.member };
         complete = ok.complete;
+        heard = ok.heard;
       }
     where
       stay : mem (chain_of s.views) j ≡ true → IsThere (s.node j) → (s.node j).leaving ≡ false → mem (chain_of grown) j ≡ true

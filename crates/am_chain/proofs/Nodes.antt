@@ -1,24 +1,24 @@
 -- What each move of one node keeps of that node.
-use Rattle.std.proofs.Common.{◌≡◌, ◌≢◌, ◌⊎◌, ⊎_elim, inl, inr, ℕ, zero, suc, ◌+◌, ◌*◌, ◌/◌, ◌%◌, ◌<◌, ◌≤◌, min, Bool, true, false, List, [], ◌∷◌, ◌++◌, length, take, Option, Some, None, slice_get, refl, sym, ap, ◌∙◌, subst, arith}
+use Rattle.std.proofs.Common.{◌≡◌, ◌≢◌, ◌⊎◌, ⊎_elim, ℕ, ◌+◌, ◌<◌, ◌≤◌, Bool, true, false, List, [], ◌∷◌, ◌++◌, length, take, Some, slice_get, refl, sym, ap, ◌∙◌, subst, arith}
 use Rattle.std.proofs.lemmas.List.{take-append-le}
 use Rattle.std.proofs.lemmas.Option.{slice_get_within}
 use Rattle.am_base.specs.declared.name.Stamp.{Stamp}
 use Rattle.am_base.specs.declared.entry.Entry.{Entry}
 use Rattle.am_base.specs.declared.entry.Entry.TheVariants.{View}
-use Rattle.am_base.specs.Names.{has, rank_of}
-use Rattle.am_chain_lists.specs.Whole.{Begins, BeginsBelow, IsGood, mem, view_of, key}
-use Rattle.am_chain_lists.proofs.Prefixes.{begins_refl, begins_nil, begins_more, begins_trans, begins_length, begins_both, begins_same, begins_push, length_push, below_begins, below_length, below_of, begins_take, length_take}
-use Rattle.am_chain_lists.proofs.Members.{mem_between, good_begins}
-use Rattle.am_chain_lists.proofs.Order.{view_up, key_by}
-use Rattle.am_chain.specs.Group.{put, Node, Chosen, opening, Views, Group, chain_of, current_of, IsThere, IsUp, Leads, IsOngoing}
-use Rattle.am_chain.specs.Moves.{IsAbove, own_stamp, longer, MayWelcome}
-use Rattle.am_chain.specs.Kept.{FrontsOk, LeadsOk, JoinedOk, LateOk, BallotOk, NodeOk, ServedOk, ViewsOk}
+use Rattle.am_base.specs.Names.{rank_of}
+use Rattle.am_chain_lists.specs.Whole.{Begins, mem, view_of, key}
+use Rattle.am_chain_lists.proofs.Prefixes.{begins_more, begins_trans, begins_length, begins_both, begins_same, begins_push, length_push, below_begins, below_length, below_of, begins_take, length_take}
+use Rattle.am_chain_lists.proofs.Members.{mem_between}
+use Rattle.am_chain_lists.proofs.Order.{view_up}
+use Rattle.am_chain.specs.Group.{Node, opening, Views, Group, chain_of, current_of, IsThere, IsUp, IsOngoing}
+use Rattle.am_chain.specs.Moves.{own_stamp, longer, MayWelcome}
+use Rattle.am_chain.specs.Kept.{LateOk, BallotOk, NodeOk, ServedOk, ViewsOk}
 
 -- flags that only fall, or a ballot that ends
 pub flags_ok : (views : Views) (group : List Entry) (i : ℕ) (m : Node) (stopped departed leaving ballot : Bool)
     → (IsThere (record m { stopped = stopped; departed = departed; leaving = leaving; ballot = ballot }) → IsThere m)
     → (leaving ≡ false → m.leaving ≡ false)
-    → (ballot ≡ true → (m.ballot ≡ true) × (leaving ≡ false))
+    → (IsUp (record m { stopped = stopped; departed = departed; leaving = leaving; ballot = ballot }) → ballot ≡ true → (m.ballot ≡ true) × (leaving ≡ false))
     → NodeOk views group i m → NodeOk views group i (record m { stopped = stopped; departed = departed; leaving = leaving; ballot = ballot })
 flags_ok views group i m stopped departed leaving ballot there staying voting ok =
     let up : IsUp (record m { stopped = stopped; departed = departed; leaving = leaving; ballot = ballot }) → IsUp m = λ u. record { log = u.log; there = there u.there } in
@@ -33,13 +33,14 @@ flags_ok views group i m stopped departed leaving ballot there staying voting ok
       joined = λ h. let o = ok.joined h in record { accepted = o.accepted; member = o.member };
       own = λ u. ok.own (up u);
       late = λ u l. let o = ok.late (up u) l in record { before = o.before; last = o.last; list = o.list; member = o.member; ended = o.ended; lines = o.lines };
-      ballot = λ u b. let v = voting b in let o = ok.ballot (up u) v.0 in record { small = o.small; above = o.above; by = o.by; staying = v.1; member = o.member };
+      ballot = λ u b. let v = voting u b in let o = ok.ballot (up u) v.0 in record { small = o.small; above = o.above; by = o.by; staying = v.1; member = o.member };
       complete = λ x c t. ok.complete x c (there t);
+      heard = ok.heard;
     }
 
 -- told and acc
-pub fronts_ok : (views : Views) (group : List Entry) (i : ℕ) (m : Node) (told acc : ℕ) → ViewsOk views → Begins group (chain_of views) → IsUp m → told ≤ length group → acc ≤ told → acc ≤ length m.list → NodeOk views group i m → NodeOk views group i (record m { told = told; acc = acc })
-fronts_ok views group i m told acc v g u low a w ok =
+pub fronts_ok : (views : Views) (group : List Entry) (i : ℕ) (m : Node) (told acc : ℕ) → ViewsOk views → Begins group (chain_of views) → IsUp m → told ≤ length group → acc ≤ told → acc ≤ length m.list → ((x : ℕ) → views.decided x ≡ true → key m.promise < x → told ≤ length (views.chosen x).before) → NodeOk views group i m → NodeOk views group i (record m { told = told; acc = acc })
+fronts_ok views group i m told acc v g u low a w heard ok =
     let up : IsUp (record m { told = told; acc = acc }) → IsUp m = λ u. record { log = u.log; there = record { goes = u.there.goes; stays = u.there.stays } } in
     let there : IsThere (record m { told = told; acc = acc }) → IsThere m = λ t. record { goes = t.goes; stays = t.stays } in
     let long = length_take acc m.list w in
@@ -56,6 +57,7 @@ fronts_ok views group i m told acc v g u low a w ok =
       late = λ u l. let o = ok.late (up u) l in record { before = o.before; last = o.last; list = o.list; member = o.member; ended = o.ended; lines = o.lines };
       ballot = λ u b. let o = ok.ballot (up u) b in record { small = o.small; above = o.above; by = o.by; staying = o.staying; member = o.member };
       complete = λ x c t. ok.complete x c (there t);
+      heard = heard;
     }
 
 -- a greater stamp of another name
@@ -76,6 +78,7 @@ raise_ok views group i m stamp above small other ok =
       late = λ u l. let o = ok.late (up u) (omega arith) in record { before = o.before; last = o.last; list = o.list; member = o.member; ended = o.ended; lines = λ x d h. o.lines x d (omega arith) };
       ballot = λ u b. absurd (cc);
       complete = λ x c t. ok.complete x c (there t);
+      heard = λ x d l. ok.heard x d (omega arith);
     }
 
 -- who doesn't leave has promised the current view
@@ -124,6 +127,7 @@ begin_ok views group i m v small u staying member ok =
       late = λ u l. absurd (omega arith);
       ballot = λ u b. record { small = small; above = omega arith; by = refl; staying = staying; member = member };
       complete = λ x c t. ok.complete x c (there t);
+      heard = λ x d l. ok.heard x d (omega arith);
     }
 
 -- One entry more, which the chain has. What follows from it but for ballots and late nodes is the same wherever it comes from.
@@ -152,6 +156,7 @@ longer_ok views group i m e u chain ongoing leads late ballot ok =
       late = λ u l. late l;
       ballot = λ u b. ballot b;
       complete = λ x c t h. begins_trans (ok.complete x c (there t) h) (begins_more m.list (e ∷ []));
+      heard = ok.heard;
     }
   where
     two : (a b : ℕ) → a < b + 1 → (a < b) ⊎ (a ≡ b)
@@ -266,4 +271,5 @@ welcome_ok s j stamp base join w v g ok =
       complete = λ x c t h.
           let o = begins_length (subst (Begins (opening (s.views.chosen x))) (ok.blank w.no_log) (ok.complete x c (there t) h)) in
           let l = length_push (s.views.chosen x).before (View (s.views.chosen x).stamp (s.views.chosen x).members (s.views.chosen x).resilience) in absurd (omega arith);
+      heard = λ x d l. let o = v.order x d in absurd (omega arith);
     }

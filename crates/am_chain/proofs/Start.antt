@@ -1,19 +1,18 @@
 -- What a group keeps at its start.
-use Rattle.std.proofs.Common.{◌≡◌, ◌≢◌, ◌⊎◌, ⊎_elim, inl, inr, ℕ, zero, suc, ◌+◌, ◌<◌, ◌≤◌, ◌==◌, ◌&&◌, ◌||◌, nat_le, if◌then◌else◌, Bool, true, false, List, [], ◌∷◌, ◌++◌, length, take, Option, Some, None, refl, sym, ap, ◌∙◌, subst, arith}
+use Rattle.std.proofs.Common.{◌≡◌, ⊎_elim, ℕ, ◌<◌, ◌≤◌, nat_le, if◌then◌else◌, Bool, true, false, List, [], ◌∷◌, ◌++◌, length, refl, sym, subst, arith}
 use Rattle.std.proofs.lemmas.Bool.Decides.{nat_tests}
-use Rattle.am_base.specs.declared.name.Stamp.{Stamp}
 use Rattle.am_base.specs.declared.entry.Entry.{Entry}
 use Rattle.am_base.specs.declared.entry.Entry.TheVariants.{View}
 use Rattle.am_base.specs.Names.{has}
 use Rattle.am_base.specs.Stamps.{no_stamp}
 use Rattle.am_base.specs.Lists.{blank, fits, fold}
-use Rattle.am_chain_lists.specs.Whole.{Begins, BeginsBelow, IsGood, told, mem, view_of, key}
+use Rattle.am_chain_lists.specs.Whole.{Begins, IsGood, mem, key}
 use Rattle.am_chain_lists.proofs.Prefixes.{begins_refl, begins_nil, begins_length, begins_same, begins_pushed, below_length}
 use Rattle.am_chain_lists.proofs.Members.{good_nil, good_push, mem_nil, mem_viewed, viewed_mem}
 use Rattle.am_chain_lists.proofs.Order.{view_viewed}
-use Rattle.am_chain.specs.Group.{Node, Chosen, opening, Views, Group, chain_of, IsThere, IsUp, Leads}
-use Rattle.am_chain.specs.Runs.{MayBegin, first_stamp, first_choice, first_node, start}
-use Rattle.am_chain.specs.Kept.{FrontsOk, LeadsOk, JoinedOk, LateOk, BallotOk, NodeOk, Witness, ViewsOk, Kept}
+use Rattle.am_chain.specs.Group.{opening, Views}
+use Rattle.am_chain.specs.Runs.{MayBegin, first_stamp, first_choice, start}
+use Rattle.am_chain.specs.Kept.{NodeOk, Kept}
 
 first_fits : (founders : List ℕ) (first resilience : ℕ) → has founders first ≡ true → fits blank (View (first_stamp first) founders resilience) ≡ true
 unfolding fits
@@ -67,6 +66,7 @@ module _ (founders : List ℕ) (first resilience : ℕ) (may : MayBegin founders
     late = λ u l. absurd (omega arith);
     ballot = λ u b. absurd (cc);
     complete = λ x c t m. begins_refl (opening (first_choice founders first resilience));
+    heard = λ x d l. omega arith;
   }
   first_ok false j h =
       let zero_small : 0 < 256 = omega arith in
@@ -83,6 +83,7 @@ module _ (founders : List ℕ) (first resilience : ℕ) (may : MayBegin founders
         late = λ u l. let z = u.log in absurd (cc);
         ballot = λ u b. absurd (cc);
         complete = λ x c t m. absurd (cc);
+        heard = λ x d l. omega arith;
       }
 
   pub start_kept : Kept (start founders first resilience)
@@ -96,6 +97,7 @@ module _ (founders : List ℕ) (first resilience : ℕ) (may : MayBegin founders
       opens = begins_refl (opening (first_choice founders first resilience));
       complete = λ x d. begins_refl (opening (first_choice founders first resilience));
       marked = λ x d. d;
+      some = (key (first_stamp first), grind (arith, nat_tests));
     };
     group = begins_refl (opening (first_choice founders first resilience));
     each = λ j. first_ok (has founders j) j refl;

@@ -1,10 +1,9 @@
 -- A group as whole lists: what each name has, and what was shown, served, decided and accepted. There are no packets here.
-use Rattle.std.specs.Prelude.{◌≡◌, ◌≢◌, ◌⊎◌, ℕ, zero, suc, ◌+◌, ◌-◌, ◌<◌, ◌≤◌, ◌==◌, ◌&&◌, ◌||◌, nat_lt, not, min, Bool, true, false, if◌then◌else◌, List, [], ◌∷◌, ◌++◌, length, take, Option, Some, None, slice_get}
+use Rattle.std.specs.Prelude.{◌≡◌, ◌⊎◌, ℕ, zero, suc, ◌+◌, ◌-◌, ◌<◌, ◌≤◌, ◌==◌, ◌&&◌, min, Bool, true, false, if◌then◌else◌, List, [], ◌∷◌, ◌++◌, length, take, Option, slice_get}
 use Rattle.am_base.specs.declared.name.Stamp.{Stamp}
 use Rattle.am_base.specs.declared.entry.Entry.{Entry}
 use Rattle.am_base.specs.declared.entry.Entry.TheVariants.{View}
 use Rattle.am_base.specs.Names.{has}
-use Rattle.am_base.specs.Stamps.{no_stamp}
 use Rattle.am_base.specs.Lists.{members_of}
 use Rattle.am_base.specs.Fronts.{counted_of}
 use Rattle.am_chain_lists.specs.Whole.{Begins, told, mem, view_of, resilience_of, key}

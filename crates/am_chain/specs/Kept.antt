@@ -1,11 +1,11 @@
 -- What every run of a group keeps.
-use Rattle.std.specs.Prelude.{◌≡◌, ◌⊎◌, ℕ, ◌+◌, ◌-◌, ◌<◌, ◌≤◌, min, Bool, true, false, List, [], ◌∷◌, ◌++◌, length, take, Some}
+use Rattle.std.specs.Prelude.{◌≡◌, ◌⊎◌, ℕ, ◌+◌, ◌<◌, ◌≤◌, min, Bool, true, false, List, [], ◌∷◌, ◌++◌, length, take, Some}
 use Rattle.am_base.specs.declared.name.Stamp.{Stamp}
 use Rattle.am_base.specs.declared.entry.Entry.{Entry}
 use Rattle.am_base.specs.declared.entry.Entry.TheVariants.{Leave}
 use Rattle.am_base.specs.Names.{has}
 use Rattle.am_chain_lists.specs.Whole.{Begins, BeginsBelow, IsGood, mem, view_of, key}
-use Rattle.am_chain.specs.Group.{how_many, counted, need_of, Node, Chosen, opening, Views, Group, chain_of, current_of, IsThere, IsUp, Leads}
+use Rattle.am_chain.specs.Group.{how_many, counted, need_of, Node, opening, Views, Group, chain_of, current_of, IsThere, IsUp, Leads}
 
 -- what it was told is accepted, and what it gave out or may give out is what was accepted
 pub record FrontsOk (group : List Entry) (m : Node) : Type 0 where
@@ -60,6 +60,8 @@ pub record NodeOk (views : Views) (group : List Entry) (i : ℕ) (m : Node) : Ty
   pub ballot : IsUp m → m.ballot ≡ true → BallotOk views i m
   -- a member of a complete view that is there has stored its View
   pub complete : (view : ℕ) → views.complete view ≡ true → IsThere m → has (views.chosen view).members i ≡ true → Begins (opening (views.chosen view)) m.list
+  -- what it was told lies below the View of each view above its promise
+  pub heard : (x : ℕ) → views.decided x ≡ true → key m.promise < x → m.told ≤ length (views.chosen x).before
 
 -- a list that was shown
 pub record ShownOk (node : ℕ → Node) (x name : ℕ) (shown : List Entry) : Type 0 where
@@ -104,6 +106,7 @@ pub record ViewsOk (views : Views) : Type 0 where
   -- a complete view's View stands in the chain
   pub complete : (x : ℕ) → views.complete x ≡ true → Begins (opening (views.chosen x)) (chain_of views)
   pub marked : (x : ℕ) → views.complete x ≡ true → views.decided x ≡ true
+  pub some : (x : ℕ) × (views.complete x ≡ true)
 
 pub record Kept (s : Group) : Type 0 where
   pub views : ViewsOk s.views

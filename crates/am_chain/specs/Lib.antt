@@ -2,3 +2,4 @@ pub mod Group
 pub mod Moves
 pub mod Runs
 pub mod Kept
+pub mod Claims

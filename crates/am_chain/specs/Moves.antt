@@ -1,13 +1,12 @@
 -- The moves of a group.
-use Rattle.std.specs.Prelude.{◌≡◌, ◌≢◌, ◌⊎◌, ℕ, ◌+◌, ◌-◌, ◌<◌, ◌≤◌, ◌==◌, ◌&&◌, ◌||◌, nat_lt, not, min, Bool, true, false, if◌then◌else◌, List, [], ◌∷◌, ◌++◌, length, take, Option, Some, None, slice_get}
+use Rattle.std.specs.Prelude.{◌≡◌, ◌≢◌, ◌⊎◌, ℕ, ◌+◌, ◌<◌, ◌≤◌, true, false, List, [], ◌∷◌, ◌++◌, length, take, Some, None, slice_get}
 use Rattle.am_base.specs.declared.name.Stamp.{Stamp}
 use Rattle.am_base.specs.declared.entry.Entry.{Entry}
 use Rattle.am_base.specs.declared.entry.Entry.TheVariants.{Data, Join, Leave, View}
 use Rattle.am_base.specs.Names.{has, is_within}
-use Rattle.am_base.specs.Stamps.{no_stamp}
 use Rattle.am_base.specs.Lists.{members_of, fits}
 use Rattle.am_chain_lists.specs.Whole.{Begins, told, mem, view_of, resilience_of, key}
-use Rattle.am_chain.specs.Group.{put, put2, how_many, Node, Chosen, opening, Views, Group, chain_of, IsThere, IsUp, Leads, IsOngoing, MayAccept, NoBetter}
+use Rattle.am_chain.specs.Group.{put, put2, Node, Chosen, opening, Group, IsThere, IsUp, Leads, IsOngoing, MayAccept, NoBetter}
 
 -- a sequencer numbers sends, Joins, and Leaves that others asked for
 abbrev pub MayNumber : (ℕ → Node) → ℕ → Entry → Type 0
@@ -110,7 +109,7 @@ pub data Move : Group → Group → Type 0 where
   -- a node promises a greater stamp, which ends its own ballot: Invite, Vote of a greater stamp, Result
   raises : {s : Group} (i : ℕ) (stamp : Stamp) → IsThere (s.node i) → IsAbove s.node i stamp → Move s (with_node s i (record (s.node i) { promise = stamp; ballot = false }))
   -- a node shows its list to the ballot that it promised: Invite
-  shows : {s : Group} (i : ℕ) → IsThere (s.node i) → (s.node i).ballot ≡ false → (s.node i).promise.by ≢ i → (s.node i).promise.by < 256 → key (s.node i).promise ≤ key (s.node (s.node i).promise.by).promise → s.shown (key (s.node i).promise) i ≡ None → Move s (record s { shown = put2 s.shown (key (s.node i).promise) i (Some (s.node i).list) })
+  shows : {s : Group} (i : ℕ) → IsThere (s.node i) → (s.node i).promise.by < 256 → key (s.node i).promise ≤ key (s.node (s.node i).promise.by).promise → s.shown (key (s.node i).promise) i ≡ None → Move s (record s { shown = put2 s.shown (key (s.node i).promise) i (Some (s.node i).list) })
   -- a node sends of the list that it showed, where each of that list's members but the coordinator has voted or isn't there: Fetch
   serves : {s : Group} (i : ℕ) (list : List Entry) → IsUp (s.node i) → s.shown (key (s.node i).promise) i ≡ Some list → ((j : ℕ) → mem list j ≡ true → IsThere (s.node j) → (j ≡ (s.node i).promise.by) ⊎ ((vote : List Entry) × (s.shown (key (s.node i).promise) j ≡ Some vote))) → Move s (record s { served = put2 s.served (key (s.node i).promise) i true })
   -- a coordinator takes the next entry of a list that a voter sent of: a Piece of another name

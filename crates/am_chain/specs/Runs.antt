@@ -1,12 +1,11 @@
 -- Runs of a group, and which are lawful.
-use Rattle.std.specs.Prelude.{◌≡◌, ◌⊎◌, ℕ, ◌+◌, ◌<◌, ◌≤◌, ◌&&◌, ◌||◌, ◌==◌, nat_lt, not, min, Bool, true, false, if◌then◌else◌, List, [], ◌∷◌, length, None}
+use Rattle.std.specs.Prelude.{◌≡◌, ◌⊎◌, ℕ, ◌+◌, ◌<◌, ◌≤◌, ◌&&◌, ◌||◌, ◌==◌, nat_lt, not, min, Bool, true, false, if◌then◌else◌, List, [], length, None}
 use Rattle.am_base.specs.declared.name.Stamp.{Stamp}
-use Rattle.am_base.specs.declared.entry.Entry.{Entry}
 use Rattle.am_base.specs.Names.{has}
 use Rattle.am_base.specs.Stamps.{no_stamp}
 use Rattle.am_chain_lists.specs.Whole.{Begins, view_of, key}
-use Rattle.am_chain.specs.Group.{how_many, Node, Chosen, opening, Views, Group, IsThere}
-use Rattle.am_chain.specs.Moves.{Move, numbers, stores, accepts, learns, begins, raises, shows, serves, fetches, decides, gives_over, welcomes, asks, departs, closes, stops}
+use Rattle.am_chain.specs.Group.{how_many, Node, Chosen, opening, Group, IsThere}
+use Rattle.am_chain.specs.Moves.{Move, decides}
 
 -- A view completes: as many of its members as an accepted entry needs have stored its View, and none of its members that is there
 -- lags behind it.
@@ -23,6 +22,7 @@ pub record Step (s t : Group) : Type 0 where
   pub moved : Group
   pub move : Move s moved
   pub complete : ℕ → Bool
+  pub stay : (view : ℕ) → moved.views.complete view ≡ true → complete view ≡ true
   pub marks : (view : ℕ) → complete view ≡ true → (moved.views.complete view ≡ true) ⊎ Completes moved view
   pub is : t ≡ record moved { views = record moved.views { complete = complete } }
 
@@ -79,20 +79,17 @@ pub data Run (founders : List ℕ) (first resilience : ℕ) : Group → Type 0 w
   founded : MayBegin founders first resilience → Run founders first resilience (start founders first resilience)
   more : {s t : Group} → Run founders first resilience s → Step s t → IsLawful t → Run founders first resilience t
 
--- a move that has no part in a decision
-abbrev pub IsWithoutBallot : {s t : Group} → Move s t → Type 0
-IsWithoutBallot (numbers i e a b c) = Unit {0}
-IsWithoutBallot (stores i e a b c d f) = Unit {0}
-IsWithoutBallot (accepts i n a b) = Unit {0}
-IsWithoutBallot (learns i told acc a b c d e f g) = Unit {0}
-IsWithoutBallot (welcomes j stamp base join a) = Unit {0}
-IsWithoutBallot (asks i a b) = Unit {0}
-IsWithoutBallot (departs i before a) = Unit {0}
-IsWithoutBallot (closes i n a b c d) = Unit {0}
-IsWithoutBallot (stops i) = Unit {0}
-IsWithoutBallot _ = ⊥
+-- what lawful steps lead to, from some moment on
+pub data Onward : Group → Group → Type 0 where
+  here : {s : Group} → Onward s s
+  onward : {s t u : Group} → Onward s t → Step t u → IsLawful u → Onward s u
 
--- what a run without a ballot comes to, whoever stops
+-- a move that is no decision
+abbrev pub IsNoDecision : {s t : Group} → Move s t → Type 0
+IsNoDecision (decides i members resilience a) = ⊥
+IsNoDecision _ = Unit {0}
+
+-- what a run in which no ballot is decided comes to, whoever stops
 pub data QuietRun (founders : List ℕ) (first resilience : ℕ) : Group → Type 0 where
   quiet : MayBegin founders first resilience → QuietRun founders first resilience (start founders first resilience)
-  quietly : {s t : Group} → QuietRun founders first resilience s → (move : Move s t) → IsWithoutBallot move → QuietRun founders first resilience t
+  quietly : {s t : Group} → QuietRun founders first resilience s → (move : Move s t) → IsNoDecision move → QuietRun founders first resilience t

@@ -1,18 +1,17 @@
 -- What a list tells, along its beginnings.
-use Rattle.std.proofs.Common.{◌≡◌, ◌≢◌, ◌⊎◌, ⊎_elim, inl, inr, ℕ, zero, suc, ◌+◌, ◌*◌, ◌/◌, ◌%◌, ◌<◌, ◌≤◌, ◌==◌, ◌&&◌, ◌||◌, nat_lt, nat_le, if◌then◌else◌, Bool, true, false, not, List, [], ◌∷◌, ◌++◌, length, map, get_or, slice_index, refl, sym, ap, ◌∙◌, subst, arith, append-nil}
+use Rattle.std.proofs.Common.{◌≡◌, ⊎_elim, inl, ℕ, ◌+◌, ◌<◌, ◌==◌, ◌&&◌, nat_lt, true, false, List, [], ◌∷◌, ◌++◌, length, slice_index, refl, sym, ap, ◌∙◌, subst, arith, append-nil}
 use Rattle.std.proofs.lemmas.Bool.Decides.{nat_tests}
 use Rattle.std.proofs.lemmas.List.{get_or-map}
-use Rattle.std.specs.List.{list_all, range_with_len}
 use Rattle.am_base.specs.declared.name.Stamp.{Stamp}
 use Rattle.am_base.specs.declared.image.Image.{Image}
 use Rattle.am_base.specs.declared.image.Row.{Row}
 use Rattle.am_base.specs.declared.entry.Entry.{Entry}
-use Rattle.am_base.specs.declared.entry.Entry.TheVariants.{Data, Join, Leave, View}
-use Rattle.am_base.specs.Names.{has, place_of, life_of, is_within}
-use Rattle.am_base.specs.Lists.{blank_row, blank, is_blank, after, fits, fold, AllFit, members_of, member_life}
-use Rattle.am_chain_lists.specs.Whole.{Begins, IsGood, AllSmall, SmallName, told, mem, view_of, resilience_of, key}
-use Rattle.am_chain_lists.proofs.Prefixes.{begins_refl, begins_more, push_next}
-use Rattle.am_chain_lists.proofs.Rows.{row_at, In, Past, Was, Spares, by_cases, mod16, long_after, was_after, past_after, not_both, blank_joined, in_after, in_viewed, viewed_member}
+use Rattle.am_base.specs.declared.entry.Entry.TheVariants.{Leave, View}
+use Rattle.am_base.specs.Names.{has, place_of, life_of}
+use Rattle.am_base.specs.Lists.{blank_row, blank, after, fits, fold, AllFit, members_of, member_life}
+use Rattle.am_chain_lists.specs.Whole.{Begins, IsGood, AllSmall, SmallName, told, mem}
+use Rattle.am_chain_lists.proofs.Prefixes.{begins_refl, begins_more, begins_trans, push_next}
+use Rattle.am_chain_lists.proofs.Rows.{row_at, In, Past, Was, Spares, by_cases, mod16, long_after, was_after, past_after, not_both, blank_joined, in_after, in_viewed, viewed_member, out_after}
 
 pub fold_append : (image : Image) (n : ℕ) (a b : List Entry) → fold image n (a ++ b) ≡ fold (fold image n a) (n + length a) b
 unfolding fold
@@ -161,3 +160,32 @@ viewed_mem a stamp members resilience name g h =
     let up : 0 < 1 + length a = omega arith in
     in_mem (a ++ View stamp members resilience ∷ []) name (subst (λ x. In (row_at x (place_of name)) (life_of name)) (sym (told_push a (View stamp members resilience)))
     (viewed_member (told a) (1 + length a) stamp members resilience name (long_told a) up (last_fits a (View stamp members resilience) g) h (λ w. mem_in a name w)))
+
+-- who leaves was a member, and is none after it
+pub leaver_in : (a : List Entry) (name : ℕ) → IsGood (a ++ Leave name ∷ []) → mem a name ≡ true
+unfolding mem fits
+leaver_in a name g = last_fits a (Leave name) g
+
+pub leaver_out : (a : List Entry) (name : ℕ) → IsGood (a ++ Leave name ∷ []) → mem (a ++ Leave name ∷ []) name ≡ true → ⊥
+leaver_out a name g h =
+    let up : 0 < 1 + length a = omega arith in
+    out_after (told a) (1 + length a) name (long_told a) up (mem_in a name (leaver_in a name g))
+    (subst (λ x. In (row_at x (place_of name)) (life_of name)) (told_push a (Leave name)) (mem_in (a ++ Leave name ∷ []) name h))
+
+-- where a membership ends
+pub record Ends (a b : List Entry) (name : ℕ) : Type 0 where
+  pub before : List Entry
+  pub last : Entry
+  pub above : Begins a before
+  pub within : Begins (before ++ last ∷ []) b
+  pub member : mem before name ≡ true
+  pub ended : mem (before ++ last ∷ []) name ≡ false
+
+ends_go : (r a b c : List Entry) (name : ℕ) → Begins a c → c ++ r ≡ b → mem c name ≡ true → mem b name ≡ false → Ends a b name
+ends_go [] a b c name above same h k = let z : mem b name ≡ true = subst (λ l. mem l name ≡ true) (sym (append-nil c) ∙ same) h in absurd (cc)
+ends_go (e ∷ r) a b c name above same h k = by_cases (mem (c ++ e ∷ []) name)
+    (λ t. ends_go r a b (c ++ e ∷ []) name (begins_trans above (begins_more c (e ∷ []))) (push_next c e r ∙ same) t k)
+    (λ f. record { before = c; last = e; above = above; within = record { rest = r; same = push_next c e r ∙ same }; member = h; ended = f })
+
+pub ends_of : {a b : List Entry} (name : ℕ) → Begins a b → mem a name ≡ true → mem b name ≡ false → Ends a b name
+ends_of {a} {b} name h x y = ends_go h.rest a b a name (begins_refl a) h.same x y

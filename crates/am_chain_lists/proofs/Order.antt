@@ -1,14 +1,14 @@
 -- Views and resilience rise along a list.
-use Rattle.std.proofs.Common.{◌≡◌, ◌≢◌, ◌⊎◌, ⊎_elim, inl, inr, ℕ, zero, suc, ◌+◌, ◌*◌, ◌/◌, ◌%◌, ◌<◌, ◌≤◌, ◌==◌, ◌&&◌, ◌||◌, nat_lt, nat_le, if◌then◌else◌, Bool, true, false, not, List, [], ◌∷◌, ◌++◌, length, refl, sym, ap, ◌∙◌, subst, arith}
+use Rattle.std.proofs.Common.{◌≡◌, ℕ, ◌+◌, ◌<◌, ◌≤◌, ◌==◌, nat_lt, true, List, [], ◌∷◌, ◌++◌, length, refl, sym, ap, ◌∙◌, subst, arith}
 use Rattle.std.proofs.lemmas.Bool.Decides.{nat_tests}
 use Rattle.am_base.specs.declared.name.Stamp.{Stamp}
 use Rattle.am_base.specs.declared.image.Image.{Image}
 use Rattle.am_base.specs.declared.entry.Entry.{Entry}
 use Rattle.am_base.specs.declared.entry.Entry.TheVariants.{Data, Join, Leave, View}
-use Rattle.am_base.specs.Names.{has, place_of, life_of, rank_of, is_within, name_lt}
-use Rattle.am_base.specs.Stamps.{stamp_lt, stamp_eq, no_stamp}
-use Rattle.am_base.specs.Lists.{blank, is_blank, after, fits, fold, AllFit, members_of, at_place}
-use Rattle.am_chain_lists.specs.Whole.{Begins, IsGood, AllSmall, SmallName, NotView, told, mem, view_of, resilience_of, key}
+use Rattle.am_base.specs.Names.{has, life_of, rank_of, is_within}
+use Rattle.am_base.specs.Stamps.{stamp_lt}
+use Rattle.am_base.specs.Lists.{blank, after, fits, fold, AllFit, members_of, at_place}
+use Rattle.am_chain_lists.specs.Whole.{Begins, IsGood, AllSmall, SmallName, NotView, told, view_of, resilience_of, key}
 use Rattle.am_chain_lists.proofs.Rows.{by_cases, view_parts}
 use Rattle.am_chain_lists.proofs.Members.{fold_append, fit_back, small_back, told_push, last_fits, last_small, good_begins}
 

@@ -1,7 +1,6 @@
 -- One place's row, along a list.
-use Rattle.std.proofs.Common.{◌≡◌, ◌≢◌, ◌⊎◌, ⊎_elim, inl, inr, ℕ, zero, suc, ◌+◌, ◌*◌, ◌/◌, ◌%◌, ◌<◌, ◌≤◌, ◌==◌, ◌&&◌, ◌||◌, nat_lt, nat_le, if◌then◌else◌, Bool, true, false, not, List, [], ◌∷◌, ◌++◌, length, map, set, get_or, slice_index, slice_set, refl, sym, ap, ◌∙◌, subst, arith, get_or-set_same, get_or-set_other}
+use Rattle.std.proofs.Common.{◌≡◌, ◌≢◌, ◌⊎◌, ⊎_elim, inl, inr, ℕ, zero, suc, ◌+◌, ◌%◌, ◌<◌, ◌≤◌, ◌==◌, ◌&&◌, ◌||◌, nat_lt, nat_le, Bool, true, false, not, List, [], ◌∷◌, length, get_or, slice_index, refl, sym, ◌∙◌, subst, arith, get_or-set_same, get_or-set_other}
 use Rattle.std.proofs.lemmas.Bool.Decides.{nat_tests}
-use Rattle.std.proofs.lemmas.List.{get_or-map, get_or_past}
 use Rattle.std.proofs.Math.ListN as listn
 use Rattle.std.specs.List.{list_all, range_with_len}
 use Rattle.am_base.specs.declared.name.Stamp.{Stamp}
@@ -9,9 +8,9 @@ use Rattle.am_base.specs.declared.image.Image.{Image}
 use Rattle.am_base.specs.declared.image.Row.{Row}
 use Rattle.am_base.specs.declared.entry.Entry.{Entry}
 use Rattle.am_base.specs.declared.entry.Entry.TheVariants.{Data, Join, Leave, View}
-use Rattle.am_base.specs.Names.{has, place_of, life_of, by_place, is_within}
+use Rattle.am_base.specs.Names.{has, place_of, life_of, is_within}
 use Rattle.am_base.specs.Stamps.{stamp_lt}
-use Rattle.am_base.specs.Lists.{blank_row, is_blank_row, blank, is_blank, after, fits, fold, AllFit, members_of, member_life, at_place, row_of, with_row, viewed}
+use Rattle.am_base.specs.Lists.{blank_row, is_blank_row, is_blank, after, fits, members_of, member_life, at_place, with_row, viewed}
 use Rattle.am_base.proofs.Places.{get_or-by_place, length-by_place}
 
 -- the row of a place
@@ -285,3 +284,17 @@ viewed_member image n stamp members resilience name long up f h old =
     let low = mod16 name in
     let e = within_at members (members_of image) 0 16 (place_of name) w (omega arith) (omega arith) (omega arith) in
     rw b (kept_member n (slice_index members (place_of name)) (life_of name) (row_at image (place_of name)) given (old (let q : has (members_of image) name ≡ true = grind (arith, nat_tests) in q)))))
+
+-- its Leave ends a membership
+pub out_after : (image : Image) (n name : ℕ) → length image.rows ≡ 16 → 0 < n → In (row_at image (place_of name)) (life_of name) → In (row_at (after image n (Leave name)) (place_of name)) (life_of name) → ⊥
+unfolding after
+out_after image n name long up old new =
+    let is = old.is in
+    let t : ((at_place image name).life == life_of name) ≡ true = grind (arith, nat_tests) in
+    let now : In (row_at (with_row image name (record (at_place image name) { left = n })) (place_of name)) (life_of name) = rw t at new in
+    ⊎_elim
+    (λ (x : (place_of name ≡ place_of name) × (row_at (with_row image name (record (at_place image name) { left = n })) (place_of name) ≡ record (at_place image name) { left = n })).
+    let g : In (record (at_place image name) { left = n }) (life_of name) = subst (λ r. In r (life_of name)) x.1 now in
+    let l = g.left in let z : ⊥ = omega arith in z)
+    (λ (x : (place_of name ≢ place_of name) × (row_at (with_row image name (record (at_place image name) { left = n })) (place_of name) ≡ row_at image (place_of name))). absurd (x.0 refl))
+    (row_set image name (place_of name) (record (at_place image name) { left = n }) long)

@@ -1,0 +1,31 @@
+-- What is claimed of every run.
+use Rattle.std.specs.Prelude.{◌≡◌, ℕ, true, List}
+use Rattle.am_chain_lists.specs.Whole.{Begins}
+use Rattle.am_chain.specs.Group.{opening, Group, chain_of}
+use Rattle.am_chain.specs.Moves.{MayDecide, choice_of}
+use Rattle.am_chain.specs.Runs.{Run, QuietRun, Onward, first_stamp}
+use Rattle.am_chain.specs.Kept.{Kept}
+
+-- in a run in which no ballot is decided, whoever stops, all that is kept, and the first view stays
+pub record KeptByFirst (first : ℕ) (s : Group) : Type 0 where
+  pub kept : Kept s
+  pub current : s.views.current ≡ first_stamp first
+
+abbrev pub QuietRunsKeep : Type 0
+QuietRunsKeep = (founders : List ℕ) (first resilience : ℕ) (s : Group) → QuietRun founders first resilience s → KeptByFirst first s
+
+-- in a lawful run, all that is kept
+abbrev pub RunsKeep : Type 0
+RunsKeep = (founders : List ℕ) (first resilience : ℕ) (s : Group) → Run founders first resilience s → Kept s
+
+-- in a lawful run what a ballot may choose begins with all that was accepted
+abbrev pub ChoicesKeep : Type 0
+ChoicesKeep = (founders : List ℕ) (first resilience : ℕ) (s : Group) → Run founders first resilience s → (i : ℕ) (members : List ℕ) (strong : ℕ) → MayDecide s i members strong → Begins s.group (choice_of (s.node i) members strong).before
+
+-- what was accepted stays, and a complete view stands in each later line with all that it chose
+pub record Stands (s t : Group) : Type 0 where
+  pub group : Begins s.group t.group
+  pub views : (x : ℕ) → s.views.complete x ≡ true → Begins (opening (s.views.chosen x)) (chain_of t.views)
+
+abbrev pub CompleteViewsStand : Type 0
+CompleteViewsStand = (founders : List ℕ) (first resilience : ℕ) (s t : Group) → Run founders first resilience s → Onward s t → Stands s t
