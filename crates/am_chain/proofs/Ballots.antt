@@ -1,5 +1,5 @@
 -- Votes, and what voters send of their lists.
-use Rattle.std.proofs.Common.{◌≡◌, ◌⊎◌, ⊎_elim, inl, ℕ, ◌<◌, ◌≤◌, true, List, length, Option, Some, None, sym, ap, ◌∙◌, subst, arith}
+use Rattle.std.proofs.Common.{◌≡◌, ◌≢◌, ◌⊎◌, ⊎_elim, inl, ℕ, ◌<◌, ◌≤◌, true, List, length, Option, Some, None, sym, ap, ◌∙◌, subst, arith}
 use Rattle.am_base.specs.declared.entry.Entry.{Entry}
 use Rattle.am_chain_lists.specs.Whole.{Begins, mem, key}
 use Rattle.am_chain_lists.proofs.Prefixes.{begins_refl, begins_trans}
@@ -12,8 +12,8 @@ some_same : {x y : List Entry} → ◌≡◌ {A = Option (List Entry)} (Some x) 
 some_same e = cc
 
 module _ (s : Group) (k : Kept s) where
-  pub shows_keeps : (i : ℕ) → IsThere (s.node i) → (s.node i).promise.by < 256 → key (s.node i).promise ≤ key (s.node (s.node i).promise.by).promise → s.shown (key (s.node i).promise) i ≡ None → Kept (record s { shown = put2 s.shown (key (s.node i).promise) i (Some (s.node i).list) })
-  shows_keeps i t small begun none = record {
+  pub shows_keeps : (i : ℕ) → IsThere (s.node i) → (s.node i).promise.by < 256 → (s.node i).promise.by ≢ i → key (s.node i).promise ≤ key (s.node (s.node i).promise.by).promise → s.shown (key (s.node i).promise) i ≡ None → Kept (record s { shown = put2 s.shown (key (s.node i).promise) i (Some (s.node i).list) })
+  shows_keeps i t small other begun none = record {
     views = k.views;
     group = k.group;
     each = k.each;
@@ -28,10 +28,16 @@ module _ (s : Group) (k : Kept s) where
           stamp = (s.node i).promise;
           is = sym is;
           small = small;
+          other = λ same. other (same ∙ c.1);
           begun = omega arith;
         })
         (λ (c : ((x ≡ p) × (name ≡ i) → ⊥) × (put2 s.shown p i (Some (s.node i).list) x name ≡ s.shown x name)). k.shown x name l (sym c.1 ∙ h))
         (put2_cases s.shown p i (Some (s.node i).list) x name);
+    still = λ v l h none. ⊎_elim
+        (λ (d : (key (s.node v).promise ≡ p) × (v ≡ i) × (put2 s.shown p i (Some (s.node i).list) (key (s.node v).promise) v ≡ Some (s.node i).list)).
+        ap (λ j. (s.node j).list) d.1 ∙ some_same (sym d.2 ∙ h))
+        (λ (d : ((key (s.node v).promise ≡ p) × (v ≡ i) → ⊥) × (put2 s.shown p i (Some (s.node i).list) (key (s.node v).promise) v ≡ s.shown (key (s.node v).promise) v)). k.still v l (sym d.1 ∙ h) none)
+        (put2_cases s.shown p i (Some (s.node i).list) (key (s.node v).promise) v);
     short = λ c v l u b h w. ⊎_elim
         (λ (d : (key (s.node c).promise ≡ p) × (v ≡ i) × (put2 s.shown p i (Some (s.node i).list) (key (s.node c).promise) v ≡ Some (s.node i).list)).
         let same : (s.node i).list ≡ l = some_same (sym d.2 ∙ h) in
@@ -65,6 +71,7 @@ module _ (s : Group) (k : Kept s) where
     group = k.group;
     each = k.each;
     shown = k.shown;
+    still = k.still;
     short = k.short;
     served = λ c v l u b served h. ⊎_elim
         (λ (d : (key (s.node c).promise ≡ p) × (v ≡ i) × (put2 s.served p i true (key (s.node c).promise) v ≡ true)).

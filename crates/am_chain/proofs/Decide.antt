@@ -297,6 +297,9 @@ module _ (s : Group) (k : Kept s) (lawful : IsLawful s) (c : ℕ) (members : Lis
     group = on_new group_low;
     each = put_at (λ j m. NodeOk views s.group j m) s.node c node own_ok (λ j other. other_ok j other);
     shown = λ x name l h. shown_later s.node (put s.node c node) x name l up (k.shown x name l h);
+    still = put_at (λ v m. (l : List Entry) → s.shown (key m.promise) v ≡ Some l → views.decided (key m.promise) ≡ false → m.list ≡ l) s.node c node
+        (λ l h none. let z = put_same s.views.decided w true in absurd (cc))
+        (λ v _ l h none. k.still v l h (by_cases (s.views.decided (key (s.node v).promise)) (λ t. let z = decided_old (key (s.node v).promise) t in absurd (cc)) (λ f. f)));
     short = λ i v l. put_at
         (λ i m. IsUp m → m.ballot ≡ true → s.shown (key m.promise) v ≡ Some l → IsUp (put s.node c node v) → (length (put s.node c node v).list ≤ length l) ⊎ (length (put s.node c node v).list ≤ length m.list))
         s.node c node (λ u b. absurd (cc))

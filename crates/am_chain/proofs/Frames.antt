@@ -26,7 +26,7 @@ later_all node i n h = put_at (λ j m. Later (node j) m) node i n h (λ j _. lat
 pub shown_later : (a b : ℕ → Node) (x name : ℕ) (l : List Entry) → ((j : ℕ) → Later (a j) (b j)) → ShownOk a x name l → ShownOk b x name l
 shown_later a b x name l up h =
     let p = h.promised in let q = (up name).promise in let r = h.begun in let t = (up h.stamp.by).promise in
-    record { promised = omega arith; list = begins_trans h.list (up name).list; stamp = h.stamp; is = h.is; small = h.small; begun = omega arith }
+    record { promised = omega arith; list = begins_trans h.list (up name).list; stamp = h.stamp; is = h.is; small = h.small; other = h.other; begun = omega arith }
 
 pub served_later : (a b : ℕ → Node) (views : Views) (x : ℕ) (l : List Entry) → ((j : ℕ) → Later (a j) (b j)) → ServedOk a views x l → ServedOk b views x l
 served_later a b views x l up h = record { chain = h.chain; promised = λ j t m. let p = h.promised j ((up j).there t) m in let q = (up j).promise in omega arith }
@@ -61,12 +61,13 @@ module _ (s : Group) (k : Kept s) (i : ℕ) (n : Node) where
   OldList = ((n.list ≡ (s.node i).list) × (IsUp n → IsUp (s.node i)))
       ⊎ (IsUp n × ((c : ℕ) (l : List Entry) → c ≢ i → IsUp (s.node c) → (s.node c).ballot ≡ true → s.shown (key (s.node c).promise) i ≡ Some l → (length n.list ≤ length l) ⊎ (length n.list ≤ length (s.node c).list)))
 
-  pub node_change : Later (s.node i) n → NodeOk s.views s.group i n → OldBallot → OldList → (n.departed ≡ true → ((s.node i).departed ≡ true) ⊎ DepartedOk s.node s.views i) → Kept (with_node s i n)
-  node_change later ok ballot list gone = record {
+  pub node_change : Later (s.node i) n → NodeOk s.views s.group i n → OldBallot → OldList → ((l : List Entry) → s.shown (key n.promise) i ≡ Some l → s.views.decided (key n.promise) ≡ false → n.list ≡ l) → (n.departed ≡ true → ((s.node i).departed ≡ true) ⊎ DepartedOk s.node s.views i) → Kept (with_node s i n)
+  node_change later ok ballot list still gone = record {
     views = k.views;
     group = k.group;
     each = put_at (λ j m. NodeOk s.views s.group j m) s.node i n ok (λ j _. k.each j);
     shown = λ x name l h. shown_later s.node (put s.node i n) x name l up (k.shown x name l h);
+    still = put_at (λ v m. (l : List Entry) → s.shown (key m.promise) v ≡ Some l → s.views.decided (key m.promise) ≡ false → m.list ≡ l) s.node i n still (λ v _. k.still v);
     short = λ c v l. put_at
         (λ c m. IsUp m → m.ballot ≡ true → s.shown (key m.promise) v ≡ Some l → IsUp (put s.node i n v) → (length (put s.node i n v).list ≤ length l) ⊎ (length (put s.node i n v).list ≤ length m.list))
         s.node i n (short_own v l) (λ c other. short_other c v l other) c;

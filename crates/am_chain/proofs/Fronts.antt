@@ -114,6 +114,7 @@ group_change s k list to is may =
       group = chain;
       each = λ j. node_accepts s.views s.group (take to list) j (s.node j) grows (k.each j);
       shown = k.shown;
+      still = k.still;
       short = k.short;
       served = k.served;
       sent = k.sent;
@@ -214,6 +215,9 @@ module _ (s : Group) (k : Kept s) (i : ℕ) (e : Entry) (leads : Leads i (s.node
         group = begins_trans k.group chain_grows;
         each = put_at (λ j m. NodeOk grown s.group j m) s.node i n ok (λ j other. others_grow j other (spares j other));
         shown = λ x name l h. shown_later s.node (put s.node i n) x name l up (k.shown x name l h);
+        still = put_at (λ v m. (l : List Entry) → s.shown (key m.promise) v ≡ Some l → s.views.decided (key m.promise) ≡ false → m.list ≡ l) s.node i n
+            (λ l h none. let now = k.views.now in let at = ap (λ p. s.views.decided (key p)) (promise ∙ leads.acts ∙ view_is) in absurd (cc))
+            (λ v _. k.still v);
         short = λ c v l u b h w. absurd_short c v l u b h w;
         served = λ c h l. put_at
             (λ c m. IsUp m → m.ballot ≡ true → s.served (key m.promise) h ≡ true → s.shown (key m.promise) h ≡ Some l → ServedOk (put s.node i n) grown (key m.promise) l)

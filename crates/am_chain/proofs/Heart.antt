@@ -230,5 +230,5 @@ module _ (s : Group) (k : Kept s) (lawful : IsLawful s) (c : ℕ) (members : Lis
           let early = w.joined h t in
           let start = length_take (s.node h).start s.group j.accepted in
           let part = begins_both (begins_trans (begins_take (s.node h).start s.group) k.group) list_chain (omega arith) in
-          needed_low h (mem_between h (good_begins (begins_trans at.below whole) good) part above j.member (at.members h (w.counts h t))) u)
+          needed_low h (mem_between {c = at.at} h (good_begins (begins_trans at.below whole) good) part above j.member (at.members h (w.counts h t))) u)
           w.enough

@@ -86,6 +86,7 @@ module _ (s : Group) (k : Kept s) (complete : ℕ → Bool) (stay : (x : ℕ) �
     group = k.group;
     each = node_marked;
     shown = k.shown;
+    still = k.still;
     short = k.short;
     served = λ c h l u b a d. let o = k.served c h l u b a d in record { chain = o.chain; promised = o.promised };
     sent = k.sent;

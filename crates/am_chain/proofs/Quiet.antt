@@ -52,6 +52,7 @@ module _ (s : Group) (k : Kept s) where
       (store_ok s.views s.group i (s.node i) e k.views u decided other ongoing next (k.each i))
       (λ _ b. inl (u, b, refl))
       (inr (up, λ c l differ w b h. let p = (k.shown (key (s.node c).promise) i l h).promised in let o = (k.each c).ballot w b in let a = o.above in let d = k.views.order (key (s.node i).promise) decided in absurd (omega arith)))
+      (λ l h none. absurd (cc))
       (λ h. inl h)
 
   pub fetches_keeps : (i h : ℕ) (list : List Entry) (e : Entry) → IsUp (s.node i) → (s.node i).ballot ≡ true → s.served (key (s.node i).promise) h ≡ true → s.shown (key (s.node i).promise) h ≡ Some list → slice_get list (length (s.node i).list) ≡ Some e → Kept (with_node s i (longer (s.node i) e))
@@ -63,6 +64,7 @@ module _ (s : Group) (k : Kept s) where
       (fetch_ok s.node s.views s.group i (s.node i) list e k.views u voting served next (k.each i))
       (λ _ b. inl (u, b, refl))
       (inr (up, λ c l differ w b shown. inr (shorter i list e u voting served next c l differ w b shown)))
+      (λ l h none. let o = k.shown (key (s.node i).promise) i l h in absurd (o.other (key_by o.stamp (s.node i).promise o.small (k.each i).small o.is ∙ ((k.each i).ballot u voting).by)))
       (λ h. inl h)
     where
       shorter : (i : ℕ) (list : List Entry) (e : Entry) → IsUp (s.node i) → (s.node i).ballot ≡ true → ServedOk s.node s.views (key (s.node i).promise) list → slice_get list (length (s.node i).list) ≡ Some e → (c : ℕ) (l : List Entry) → c ≢ i → IsUp (s.node c) → (s.node c).ballot ≡ true → s.shown (key (s.node c).promise) i ≡ Some l → length ((s.node i).list ++ e ∷ []) ≤ length (s.node c).list
@@ -90,6 +92,7 @@ module _ (s : Group) (k : Kept s) where
       (fronts_ok s.views s.group i (s.node i) told acc k.views k.group u low a w heard (k.each i))
       (λ _ b. inl (u, b, refl))
       (inl (refl, λ _. u))
+      (λ l h none. k.still i l h none)
       (λ h. inl h)
 
   pub begins_keeps : (i : ℕ) → i < 256 → IsUp (s.node i) → (s.node i).leaving ≡ false → mem (s.node i).list i ≡ true → Kept (with_node s i (record (s.node i) { promise = own_stamp i (s.node i); ballot = true }))
@@ -106,6 +109,7 @@ module _ (s : Group) (k : Kept s) where
       let q = ap (λ j. key (s.node j).promise) by in
       let z : ⊥ = omega arith in z))
       (inl (refl, λ _. u))
+      (λ l h none. let o = k.shown (key (own_stamp i (s.node i))) i l h in absurd (o.other (key_by o.stamp (own_stamp i (s.node i)) o.small small o.is)))
       (λ h. inl h)
 
   pub raises_keeps : (i : ℕ) (stamp : Stamp) → IsThere (s.node i) → IsAbove s.node i stamp → Kept (with_node s i (record (s.node i) { promise = stamp; ballot = false }))
@@ -117,6 +121,7 @@ module _ (s : Group) (k : Kept s) where
       (raise_ok s.views s.group i (s.node i) stamp a.greater a.small a.other (k.each i))
       (λ _ b. absurd (cc))
       (inl (refl, λ w. record { log = w.log; there = t }))
+      (λ l h none. let o = k.shown (key stamp) i l h in let p = o.promised in absurd (omega arith))
       (λ h. inl h)
 
   flags_keep : (i : ℕ) (stopped departed leaving ballot : Bool)
@@ -133,6 +138,7 @@ module _ (s : Group) (k : Kept s) where
       (flags_ok s.views s.group i (s.node i) stopped departed leaving ballot there staying voting (k.each i))
       (λ u b. inl (up u, (voting u b).0, refl))
       (inl (refl, up))
+      (λ l h none. k.still i l h none)
       gone
 
   pub stops_keeps : (i : ℕ) → Kept (with_node s i (record (s.node i) { stopped = true }))
@@ -168,6 +174,7 @@ module _ (s : Group) (k : Kept s) where
       (welcome_ok s j stamp base join w k.views k.group ok)
       (λ u b. absurd (cc))
       (inr (up, λ c l differ u b h. let p = (k.shown (key (s.node c).promise) j l h).promised in let a = ((k.each c).ballot u b).above in absurd (omega arith)))
+      (λ l h none. let z = w.decided in absurd (cc))
       (λ h. inl h)
 
   pub accepts_keeps : (i n : ℕ) → Leads i (s.node i) → MayAccept s.node (s.node i).list (length s.group) n → Kept (record s { group = take n (s.node i).list })

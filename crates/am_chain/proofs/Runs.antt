@@ -25,7 +25,7 @@ quiet_keeps (accepts {s = s} i n a b) q k = accepts_keeps s k i n a b
 quiet_keeps (learns {s = s} i told acc a b c d e f g) q k = learns_keeps s k i told acc a c d f g
 quiet_keeps (begins {s = s} i a b c d) q k = begins_keeps s k i a b c d
 quiet_keeps (raises {s = s} i stamp a b) q k = raises_keeps s k i stamp a b
-quiet_keeps (shows {s = s} i a b c d) q k = shows_keeps s k i a b c d
+quiet_keeps (shows {s = s} i a b c d e) q k = shows_keeps s k i a b c d e
 quiet_keeps (serves {s = s} i list a b c) q k = serves_keeps s k i list a b c
 quiet_keeps (fetches {s = s} i h list e a b c d f) q k = fetches_keeps s k i h list e a b c d f
 quiet_keeps (decides {s = s} i members resilience a) q k = absurd q
@@ -44,7 +44,7 @@ quiet_current (accepts i n a b) q = refl
 quiet_current (learns i told acc a b c d e f g) q = refl
 quiet_current (begins i a b c d) q = refl
 quiet_current (raises i stamp a b) q = refl
-quiet_current (shows i a b c d) q = refl
+quiet_current (shows i a b c d e) q = refl
 quiet_current (serves i list a b c) q = refl
 quiet_current (fetches i h list e a b c d f) q = refl
 quiet_current (gives_over i) q = refl
@@ -86,7 +86,7 @@ grows_on k law (accepts {s = s} i n a b) = record {
 grows_on k law (learns {s = s} i told acc a b c d e f g) = record { group = begins_refl s.group; decided = λ x h. h; chosen = λ x h. refl; complete = λ x h. h }
 grows_on k law (begins {s = s} i a b c d) = record { group = begins_refl s.group; decided = λ x h. h; chosen = λ x h. refl; complete = λ x h. h }
 grows_on k law (raises {s = s} i stamp a b) = record { group = begins_refl s.group; decided = λ x h. h; chosen = λ x h. refl; complete = λ x h. h }
-grows_on k law (shows {s = s} i a b c d) = record { group = begins_refl s.group; decided = λ x h. h; chosen = λ x h. refl; complete = λ x h. h }
+grows_on k law (shows {s = s} i a b c d e) = record { group = begins_refl s.group; decided = λ x h. h; chosen = λ x h. refl; complete = λ x h. h }
 grows_on k law (serves {s = s} i list a b c) = record { group = begins_refl s.group; decided = λ x h. h; chosen = λ x h. refl; complete = λ x h. h }
 grows_on k law (fetches {s = s} i h list e a b c d f) = record { group = begins_refl s.group; decided = λ x h. h; chosen = λ x h. refl; complete = λ x h. h }
 grows_on k law (decides {s = s} i members resilience a) = record {
@@ -119,7 +119,7 @@ move_keeps k law (accepts i n a b) = quiet_keeps (accepts i n a b) tt k
 move_keeps k law (learns i told acc a b c d e f g) = quiet_keeps (learns i told acc a b c d e f g) tt k
 move_keeps k law (begins i a b c d) = quiet_keeps (begins i a b c d) tt k
 move_keeps k law (raises i stamp a b) = quiet_keeps (raises i stamp a b) tt k
-move_keeps k law (shows i a b c d) = quiet_keeps (shows i a b c d) tt k
+move_keeps k law (shows i a b c d e) = quiet_keeps (shows i a b c d e) tt k
 move_keeps k law (serves i list a b c) = quiet_keeps (serves i list a b c) tt k
 move_keeps k law (fetches i h list e a b c d f) = quiet_keeps (fetches i h list e a b c d f) tt k
 move_keeps k law (gives_over i) = quiet_keeps (gives_over i) tt k

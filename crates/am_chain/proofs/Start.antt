@@ -102,6 +102,7 @@ module _ (founders : List ℕ) (first resilience : ℕ) (may : MayBegin founders
     group = begins_refl (opening (first_choice founders first resilience));
     each = λ j. first_ok (has founders j) j refl;
     shown = λ x j l h. absurd (cc);
+    still = λ v l h. absurd (cc);
     short = λ c v l u b h. absurd (cc);
     served = λ c h l u b x. absurd (cc);
     sent = λ x h e. absurd (cc);

@@ -1,5 +1,5 @@
 -- What every run of a group keeps.
-use Rattle.std.specs.Prelude.{◌≡◌, ◌⊎◌, ℕ, ◌+◌, ◌<◌, ◌≤◌, min, Bool, true, false, List, [], ◌∷◌, ◌++◌, length, take, Some}
+use Rattle.std.specs.Prelude.{◌≡◌, ◌≢◌, ◌⊎◌, ℕ, ◌+◌, ◌<◌, ◌≤◌, min, Bool, true, false, List, [], ◌∷◌, ◌++◌, length, take, Some}
 use Rattle.am_base.specs.declared.name.Stamp.{Stamp}
 use Rattle.am_base.specs.declared.entry.Entry.{Entry}
 use Rattle.am_base.specs.declared.entry.Entry.TheVariants.{Leave}
@@ -70,6 +70,7 @@ pub record ShownOk (node : ℕ → Node) (x name : ℕ) (shown : List Entry) : T
   pub stamp : Stamp
   pub is : key stamp ≡ x
   pub small : stamp.by < 256
+  pub other : stamp.by ≢ name
   pub begun : x ≤ key (node stamp.by).promise
 
 -- a list that was sent of to an unfinished ballot
@@ -114,6 +115,8 @@ pub record Kept (s : Group) : Type 0 where
   pub group : Begins s.group (chain_of s.views)
   pub each : (i : ℕ) → NodeOk s.views s.group i (s.node i)
   pub shown : (x name : ℕ) (list : List Entry) → s.shown x name ≡ Some list → ShownOk s.node x name list
+  -- until a ballot is decided, a voter that promised no greater one still has the list that it showed
+  pub still : (v : ℕ) (list : List Entry) → s.shown (key (s.node v).promise) v ≡ Some list → s.views.decided (key (s.node v).promise) ≡ false → (s.node v).list ≡ list
   -- what a voter has, it has shown to an unfinished ballot, or the coordinator has it
   pub short : (c k : ℕ) (list : List Entry) → IsUp (s.node c) → (s.node c).ballot ≡ true → s.shown (key (s.node c).promise) k ≡ Some list → IsUp (s.node k) → (length (s.node k).list ≤ length list) ⊎ (length (s.node k).list ≤ length (s.node c).list)
   pub served : (c h : ℕ) (list : List Entry) → IsUp (s.node c) → (s.node c).ballot ≡ true → s.served (key (s.node c).promise) h ≡ true → s.shown (key (s.node c).promise) h ≡ Some list → ServedOk s.node s.views (key (s.node c).promise) list
