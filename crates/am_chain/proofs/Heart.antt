@@ -9,11 +9,11 @@ use Rattle.am_chain_lists.specs.Whole.{Begins, IsGood, mem, view_of, key, resili
 use Rattle.am_chain_lists.proofs.Prefixes.{begins_refl, begins_nil, begins_more, begins_trans, begins_length, begins_both, begins_same, begins_push, length_push, begins_take, length_take, take_begins}
 use Rattle.am_chain_lists.proofs.Members.{mem_between, mem_nil, mem_viewed, viewed_mem, good_begins, leaver_in, leaver_out}
 use Rattle.am_chain_lists.proofs.Order.{view_up, resilience_up, resilience_viewed}
-use Rattle.am_chain.specs.Group.{how_many, counted, opening, Group, chain_of, IsThere, IsUp, NoBetter}
-use Rattle.am_chain.specs.Moves.{MayDecide, Voted}
-use Rattle.am_chain.specs.Runs.{counts_for, IsLawful}
-use Rattle.am_chain.specs.Kept.{BallotOk, Kept}
-use Rattle.am_chain.proofs.Puts.{by_cases, count_within, count_below}
+use Rattle.am_chain_moves.specs.Group.{how_many, counted, opening, Group, chain_of, IsThere, IsUp, NoBetter}
+use Rattle.am_chain_moves.specs.Moves.{MayDecide, Voted}
+use Rattle.am_chain_moves.specs.Runs.{counts_for, IsLawful}
+use Rattle.am_chain_moves.specs.Kept.{BallotOk, Kept}
+use Rattle.am_chain_moves.proofs.Puts.{by_cases, count_within, count_below}
 
 two : (a b : ℕ) → (a ≤ b) ⊎ (b < a)
 two a b = grind arith
@@ -224,11 +224,12 @@ module _ (s : Group) (k : Kept s) (lawful : IsLawful s) (c : ℕ) (members : Lis
           let shorter = length_take (n - 1) s.group (omega arith) in
           let up_to = begins_both list_chain (begins_trans (begins_take (n - 1) s.group) k.group) (omega arith) in
           let above = begins_trans up_to at.above in
+          let good_at : IsGood at.at = good_begins (begins_trans at.below whole) good in
           too_few (take n s.group) at.at (begins_trans whole k.group) above at.below (omega arith) (has (counted s.group n)) w.holders w.counts at.members at.back w.logs w.stored
           (λ h t u.
           let j = (k.each h).joined (w.logs h t) in
           let early = w.joined h t in
           let start = length_take (s.node h).start s.group j.accepted in
           let part = begins_both (begins_trans (begins_take (s.node h).start s.group) k.group) list_chain (omega arith) in
-          needed_low h (mem_between {c = at.at} h (good_begins (begins_trans at.below whole) good) part above j.member (at.members h (w.counts h t))) u)
+          needed_low h (mem_between {a = take (s.node h).start s.group} {b = (s.node c).list} {c = at.at} h good_at part above j.member (at.members h (w.counts h t))) u)
           w.enough

@@ -1,18 +1,10 @@
 -- What is claimed of every run.
 use Rattle.std.specs.Prelude.{◌≡◌, ℕ, true, List}
 use Rattle.am_chain_lists.specs.Whole.{Begins}
-use Rattle.am_chain.specs.Group.{opening, Group, chain_of}
-use Rattle.am_chain.specs.Moves.{MayDecide, choice_of}
-use Rattle.am_chain.specs.Runs.{Run, QuietRun, Onward, first_stamp}
-use Rattle.am_chain.specs.Kept.{Kept}
-
--- in a run in which no ballot is decided, whoever stops, all that is kept, and the first view stays
-pub record KeptByFirst (first : ℕ) (s : Group) : Type 0 where
-  pub kept : Kept s
-  pub current : s.views.current ≡ first_stamp first
-
-abbrev pub QuietRunsKeep : Type 0
-QuietRunsKeep = (founders : List ℕ) (first resilience : ℕ) (s : Group) → QuietRun founders first resilience s → KeptByFirst first s
+use Rattle.am_chain_moves.specs.Group.{opening, Group, chain_of}
+use Rattle.am_chain_moves.specs.Moves.{MayDecide, choice_of}
+use Rattle.am_chain_moves.specs.Runs.{Run, Onward}
+use Rattle.am_chain_moves.specs.Kept.{Kept}
 
 -- in a lawful run, all that is kept
 abbrev pub RunsKeep : Type 0

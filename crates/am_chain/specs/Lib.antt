@@ -1,5 +1,1 @@
-pub mod Group
-pub mod Moves
-pub mod Runs
-pub mod Kept
 pub mod Claims

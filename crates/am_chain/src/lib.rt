@@ -1,12 +1,7 @@
 //! Why a group has one list: each accepted entry stands in what every later ballot chooses (docs/SAFETY.md).
 #![tactic(auto)]
 
-ghost use Rattle.am_chain.specs.Claims.{QuietRunsKeep, RunsKeep, ChoicesKeep, CompleteViewsStand};
-
-/// As long as no ballot is decided all is kept, whoever stops.
-pub fn quiet_runs_keep()
-    ensures { QuietRunsKeep }
-{}
+ghost use Rattle.am_chain.specs.Claims.{RunsKeep, ChoicesKeep, CompleteViewsStand};
 
 /// In a run in which never more of the names that count for the greatest complete view are stopped undeparted than its
 /// resilience, all is kept.

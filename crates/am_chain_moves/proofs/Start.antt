@@ -10,9 +10,9 @@ use Rattle.am_chain_lists.specs.Whole.{Begins, IsGood, mem, key}
 use Rattle.am_chain_lists.proofs.Prefixes.{begins_refl, begins_nil, begins_length, begins_same, begins_pushed, below_length}
 use Rattle.am_chain_lists.proofs.Members.{good_nil, good_push, mem_nil, mem_viewed, viewed_mem}
 use Rattle.am_chain_lists.proofs.Order.{view_viewed}
-use Rattle.am_chain.specs.Group.{opening, Views}
-use Rattle.am_chain.specs.Runs.{MayBegin, first_stamp, first_choice, start}
-use Rattle.am_chain.specs.Kept.{NodeOk, Kept}
+use Rattle.am_chain_moves.specs.Group.{opening, Views}
+use Rattle.am_chain_moves.specs.Runs.{MayBegin, first_stamp, first_choice, start}
+use Rattle.am_chain_moves.specs.Kept.{NodeOk, Kept}
 
 first_fits : (founders : List ℕ) (first resilience : ℕ) → has founders first ≡ true → fits blank (View (first_stamp first) founders resilience) ≡ true
 unfolding fits

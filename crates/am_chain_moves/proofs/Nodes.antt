@@ -10,9 +10,9 @@ use Rattle.am_chain_lists.specs.Whole.{Begins, mem, view_of, key}
 use Rattle.am_chain_lists.proofs.Prefixes.{begins_more, begins_trans, begins_length, begins_both, begins_same, begins_push, length_push, below_begins, below_length, below_of, begins_take, length_take}
 use Rattle.am_chain_lists.proofs.Members.{mem_between}
 use Rattle.am_chain_lists.proofs.Order.{view_up}
-use Rattle.am_chain.specs.Group.{Node, opening, Views, Group, chain_of, current_of, IsThere, IsUp, IsOngoing}
-use Rattle.am_chain.specs.Moves.{own_stamp, longer, MayWelcome}
-use Rattle.am_chain.specs.Kept.{LateOk, BallotOk, NodeOk, ServedOk, ViewsOk}
+use Rattle.am_chain_moves.specs.Group.{Node, opening, Views, Group, chain_of, current_of, IsThere, IsUp, IsOngoing}
+use Rattle.am_chain_moves.specs.Moves.{own_stamp, longer, MayWelcome}
+use Rattle.am_chain_moves.specs.Kept.{LateOk, BallotOk, NodeOk, ServedOk, ViewsOk}
 
 -- flags that only fall, or a ballot that ends
 pub flags_ok : (views : Views) (group : List Entry) (i : ℕ) (m : Node) (stopped departed leaving ballot : Bool)

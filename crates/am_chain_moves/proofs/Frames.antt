@@ -3,10 +3,10 @@ use Rattle.std.proofs.Common.{◌≡◌, ◌≢◌, ◌⊎◌, ⊎_elim, inl, in
 use Rattle.am_base.specs.declared.entry.Entry.{Entry}
 use Rattle.am_chain_lists.specs.Whole.{Begins, key}
 use Rattle.am_chain_lists.proofs.Prefixes.{begins_refl, begins_trans, begins_length}
-use Rattle.am_chain.specs.Group.{put, Node, opening, Views, Group, IsThere, IsUp}
-use Rattle.am_chain.specs.Moves.{with_node}
-use Rattle.am_chain.specs.Kept.{NodeOk, ShownOk, ServedOk, Witness, DepartedOk, Kept}
-use Rattle.am_chain.proofs.Puts.{by_cases, put_cases, put_same, put_at}
+use Rattle.am_chain_moves.specs.Group.{put, Node, opening, Views, Group, IsThere, IsUp}
+use Rattle.am_chain_moves.specs.Moves.{with_node}
+use Rattle.am_chain_moves.specs.Kept.{NodeOk, ShownOk, ServedOk, Witness, DepartedOk, Kept}
+use Rattle.am_chain_moves.proofs.Puts.{by_cases, put_cases, put_same, put_at}
 
 -- a node later on: it has no less, and it isn't there again nor stays again
 pub record Later (a b : Node) : Type 0 where

@@ -1,7 +1,7 @@
 -- Changed functions, and counts.
 use Rattle.std.proofs.Common.{◌≡◌, ◌≢◌, ◌⊎◌, ⊎_elim, inl, inr, ℕ, zero, suc, ◌<◌, ◌≤◌, ◌==◌, ◌&&◌, Bool, true, false, refl, sym, subst, arith}
 use Rattle.std.proofs.lemmas.Bool.Decides.{nat_tests}
-use Rattle.am_chain.specs.Group.{put, put2, count}
+use Rattle.am_chain_moves.specs.Group.{put, put2, count}
 
 pub by_cases : {R : Type 0} (b : Bool) → (b ≡ true → R) → (b ≡ false → R) → R
 by_cases true f g = f refl

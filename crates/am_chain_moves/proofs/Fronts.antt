@@ -11,10 +11,10 @@ use Rattle.am_chain_lists.proofs.Prefixes.{begins_refl, begins_more, begins_tran
 use Rattle.am_chain_lists.proofs.Rows.{Spares}
 use Rattle.am_chain_lists.proofs.Members.{mem_push, good_push}
 use Rattle.am_chain_lists.proofs.Order.{view_push}
-use Rattle.am_chain.specs.Group.{put, how_many, counted, need_of, Node, opening, Views, Group, chain_of, IsThere, IsUp, Leads, MayAccept}
-use Rattle.am_chain.specs.Kept.{NodeOk, ServedOk, Witness, DepartedOk, ViewsOk, Kept}
-use Rattle.am_chain.proofs.Puts.{put_cases, put_same, put_at, by_cases}
-use Rattle.am_chain.proofs.Frames.{Later, later_all, shown_later, served_later, witness_later, departed_later}
+use Rattle.am_chain_moves.specs.Group.{put, how_many, counted, need_of, Node, opening, Views, Group, chain_of, IsThere, IsUp, Leads, MayAccept}
+use Rattle.am_chain_moves.specs.Kept.{NodeOk, ServedOk, Witness, DepartedOk, ViewsOk, Kept}
+use Rattle.am_chain_moves.proofs.Puts.{put_cases, put_same, put_at, by_cases}
+use Rattle.am_chain_moves.proofs.Frames.{Later, later_all, shown_later, served_later, witness_later, departed_later}
 
 pub take_more : {a b : List Entry} (n : ℕ) → Begins a b → n ≤ length a → take n b ≡ take n a
 take_more {a} {b} n h l = ap (take n) (sym h.same) ∙ take-append-le n a h.rest l

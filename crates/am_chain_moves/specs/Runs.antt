@@ -4,8 +4,8 @@ use Rattle.am_base.specs.declared.name.Stamp.{Stamp}
 use Rattle.am_base.specs.Names.{has}
 use Rattle.am_base.specs.Stamps.{no_stamp}
 use Rattle.am_chain_lists.specs.Whole.{Begins, view_of, key}
-use Rattle.am_chain.specs.Group.{how_many, Node, Chosen, opening, Group, IsThere}
-use Rattle.am_chain.specs.Moves.{Move, decides}
+use Rattle.am_chain_moves.specs.Group.{how_many, Node, Chosen, opening, Group, IsThere}
+use Rattle.am_chain_moves.specs.Moves.{Move, decides}
 
 -- A view completes: as many of its members as an accepted entry needs have stored its View, and none of its members that is there
 -- lags behind it.

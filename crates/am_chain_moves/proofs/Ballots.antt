@@ -4,9 +4,9 @@ use Rattle.am_base.specs.declared.entry.Entry.{Entry}
 use Rattle.am_chain_lists.specs.Whole.{Begins, mem, key}
 use Rattle.am_chain_lists.proofs.Prefixes.{begins_refl, begins_trans}
 use Rattle.am_chain_lists.proofs.Order.{key_by}
-use Rattle.am_chain.specs.Group.{put2, Group, IsThere, IsUp}
-use Rattle.am_chain.specs.Kept.{Kept}
-use Rattle.am_chain.proofs.Puts.{put2_cases}
+use Rattle.am_chain_moves.specs.Group.{put2, Group, IsThere, IsUp}
+use Rattle.am_chain_moves.specs.Kept.{Kept}
+use Rattle.am_chain_moves.proofs.Puts.{put2_cases}
 
 some_same : {x y : List Entry} → ◌≡◌ {A = Option (List Entry)} (Some x) (Some y) → x ≡ y
 some_same e = cc

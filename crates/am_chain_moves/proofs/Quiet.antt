@@ -10,13 +10,13 @@ use Rattle.am_chain_lists.proofs.Prefixes.{begins_refl, begins_nil, begins_more,
 use Rattle.am_chain_lists.proofs.Rows.{Spares}
 use Rattle.am_chain_lists.proofs.Members.{mem_between, mem_push}
 use Rattle.am_chain_lists.proofs.Order.{key_by}
-use Rattle.am_chain.specs.Group.{put, Node, Group, chain_of, IsThere, IsUp, Leads, IsOngoing, IsHeld, MayAccept}
-use Rattle.am_chain.specs.Moves.{longer, own_stamp, IsAbove, MayNumber, MayWelcome, MayDepart, with_node, with_line}
-use Rattle.am_chain.specs.Kept.{ServedOk, DepartedOk, Kept}
-use Rattle.am_chain.proofs.Puts.{put_cases, put_same, put_other}
-use Rattle.am_chain.proofs.Frames.{Later, node_change}
-use Rattle.am_chain.proofs.Nodes.{flags_ok, fronts_ok, raise_ok, begin_ok, own_above, store_ok, fetch_ok, fetch_chain, welcome_ok, welcome_now}
-use Rattle.am_chain.proofs.Fronts.{group_change, chain_change, grown, views_grow, chain_is, good_grown}
+use Rattle.am_chain_moves.specs.Group.{put, Node, Group, chain_of, IsThere, IsUp, Leads, IsOngoing, IsHeld, MayAccept}
+use Rattle.am_chain_moves.specs.Moves.{longer, own_stamp, IsAbove, MayNumber, MayWelcome, MayDepart, with_node, with_line}
+use Rattle.am_chain_moves.specs.Kept.{ServedOk, DepartedOk, Kept}
+use Rattle.am_chain_moves.proofs.Puts.{put_cases, put_same, put_other}
+use Rattle.am_chain_moves.proofs.Frames.{Later, node_change}
+use Rattle.am_chain_moves.proofs.Nodes.{flags_ok, fronts_ok, raise_ok, begin_ok, own_above, store_ok, fetch_ok, fetch_chain, welcome_ok, welcome_now}
+use Rattle.am_chain_moves.proofs.Fronts.{group_change, chain_change, grown, views_grow, chain_is, good_grown}
 
 later_longer : (m : Node) (e : Entry) → Later m (longer m e)
 later_longer m e = record { list = begins_more m.list (e ∷ []); log = λ h. h; start = λ h. refl; there = λ t. record { goes = t.goes; stays = t.stays }; staying = λ h. h; promise = omega arith }
