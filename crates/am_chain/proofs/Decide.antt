@@ -1,0 +1,336 @@
+-- A decision keeps what is kept.
+use Rattle.std.proofs.Common.{◌≡◌, ◌≢◌, ◌⊎◌, ⊎_elim, inl, inr, ℕ, ◌+◌, ◌<◌, ◌≤◌, min, Bool, true, false, List, [], ◌∷◌, ◌++◌, length, take, Some, refl, sym, ap, ◌∙◌, subst, arith}
+use Rattle.std.proofs.lemmas.List.{take-append-le}
+use Rattle.am_base.specs.declared.entry.Entry.{Entry}
+use Rattle.am_base.specs.declared.entry.Entry.TheVariants.{View}
+use Rattle.am_base.specs.Names.{has}
+use Rattle.am_chain_lists.specs.Whole.{Begins, IsGood, mem, view_of, key}
+use Rattle.am_chain_lists.proofs.Prefixes.{begins_refl, begins_more, begins_trans, begins_length, begins_both, length_push, below_begins, below_of, begins_pushed, begins_take}
+use Rattle.am_chain_lists.proofs.Members.{mem_between, mem_viewed, viewed_mem, good_begins, good_push, Ends, ends_of}
+use Rattle.am_chain_lists.proofs.Order.{view_viewed, view_fits, key_by, resilience_viewed}
+use Rattle.am_chain_moves.specs.Group.{put, how_many, Node, Chosen, opening, Views, Group, chain_of, current_of, IsThere, IsUp}
+use Rattle.am_chain_moves.specs.Moves.{MayDecide, choice_of, with_choice}
+use Rattle.am_chain_moves.specs.Runs.{IsLawful}
+use Rattle.am_chain_moves.specs.Kept.{LateOk, NodeOk, ServedOk, DepartedOk, ViewsOk, Kept}
+use Rattle.am_chain_moves.proofs.Puts.{by_cases, put_cases, put_same, put_other, put_at}
+use Rattle.am_chain_moves.proofs.Frames.{Later, later_all, shown_later, served_later, witness_later}
+use Rattle.am_chain_moves.proofs.Nodes.{view_current}
+use Rattle.am_chain.proofs.Heart.{ballot_ok, list_chain, member_above, needed_promised, needed_low, departed_in, complete_in, group_in, too_few}
+
+two : (a b : ℕ) → (a ≤ b) ⊎ (b < a)
+two a b = grind arith
+
+module _ (s : Group) (k : Kept s) (lawful : IsLawful s) (c : ℕ) (members : List ℕ) (resilience : ℕ) (d : MayDecide s c members resilience) where
+  abbrev list : List Entry
+  list = (s.node c).list
+
+  abbrev w : ℕ
+  w = key (s.node c).promise
+
+  abbrev choice : Chosen
+  choice = choice_of (s.node c) members resilience
+
+  abbrev node : Node
+  node = record (s.node c) { list = opening choice; ballot = false }
+
+  abbrev views : Views
+  views = (with_choice s c members resilience).views
+
+  chain : Begins list (chain_of s.views)
+  chain = list_chain s k lawful c members resilience d
+
+  pub group_low : Begins s.group list
+  group_low = group_in s k lawful c members resilience d
+
+  above : key s.views.current < w
+  above = (ballot_ok s k lawful c members resilience d).above
+
+  older : (x : ℕ) → s.views.decided x ≡ true → x ≢ w
+  older x h e = let o = k.views.order x h in let a = above in let z : ⊥ = omega arith in z
+
+  has_own : has members c ≡ true
+  has_own = d.all c d.needed d.up.there
+
+  good : IsGood (opening choice)
+  good =
+      let fine = good_begins chain k.views.good in
+      let now = view_current s.views list k.views chain in
+      let a = above in
+      let by : has members (s.node c).promise.by ≡ true = subst (λ j. has members j ≡ true) (sym (ballot_ok s k lawful c members resilience d).by) has_own in
+      good_push list (View (s.node c).promise members resilience) fine
+      (view_fits list (s.node c).promise members resilience fine (k.each c).small (omega arith) d.within by d.strong) (k.each c).small
+
+  more : Begins list (opening choice)
+  more = begins_more list (View (s.node c).promise members resilience ∷ [])
+
+  chain_is : chain_of views ≡ opening choice
+  chain_is = put_same s.views.line w (opening choice)
+
+  chosen_is : current_of views ≡ choice
+  chosen_is = put_same s.views.chosen w choice
+
+  pub chosen_old : (x : ℕ) → s.views.decided x ≡ true → views.chosen x ≡ s.views.chosen x
+  chosen_old x h = put_other s.views.chosen w choice x (older x h)
+
+  -- a decided ballot is the new one, or was decided
+  decided_cases : (x : ℕ) → views.decided x ≡ true → (x ≡ w) ⊎ (s.views.decided x ≡ true)
+  decided_cases x h = ⊎_elim
+      (λ (z : (x ≡ w) × (put s.views.decided w true x ≡ true)). inl z.0)
+      (λ (z : (x ≢ w) × (put s.views.decided w true x ≡ s.views.decided x)). inr (sym z.1 ∙ h))
+      (put_cases s.views.decided w true x)
+
+  pub decided_old : (x : ℕ) → s.views.decided x ≡ true → views.decided x ≡ true
+  decided_old x h = put_other s.views.decided w true x (older x h) ∙ h
+
+  -- what the coordinator has is in the new chain
+  on_new : {a : List Entry} → Begins a list → Begins a (chain_of views)
+  on_new h = subst (Begins _) (sym chain_is) (begins_trans h more)
+
+  own_now : mem (opening choice) c ≡ true
+  own_now = viewed_mem list (s.node c).promise members resilience c good has_own
+
+  views_decided : ViewsOk views
+  views_decided = record {
+    now = put_same s.views.decided w true;
+    order = λ x h. ⊎_elim (λ (z : x ≡ w). omega arith) (λ (z : s.views.decided x ≡ true). let o = k.views.order x z in let a = above in omega arith) (decided_cases x h);
+    stamps = λ x h. ⊎_elim
+        (λ (z : x ≡ w). ap (λ y. key (put s.views.chosen w choice y).stamp) z ∙ ap (λ (ch : Chosen). key ch.stamp) chosen_is ∙ sym z)
+        (λ (z : s.views.decided x ≡ true). ap (λ (ch : Chosen). key ch.stamp) (chosen_old x z) ∙ k.views.stamps x z)
+        (decided_cases x h);
+    good = subst IsGood (sym chain_is) good;
+    view = ap view_of chain_is ∙ view_viewed list (s.node c).promise members resilience;
+    opens = subst (λ ch. Begins (opening ch) (chain_of views)) (sym chosen_is) (subst (Begins (opening choice)) (sym chain_is) (begins_refl (opening choice)));
+    complete = λ x h. subst (λ ch. Begins (opening ch) (chain_of views)) (sym (chosen_old x (k.views.marked x h))) (on_new (complete_in s k lawful c members resilience d x h));
+    marked = λ x h. decided_old x (k.views.marked x h);
+    some = k.views.some;
+  }
+
+  -- the Join of each name with a log stands in what was chosen
+  join_in : (j : ℕ) → (s.node j).has_log ≡ true → Begins (take (s.node j).start s.group) list
+  join_in j h = begins_trans (begins_take (s.node j).start s.group) group_low
+
+  -- who is up and stays is needed
+  stays_in : (j : ℕ) → IsUp (s.node j) → mem (chain_of s.views) j ≡ true → mem list j ≡ true
+  stays_in j u m = mem_between j k.views.good (join_in j u.log) chain ((k.each j).joined u.log).member m
+
+  -- each name that is up has a beginning of what was chosen
+  all_low : (j : ℕ) → IsUp (s.node j) → Begins (s.node j).list list
+  all_low j u =
+      let ok = k.each j in
+      let on = ok.list u in
+      by_cases (mem list j)
+      (λ t. begins_both on chain (needed_low s k lawful c members resilience d j t u))
+      (λ f. ⊎_elim
+      (λ (l : length (s.node j).list ≤ length list). begins_both on chain l)
+      (λ (l : length list < length (s.node j).list).
+      let z = ok.own u (take (s.node j).start s.group) list (below_of (begins_both chain on (omega arith)) l) (join_in j u.log) (ok.joined u.log).member in absurd (cc))
+      (two (length (s.node j).list) (length list)))
+
+  -- a ballot of another that is up is above the new view
+  ballot_above : (j : ℕ) → j ≢ c → IsUp (s.node j) → (s.node j).ballot ≡ true → w < key (s.node j).promise
+  ballot_above j other u b =
+      let o = (k.each j).ballot u b in
+      let mine = ballot_ok s k lawful c members resilience d in
+      let on = (k.each j).stays u.there o.staying (s.node j).list ((k.each j).list u) o.member in
+      let p = needed_promised s k lawful c members resilience d j (stays_in j u on) u.there in
+      let apart : key (s.node j).promise ≢ w = λ same. other (sym o.by ∙ key_by (s.node j).promise (s.node c).promise (k.each j).small (k.each c).small same ∙ mine.by) in
+      omega arith
+
+  -- a name that is late now
+  late_now : (j : ℕ) → IsUp (s.node j) → key (s.node j).promise < w → LateOk views j (s.node j)
+  late_now j u l =
+      let ok = k.each j in
+      let joined = ok.joined u.log in
+      let out : mem list j ≡ false = by_cases (mem list j) (λ t. let p = needed_promised s k lawful c members resilience d j t u.there in absurd (omega arith)) (λ f. f) in
+      let e = ends_of j (join_in j u.log) joined.member out in
+      let b = e.before ++ e.last ∷ [] in
+      let on = begins_trans e.within chain in
+      let reach : Begins (s.node j).list b = ⊎_elim
+      (λ (x : length (s.node j).list ≤ length b). begins_both (ok.list u) on x)
+      (λ (x : length b < length (s.node j).list).
+      let shorter = begins_more e.before (e.last ∷ []) in
+      let z = ok.own u (take (s.node j).start s.group) b (below_of (begins_both on (ok.list u) (omega arith)) x) (begins_trans e.above shorter) joined.member in
+      let ended = e.ended in absurd (cc))
+      (two (length (s.node j).list) (length b)) in
+      record {
+        before = e.before;
+        last = e.last;
+        list = reach;
+        member = e.member;
+        ended = e.ended;
+        lines = λ x h p. ⊎_elim
+            (λ (z : x ≡ w). subst (Begins b) (sym (ap (put s.views.line w (opening choice)) z)) (on_new e.within))
+            (λ (z : s.views.decided x ≡ true). subst (Begins b) (sym (put_other s.views.line w (opening choice) x (older x z))) (old_line j u e x z p on))
+            (decided_cases x h);
+      }
+    where
+      old_line : (j : ℕ) (u : IsUp (s.node j)) (e : Ends (take (s.node j).start s.group) list j) (x : ℕ) → s.views.decided x ≡ true → key (s.node j).promise ≤ x → Begins (e.before ++ e.last ∷ []) (chain_of s.views) → Begins (e.before ++ e.last ∷ []) (s.views.line x)
+      old_line j u e x h p on = ⊎_elim
+          (λ (z : key s.views.current ≤ key (s.node j).promise).
+          let o = k.views.order x h in
+          let same : key s.views.current ≡ x = omega arith in
+          subst (λ y. Begins (e.before ++ e.last ∷ []) (s.views.line y)) same on)
+          (λ (z : key (s.node j).promise < key s.views.current).
+          let o = (k.each j).late u z in
+          let then = o.lines (key s.views.current) k.views.now (omega arith) in
+          let at_x = o.lines x h p in
+          let long = length_push o.before o.last in
+          let mine = length_push e.before e.last in
+          ⊎_elim
+          (λ (y : length (e.before ++ e.last ∷ []) ≤ length (o.before ++ o.last ∷ [])). begins_trans (begins_both on then y) at_x)
+          (λ (y : length (o.before ++ o.last ∷ []) < length (e.before ++ e.last ∷ [])).
+          let up_to = begins_trans (begins_more e.before (e.last ∷ [])) on in
+          let still = mem_between {b = o.before ++ o.last ∷ []} j (good_begins up_to k.views.good) (begins_more o.before (o.last ∷ [])) (begins_both then up_to (omega arith)) o.member e.member in
+          let ended = o.ended in absurd (cc))
+          (two (length (e.before ++ e.last ∷ [])) (length (o.before ++ o.last ∷ []))))
+          (two (key s.views.current) (key (s.node j).promise))
+
+  other_ok : (j : ℕ) → j ≢ c → NodeOk views s.group j (s.node j)
+  other_ok j other =
+      let ok = k.each j in
+      record {
+        small = ok.small;
+        list = λ u. on_new (all_low j u);
+        blank = ok.blank;
+        fronts = ok.fronts;
+        leads = λ l.
+            let o = ok.leads l in
+            let p = needed_promised s k lawful c members resilience d j (stays_in j l.up o.member) l.up.there in
+            let q = ap key (l.acts ∙ ap view_of o.chain ∙ k.views.view) in
+            let a = above in absurd (omega arith);
+        promised = λ t m. needed_promised s k lawful c members resilience d j (subst (λ (ch : Chosen). mem ch.before j ≡ true) chosen_is m) t;
+        stays = λ t l a h m. subst (λ y. mem y j ≡ true) (sym chain_is) (⊎_elim
+            (λ (x : Begins a list).
+            let on = ok.stays t l a (begins_trans x chain) m in
+            viewed_mem list (s.node c).promise members resilience j good (d.all j (mem_between j k.views.good x chain m on) t))
+            (λ (x : a ≡ opening choice). subst (λ y. mem y j ≡ true) x m)
+            (begins_pushed (View (s.node c).promise members resilience) (subst (Begins a) chain_is h)));
+        joined = ok.joined;
+        own = ok.own;
+        late = λ u l. late_now j u l;
+        ballot = λ u b. let o = ok.ballot u b in record { small = o.small; above = ballot_above j other u b; by = o.by; staying = o.staying; member = o.member };
+        complete = λ x h t m.
+            let same = chosen_old x (k.views.marked x h) in
+            subst (λ ch. Begins (opening ch) (s.node j).list) (sym same) (ok.complete x h t (subst (λ (ch : Chosen). has ch.members j ≡ true) same m));
+        heard = λ x h l. heard_old j x h l;
+      }
+    where
+      heard_old : (j : ℕ) (x : ℕ) → views.decided x ≡ true → key (s.node j).promise < x → (s.node j).told ≤ length (views.chosen x).before
+      heard_old j x h l = ⊎_elim
+          (λ (z : x ≡ w).
+          let e = ap (λ y. length (put s.views.chosen w choice y).before) z ∙ ap (λ (ch : Chosen). length ch.before) chosen_is in
+          let t = (k.each j).fronts.told in
+          let g = begins_length group_low in omega arith)
+          (λ (z : s.views.decided x ≡ true). let e = ap (λ (ch : Chosen). length ch.before) (chosen_old x z) in let o = (k.each j).heard x z l in omega arith)
+          (decided_cases x h)
+
+  own_ok : NodeOk views s.group c node
+  own_ok =
+      let ok = k.each c in
+      let log = d.up.log in
+      let within = ok.fronts.within in
+      let long = length_push list (View (s.node c).promise members resilience) in
+      let same = take-append-le (s.node c).acc list (View (s.node c).promise members resilience ∷ []) within in
+      let whole : Begins (opening choice) (chain_of views) = subst (Begins (opening choice)) (sym chain_is) (begins_refl (opening choice)) in
+      let now : mem (chain_of views) c ≡ true = subst (λ y. mem y c ≡ true) (sym chain_is) own_now in
+      record {
+        small = ok.small;
+        list = λ u. whole;
+        blank = λ h. absurd (cc);
+        fronts = record { told = ok.fronts.told; acc = ok.fronts.acc; within = omega arith; delivered = subst (λ x. Begins x s.group) (sym same) ok.fronts.delivered };
+        leads = λ l. record { chain = sym chain_is; member = now };
+        promised = λ t m. omega arith;
+        stays = λ t l a h m. now;
+        joined = λ h. let o = ok.joined h in record { accepted = o.accepted; member = o.member };
+        own = λ u a e below h m. mem_between c good h (below_begins below) m own_now;
+        late = λ u l. absurd (omega arith);
+        ballot = λ u b. absurd (cc);
+        complete = λ x h t m. subst (λ ch. Begins (opening ch) (opening choice)) (sym (chosen_old x (k.views.marked x h))) (begins_trans (complete_in s k lawful c members resilience d x h) more);
+        heard = λ x h l. ⊎_elim (λ (z : x ≡ w). absurd (omega arith)) (λ (z : s.views.decided x ≡ true). let o = k.views.order x z in let a = above in absurd (omega arith)) (decided_cases x h);
+      }
+
+  later : Later (s.node c) node
+  later = record { list = more; log = λ h. h; start = λ h. refl; there = λ t. record { goes = t.goes; stays = t.stays }; staying = λ h. h; promise = omega arith }
+
+  up : (j : ℕ) → Later (s.node j) (put s.node c node j)
+  up = later_all s.node c node later
+
+  enough_new : (x : ℕ) → views.decided x ≡ true → (holders : ℕ → Bool) → ((h : ℕ) → holders h ≡ true → has (views.chosen x).members h ≡ true) → ((h : ℕ) → holders h ≡ true → Begins (opening (views.chosen x)) (put s.node c node h).list) → min ((views.chosen x).resilience + 1) (how_many (has (views.chosen x).members)) ≤ how_many holders → Begins (opening (views.chosen x)) (chain_of views)
+  enough_new x h holders counts stored much = ⊎_elim
+      (λ (z : x ≡ w). subst (λ ch. Begins (opening ch) (chain_of views)) (sym (ap (put s.views.chosen w choice) z ∙ chosen_is)) (subst (Begins (opening choice)) (sym chain_is) (begins_refl (opening choice))))
+      (λ (z : s.views.decided x ≡ true).
+      let same = chosen_old x z in
+      subst (λ ch. Begins (opening ch) (chain_of views)) (sym same)
+      (old x z holders (λ i t. subst (λ (ch : Chosen). has ch.members i ≡ true) same (counts i t)) (λ i t. subst (λ ch. Begins (opening ch) (put s.node c node i).list) same (stored i t))
+      (subst (λ (ch : Chosen). min (ch.resilience + 1) (how_many (has ch.members)) ≤ how_many holders) same much)))
+      (decided_cases x h)
+    where
+      old : (x : ℕ) → s.views.decided x ≡ true → (holders : ℕ → Bool) → ((h : ℕ) → holders h ≡ true → has (s.views.chosen x).members h ≡ true) → ((h : ℕ) → holders h ≡ true → Begins (opening (s.views.chosen x)) (put s.node c node h).list) → min ((s.views.chosen x).resilience + 1) (how_many (has (s.views.chosen x).members)) ≤ how_many holders → Begins (opening (s.views.chosen x)) (chain_of views)
+      old x z holders counts stored much = by_cases (holders c)
+          (λ t. subst (Begins (opening (s.views.chosen x))) (ap (λ (m : Node). m.list) (put_same s.node c node) ∙ sym chain_is) (stored c t))
+          (λ f.
+          let ch = s.views.chosen x in
+          let had : (h : ℕ) → holders h ≡ true → Begins (opening ch) (s.node h).list = λ h y. ⊎_elim
+          (λ (q : (h ≡ c) × (put s.node c node h ≡ node)). let u : holders c ≡ true = subst (λ j. holders j ≡ true) q.0 y in absurd (cc))
+          (λ (q : (h ≢ c) × (put s.node c node h ≡ s.node h)). subst (λ (m : Node). Begins (opening ch) m.list) q.1 (stored h y))
+          (put_cases s.node c node h) in
+          let on = k.enough x z holders counts had much in
+          let fine = good_begins on k.views.good in
+          let there = resilience_viewed ch.before ch.stamp ch.members ch.resilience in
+          ⊎_elim
+          (λ (l : length (opening ch) ≤ length list). on_new (begins_both on chain l))
+          (λ (l : length list < length (opening ch)). absurd (too_few s k lawful c members resilience d (opening ch) (opening ch) on (begins_both chain on (omega arith)) (begins_refl (opening ch)) l
+          (has ch.members) holders counts
+          (λ h m. viewed_mem ch.before ch.stamp ch.members ch.resilience h fine m)
+          (λ h m. mem_viewed ch.before ch.stamp ch.members ch.resilience h m)
+          (λ h t. by_cases (s.node h).has_log (λ y. y) (λ y.
+          let e = begins_length (subst (Begins (opening ch)) ((k.each h).blank y) (had h t)) in
+          let long = length_push ch.before (View ch.stamp ch.members ch.resilience) in absurd (omega arith)))
+          had
+          (λ h t u. begins_length (all_low h u))
+          (subst (λ r. min (r + 1) (how_many (has ch.members)) ≤ how_many holders) (sym there) much)))
+          (two (length (opening ch)) (length list)))
+
+  pub decides_keeps : Kept (with_choice s c members resilience)
+  decides_keeps = record {
+    views = views_decided;
+    group = on_new group_low;
+    each = put_at (λ j m. NodeOk views s.group j m) s.node c node own_ok (λ j other. other_ok j other);
+    shown = λ x name l h. shown_later s.node (put s.node c node) x name l up (k.shown x name l h);
+    still = put_at (λ v m. (l : List Entry) → s.shown (key m.promise) v ≡ Some l → views.decided (key m.promise) ≡ false → m.list ≡ l) s.node c node
+        (λ l h none. let z = put_same s.views.decided w true in absurd (cc))
+        (λ v _ l h none. k.still v l h (by_cases (s.views.decided (key (s.node v).promise)) (λ t. let z = decided_old (key (s.node v).promise) t in absurd (cc)) (λ f. f)));
+    short = λ i v l. put_at
+        (λ i m. IsUp m → m.ballot ≡ true → s.shown (key m.promise) v ≡ Some l → IsUp (put s.node c node v) → (length (put s.node c node v).list ≤ length l) ⊎ (length (put s.node c node v).list ≤ length m.list))
+        s.node c node (λ u b. absurd (cc))
+        (λ i other u b h. put_at
+        (λ v m. s.shown (key (s.node i).promise) v ≡ Some l → IsUp m → (length m.list ≤ length l) ⊎ (length m.list ≤ length (s.node i).list))
+        s.node c node
+        (λ h q. let p = (k.shown (key (s.node i).promise) c l h).promised in let a = ballot_above i other u b in absurd (omega arith))
+        (λ v differ h q. k.short i v l u b h q) v h) i;
+    served = λ i v l. put_at
+        (λ i m. IsUp m → m.ballot ≡ true → s.served (key m.promise) v ≡ true → s.shown (key m.promise) v ≡ Some l → ServedOk (put s.node c node) views (key m.promise) l)
+        s.node c node (λ u b. absurd (cc))
+        (λ i other u b a h.
+        let o = k.served i v l u b a h in
+        let t = served_later s.node (put s.node c node) s.views (key (s.node i).promise) l up o in
+        record { chain = on_new (served_low i other u b l o.chain o.promised); promised = t.promised }) i;
+    sent = k.sent;
+    witness = λ n low high. witness_later s.node (put s.node c node) s.group n up (k.witness n low high);
+    departed = put_at (λ e m. m.departed ≡ true → DepartedOk (put s.node c node) views e) s.node c node
+        (λ h. let z = d.up.there.stays in absurd (cc))
+        (λ e other h. let o = k.departed e h in record {
+          before = o.before;
+          chain = on_new (departed_in s k lawful c members resilience d e h);
+          stored = λ j m t l. begins_trans (o.stored j m ((up j).there t) ((up j).staying l)) (up j).list;
+        });
+    enough = enough_new;
+  }
+    where
+      served_low : (i : ℕ) → i ≢ c → IsUp (s.node i) → (s.node i).ballot ≡ true → (l : List Entry) → Begins l (chain_of s.views) → ((j : ℕ) → IsThere (s.node j) → mem l j ≡ true → key (s.node i).promise ≤ key (s.node j).promise) → Begins l list
+      served_low i other u b l on promised = ⊎_elim
+          (λ (x : length l ≤ length list). begins_both on chain x)
+          (λ (x : length list < length l).
+          let p = promised c d.up.there (member_above s k lawful c members resilience d l on (omega arith)) in
+          let a = ballot_above i other u b in absurd (omega arith))
+          (two (length l) (length list))

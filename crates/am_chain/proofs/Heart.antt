@@ -1,0 +1,235 @@
+-- A coordinator that decides has all that was accepted.
+use Rattle.std.proofs.Common.{◌≡◌, ◌⊎◌, ⊎_elim, ℕ, zero, suc, ◌+◌, ◌-◌, ◌<◌, ◌≤◌, ◌&&◌, ◌||◌, not, nat_lt, min, Bool, true, false, List, [], ◌∷◌, ◌++◌, length, take, Option, Some, None, slice_get, refl, sym, ap, ◌∙◌, subst, arith}
+use Rattle.std.proofs.lemmas.Bool.Decides.{nat_tests}
+use Rattle.std.proofs.lemmas.Option.{slice_get_within}
+use Rattle.am_base.specs.declared.entry.Entry.{Entry}
+use Rattle.am_base.specs.declared.entry.Entry.TheVariants.{Data, Join, Leave, View}
+use Rattle.am_base.specs.Names.{has}
+use Rattle.am_chain_lists.specs.Whole.{Begins, IsGood, mem, view_of, key, resilience_of}
+use Rattle.am_chain_lists.proofs.Prefixes.{begins_refl, begins_nil, begins_more, begins_trans, begins_length, begins_both, begins_same, begins_push, length_push, begins_take, length_take, take_begins}
+use Rattle.am_chain_lists.proofs.Members.{mem_between, mem_nil, mem_viewed, viewed_mem, good_begins, leaver_in, leaver_out}
+use Rattle.am_chain_lists.proofs.Order.{view_up, resilience_up, resilience_viewed}
+use Rattle.am_chain_moves.specs.Group.{how_many, counted, opening, Group, chain_of, IsThere, IsUp, NoBetter}
+use Rattle.am_chain_moves.specs.Moves.{MayDecide, Voted}
+use Rattle.am_chain_moves.specs.Runs.{counts_for, IsLawful}
+use Rattle.am_chain_moves.specs.Kept.{BallotOk, Kept}
+use Rattle.am_chain_moves.proofs.Puts.{by_cases, count_within, count_below}
+
+two : (a b : ℕ) → (a ≤ b) ⊎ (b < a)
+two a b = grind arith
+
+-- the greatest number that passes
+pub greatest_of : (p : ℕ → Bool) (bound x : ℕ) → p x ≡ true → ((y : ℕ) → p y ≡ true → y ≤ bound) → (g : ℕ) × (p g ≡ true) × ((y : ℕ) → p y ≡ true → y ≤ g)
+greatest_of p zero x h all = let z = all x h in (x, h, λ y k. let w = all y k in omega arith)
+greatest_of p (suc bound) x h all = by_cases (p (suc bound))
+    (λ t. (suc bound, t, all))
+    (λ f. greatest_of p bound x h (λ y k. ⊎_elim (λ (l : y ≤ bound). l) (λ (l : bound < y). let w = all y k in let e : y ≡ suc bound = omega arith in let z : p (suc bound) ≡ true = subst (λ m. p m ≡ true) e k in absurd (cc)) (two y bound)))
+
+-- Where the members stand whose storage of an entry counts.
+pub record CountedAt (list : List Entry) (n : ℕ) : Type 0 where
+  pub at : List Entry
+  pub above : Begins (take (n - 1) list) at
+  pub below : Begins at (take n list)
+  pub members : (h : ℕ) → has (counted list n) h ≡ true → mem at h ≡ true
+  pub back : (h : ℕ) → mem at h ≡ true → has (counted list n) h ≡ true
+
+take_step : (list : List Entry) (n : ℕ) (e : Entry) → 0 < n → slice_get list (n - 1) ≡ Some e → take n list ≡ take (n - 1) list ++ e ∷ []
+take_step list n e low h =
+    let within = slice_get_within list (n - 1) e h in
+    let long = length_take (n - 1) list (omega arith) in
+    let one = begins_push e (begins_take (n - 1) list) (ap (slice_get list) long ∙ h) in
+    let more = length_push (take (n - 1) list) e in
+    let z : length (take (n - 1) list ++ e ∷ []) ≡ n = omega arith in
+    ap (λ k. take k list) (sym z) ∙ take_begins one
+
+before_entry : (list : List Entry) (n : ℕ) (e : Entry) → 0 < n → slice_get list (n - 1) ≡ Some e → Begins (take (n - 1) list) (take n list)
+before_entry list n e low h = subst (Begins (take (n - 1) list)) (sym (take_step list n e low h)) (begins_more (take (n - 1) list) (e ∷ []))
+
+counted_go : (list : List Entry) (n : ℕ) (o : Option Entry) → IsGood list → 0 < n → n ≤ length list → slice_get list (n - 1) ≡ o → CountedAt list n
+unfolding mem
+counted_go list n None good low high h = absurd (none_past list (n - 1) (omega arith) h)
+  where
+    none_past : (l : List Entry) (k : ℕ) → k < length l → ◌≡◌ {A = Option Entry} (slice_get l k) None → ⊥
+    none_past [] k w h = let z : ⊥ = omega arith in z
+    none_past (e ∷ l) zero w h = cc
+    none_past (e ∷ l) (suc k) w h = none_past l k (omega arith) h
+counted_go list n (Some (Data from req body)) good low high h = record { at = take (n - 1) list; above = begins_refl (take (n - 1) list); below = before_entry list n (Data from req body) low h; members = λ x y. rw h at y; back = λ x y. rw h y }
+counted_go list n (Some (Join name)) good low high h = record { at = take (n - 1) list; above = begins_refl (take (n - 1) list); below = before_entry list n (Join name) low h; members = λ x y. rw h at y; back = λ x y. rw h y }
+counted_go list n (Some (Leave name)) good low high h = record { at = take (n - 1) list; above = begins_refl (take (n - 1) list); below = before_entry list n (Leave name) low h; members = λ x y. rw h at y; back = λ x y. rw h y }
+counted_go list n (Some (View stamp members resilience)) good low high h =
+    let step = take_step list n (View stamp members resilience) low h in
+    let fine = subst IsGood step (good_begins (begins_take n list) good) in
+    record {
+      at = take n list;
+      above = before_entry list n (View stamp members resilience) low h;
+      below = begins_refl (take n list);
+      members = λ x y. let z : has members x ≡ true = rw h at y in subst (λ l. mem l x ≡ true) (sym step) (viewed_mem (take (n - 1) list) stamp members resilience x fine z);
+      back = λ x y. rw h (mem_viewed (take (n - 1) list) stamp members resilience x (subst (λ l. mem l x ≡ true) step y));
+    }
+
+pub counted_at : (list : List Entry) (n : ℕ) → IsGood list → 0 < n → n ≤ length list → CountedAt list n
+counted_at list n good low high = counted_go list n (slice_get list (n - 1)) good low high refl
+
+and_true : (a b c : Bool) → a ≡ true → b ≡ true → c ≡ false → (a && (b && not c)) ≡ true
+and_true true true false x y z = refl
+and_true false b c x y z = absurd (cc)
+and_true true false c x y z = absurd (cc)
+and_true true true true x y z = absurd (cc)
+
+either : (a b c : Bool) → (a ≡ false → (b ≡ true) × (c ≡ true)) → (a || (b && c)) ≡ true
+either true b c h = refl
+either false b c h = let z = h refl in let x = z.0 in let y = z.1 in rw (x, y) refl
+
+-- A ballot that may be decided, in a lawful moment.
+module _ (s : Group) (k : Kept s) (lawful : IsLawful s) (c : ℕ) (members : List ℕ) (resilience : ℕ) (d : MayDecide s c members resilience) where
+  pub ballot_ok : BallotOk s.views c (s.node c)
+  ballot_ok = (k.each c).ballot d.up d.ballot
+
+  pub list_chain : Begins (s.node c).list (chain_of s.views)
+  list_chain = (k.each c).list d.up
+
+  -- the coordinator is a member all the way up
+  pub on_chain : mem (chain_of s.views) c ≡ true
+  on_chain = (k.each c).stays d.up.there ballot_ok.staying (s.node c).list list_chain d.needed
+
+  pub member_above : (p : List Entry) → Begins p (chain_of s.views) → length (s.node c).list ≤ length p → mem p c ≡ true
+  member_above p h l = mem_between c k.views.good (begins_both list_chain h l) h d.needed on_chain
+
+  -- a needed name has promised, and has no more than the coordinator
+  pub needed_promised : (j : ℕ) → mem (s.node c).list j ≡ true → IsThere (s.node j) → key (s.node c).promise ≤ key (s.node j).promise
+  needed_promised j m t = ⊎_elim
+      (λ (x : j ≡ c). let e = ap (λ i. key (s.node i).promise) x in omega arith)
+      (λ (x : Voted s (key (s.node c).promise) j (s.node c).list). (k.shown (key (s.node c).promise) j x.vote x.is).promised)
+      (d.votes j m t)
+
+  vote_low : (v : List Entry) → Begins v (chain_of s.views) → NoBetter v (s.node c).list → length v ≤ length (s.node c).list
+  vote_low v h worse = ⊎_elim
+      (λ (l : length v ≤ length (s.node c).list). l)
+      (λ (l : length (s.node c).list < length v).
+      let up = view_up (good_begins h k.views.good) (begins_both list_chain h (omega arith)) in
+      ⊎_elim
+      (λ (x : key (view_of v) < key (view_of (s.node c).list)). absurd (omega arith))
+      (λ (x : (key (view_of v) ≡ key (view_of (s.node c).list)) × (length v ≤ length (s.node c).list)). x.1)
+      worse)
+      (two (length v) (length (s.node c).list))
+
+  pub needed_low : (j : ℕ) → mem (s.node c).list j ≡ true → IsUp (s.node j) → length (s.node j).list ≤ length (s.node c).list
+  needed_low j m u = ⊎_elim
+      (λ (x : j ≡ c). let e = ap (λ i. length (s.node i).list) x in omega arith)
+      (λ (x : Voted s (key (s.node c).promise) j (s.node c).list).
+      let o = k.shown (key (s.node c).promise) j x.vote x.is in
+      let low = vote_low x.vote (begins_trans o.list ((k.each j).list u)) x.worse in
+      ⊎_elim (λ (y : length (s.node j).list ≤ length x.vote). omega arith) (λ (y : length (s.node j).list ≤ length (s.node c).list). y)
+      (k.short c j x.vote d.up d.ballot x.is u))
+      (d.votes j m u.there)
+
+  -- a departed name's Leave stands in the coordinator's list
+  pub departed_in : (e : ℕ) (h : (s.node e).departed ≡ true) → Begins ((k.departed e h).before ++ Leave e ∷ []) (s.node c).list
+  departed_in e h =
+      let o = k.departed e h in
+      let more = length_push o.before (Leave e) in
+      ⊎_elim
+      (λ (l : length (o.before ++ Leave e ∷ []) ≤ length (s.node c).list). begins_both o.chain list_chain l)
+      (λ (l : length (s.node c).list < length (o.before ++ Leave e ∷ [])).
+      o.stored c (member_above o.before (begins_trans (begins_more o.before (Leave e ∷ [])) o.chain) (omega arith)) d.up.there ballot_ok.staying)
+      (two (length (o.before ++ Leave e ∷ [])) (length (s.node c).list))
+
+  -- each complete view's View does
+  pub complete_in : (g : ℕ) → s.views.complete g ≡ true → Begins (opening (s.views.chosen g)) (s.node c).list
+  complete_in g h =
+      let o = k.views.complete g h in
+      let ch = s.views.chosen g in
+      ⊎_elim
+      (λ (l : length (opening ch) ≤ length (s.node c).list). begins_both o list_chain l)
+      (λ (l : length (s.node c).list < length (opening ch)).
+      (k.each c).complete g h d.up.there (mem_viewed ch.before ch.stamp ch.members ch.resilience c (member_above (opening ch) o (omega arith))))
+      (two (length (opening ch)) (length (s.node c).list))
+
+  -- Who holds more of the chain than the coordinator are too few: if none of them is up, they are stopped undeparted, and
+  -- count for the greatest complete view.
+  module _ (p at : List Entry) (chain : Begins p (chain_of s.views)) (above : Begins (s.node c).list at) (below : Begins at p) (longer : length (s.node c).list < length p)
+      (count_in holders : ℕ → Bool) (in_count : (h : ℕ) → holders h ≡ true → count_in h ≡ true) (members_at : (h : ℕ) → count_in h ≡ true → mem at h ≡ true) (at_members : (h : ℕ) → mem at h ≡ true → count_in h ≡ true)
+      (logs : (h : ℕ) → holders h ≡ true → (s.node h).has_log ≡ true) (stored : (h : ℕ) → holders h ≡ true → Begins p (s.node h).list)
+      (low : (h : ℕ) → holders h ≡ true → IsUp (s.node h) → length (s.node h).list ≤ length (s.node c).list)
+      (enough : min (resilience_of p + 1) (how_many count_in) ≤ how_many holders) where
+    not_up : (h : ℕ) → holders h ≡ true → IsUp (s.node h) → ⊥
+    not_up h t u = let l = low h t u in let m = begins_length (stored h t) in let z : ⊥ = omega arith in z
+
+    not_departed : (h : ℕ) → holders h ≡ true → (s.node h).departed ≡ true → ⊥
+    not_departed h t gone =
+        let o = k.departed h gone in
+        let inside = departed_in h gone in
+        let good = good_begins (begins_trans inside list_chain) k.views.good in
+        leaver_out o.before h good (mem_between h (good_begins (begins_trans below chain) k.views.good) (begins_more o.before (Leave h ∷ [])) (begins_trans inside above) (leaver_in o.before h good) (members_at h (in_count h t)))
+
+    is_stopped : (h : ℕ) → holders h ≡ true → ((s.node h).stopped ≡ true) × ((s.node h).departed ≡ false)
+    is_stopped h t = by_cases (s.node h).departed
+        (λ gone. absurd (not_departed h t gone))
+        (λ stays. by_cases (s.node h).stopped
+        (λ x. (x, stays))
+        (λ goes. absurd (not_up h t (record { log = logs h t; there = record { goes = goes; stays = stays } }))))
+
+    counts : (g : ℕ) → s.views.complete g ≡ true → (h : ℕ) → holders h ≡ true → counts_for s g h ≡ true
+    counts g is h t = either (has (s.views.chosen g).members h) (s.node h).has_log (nat_lt (length (opening (s.views.chosen g))) (s.node h).start)
+        (λ f. (logs h t, late g is h t f (two (s.node h).start (length (opening (s.views.chosen g))))))
+      where
+        late : (g : ℕ) → s.views.complete g ≡ true → (h : ℕ) → holders h ≡ true → has (s.views.chosen g).members h ≡ false → ((s.node h).start ≤ length (opening (s.views.chosen g))) ⊎ (length (opening (s.views.chosen g)) < (s.node h).start) → nat_lt (length (opening (s.views.chosen g))) (s.node h).start ≡ true
+        late g is h t f w = ⊎_elim
+            (λ (x : (s.node h).start ≤ length (opening (s.views.chosen g))).
+            let ch = s.views.chosen g in
+            let j = (k.each h).joined (logs h t) in
+            let long = length_take (s.node h).start s.group j.accepted in
+            let first = begins_trans (begins_take (s.node h).start s.group) k.group in
+            let part = begins_both first (k.views.complete g is) (omega arith) in
+            let good = good_begins (begins_trans below chain) k.views.good in
+            let there = mem_between h good part (begins_trans (complete_in g is) above) j.member (members_at h (in_count h t)) in
+            let z = mem_viewed ch.before ch.stamp ch.members ch.resilience h there in absurd (cc))
+            (λ (x : length (opening (s.views.chosen g)) < (s.node h).start). grind (arith, nat_tests))
+            w
+
+    pub too_few : ⊥
+    too_few =
+        let g = greatest_of s.views.complete (key s.views.current) k.views.some.0 k.views.some.1 (λ y h. k.views.order y (k.views.marked y h)) in
+        let ch = s.views.chosen g.0 in
+        let law = lawful g.0 g.1 g.2 in
+        let few = count_within holders (λ name. counts_for s g.0 name && ((s.node name).stopped && not (s.node name).departed)) 256 (λ h t. let q = is_stopped h t in and_true (counts_for s g.0 h) (s.node h).stopped (s.node h).departed (counts g.0 g.1 h t) q.0 q.1) in
+        let c_in = at_members c (member_above at (begins_trans below chain) (begins_length above)) in
+        let c_out : holders c ≡ false = by_cases (holders c) (λ t. absurd (not_up c t d.up)) (λ f. f) in
+        let fewer = count_below holders count_in 256 c in_count d.small c_out c_in in
+        let rises = resilience_up (good_begins chain k.views.good) (begins_trans (complete_in g.0 g.1) (begins_trans above below)) in
+        let there = resilience_viewed ch.before ch.stamp ch.members ch.resilience in
+        omega arith
+
+  -- what was accepted stands in the coordinator's list
+  pub group_in : Begins s.group (s.node c).list
+  group_in = ⊎_elim
+      (λ (l : length s.group ≤ length (s.node c).list). begins_both k.group list_chain l)
+      (λ (l : length (s.node c).list < length s.group). absurd (lost l))
+      (two (length s.group) (length (s.node c).list))
+    where
+      lost : length (s.node c).list < length s.group → ⊥
+      lost l =
+          let some : 0 < length (s.node c).list = ⊎_elim
+          (λ (x : length (s.node c).list ≤ 0). absurd (mem_nil c (subst (λ y. mem y c ≡ true) (sym (begins_same (begins_nil (s.node c).list) x)) d.needed)))
+          (λ (x : 0 < length (s.node c).list). x)
+          (two (length (s.node c).list) 0) in
+          let w = k.witness (length (s.node c).list + 1) (omega arith) (omega arith) in
+          let n = w.number in
+          let a = w.above in
+          let b = w.within in
+          let good = good_begins k.group k.views.good in
+          let at = counted_at s.group n good (omega arith) b in
+          let whole = begins_take n s.group in
+          let long = length_take n s.group b in
+          let shorter = length_take (n - 1) s.group (omega arith) in
+          let up_to = begins_both list_chain (begins_trans (begins_take (n - 1) s.group) k.group) (omega arith) in
+          let above = begins_trans up_to at.above in
+          let good_at : IsGood at.at = good_begins (begins_trans at.below whole) good in
+          too_few (take n s.group) at.at (begins_trans whole k.group) above at.below (omega arith) (has (counted s.group n)) w.holders w.counts at.members at.back w.logs w.stored
+          (λ h t u.
+          let j = (k.each h).joined (w.logs h t) in
+          let early = w.joined h t in
+          let start = length_take (s.node h).start s.group j.accepted in
+          let part = begins_both (begins_trans (begins_take (s.node h).start s.group) k.group) list_chain (omega arith) in
+          needed_low h (mem_between {a = take (s.node h).start s.group} {b = (s.node c).list} {c = at.at} h good_at part above j.member (at.members h (w.counts h t))) u)
+          w.enough

@@ -1,0 +1,4 @@
+pub mod Heart
+pub mod Decide
+pub mod Marks
+pub mod Runs

@@ -1,0 +1,96 @@
+-- A view that completes stands in the chain.
+use Rattle.std.proofs.Common.{◌≡◌, ◌⊎◌, ⊎_elim, ℕ, ◌<◌, ◌≤◌, Bool, true, [], ◌∷◌, length, refl, ap, arith}
+use Rattle.am_base.specs.declared.entry.Entry.TheVariants.{View}
+use Rattle.am_base.specs.Names.{has}
+use Rattle.am_base.specs.Lists.{fold}
+use Rattle.am_chain_lists.specs.Whole.{Begins, view_of, key}
+use Rattle.am_chain_lists.proofs.Prefixes.{begins_more, begins_both, length_push}
+use Rattle.am_chain_lists.proofs.Members.{good_begins}
+use Rattle.am_chain_lists.proofs.Order.{view_up, view_below}
+use Rattle.am_chain_moves.specs.Group.{opening, Views, Group, chain_of, IsThere}
+use Rattle.am_chain_moves.specs.Runs.{Completes}
+use Rattle.am_chain_moves.specs.Kept.{NodeOk, Kept}
+use Rattle.am_chain_moves.proofs.Puts.{by_cases}
+
+two : (a b : ℕ) → (a ≤ b) ⊎ (b < a)
+two a b = grind arith
+
+view_nil : key (view_of []) ≡ 0
+unfolding fold view_of key
+view_nil = refl
+
+module _ (s : Group) (k : Kept s) (complete : ℕ → Bool) (stay : (x : ℕ) → s.views.complete x ≡ true → complete x ≡ true) (marks : (x : ℕ) → complete x ≡ true → (s.views.complete x ≡ true) ⊎ Completes s x) where
+  abbrev views : Views
+  views = record s.views { complete = complete }
+
+  -- it stands there, as enough have stored its View
+  stands : (x : ℕ) → Completes s x → Begins (opening (s.views.chosen x)) (chain_of s.views)
+  stands x h = k.enough x h.decided h.holders h.counts h.stored h.enough
+
+  -- and each of its members that is there has stored it
+  stored : (x : ℕ) → Completes s x → (j : ℕ) → IsThere (s.node j) → has (s.views.chosen x).members j ≡ true → Begins (opening (s.views.chosen x)) (s.node j).list
+  stored x h j t m =
+      let ch = s.views.chosen x in
+      let on = stands x h in
+      let good = good_begins on k.views.good in
+      let low = view_below ch.before ch.stamp ch.members ch.resilience good in
+      let stamp = k.views.stamps x h.decided in
+      let last = h.none_lags j m t in
+      let long = length_push ch.before (View ch.stamp ch.members ch.resilience) in
+      by_cases (s.node j).has_log
+      (λ log.
+      let mine = (k.each j).list (record { log = log; there = t }) in
+      ⊎_elim
+      (λ (l : length (opening ch) ≤ length (s.node j).list). begins_both on mine l)
+      (λ (l : length (s.node j).list < length (opening ch)).
+      let part = begins_both (begins_both mine on (omega arith)) (begins_more ch.before (View ch.stamp ch.members ch.resilience ∷ [])) (omega arith) in
+      let up = view_up (good_begins (begins_more ch.before (View ch.stamp ch.members ch.resilience ∷ [])) good) part in
+      absurd (omega arith))
+      (two (length (opening ch)) (length (s.node j).list)))
+      (λ none.
+      let e = ap (λ l. key (view_of l)) ((k.each j).blank none) in
+      let z = view_nil in absurd (omega arith))
+
+  node_marked : (j : ℕ) → NodeOk views s.group j (s.node j)
+  node_marked j =
+      let ok = k.each j in
+      record {
+        small = ok.small;
+        list = ok.list;
+        blank = ok.blank;
+        fronts = ok.fronts;
+        leads = λ l. let o = ok.leads l in record { chain = o.chain; member = o.member };
+        promised = ok.promised;
+        stays = ok.stays;
+        joined = ok.joined;
+        own = ok.own;
+        late = λ u l. let o = ok.late u l in record { before = o.before; last = o.last; list = o.list; member = o.member; ended = o.ended; lines = o.lines };
+        ballot = λ u b. let o = ok.ballot u b in record { small = o.small; above = o.above; by = o.by; staying = o.staying; member = o.member };
+        complete = λ x h t m. ⊎_elim (λ (o : s.views.complete x ≡ true). ok.complete x o t m) (λ (o : Completes s x). stored x o j t m) (marks x h);
+        heard = ok.heard;
+      }
+
+  pub marks_keep : Kept (record s { views = record s.views { complete = complete } })
+  marks_keep = record {
+    views = record {
+      now = k.views.now;
+      order = k.views.order;
+      stamps = k.views.stamps;
+      good = k.views.good;
+      view = k.views.view;
+      opens = k.views.opens;
+      complete = λ x h. ⊎_elim (λ (o : s.views.complete x ≡ true). k.views.complete x o) (λ (o : Completes s x). stands x o) (marks x h);
+      marked = λ x h. ⊎_elim (λ (o : s.views.complete x ≡ true). k.views.marked x o) (λ (o : Completes s x). o.decided) (marks x h);
+      some = (k.views.some.0, stay k.views.some.0 k.views.some.1);
+    };
+    group = k.group;
+    each = node_marked;
+    shown = k.shown;
+    still = k.still;
+    short = k.short;
+    served = λ c h l u b a d. let o = k.served c h l u b a d in record { chain = o.chain; promised = o.promised };
+    sent = k.sent;
+    witness = k.witness;
+    departed = λ e h. let o = k.departed e h in record { before = o.before; chain = o.chain; stored = o.stored };
+    enough = k.enough;
+  }

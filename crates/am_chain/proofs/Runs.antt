@@ -1,0 +1,156 @@
+-- What every run keeps.
+use Rattle.std.proofs.Common.{◌≡◌, ℕ, zero, suc, ◌&&◌, not, Bool, true, false, List, [], ◌∷◌, ◌++◌, length, take, refl, sym, ◌∙◌, subst, arith}
+use Rattle.am_base.specs.declared.entry.Entry.{Entry}
+use Rattle.am_base.specs.declared.entry.Entry.TheVariants.{Leave}
+use Rattle.am_chain_lists.specs.Whole.{Begins}
+use Rattle.am_chain_lists.proofs.Prefixes.{begins_refl, begins_trans, begins_take, begins_both, length_take}
+use Rattle.am_chain_moves.specs.Group.{count, Node, opening, Group, chain_of, MayAccept, put}
+use Rattle.am_chain_moves.specs.Moves.{Move, numbers, stores, accepts, learns, begins, raises, shows, serves, fetches, decides, gives_over, welcomes, asks, departs, closes, stops, longer}
+use Rattle.am_chain_moves.specs.Runs.{Step, IsLawful, start, Run, founded, more, Onward, here, onward, counts_for}
+use Rattle.am_chain_moves.specs.Kept.{Kept}
+use Rattle.am_chain.specs.Claims.{RunsKeep, ChoicesKeep, CompleteViewsStand}
+use Rattle.am_chain_moves.proofs.Start.{start_kept}
+use Rattle.am_chain_moves.proofs.Steps.{quiet_keeps}
+use Rattle.am_chain.proofs.Decide.{decides_keeps, chosen_old, decided_old, group_low}
+use Rattle.am_chain.proofs.Marks.{marks_keep}
+use Rattle.am_chain_lists.specs.Whole.{told}
+use Rattle.am_chain_lists.proofs.Prefixes.{begins_more}
+
+-- what grows along a run
+record Grows (s t : Group) : Type 0 where
+  group : Begins s.group t.group
+  decided : (x : ℕ) → s.views.decided x ≡ true → t.views.decided x ≡ true
+  chosen : (x : ℕ) → s.views.decided x ≡ true → t.views.chosen x ≡ s.views.chosen x
+  complete : (x : ℕ) → s.views.complete x ≡ true → t.views.complete x ≡ true
+
+accept_grows : (node : ℕ → Node) (group list chain : List Entry) (to : ℕ) → Begins group chain → Begins list chain → MayAccept node list (length group) to → Begins group (take to list)
+accept_grows node group list chain to g l may =
+    let long = length_take to list may.within in
+    let r = may.rises in
+    begins_both g (begins_trans (begins_take to list) l) (omega arith)
+
+-- a move leaves what is decided, and what was accepted
+grows_on : {s t : Group} → Kept s → IsLawful s → Move s t → Grows s t
+grows_on k law (numbers {s = s} i e a b c) = record { group = begins_refl s.group; decided = λ x h. h; chosen = λ x h. refl; complete = λ x h. h }
+grows_on k law (stores {s = s} i e a b c d f) = record { group = begins_refl s.group; decided = λ x h. h; chosen = λ x h. refl; complete = λ x h. h }
+grows_on k law (accepts {s = s} i n a b) = record {
+  group = accept_grows s.node s.group (s.node i).list (chain_of s.views) n k.group ((k.each i).list a.up) b;
+  decided = λ x h. h;
+  chosen = λ x h. refl;
+  complete = λ x h. h;
+}
+grows_on k law (learns {s = s} i told acc a b c d e f g) = record { group = begins_refl s.group; decided = λ x h. h; chosen = λ x h. refl; complete = λ x h. h }
+grows_on k law (begins {s = s} i a b c d) = record { group = begins_refl s.group; decided = λ x h. h; chosen = λ x h. refl; complete = λ x h. h }
+grows_on k law (raises {s = s} i stamp a b) = record { group = begins_refl s.group; decided = λ x h. h; chosen = λ x h. refl; complete = λ x h. h }
+grows_on k law (shows {s = s} i a b c d e) = record { group = begins_refl s.group; decided = λ x h. h; chosen = λ x h. refl; complete = λ x h. h }
+grows_on k law (serves {s = s} i list a b c) = record { group = begins_refl s.group; decided = λ x h. h; chosen = λ x h. refl; complete = λ x h. h }
+grows_on k law (fetches {s = s} i h list e a b c d f) = record { group = begins_refl s.group; decided = λ x h. h; chosen = λ x h. refl; complete = λ x h. h }
+grows_on k law (decides {s = s} i members resilience a) = record {
+  group = begins_refl s.group;
+  decided = decided_old s k law i members resilience a;
+  chosen = chosen_old s k law i members resilience a;
+  complete = λ x h. h;
+}
+grows_on k law (gives_over {s = s} i) = record { group = begins_refl s.group; decided = λ x h. h; chosen = λ x h. refl; complete = λ x h. h }
+grows_on k law (welcomes {s = s} j stamp base join a) = record { group = begins_refl s.group; decided = λ x h. h; chosen = λ x h. refl; complete = λ x h. h }
+grows_on k law (asks {s = s} i a b) = record { group = begins_refl s.group; decided = λ x h. h; chosen = λ x h. refl; complete = λ x h. h }
+grows_on k law (departs {s = s} i before a) = record { group = begins_refl s.group; decided = λ x h. h; chosen = λ x h. refl; complete = λ x h. h }
+grows_on k law (closes {s = s} i n a b c d) =
+    let o = (k.each i).leads a in
+    let whole = begins_more (s.node i).list (Leave i ∷ []) in
+    let up : Begins s.group ((s.node i).list ++ Leave i ∷ []) = begins_trans (subst (Begins s.group) (sym o.chain) k.group) whole in
+    record {
+      group = accept_grows (put s.node i (longer (s.node i) (Leave i))) s.group ((s.node i).list ++ Leave i ∷ []) ((s.node i).list ++ Leave i ∷ []) n up (begins_refl ((s.node i).list ++ Leave i ∷ [])) d;
+      decided = λ x h. h;
+      chosen = λ x h. refl;
+      complete = λ x h. h;
+    }
+grows_on k law (stops {s = s} i) = record { group = begins_refl s.group; decided = λ x h. h; chosen = λ x h. refl; complete = λ x h. h }
+
+move_keeps : {s t : Group} → Kept s → IsLawful s → Move s t → Kept t
+move_keeps k law (decides {s = s} i members resilience a) = decides_keeps s k law i members resilience a
+move_keeps k law (numbers i e a b c) = quiet_keeps (numbers i e a b c) tt k
+move_keeps k law (stores i e a b c d f) = quiet_keeps (stores i e a b c d f) tt k
+move_keeps k law (accepts i n a b) = quiet_keeps (accepts i n a b) tt k
+move_keeps k law (learns i told acc a b c d e f g) = quiet_keeps (learns i told acc a b c d e f g) tt k
+move_keeps k law (begins i a b c d) = quiet_keeps (begins i a b c d) tt k
+move_keeps k law (raises i stamp a b) = quiet_keeps (raises i stamp a b) tt k
+move_keeps k law (shows i a b c d e) = quiet_keeps (shows i a b c d e) tt k
+move_keeps k law (serves i list a b c) = quiet_keeps (serves i list a b c) tt k
+move_keeps k law (fetches i h list e a b c d f) = quiet_keeps (fetches i h list e a b c d f) tt k
+move_keeps k law (gives_over i) = quiet_keeps (gives_over i) tt k
+move_keeps k law (welcomes j stamp base join a) = quiet_keeps (welcomes j stamp base join a) tt k
+move_keeps k law (asks i a b) = quiet_keeps (asks i a b) tt k
+move_keeps k law (departs i before a) = quiet_keeps (departs i before a) tt k
+move_keeps k law (closes i n a b c d) = quiet_keeps (closes i n a b c d) tt k
+move_keeps k law (stops i) = quiet_keeps (stops i) tt k
+
+-- a move, and the views that complete
+step_keeps : (s t : Group) → Kept s → IsLawful s → Step s t → Kept t
+step_keeps s t k law step = subst Kept (sym step.is) (marks_keep step.moved (move_keeps k law step.move) step.complete step.stay step.marks)
+
+step_grows : (s t : Group) → Kept s → IsLawful s → Step s t → Grows s t
+step_grows s t k law step =
+    let g = grows_on k law step.move in
+    subst (Grows s) (sym step.is) (record { group = g.group; decided = g.decided; chosen = g.chosen; complete = λ x h. step.stay x (g.complete x h) })
+
+none_pass : (p : ℕ → Bool) (n : ℕ) → ((j : ℕ) → p j ≡ false) → count p n ≡ 0
+unfolding count
+none_pass p zero h = refl
+none_pass p (suc n) h = let z = h n in let r = none_pass p n h in rw (z, r) refl
+
+and_false : (a b : Bool) → (a && (false && b)) ≡ false
+and_false true b = refl
+and_false false b = refl
+
+start_lawful : (founders : List ℕ) (first resilience : ℕ) → IsLawful (start founders first resilience)
+start_lawful founders first resilience view h g =
+    let z = none_pass (λ name. counts_for (start founders first resilience) view name && (false && not false)) 256 (λ j. and_false (counts_for (start founders first resilience) view j) (not false)) in
+    rw z (omega arith)
+
+record KeptLawful (s : Group) : Type 0 where
+  kept : Kept s
+  lawful : IsLawful s
+
+run_keeps : (founders : List ℕ) (first resilience : ℕ) (s : Group) → Run founders first resilience s → KeptLawful s
+run_keeps founders first resilience s (founded may) = record { kept = start_kept founders first resilience may; lawful = start_lawful founders first resilience }
+run_keeps founders first resilience t (more {s = s} run step law) = let o = run_keeps founders first resilience s run in record { kept = step_keeps s t o.kept o.lawful step; lawful = law }
+
+pub runs_keep : RunsKeep
+runs_keep founders first resilience s run = (run_keeps founders first resilience s run).kept
+
+pub choices_keep : ChoicesKeep
+choices_keep founders first resilience s run i members strong may = let o = run_keeps founders first resilience s run in group_low s o.kept o.lawful i members strong may
+
+-- from a moment that is kept
+record Since (s t : Group) : Type 0 where
+  kept : Kept t
+  lawful : IsLawful t
+  grows : Grows s t
+
+since : {s t : Group} → Kept s → IsLawful s → Onward s t → Since s t
+since k law (here {s = s}) = record { kept = k; lawful = law; grows = record { group = begins_refl s.group; decided = λ x h. h; chosen = λ x h. refl; complete = λ x h. h } }
+since k law (onward {s = s} {t = t} {u = u} on step after) =
+    let o = since k law on in
+    let g = step_grows t u o.kept o.lawful step in
+    let h = o.grows in
+    record {
+      kept = step_keeps t u o.kept o.lawful step;
+      lawful = after;
+      grows = record {
+        group = begins_trans h.group g.group;
+        decided = λ x d. g.decided x (h.decided x d);
+        chosen = λ x d. g.chosen x (h.decided x d) ∙ h.chosen x d;
+        complete = λ x d. g.complete x (h.complete x d);
+      };
+    }
+
+pub complete_views_stand : CompleteViewsStand
+complete_views_stand founders first resilience s t run on =
+    let o = run_keeps founders first resilience s run in
+    let k = o.kept in
+    let n = since k o.lawful on in
+    record {
+      group = n.grows.group;
+      views = λ x h. subst (λ ch. Begins (opening ch) (chain_of t.views)) (n.grows.chosen x (k.views.marked x h)) (n.kept.views.complete x (n.grows.complete x h));
+    }

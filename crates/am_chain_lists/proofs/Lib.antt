@@ -1,0 +1,4 @@
+pub mod Prefixes
+pub mod Rows
+pub mod Members
+pub mod Order

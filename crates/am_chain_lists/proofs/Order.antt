@@ -1,0 +1,135 @@
+-- Views and resilience rise along a list.
+use Rattle.std.proofs.Common.{◌≡◌, ℕ, ◌+◌, ◌<◌, ◌≤◌, ◌==◌, nat_lt, true, List, [], ◌∷◌, ◌++◌, length, refl, sym, ap, ◌∙◌, subst, arith}
+use Rattle.std.proofs.lemmas.Bool.Decides.{nat_tests}
+use Rattle.am_base.specs.declared.name.Stamp.{Stamp}
+use Rattle.am_base.specs.declared.image.Image.{Image}
+use Rattle.am_base.specs.declared.entry.Entry.{Entry}
+use Rattle.am_base.specs.declared.entry.Entry.TheVariants.{Data, Join, Leave, View}
+use Rattle.am_base.specs.Names.{has, life_of, rank_of, is_within}
+use Rattle.am_base.specs.Stamps.{stamp_lt}
+use Rattle.am_base.specs.Lists.{blank, after, fits, fold, AllFit, members_of, at_place}
+use Rattle.am_chain_lists.specs.Whole.{Begins, IsGood, AllSmall, SmallName, NotView, told, view_of, resilience_of, key}
+use Rattle.am_chain_lists.proofs.Rows.{by_cases, view_parts}
+use Rattle.am_chain_lists.proofs.Members.{fold_append, fit_back, small_back, told_push, last_fits, last_small, good_begins}
+
+rank_small : (n : ℕ) → n < 256 → rank_of n < 256
+rank_small n h = omega arith
+
+rank_same : (a b : ℕ) → a < 256 → b < 256 → rank_of a ≡ rank_of b → a ≡ b
+rank_same a b l k h = omega arith
+
+pub key_lt : (a b : Stamp) → a.by < 256 → b.by < 256 → stamp_lt a b ≡ true → key a < key b
+unfolding key
+key_lt a b l k h =
+    let x = rank_small a.by l in
+    let y = rank_small b.by k in
+    by_cases (nat_lt a.round b.round)
+    (λ t. let r : a.round < b.round = grind (arith, nat_tests) in omega arith)
+    (λ f. let r : a.round ≡ b.round = grind (arith, nat_tests) in let q : rank_of a.by < rank_of b.by = grind (arith, nat_tests) in omega arith)
+
+pub lt_key : (a b : Stamp) → a.by < 256 → b.by < 256 → key a < key b → stamp_lt a b ≡ true
+unfolding key
+lt_key a b l k h =
+    let x = rank_small a.by l in
+    let y = rank_small b.by k in
+    by_cases (nat_lt a.round b.round)
+    (λ t. grind (arith, nat_tests))
+    (λ f. let g : b.round ≤ a.round = grind (arith, nat_tests) in
+    let r : a.round ≡ b.round = omega arith in let q : rank_of a.by < rank_of b.by = omega arith in grind (arith, nat_tests))
+
+pub key_by : (a b : Stamp) → a.by < 256 → b.by < 256 → key a ≡ key b → a.by ≡ b.by
+unfolding key
+key_by a b l k h =
+    let x = rank_small a.by l in
+    let y = rank_small b.by k in
+    let q : rank_of a.by ≡ rank_of b.by = omega arith in rank_same a.by b.by l k q
+
+-- what an entry does to the view and the resilience
+pub record Rises (a b : Image) : Type 0 where
+  pub view : key a.view ≤ key b.view
+  pub resilience : a.resilience ≤ b.resilience
+  pub small : b.view.by < 256
+
+rises_after : (image : Image) (n : ℕ) (e : Entry) → image.view.by < 256 → fits image e ≡ true → SmallName e → Rises image (after image n e)
+unfolding after
+rises_after image n (Data from req body) l f s = by_cases ((at_place image from).life == life_of from)
+    (λ t. rw t (record { view = omega arith; resilience = omega arith; small = l }))
+    (λ t. rw t (record { view = omega arith; resilience = omega arith; small = l }))
+rises_after image n (Join name) l f s = record { view = omega arith; resilience = omega arith; small = l }
+rises_after image n (Leave name) l f s = by_cases ((at_place image name).life == life_of name)
+    (λ t. rw t (record { view = omega arith; resilience = omega arith; small = l }))
+    (λ t. rw t (record { view = omega arith; resilience = omega arith; small = l }))
+rises_after image n (View stamp members resilience) l f s =
+    let v = view_parts image stamp members resilience f in
+    let up = key_lt image.view stamp l s v.above in
+    record { view = omega arith; resilience = v.strong; small = s }
+
+rises_fold : (image : Image) (n : ℕ) (es : List Entry) → image.view.by < 256 → AllFit image n es → AllSmall es → Rises image (fold image n es)
+unfolding fold AllFit AllSmall
+rises_fold image n [] l f s = record { view = omega arith; resilience = omega arith; small = l }
+rises_fold image n (e ∷ es) l f s =
+    let one = rises_after image n e l f.0 s.0 in
+    let more = rises_fold (after image n e) (n + 1) es one.small f.1 s.1 in
+    let a = one.view in let b = more.view in let c = one.resilience in let d = more.resilience in
+    record { view = omega arith; resilience = omega arith; small = more.small }
+
+pub rises_begins : {a b : List Entry} → IsGood b → Begins a b → Rises (told a) (told b)
+rises_begins {a} {b} g h =
+    let ga = good_begins h g in
+    let low : 0 < 256 = omega arith in
+    let start = rises_fold blank 1 a low ga.fit ga.small in
+    let f = fit_back blank 1 a h.rest (subst (AllFit blank 1) (sym h.same) g.fit) in
+    let s = small_back a h.rest (subst AllSmall (sym h.same) g.small) in
+    subst (Rises (told a)) (sym (fold_append blank 1 a h.rest) ∙ ap told h.same) (rises_fold (told a) (1 + length a) h.rest start.small f s)
+
+pub view_up : {a b : List Entry} → IsGood b → Begins a b → key (view_of a) ≤ key (view_of b)
+unfolding view_of
+view_up g h = (rises_begins g h).view
+
+pub resilience_up : {a b : List Entry} → IsGood b → Begins a b → resilience_of a ≤ resilience_of b
+unfolding resilience_of
+resilience_up g h = (rises_begins g h).resilience
+
+pub view_small : (a : List Entry) → IsGood a → (view_of a).by < 256
+unfolding view_of
+view_small a g = let low : 0 < 256 = omega arith in (rises_fold blank 1 a low g.fit g.small).small
+
+-- a View's stamp and resilience are the list's after it
+pub view_viewed : (a : List Entry) (stamp : Stamp) (members : List ℕ) (resilience : ℕ) → view_of (a ++ View stamp members resilience ∷ []) ≡ stamp
+unfolding view_of after
+view_viewed a stamp members resilience = ap (λ (i : Image). i.view) (told_push a (View stamp members resilience))
+
+pub resilience_viewed : (a : List Entry) (stamp : Stamp) (members : List ℕ) (resilience : ℕ) → resilience_of (a ++ View stamp members resilience ∷ []) ≡ resilience
+unfolding resilience_of after
+resilience_viewed a stamp members resilience = ap (λ (i : Image). i.resilience) (told_push a (View stamp members resilience))
+
+-- and above the views before it
+pub view_below : (a : List Entry) (stamp : Stamp) (members : List ℕ) (resilience : ℕ) → IsGood (a ++ View stamp members resilience ∷ []) → key (view_of a) < key stamp
+unfolding fits view_of
+view_below a stamp members resilience g =
+    let f = last_fits a (View stamp members resilience) g in
+    let lt = (view_parts (told a) stamp members resilience f).above in
+    key_lt (told a).view stamp (small_before a g) (last_small a (View stamp members resilience) g) lt
+  where
+    small_before : (a : List Entry) → IsGood (a ++ View stamp members resilience ∷ []) → (told a).view.by < 256
+    small_before a g = let h : Begins a (a ++ View stamp members resilience ∷ []) = record { rest = View stamp members resilience ∷ []; same = refl } in let ga = good_begins h g in let low : 0 < 256 = omega arith in (rises_fold blank 1 a low ga.fit ga.small).small
+
+view_same : (image : Image) (n : ℕ) (e : Entry) → NotView e → (after image n e).view ≡ image.view
+unfolding after
+view_same image n (Data from req body) h = by_cases ((at_place image from).life == life_of from) (λ t. rw t refl) (λ t. rw t refl)
+view_same image n (Join name) h = refl
+view_same image n (Leave name) h = by_cases ((at_place image name).life == life_of name) (λ t. rw t refl) (λ t. rw t refl)
+view_same image n (View stamp members resilience) h = absurd h
+
+-- an entry that is no View leaves the view
+pub view_push : (a : List Entry) (e : Entry) → NotView e → view_of (a ++ e ∷ []) ≡ view_of a
+unfolding view_of
+view_push a e h = ap (λ (i : Image). i.view) (told_push a e) ∙ view_same (told a) (1 + length a) e h
+
+-- a View of some of the members, by one of them, with a greater stamp and no less resilience fits
+pub view_fits : (a : List Entry) (stamp : Stamp) (members : List ℕ) (resilience : ℕ) → IsGood a → stamp.by < 256 → key (view_of a) < key stamp → is_within members (members_of (told a)) ≡ true → has members stamp.by ≡ true → resilience_of a ≤ resilience → fits (told a) (View stamp members resilience) ≡ true
+unfolding fits view_of resilience_of
+view_fits a stamp members resilience g s up w h r =
+    let low : 0 < 256 = omega arith in
+    let lt = lt_key (told a).view stamp (rises_fold blank 1 a low g.fit g.small).small s up in
+    grind (arith, nat_tests)

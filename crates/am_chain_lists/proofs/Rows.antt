@@ -1,0 +1,300 @@
+-- One place's row, along a list.
+use Rattle.std.proofs.Common.{◌≡◌, ◌≢◌, ◌⊎◌, ⊎_elim, inl, inr, ℕ, zero, suc, ◌+◌, ◌%◌, ◌<◌, ◌≤◌, ◌==◌, ◌&&◌, ◌||◌, nat_lt, nat_le, Bool, true, false, not, List, [], ◌∷◌, length, get_or, slice_index, refl, sym, ◌∙◌, subst, arith, get_or-set_same, get_or-set_other}
+use Rattle.std.proofs.lemmas.Bool.Decides.{nat_tests}
+use Rattle.std.proofs.Math.ListN as listn
+use Rattle.std.specs.List.{list_all, range_with_len}
+use Rattle.am_base.specs.declared.name.Stamp.{Stamp}
+use Rattle.am_base.specs.declared.image.Image.{Image}
+use Rattle.am_base.specs.declared.image.Row.{Row}
+use Rattle.am_base.specs.declared.entry.Entry.{Entry}
+use Rattle.am_base.specs.declared.entry.Entry.TheVariants.{Data, Join, Leave, View}
+use Rattle.am_base.specs.Names.{has, place_of, life_of, is_within}
+use Rattle.am_base.specs.Stamps.{stamp_lt}
+use Rattle.am_base.specs.Lists.{blank_row, is_blank_row, is_blank, after, fits, members_of, member_life, at_place, with_row, viewed}
+use Rattle.am_base.proofs.Places.{get_or-by_place, length-by_place}
+
+-- the row of a place
+abbrev pub row_at : Image → ℕ → Row
+row_at image place = get_or image.rows place blank_row
+
+-- this life of the place is a member
+pub record In (r : Row) (life : ℕ) : Type 0 where
+  pub joined : 0 < r.joined
+  pub left : r.left ≡ 0
+  pub is : r.life ≡ life
+
+-- this life of the place was a member, and is none
+pub record Past (r : Row) (life : ℕ) : Type 0 where
+  pub joined : 0 < r.joined
+  pub gone : (life < r.life) ⊎ ((r.life ≡ life) × (0 < r.left))
+
+pub by_cases : {R : Type 0} (b : Bool) → (b ≡ true → R) → (b ≡ false → R) → R
+by_cases true f g = f refl
+by_cases false f g = g refl
+
+pub and_left : (a b : Bool) → (a && b) ≡ true → a ≡ true
+and_left true b h = refl
+and_left false b h = absurd (cc)
+
+pub and_right : (a b : Bool) → (a && b) ≡ true → b ≡ true
+and_right true b h = h
+and_right false b h = absurd (cc)
+
+pub or_else : (a b : Bool) → (a || b) ≡ true → a ≡ false → b ≡ true
+or_else true b h k = absurd (cc)
+or_else false b h k = h
+
+-- what a View that fits is
+pub record ViewFits (image : Image) (stamp : Stamp) (members : List ℕ) (resilience : ℕ) : Type 0 where
+  pub above : stamp_lt image.view stamp ≡ true
+  pub within : is_blank image ≡ false → is_within members (members_of image) ≡ true
+  pub by : has members stamp.by ≡ true
+  pub strong : image.resilience ≤ resilience
+
+pub view_parts : (image : Image) (stamp : Stamp) (members : List ℕ) (resilience : ℕ) → fits image (View stamp members resilience) ≡ true → ViewFits image stamp members resilience
+unfolding fits
+view_parts image stamp members resilience f =
+    let a = stamp_lt image.view stamp in
+    let b = is_blank image in
+    let w = is_within members (members_of image) in
+    let h = has members stamp.by in
+    let r = nat_le image.resilience resilience in
+    let rest : ((b || w) && (h && r)) ≡ true = and_right a ((b || w) && (h && r)) f in
+    let last : (h && r) ≡ true = and_right (b || w) (h && r) rest in
+    let le : nat_le image.resilience resilience ≡ true = and_right h r last in
+    record {
+      above = and_left a ((b || w) && (h && r)) f;
+      within = λ z. or_else b w (and_left (b || w) (h && r) rest) z;
+      by = and_left h r last;
+      strong = grind (arith, nat_tests);
+    }
+
+pub mod16 : (n : ℕ) → n % 16 < 16
+mod16 n = omega arith
+
+-- after a change of a name's row
+pub row_set : (image : Image) (name place : ℕ) (r : Row) → length image.rows ≡ 16 → ((place ≡ place_of name) × (row_at (with_row image name r) place ≡ r)) ⊎ ((place ≢ place_of name) × (row_at (with_row image name r) place ≡ row_at image place))
+row_set image name place r long = by_cases (place == place_of name)
+    (λ t. let e : place ≡ place_of name = grind (arith, nat_tests) in
+    let b = mod16 name in
+    let w : place_of name < length image.rows = omega arith in
+    inl (e, rw e (get_or-set_same image.rows (place_of name) r blank_row w)))
+    (λ f. let e : place ≢ place_of name = grind (arith, nat_tests) in
+    inr (e, get_or-set_other image.rows (place_of name) place r blank_row e))
+
+pub long_set : (image : Image) (name : ℕ) (r : Row) → length image.rows ≡ 16 → length (with_row image name r).rows ≡ 16
+long_set image name r long = listn.length-set image.rows (place_of name) r ∙ long
+
+pub long_after : (image : Image) (n : ℕ) (e : Entry) → length image.rows ≡ 16 → length (after image n e).rows ≡ 16
+unfolding after
+long_after image n (Data from req body) long = by_cases ((at_place image from).life == life_of from)
+    (λ t. rw t (long_set image from (record (at_place image from) { last = req }) long))
+    (λ f. rw f long)
+long_after image n (Join name) long = long_set image name (record { life = life_of name; joined = n; left = 0; last = 0 }) long
+long_after image n (Leave name) long = by_cases ((at_place image name).life == life_of name)
+    (λ t. rw t (long_set image name (record (at_place image name) { left = n }) long))
+    (λ f. rw f long)
+long_after image n (View stamp members resilience) long = length-by_place _
+
+-- a member or a past one stays one of the two
+abbrev pub Was : Row → ℕ → Type 0
+Was r life = In r life ⊎ Past r life
+
+-- the change that an entry makes to a place's row keeps what is known of it
+in_data : (r : Row) (req life : ℕ) → In r life → In (record r { last = req }) life
+in_data r req life h = record { joined = h.joined; left = h.left; is = h.is }
+
+past_data : (r : Row) (req life : ℕ) → Past r life → Past (record r { last = req }) life
+past_data r req life h = record { joined = h.joined; gone = h.gone }
+
+in_left : (r : Row) (n life : ℕ) → 0 < n → In r life → Past (record r { left = n }) life
+in_left r n life up h = record { joined = h.joined; gone = inr (h.is, up) }
+
+past_left : (r : Row) (n life : ℕ) → 0 < n → Past r life → Past (record r { left = n }) life
+past_left r n life up h = record { joined = h.joined; gone = ⊎_elim (λ (x : life < r.life). inl x) (λ (x : (r.life ≡ life) × (0 < r.left)). inr (x.0, up)) h.gone }
+
+-- a name's Join fits no member's place, and a past one's only with a greater life
+join_fits : (image : Image) (name life : ℕ) → fits image (Join name) ≡ true → Was (at_place image name) life → life < life_of name
+unfolding fits
+join_fits image name life f h = ⊎_elim
+    (λ (x : In (at_place image name) life). let j = x.joined in let l = x.left in absurd (let z : ⊥ = grind (arith, nat_tests) in z))
+    (λ (x : Past (at_place image name) life). let j = x.joined in ⊎_elim
+    (λ (y : life < (at_place image name).life). grind (arith, nat_tests))
+    (λ (y : ((at_place image name).life ≡ life) × (0 < (at_place image name).left)). let a = y.0 in grind (arith, nat_tests))
+    x.gone)
+    h
+
+blank_all : (rows : List Row) (place : ℕ) → list_all is_blank_row rows ≡ true → is_blank_row (get_or rows place blank_row) ≡ true
+blank_all [] place h = refl
+blank_all (r ∷ rows) zero h = grind (arith, nat_tests)
+blank_all (r ∷ rows) (suc place) h = blank_all rows place (grind (arith, nat_tests))
+
+pub blank_joined : (image : Image) (place : ℕ) → is_blank image ≡ true → (row_at image place).joined ≡ 0
+blank_joined image place h =
+    let all : list_all is_blank_row image.rows ≡ true = grind (arith, nat_tests) in
+    let one = blank_all image.rows place all in
+    grind (arith, nat_tests)
+
+not_blank : (image : Image) (place : ℕ) → 0 < (row_at image place).joined → is_blank image ≡ false
+not_blank image place up = by_cases (is_blank image) (λ t. let z = blank_joined image place t in absurd (omega arith)) (λ f. f)
+
+was_viewed : (r : Row) (n life given : ℕ) → 0 < n → Was r life → Was (viewed false n given r) life
+was_viewed r n life given up h = by_cases (nat_lt 0 (member_life r) && not (member_life r == given))
+    (λ t. rw t (inr (⊎_elim (λ (x : In r life). in_left r n life up x) (λ (x : Past r life). past_left r n life up x) h)))
+    (λ f. rw f h)
+
+past_viewed : (r : Row) (n life given : ℕ) → 0 < n → Past r life → Past (viewed false n given r) life
+past_viewed r n life given up h = by_cases (nat_lt 0 (member_life r) && not (member_life r == given))
+    (λ t. rw t (past_left r n life up h))
+    (λ f. rw f h)
+
+pub row_view : (image : Image) (n : ℕ) (stamp : Stamp) (members : List ℕ) (resilience place : ℕ) → place < 16 → row_at (after image n (View stamp members resilience)) place ≡ viewed (is_blank image) n (slice_index members place) (row_at image place)
+unfolding after
+row_view image n stamp members resilience place h = get_or-by_place (λ p. viewed (is_blank image) n (slice_index members p) (get_or image.rows p blank_row)) place blank_row h
+
+pub was_after : (image : Image) (n : ℕ) (e : Entry) (place life : ℕ) → length image.rows ≡ 16 → place < 16 → 0 < n → fits image e ≡ true → Was (row_at image place) life → Was (row_at (after image n e) place) life
+unfolding after
+was_after image n (Data from req body) place life long low up f h = by_cases ((at_place image from).life == life_of from)
+    (λ t. rw t (⊎_elim
+    (λ (x : (place ≡ place_of from) × (row_at (with_row image from (record (at_place image from) { last = req })) place ≡ record (at_place image from) { last = req })).
+    rw x.1 (let w = subst (λ p. Was (row_at image p) life) x.0 h in ⊎_elim (λ (y : In (at_place image from) life). inl (in_data (at_place image from) req life y)) (λ (y : Past (at_place image from) life). inr (past_data (at_place image from) req life y)) w))
+    (λ (x : (place ≢ place_of from) × (row_at (with_row image from (record (at_place image from) { last = req })) place ≡ row_at image place)). rw x.1 h)
+    (row_set image from place (record (at_place image from) { last = req }) long)))
+    (λ f. rw f h)
+was_after image n (Join name) place life long low up f h = ⊎_elim
+    (λ (x : (place ≡ place_of name) × (row_at (with_row image name (record { life = life_of name; joined = n; left = 0; last = 0 })) place ≡ record { life = life_of name; joined = n; left = 0; last = 0 })).
+    rw x.1 (inr (record { joined = up; gone = inl (join_fits image name life f (subst (λ p. Was (row_at image p) life) x.0 h)) })))
+    (λ (x : (place ≢ place_of name) × (row_at (with_row image name (record { life = life_of name; joined = n; left = 0; last = 0 })) place ≡ row_at image place)). rw x.1 h)
+    (row_set image name place (record { life = life_of name; joined = n; left = 0; last = 0 }) long)
+was_after image n (Leave name) place life long low up f h = by_cases ((at_place image name).life == life_of name)
+    (λ t. rw t (⊎_elim
+    (λ (x : (place ≡ place_of name) × (row_at (with_row image name (record (at_place image name) { left = n })) place ≡ record (at_place image name) { left = n })).
+    rw x.1 (inr (let w = subst (λ p. Was (row_at image p) life) x.0 h in ⊎_elim (λ (y : In (at_place image name) life). in_left (at_place image name) n life up y) (λ (y : Past (at_place image name) life). past_left (at_place image name) n life up y) w)))
+    (λ (x : (place ≢ place_of name) × (row_at (with_row image name (record (at_place image name) { left = n })) place ≡ row_at image place)). rw x.1 h)
+    (row_set image name place (record (at_place image name) { left = n }) long)))
+    (λ f. rw f h)
+was_after image n (View stamp members resilience) place life long low up f h =
+    let j : 0 < (row_at image place).joined = ⊎_elim (λ (x : In (row_at image place) life). x.joined) (λ (x : Past (row_at image place) life). x.joined) h in
+    rw (row_view image n stamp members resilience place low, not_blank image place j) (was_viewed (row_at image place) n life (slice_index members place) up h)
+
+-- a past one stays past
+pub past_after : (image : Image) (n : ℕ) (e : Entry) (place life : ℕ) → length image.rows ≡ 16 → place < 16 → 0 < n → fits image e ≡ true → Past (row_at image place) life → Past (row_at (after image n e) place) life
+unfolding after
+past_after image n (Data from req body) place life long low up f h = by_cases ((at_place image from).life == life_of from)
+    (λ t. rw t (⊎_elim
+    (λ (x : (place ≡ place_of from) × (row_at (with_row image from (record (at_place image from) { last = req })) place ≡ record (at_place image from) { last = req })).
+    rw x.1 (past_data (at_place image from) req life (subst (λ p. Past (row_at image p) life) x.0 h)))
+    (λ (x : (place ≢ place_of from) × (row_at (with_row image from (record (at_place image from) { last = req })) place ≡ row_at image place)). rw x.1 h)
+    (row_set image from place (record (at_place image from) { last = req }) long)))
+    (λ f. rw f h)
+past_after image n (Join name) place life long low up f h = ⊎_elim
+    (λ (x : (place ≡ place_of name) × (row_at (with_row image name (record { life = life_of name; joined = n; left = 0; last = 0 })) place ≡ record { life = life_of name; joined = n; left = 0; last = 0 })).
+    rw x.1 (record { joined = up; gone = inl (join_fits image name life f (inr (subst (λ p. Past (row_at image p) life) x.0 h))) }))
+    (λ (x : (place ≢ place_of name) × (row_at (with_row image name (record { life = life_of name; joined = n; left = 0; last = 0 })) place ≡ row_at image place)). rw x.1 h)
+    (row_set image name place (record { life = life_of name; joined = n; left = 0; last = 0 }) long)
+past_after image n (Leave name) place life long low up f h = by_cases ((at_place image name).life == life_of name)
+    (λ t. rw t (⊎_elim
+    (λ (x : (place ≡ place_of name) × (row_at (with_row image name (record (at_place image name) { left = n })) place ≡ record (at_place image name) { left = n })).
+    rw x.1 (past_left (at_place image name) n life up (subst (λ p. Past (row_at image p) life) x.0 h)))
+    (λ (x : (place ≢ place_of name) × (row_at (with_row image name (record (at_place image name) { left = n })) place ≡ row_at image place)). rw x.1 h)
+    (row_set image name place (record (at_place image name) { left = n }) long)))
+    (λ f. rw f h)
+past_after image n (View stamp members resilience) place life long low up f h =
+    rw (row_view image n stamp members resilience place low, not_blank image place h.joined) (past_viewed (row_at image place) n life (slice_index members place) up h)
+
+pub not_both : (r : Row) (life : ℕ) → In r life → Past r life → ⊥
+not_both r life h k = let a = h.left in let b = h.is in ⊎_elim (λ (x : life < r.life). let z : ⊥ = omega arith in z) (λ (x : (r.life ≡ life) × (0 < r.left)). let c = x.1 in let z : ⊥ = omega arith in z) k.gone
+
+-- an entry that isn't its Leave, nor a View, keeps a member
+abbrev pub Spares : ℕ → Entry → Type 0
+Spares name (Data from req body) = Unit {0}
+Spares name (Join who) = Unit {0}
+Spares name (Leave who) = who ≢ name
+Spares name (View stamp members resilience) = ⊥
+
+same_name : (a b : ℕ) → place_of a ≡ place_of b → life_of a ≡ life_of b → a ≡ b
+same_name a b p l = omega arith
+
+join_free : (image : Image) (who life : ℕ) → fits image (Join who) ≡ true → In (at_place image who) life → ⊥
+unfolding fits
+join_free image who life f x = let j = x.joined in let l = x.left in let z : ⊥ = grind (arith, nat_tests) in z
+
+pub in_after : (image : Image) (n : ℕ) (e : Entry) (name : ℕ) → length image.rows ≡ 16 → fits image e ≡ true → Spares name e → In (row_at image (place_of name)) (life_of name) → In (row_at (after image n e) (place_of name)) (life_of name)
+unfolding after
+in_after image n (Data from req body) name long f s h = by_cases ((at_place image from).life == life_of from)
+    (λ t. rw t (⊎_elim
+    (λ (x : (place_of name ≡ place_of from) × (row_at (with_row image from (record (at_place image from) { last = req })) (place_of name) ≡ record (at_place image from) { last = req })).
+    rw x.1 (in_data (at_place image from) req (life_of name) (subst (λ p. In (row_at image p) (life_of name)) x.0 h)))
+    (λ (x : (place_of name ≢ place_of from) × (row_at (with_row image from (record (at_place image from) { last = req })) (place_of name) ≡ row_at image (place_of name))). rw x.1 h)
+    (row_set image from (place_of name) (record (at_place image from) { last = req }) long)))
+    (λ f. rw f h)
+in_after image n (Join who) name long f s h = ⊎_elim
+    (λ (x : (place_of name ≡ place_of who) × (row_at (with_row image who (record { life = life_of who; joined = n; left = 0; last = 0 })) (place_of name) ≡ record { life = life_of who; joined = n; left = 0; last = 0 })).
+    let w : In (at_place image who) (life_of name) = subst (λ p. In (row_at image p) (life_of name)) x.0 h in absurd (join_free image who (life_of name) f w))
+    (λ (x : (place_of name ≢ place_of who) × (row_at (with_row image who (record { life = life_of who; joined = n; left = 0; last = 0 })) (place_of name) ≡ row_at image (place_of name))). rw x.1 h)
+    (row_set image who (place_of name) (record { life = life_of who; joined = n; left = 0; last = 0 }) long)
+in_after image n (Leave who) name long f s h = by_cases ((at_place image who).life == life_of who)
+    (λ t. rw t (⊎_elim
+    (λ (x : (place_of name ≡ place_of who) × (row_at (with_row image who (record (at_place image who) { left = n })) (place_of name) ≡ record (at_place image who) { left = n })).
+    let w : In (at_place image who) (life_of name) = subst (λ p. In (row_at image p) (life_of name)) x.0 h in
+    let l : (at_place image who).life ≡ life_of who = grind (arith, nat_tests) in
+    absurd (s (same_name who name (sym x.0) (sym l ∙ w.is))))
+    (λ (x : (place_of name ≢ place_of who) × (row_at (with_row image who (record (at_place image who) { left = n })) (place_of name) ≡ row_at image (place_of name))). rw x.1 h)
+    (row_set image who (place_of name) (record (at_place image who) { left = n }) long)))
+    (λ f. rw f h)
+in_after image n (View stamp members resilience) name long f s h = absurd s
+
+-- a View's members are the members after it
+viewed_in : (first : Bool) (n life given : ℕ) (r : Row) → 0 < n → 0 < life → (first ≡ true → r.joined ≡ 0) → In (viewed first n given r) life → given ≡ life
+viewed_in true n life given r up pos free h = by_cases (given == 0)
+    (λ t. let g : In r life = rw t at h in let j = g.joined in let z = free refl in absurd (omega arith))
+    (λ f. let g : In (record { life = given; joined = 1; left = 0; last = 0 }) life = rw f at h in g.is)
+viewed_in false n life given r up pos free h = by_cases (nat_lt 0 (member_life r) && not (member_life r == given))
+    (λ t. let g : In (record r { left = n }) life = rw t at h in let l = g.left in absurd (omega arith))
+    (λ f. let g : In r life = rw f at h in let j = g.joined in let l = g.left in let i = g.is in grind (arith, nat_tests))
+
+pub in_viewed : (image : Image) (n : ℕ) (stamp : Stamp) (members : List ℕ) (resilience place life : ℕ) → place < 16 → 0 < n → 0 < life → In (row_at (after image n (View stamp members resilience)) place) life → slice_index members place ≡ life
+in_viewed image n stamp members resilience place life low up pos h =
+    viewed_in (is_blank image) n life (slice_index members place) (row_at image place) up pos (λ t. blank_joined image place t) (rw (row_view image n stamp members resilience place low) at h)
+
+within_at : (a b : List ℕ) (from n place : ℕ) → list_all (λ p. (slice_index a p == 0) || (slice_index a p == slice_index b p)) (range_with_len from n) ≡ true → from ≤ place → place < from + n → 0 < slice_index a place → slice_index b place ≡ slice_index a place
+within_at a b from zero place h l u pos = absurd (omega arith)
+within_at a b from (suc n) place h l u pos = by_cases (from == place)
+    (λ t. let e : from ≡ place = grind (arith, nat_tests) in let z : 0 < slice_index a from = subst (λ p. 0 < slice_index a p) (sym e) pos in let w : slice_index b from ≡ slice_index a from = grind (arith, nat_tests) in subst (λ p. slice_index b p ≡ slice_index a p) e w)
+    (λ f. let e : from ≢ place = grind (arith, nat_tests) in within_at a b (suc from) n place (let w : list_all (λ p. (slice_index a p == 0) || (slice_index a p == slice_index b p)) (range_with_len (suc from) n) ≡ true = grind (arith, nat_tests) in w) (omega arith) (omega arith) pos)
+
+first_member : (n given life : ℕ) (r : Row) → 0 < life → given ≡ life → In (viewed true n given r) life
+first_member n given life r pos e = by_cases (given == 0)
+    (λ t. let z : given ≡ 0 = grind (arith, nat_tests) in absurd (omega arith))
+    (λ f. let one : 0 < 1 = omega arith in rw f (record { joined = one; left = refl; is = e }))
+
+kept_member : (n given life : ℕ) (r : Row) → given ≡ life → In r life → In (viewed false n given r) life
+kept_member n given life r e h = by_cases (nat_lt 0 (member_life r) && not (member_life r == given))
+    (λ t. let j = h.joined in let l = h.left in let i = h.is in absurd (let z : ⊥ = grind (arith, nat_tests) in z))
+    (λ f. rw f h)
+
+pub viewed_member : (image : Image) (n : ℕ) (stamp : Stamp) (members : List ℕ) (resilience name : ℕ) → length image.rows ≡ 16 → 0 < n → fits image (View stamp members resilience) ≡ true → has members name ≡ true → (has (members_of image) name ≡ true → In (row_at image (place_of name)) (life_of name)) → In (row_at (after image n (View stamp members resilience)) (place_of name)) (life_of name)
+unfolding fits
+viewed_member image n stamp members resilience name long up f h old =
+    let given : slice_index members (place_of name) ≡ life_of name = grind (arith, nat_tests) in
+    let pos : 0 < life_of name = omega arith in
+    rw (row_view image n stamp members resilience (place_of name) (mod16 name)) (by_cases (is_blank image)
+    (λ t. rw t (first_member n (slice_index members (place_of name)) (life_of name) (row_at image (place_of name)) pos given))
+    (λ b. let w = (view_parts image stamp members resilience f).within b in
+    let low = mod16 name in
+    let e = within_at members (members_of image) 0 16 (place_of name) w (omega arith) (omega arith) (omega arith) in
+    rw b (kept_member n (slice_index members (place_of name)) (life_of name) (row_at image (place_of name)) given (old (let q : has (members_of image) name ≡ true = grind (arith, nat_tests) in q)))))
+
+-- its Leave ends a membership
+pub out_after : (image : Image) (n name : ℕ) → length image.rows ≡ 16 → 0 < n → In (row_at image (place_of name)) (life_of name) → In (row_at (after image n (Leave name)) (place_of name)) (life_of name) → ⊥
+unfolding after
+out_after image n name long up old new =
+    let is = old.is in
+    let t : ((at_place image name).life == life_of name) ≡ true = grind (arith, nat_tests) in
+    let now : In (row_at (with_row image name (record (at_place image name) { left = n })) (place_of name)) (life_of name) = rw t at new in
+    ⊎_elim
+    (λ (x : (place_of name ≡ place_of name) × (row_at (with_row image name (record (at_place image name) { left = n })) (place_of name) ≡ record (at_place image name) { left = n })).
+    let g : In (record (at_place image name) { left = n }) (life_of name) = subst (λ r. In r (life_of name)) x.1 now in
+    let l = g.left in let z : ⊥ = omega arith in z)
+    (λ (x : (place_of name ≢ place_of name) × (row_at (with_row image name (record (at_place image name) { left = n })) (place_of name) ≡ row_at image (place_of name))). absurd (x.0 refl))
+    (row_set image name (place_of name) (record (at_place image name) { left = n }) long)

@@ -1,0 +1,5 @@
+pub mod Group
+pub mod Moves
+pub mod Runs
+pub mod Kept
+pub mod Claims
