@@ -1,0 +1,51 @@
+-- What these runs tell, by computing. Written by tools/rows.py.
+use Rattle.std.proofs.Common.{◌≡◌, refl}
+use Rattle.am_base.specs.Names.{by_place}
+use Rattle.am_base.specs.Lists.{after, fits, fold}
+use Rattle.am_base.specs.Fronts.{greatest}
+use Rattle.am_base.specs.Votes.{best_from}
+use Rattle.am_model.specs.Node.{those}
+use Rattle.am_model.specs.Refresh.{union_all, report_self, tell, advance, pass_over, trim, refresh, settle, refresh_at_end}
+use Rattle.am_model.specs.Emit.{put_all, finish}
+use Rattle.am_model.specs.Ballots.{best_of, decide, begin, keep_vote, give_up}
+use Rattle.am_model.specs.Calls.{everywhere_else, send_row, done_row, take_row, join_row, state_row, leave_row, reset_row, ask_row, give_up_row}
+use Rattle.am_model.specs.Ticks.{tick_row}
+use Rattle.am_model.specs.Sequencing.{request_row, ack_row, nack_row}
+use Rattle.am_model.specs.Receiving.{spread_row, bcast_row, order_row, accept_row, hold_row}
+use Rattle.am_model.specs.Joining.{join_ask_row, welcome_row, leave_ask_row, gone_row}
+use Rattle.am_model.specs.Resets.{invite_row, vote_row, fetch_row, piece_row, result_row, hand_over_row}
+use Rattle.am_model.specs.Hearing.{hear_row}
+use Rattle.am_model.specs.Step.{row, step, refused}
+use Rattle.am_model.specs.World.{unchanged, stepped, happens, happen}
+use Rattle.am_model.specs.Lawful.{is_complete, is_lawful, greatest_complete, last_outcome, watch, watch_all}
+use Rattle.am_model.specs.Settle.{running, hearings_from, waves, rounds, settle_events}
+use Rattle.am_rows.specs.Told.{sent_from, lines_from, told_of, set_of}
+use Rattle.am_rows.specs.StopTable.{StopsAfterTheAcknowledgment, StopsAfterTheEmptyTake, StopsAfterTheFirstTake, StopsAfterTheSecondTake, StopsAfterTheSend, StopsAfterTheStoring, StopsBeforeAnything}
+
+pub stops_after_the_acknowledgment : StopsAfterTheAcknowledgment
+unfolding by_place after fits fold greatest best_from those union_all report_self tell advance pass_over trim refresh settle refresh_at_end put_all finish best_of decide begin keep_vote give_up everywhere_else send_row done_row take_row join_row state_row leave_row reset_row ask_row give_up_row tick_row request_row ack_row nack_row spread_row bcast_row order_row accept_row hold_row join_ask_row welcome_row leave_ask_row gone_row invite_row vote_row fetch_row piece_row result_row hand_over_row hear_row row step refused unchanged stepped happens happen is_complete is_lawful greatest_complete last_outcome watch watch_all running hearings_from waves rounds settle_events sent_from lines_from told_of set_of
+stops_after_the_acknowledgment = refl
+
+pub stops_after_the_empty_take : StopsAfterTheEmptyTake
+unfolding by_place after fits fold greatest best_from those union_all report_self tell advance pass_over trim refresh settle refresh_at_end put_all finish best_of decide begin keep_vote give_up everywhere_else send_row done_row take_row join_row state_row leave_row reset_row ask_row give_up_row tick_row request_row ack_row nack_row spread_row bcast_row order_row accept_row hold_row join_ask_row welcome_row leave_ask_row gone_row invite_row vote_row fetch_row piece_row result_row hand_over_row hear_row row step refused unchanged stepped happens happen is_complete is_lawful greatest_complete last_outcome watch watch_all running hearings_from waves rounds settle_events sent_from lines_from told_of set_of
+stops_after_the_empty_take = refl
+
+pub stops_after_the_first_take : StopsAfterTheFirstTake
+unfolding by_place after fits fold greatest best_from those union_all report_self tell advance pass_over trim refresh settle refresh_at_end put_all finish best_of decide begin keep_vote give_up everywhere_else send_row done_row take_row join_row state_row leave_row reset_row ask_row give_up_row tick_row request_row ack_row nack_row spread_row bcast_row order_row accept_row hold_row join_ask_row welcome_row leave_ask_row gone_row invite_row vote_row fetch_row piece_row result_row hand_over_row hear_row row step refused unchanged stepped happens happen is_complete is_lawful greatest_complete last_outcome watch watch_all running hearings_from waves rounds settle_events sent_from lines_from told_of set_of
+stops_after_the_first_take = refl
+
+pub stops_after_the_second_take : StopsAfterTheSecondTake
+unfolding by_place after fits fold greatest best_from those union_all report_self tell advance pass_over trim refresh settle refresh_at_end put_all finish best_of decide begin keep_vote give_up everywhere_else send_row done_row take_row join_row state_row leave_row reset_row ask_row give_up_row tick_row request_row ack_row nack_row spread_row bcast_row order_row accept_row hold_row join_ask_row welcome_row leave_ask_row gone_row invite_row vote_row fetch_row piece_row result_row hand_over_row hear_row row step refused unchanged stepped happens happen is_complete is_lawful greatest_complete last_outcome watch watch_all running hearings_from waves rounds settle_events sent_from lines_from told_of set_of
+stops_after_the_second_take = refl
+
+pub stops_after_the_send : StopsAfterTheSend
+unfolding by_place after fits fold greatest best_from those union_all report_self tell advance pass_over trim refresh settle refresh_at_end put_all finish best_of decide begin keep_vote give_up everywhere_else send_row done_row take_row join_row state_row leave_row reset_row ask_row give_up_row tick_row request_row ack_row nack_row spread_row bcast_row order_row accept_row hold_row join_ask_row welcome_row leave_ask_row gone_row invite_row vote_row fetch_row piece_row result_row hand_over_row hear_row row step refused unchanged stepped happens happen is_complete is_lawful greatest_complete last_outcome watch watch_all running hearings_from waves rounds settle_events sent_from lines_from told_of set_of
+stops_after_the_send = refl
+
+pub stops_after_the_storing : StopsAfterTheStoring
+unfolding by_place after fits fold greatest best_from those union_all report_self tell advance pass_over trim refresh settle refresh_at_end put_all finish best_of decide begin keep_vote give_up everywhere_else send_row done_row take_row join_row state_row leave_row reset_row ask_row give_up_row tick_row request_row ack_row nack_row spread_row bcast_row order_row accept_row hold_row join_ask_row welcome_row leave_ask_row gone_row invite_row vote_row fetch_row piece_row result_row hand_over_row hear_row row step refused unchanged stepped happens happen is_complete is_lawful greatest_complete last_outcome watch watch_all running hearings_from waves rounds settle_events sent_from lines_from told_of set_of
+stops_after_the_storing = refl
+
+pub stops_before_anything : StopsBeforeAnything
+unfolding by_place after fits fold greatest best_from those union_all report_self tell advance pass_over trim refresh settle refresh_at_end put_all finish best_of decide begin keep_vote give_up everywhere_else send_row done_row take_row join_row state_row leave_row reset_row ask_row give_up_row tick_row request_row ack_row nack_row spread_row bcast_row order_row accept_row hold_row join_ask_row welcome_row leave_ask_row gone_row invite_row vote_row fetch_row piece_row result_row hand_over_row hear_row row step refused unchanged stepped happens happen is_complete is_lawful greatest_complete last_outcome watch watch_all running hearings_from waves rounds settle_events sent_from lines_from told_of set_of
+stops_before_anything = refl

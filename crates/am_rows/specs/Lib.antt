@@ -1,0 +1,4 @@
+pub mod Told
+pub mod Worked
+pub mod StopTable
+pub mod Settled

@@ -1,0 +1,2 @@
+//! Worked runs, computed from the definitions.
+#![tactic(auto)]
