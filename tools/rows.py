@@ -3,8 +3,9 @@
     python3 tools/rows.py CASES OUT
 
 CASES is a folder with a file NAME.json, a play script, and a file NAME.txt, the text that it must write, for each case,
-and OUT a crate's folder. For each folder F of CASES it writes specs/F.antt with a statement for each case, and
-proofs/F.antt with their proofs by computing.
+and OUT a crate's folder. For each folder F of CASES it writes specs/F.antt with a statement for each case, src/F.rt
+with a function whose contract they are, and its answers, by computing. A folder has two cases at least, and its file about.txt is a line that says
+what they are.
 """
 
 import json
@@ -191,26 +192,46 @@ use Rattle.am_rows.specs.Told.{Told, Line, Sent, told, told_settled, set_of, fou
 """
 
 
+def write(path, text):
+    """Writes a file, with its folders."""
+    os.makedirs(os.path.dirname(path), exist_ok=True)
+    with open(path, "w") as f:
+        f.write(text)
+
+
+def carrier(module, folder, about, found):
+    """The function whose contract the statements are, and its answers."""
+    clauses = "".join("    ensures %s { %s }\n" % (c, titled(c)) for c in found)
+    source = ("//! %s Written by tools/rows.py.\n\nghost use Rattle.am_rows.specs.%s.{%s};\n\n"
+              "/// What the definitions tell of these runs.\npub fn told()\n%s{}\n") % (
+                  about, module, ", ".join(titled(c) for c in found), clauses)
+    answers = ("-- What these runs tell, by computing. Written by tools/rows.py.\nuse Rattle.std.proofs.Common.{refl}\n" + OPENED.lstrip()
+               + "use Rattle.am_rows.proofs.%s.told.Goals as goal\n" % folder)
+    for c in found:
+        answers += "\npub returns-clause-%s : goal.returns-clause-%s\nunfolding %s\nreturns-clause-%s c = refl\n" % (
+            c, c, opened_names(), c)
+    return source, answers
+
+
 def main():
     cases, out = sys.argv[1:]
     for folder in sorted(os.listdir(cases)):
         place = os.path.join(cases, folder)
         found = sorted(f[:-5] for f in os.listdir(place) if f.endswith(".json"))
         module = titled(folder)
+        with open(os.path.join(place, "about.txt")) as f:
+            about = f.read().strip()
         specs = ["-- Runs and what they tell. Written by tools/rows.py from %s/%s.\n" % (os.path.basename(cases), folder), SPECS_HEAD]
-        proofs = ["-- What these runs tell, by computing. Written by tools/rows.py.\n",
-                  "use Rattle.std.proofs.Common.{◌≡◌, refl}\n" + OPENED.lstrip(),
-                  "use Rattle.am_rows.specs.%s.{%s}\n" % (module, ", ".join(titled(c) for c in found))]
         for case in found:
             with open(os.path.join(place, case + ".json")) as f:
                 script = json.load(f)
             with open(os.path.join(place, case + ".txt")) as f:
                 text = f.read()
             specs.append("\n" + statement(titled(case), script, text))
-            proofs.append("\npub %s : %s\nunfolding %s\n%s = refl\n" % (case, titled(case), opened_names(), case))
-        for kind, parts in (("specs", specs), ("proofs", proofs)):
-            with open(os.path.join(out, kind, module + ".antt"), "w") as f:
-                f.write("".join(parts))
+        source, answers = carrier(module, folder, about, found)
+        write(os.path.join(out, "specs", module + ".antt"), "".join(specs))
+        write(os.path.join(out, "src", folder + ".rt"), source)
+        write(os.path.join(out, "proofs", folder, "told", "Answers.antt"), answers)
 
 
 main()

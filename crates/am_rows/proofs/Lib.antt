@@ -1,9 +1,0 @@
-pub mod Worked
-pub mod StopTable
-pub mod Settled
-pub mod ScenariosFirst
-pub mod ScenariosWindow
-pub mod ScenariosMoves
-pub mod ScenariosResets
-pub mod ScenariosLives
-pub mod ScenariosAll

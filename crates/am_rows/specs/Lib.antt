@@ -1,7 +1,6 @@
 pub mod Told
 pub mod Worked
 pub mod StopTable
-pub mod Settled
 pub mod ScenariosFirst
 pub mod ScenariosWindow
 pub mod ScenariosMoves

@@ -1,9 +1,9 @@
 -- Runs and what they tell. Written by tools/rows.py from cases/scenarios_all.
-use Rattle.std.specs.Prelude.{◌≡◌, List, [], ◌∷◌, Some, None, true, false}
-use Rattle.am_base.specs.declared.entry.Entry.TheVariants.{Data, Join, Leave, View}
+use Rattle.std.specs.Prelude.{◌≡◌, [], ◌∷◌, None, true, false}
+use Rattle.am_base.specs.declared.entry.Entry.TheVariants.{Data, Join, View}
 use Rattle.am_base.specs.declared.outcome.Outcome.TheVariants as said
 use Rattle.am_group.specs.declared.event.Act.TheVariants as act
-use Rattle.am_rows.specs.Told.{Told, Line, Sent, told, told_settled, set_of, founded, on, stamp, line, sent, log}
+use Rattle.am_rows.specs.Told.{told, set_of, founded, on, stamp, line, sent, log}
 
 abbrev pub All1 : Type 0
 All1 = told (founded (1 ∷ []) 1 1 0) (on 2 (act.Done 3) ∷ on 1 act.Take ∷ on 2 act.Take ∷ on 0 act.Tick ∷ on 0 act.Take ∷ on 2 act.Tick ∷ on 0 (act.Done 1) ∷ on 2 (act.Done 1) ∷ on 2 (act.Ask 1) ∷ on 1 act.Join ∷ on 2 act.Take ∷ on 2 act.Join ∷ on 1 (act.Cut 1 24) ∷ on 2 (act.Hear 2) ∷ on 2 (act.Hear 2) ∷ []) ≡ record {

@@ -1,9 +1,9 @@
 -- Runs and what they tell. Written by tools/rows.py from cases/scenarios_first.
-use Rattle.std.specs.Prelude.{◌≡◌, List, [], ◌∷◌, Some, None, true, false}
-use Rattle.am_base.specs.declared.entry.Entry.TheVariants.{Data, Join, Leave, View}
+use Rattle.std.specs.Prelude.{◌≡◌, [], ◌∷◌, None, false}
+use Rattle.am_base.specs.declared.entry.Entry.TheVariants.{Data, View}
 use Rattle.am_base.specs.declared.outcome.Outcome.TheVariants as said
 use Rattle.am_group.specs.declared.event.Act.TheVariants as act
-use Rattle.am_rows.specs.Told.{Told, Line, Sent, told, told_settled, set_of, founded, on, stamp, line, sent, log}
+use Rattle.am_rows.specs.Told.{told, set_of, founded, on, stamp, line, sent, log}
 
 abbrev pub First1 : Type 0
 First1 = told (founded (0 ∷ 1 ∷ []) 0 64 256) (on 1 act.Take ∷ on 1 (act.Done 2) ∷ on 0 act.Take ∷ on 0 (act.Done 1) ∷ on 1 (act.Done 2) ∷ on 0 (act.Done 5) ∷ on 0 (act.Done 1) ∷ on 1 (act.Done 3) ∷ on 1 (act.Done 5) ∷ on 1 (act.Done 3) ∷ on 1 (act.Done 3) ∷ on 1 (act.Done 3) ∷ on 1 (act.Done 4) ∷ on 0 (act.Done 5) ∷ on 0 (act.Done 1) ∷ []) ≡ record {

@@ -1,9 +1,9 @@
 -- Runs and what they tell. Written by tools/rows.py from cases/scenarios_lives.
-use Rattle.std.specs.Prelude.{◌≡◌, List, [], ◌∷◌, Some, None, true, false}
+use Rattle.std.specs.Prelude.{◌≡◌, [], ◌∷◌, Some, None, true, false}
 use Rattle.am_base.specs.declared.entry.Entry.TheVariants.{Data, Join, Leave, View}
 use Rattle.am_base.specs.declared.outcome.Outcome.TheVariants as said
 use Rattle.am_group.specs.declared.event.Act.TheVariants as act
-use Rattle.am_rows.specs.Told.{Told, Line, Sent, told, told_settled, set_of, founded, on, stamp, line, sent, log}
+use Rattle.am_rows.specs.Told.{told, set_of, founded, on, stamp, line, sent, log}
 
 abbrev pub Lives1 : Type 0
 Lives1 = told (founded (1 ∷ 2 ∷ []) 1 2 0) (on 1 act.Tick ∷ on 2 (act.Hear 1) ∷ on 2 (act.Hear 1) ∷ on 1 act.Tick ∷ on 0 act.Tick ∷ on 1 act.Stop ∷ on 2 (act.Hear 4) ∷ on 0 (act.Send []) ∷ on 2 (act.Hear 4) ∷ on 2 act.Take ∷ on 2 (act.Reset 3 1) ∷ on 2 (act.GiveUp 1) ∷ on 2 (act.Hear 4) ∷ on 2 (act.Hear 4) ∷ on 0 act.Take ∷ []) ≡ record {

@@ -1,9 +1,9 @@
 -- Runs and what they tell. Written by tools/rows.py from cases/scenarios_moves.
-use Rattle.std.specs.Prelude.{◌≡◌, List, [], ◌∷◌, Some, None, true, false}
-use Rattle.am_base.specs.declared.entry.Entry.TheVariants.{Data, Join, Leave, View}
+use Rattle.std.specs.Prelude.{◌≡◌, [], ◌∷◌, None, true, false}
+use Rattle.am_base.specs.declared.entry.Entry.TheVariants.{Data, Join, View}
 use Rattle.am_base.specs.declared.outcome.Outcome.TheVariants as said
 use Rattle.am_group.specs.declared.event.Act.TheVariants as act
-use Rattle.am_rows.specs.Told.{Told, Line, Sent, told, told_settled, set_of, founded, on, stamp, line, sent, log}
+use Rattle.am_rows.specs.Told.{told, set_of, founded, on, stamp, line, sent, log}
 
 abbrev pub Moves1 : Type 0
 Moves1 = told (founded (0 ∷ []) 1 16 256) (on 0 act.Tick ∷ on 2 act.Tick ∷ on 0 act.Tick ∷ on 0 act.Take ∷ on 0 (act.Send (173 ∷ 24 ∷ 110 ∷ 98 ∷ 222 ∷ [])) ∷ on 0 act.Take ∷ on 0 act.Take ∷ on 3 act.Tick ∷ on 0 act.Tick ∷ on 1 act.Take ∷ on 3 act.Take ∷ on 0 act.Take ∷ on 0 act.Tick ∷ on 3 act.Take ∷ on 1 act.Tick ∷ []) ≡ record {

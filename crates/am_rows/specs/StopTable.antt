@@ -1,9 +1,9 @@
 -- Runs and what they tell. Written by tools/rows.py from cases/stop_table.
-use Rattle.std.specs.Prelude.{◌≡◌, List, [], ◌∷◌, Some, None, true, false}
-use Rattle.am_base.specs.declared.entry.Entry.TheVariants.{Data, Join, Leave, View}
+use Rattle.std.specs.Prelude.{◌≡◌, [], ◌∷◌, None, false}
+use Rattle.am_base.specs.declared.entry.Entry.TheVariants.{Data, View}
 use Rattle.am_base.specs.declared.outcome.Outcome.TheVariants as said
 use Rattle.am_group.specs.declared.event.Act.TheVariants as act
-use Rattle.am_rows.specs.Told.{Told, Line, Sent, told, told_settled, set_of, founded, on, stamp, line, sent, log}
+use Rattle.am_rows.specs.Told.{told, set_of, founded, on, stamp, line, sent, log}
 
 abbrev pub StopsAfterTheAcknowledgment : Type 0
 StopsAfterTheAcknowledgment = told (founded (0 ∷ 1 ∷ 2 ∷ []) 1 64 256) (on 0 (act.Send (97 ∷ [])) ∷ on 0 act.Take ∷ on 0 act.Take ∷ on 1 (act.Hear 1) ∷ on 0 (act.Hear 2) ∷ on 0 act.Stop ∷ on 1 (act.Reset 1 1) ∷ on 2 (act.Hear 4) ∷ on 1 (act.Hear 5) ∷ on 1 (act.GiveUp 0) ∷ []) ≡ record {

@@ -1,5 +1,5 @@
 -- What a run tells: each event's outcome and letters, the group list, what each name was given, and where it breaks.
-use Rattle.std.specs.Prelude.{ℕ, zero, suc, ◌+◌, ◌-◌, List, [], ◌∷◌, ◌++◌, length, map, Option, Bool}
+use Rattle.std.specs.Prelude.{ℕ, ◌+◌, List, [], ◌∷◌, length, Option, Bool}
 use Rattle.am_base.specs.declared.name.Stamp.{Stamp}
 use Rattle.am_base.specs.declared.entry.Entry.{Entry}
 use Rattle.am_base.specs.declared.outcome.Outcome.{Outcome}
@@ -9,7 +9,7 @@ use Rattle.am_packet.specs.declared.letter.Letter.{Letter}
 use Rattle.am_packet.specs.Kinds.{kind_of}
 use Rattle.am_group.specs.declared.event.Act.{Act}
 use Rattle.am_group.specs.declared.event.Event.{Event}
-use Rattle.am_model.specs.World.{Made, World}
+use Rattle.am_model.specs.World.{Made}
 use Rattle.am_model.specs.Group.{Log, logs}
 use Rattle.am_model.specs.Lawful.{Watch, watched, watch_all}
 use Rattle.am_model.specs.Settle.{settle_events}

@@ -1,9 +1,9 @@
 -- Runs and what they tell. Written by tools/rows.py from cases/worked.
-use Rattle.std.specs.Prelude.{◌≡◌, List, [], ◌∷◌, Some, None, true, false}
+use Rattle.std.specs.Prelude.{◌≡◌, [], ◌∷◌, Some, None, true, false}
 use Rattle.am_base.specs.declared.entry.Entry.TheVariants.{Data, Join, Leave, View}
 use Rattle.am_base.specs.declared.outcome.Outcome.TheVariants as said
 use Rattle.am_group.specs.declared.event.Act.TheVariants as act
-use Rattle.am_rows.specs.Told.{Told, Line, Sent, told, told_settled, set_of, founded, on, stamp, line, sent, log}
+use Rattle.am_rows.specs.Told.{told, told_settled, set_of, founded, on, stamp, line, sent, log}
 
 abbrev pub Busy : Type 0
 Busy = told (founded (0 ∷ 1 ∷ []) 0 64 256) (on 1 (act.Send (97 ∷ [])) ∷ on 1 (act.Send (97 ∷ [])) ∷ on 1 (act.Send (97 ∷ [])) ∷ on 1 (act.Send (97 ∷ [])) ∷ on 1 (act.Send (97 ∷ [])) ∷ []) ≡ record {
@@ -194,6 +194,14 @@ SequencerStops = told (founded (0 ∷ 1 ∷ 2 ∷ []) 1 64 256) (on 0 (act.Send 
   lines = (line (said.Queued 1) (sent 1 3 (1 ∷ 2 ∷ []) false ∷ []) ∷ line (said.Took 1 (View (stamp 1 0) (set_of (0 ∷ 1 ∷ 2 ∷ [])) 1)) [] ∷ line (said.Empty) [] ∷ line (said.Stored 2) (sent 2 6 (0 ∷ []) false ∷ []) ∷ line (said.Accepted 2) (sent 3 5 (1 ∷ 2 ∷ []) false ∷ []) ∷ line (said.Took 2 (Data 0 1 (97 ∷ []))) [] ∷ line (said.Stopped) [] ∷ line (said.Waiting (set_of (0 ∷ 2 ∷ []))) (sent 4 13 (0 ∷ 2 ∷ []) false ∷ []) ∷ line (said.Voted) (sent 5 14 (1 ∷ []) false ∷ []) ∷ line (said.Waiting (set_of (0 ∷ []))) [] ∷ line (said.Decided 3 (set_of (1 ∷ 2 ∷ []))) (sent 6 17 (2 ∷ []) false ∷ []) ∷ line (said.Catching 2) (sent 7 15 (1 ∷ []) false ∷ []) ∷ line (said.Served 2) (sent 8 16 (2 ∷ []) false ∷ sent 9 16 (2 ∷ []) false ∷ []) ∷ line (said.Stored 2) [] ∷ line (said.Stored 3) (sent 10 6 (1 ∷ []) false ∷ []) ∷ line (said.Accepted 3) (sent 11 5 (2 ∷ []) false ∷ []) ∷ line (said.Advanced 3) [] ∷ line (said.Took 1 (View (stamp 1 0) (set_of (0 ∷ 1 ∷ 2 ∷ [])) 1)) [] ∷ line (said.Took 2 (Data 0 1 (97 ∷ []))) [] ∷ line (said.Took 3 (View (stamp 2 1) (set_of (1 ∷ 2 ∷ [])) 1)) [] ∷ []);
   group = ((View (stamp 1 0) (set_of (0 ∷ 1 ∷ 2 ∷ [])) 1) ∷ (Data 0 1 (97 ∷ [])) ∷ (View (stamp 2 1) (set_of (1 ∷ 2 ∷ [])) 1) ∷ []);
   logs = (log 0 ((1, (View (stamp 1 0) (set_of (0 ∷ 1 ∷ 2 ∷ [])) 1)) ∷ (2, (Data 0 1 (97 ∷ []))) ∷ []) ∷ log 1 [] ∷ log 2 ((1, (View (stamp 1 0) (set_of (0 ∷ 1 ∷ 2 ∷ [])) 1)) ∷ (2, (Data 0 1 (97 ∷ []))) ∷ (3, (View (stamp 2 1) (set_of (1 ∷ 2 ∷ [])) 1)) ∷ []) ∷ []);
+  broken = None;
+}
+
+abbrev pub Settled : Type 0
+Settled = told_settled (founded (0 ∷ 1 ∷ []) 0 8 256) (on 0 (act.Send (97 ∷ [])) ∷ []) ≡ record {
+  lines = (line (said.Queued 1) (sent 1 3 (1 ∷ []) false ∷ []) ∷ line (said.Ticked) (sent 2 5 (1 ∷ []) false ∷ []) ∷ line (said.Ticked) (sent 3 6 (0 ∷ []) false ∷ []) ∷ line (said.Idle) [] ∷ line (said.Idle) [] ∷ line (said.Idle) [] ∷ line (said.Idle) [] ∷ line (said.Idle) [] ∷ line (said.Idle) [] ∷ line (said.Idle) [] ∷ line (said.Idle) [] ∷ line (said.Idle) [] ∷ line (said.Idle) [] ∷ line (said.Idle) [] ∷ line (said.Idle) [] ∷ line (said.Idle) [] ∷ line (said.Idle) [] ∷ line (said.Gap 2) (sent 4 7 (0 ∷ []) false ∷ []) ∷ line (said.Noted) [] ∷ line (said.Served 1) (sent 5 3 (1 ∷ []) false ∷ []) ∷ line (said.Stored 2) [] ∷ line (said.Ticked) (sent 6 5 (1 ∷ []) false ∷ []) ∷ line (said.Ticked) (sent 7 6 (0 ∷ []) false ∷ []) ∷ line (said.Idle) [] ∷ line (said.Idle) [] ∷ line (said.Idle) [] ∷ line (said.Idle) [] ∷ line (said.Idle) [] ∷ line (said.Idle) [] ∷ line (said.Idle) [] ∷ line (said.Idle) [] ∷ line (said.Idle) [] ∷ line (said.Idle) [] ∷ line (said.Idle) [] ∷ line (said.Idle) [] ∷ line (said.Idle) [] ∷ line (said.Idle) [] ∷ line (said.Known) (sent 8 6 (0 ∷ []) false ∷ []) ∷ line (said.Noted) [] ∷ line (said.Noted) [] ∷ line (said.Ticked) (sent 9 5 (1 ∷ []) false ∷ []) ∷ line (said.Ticked) (sent 10 6 (0 ∷ []) false ∷ []) ∷ line (said.Idle) [] ∷ line (said.Idle) [] ∷ line (said.Idle) [] ∷ line (said.Idle) [] ∷ line (said.Idle) [] ∷ line (said.Idle) [] ∷ line (said.Idle) [] ∷ line (said.Idle) [] ∷ line (said.Idle) [] ∷ line (said.Idle) [] ∷ line (said.Idle) [] ∷ line (said.Idle) [] ∷ line (said.Idle) [] ∷ line (said.Idle) [] ∷ line (said.Known) (sent 11 6 (0 ∷ []) false ∷ []) ∷ line (said.Noted) [] ∷ line (said.Noted) [] ∷ line (said.Ticked) (sent 12 5 (1 ∷ []) false ∷ []) ∷ line (said.Ticked) (sent 13 6 (0 ∷ []) false ∷ []) ∷ line (said.Idle) [] ∷ line (said.Idle) [] ∷ line (said.Idle) [] ∷ line (said.Idle) [] ∷ line (said.Idle) [] ∷ line (said.Idle) [] ∷ line (said.Idle) [] ∷ line (said.Idle) [] ∷ line (said.Idle) [] ∷ line (said.Idle) [] ∷ line (said.Idle) [] ∷ line (said.Idle) [] ∷ line (said.Idle) [] ∷ line (said.Idle) [] ∷ line (said.Known) (sent 14 6 (0 ∷ []) false ∷ []) ∷ line (said.Noted) [] ∷ line (said.Noted) [] ∷ line (said.Ticked) (sent 15 5 (1 ∷ []) false ∷ []) ∷ line (said.Ticked) (sent 16 6 (0 ∷ []) false ∷ []) ∷ line (said.Idle) [] ∷ line (said.Idle) [] ∷ line (said.Idle) [] ∷ line (said.Idle) [] ∷ line (said.Idle) [] ∷ line (said.Idle) [] ∷ line (said.Idle) [] ∷ line (said.Idle) [] ∷ line (said.Idle) [] ∷ line (said.Idle) [] ∷ line (said.Idle) [] ∷ line (said.Idle) [] ∷ line (said.Idle) [] ∷ line (said.Idle) [] ∷ line (said.Known) (sent 17 6 (0 ∷ []) false ∷ []) ∷ line (said.Noted) [] ∷ line (said.Noted) [] ∷ []);
+  group = ((View (stamp 1 0) (set_of (0 ∷ 1 ∷ [])) 0) ∷ (Data 0 1 (97 ∷ [])) ∷ []);
+  logs = (log 0 [] ∷ log 1 [] ∷ []);
   broken = None;
 }
 

@@ -1,5 +1,5 @@
 -- What these runs tell, by computing. Written by tools/rows.py.
-use Rattle.std.proofs.Common.{◌≡◌, refl}
+use Rattle.std.proofs.Common.{refl}
 use Rattle.am_base.specs.Names.{by_place}
 use Rattle.am_base.specs.Lists.{after, fits, fold}
 use Rattle.am_base.specs.Fronts.{greatest}
@@ -20,44 +20,44 @@ use Rattle.am_model.specs.World.{unchanged, stepped, happens, happen}
 use Rattle.am_model.specs.Lawful.{is_complete, is_lawful, greatest_complete, last_outcome, watch, watch_all}
 use Rattle.am_model.specs.Settle.{running, hearings_from, waves, rounds, settle_events}
 use Rattle.am_rows.specs.Told.{sent_from, lines_from, told_of, set_of}
-use Rattle.am_rows.specs.ScenariosWindow.{Window1, Window10, Window2, Window3, Window4, Window5, Window6, Window7, Window8, Window9}
+use Rattle.am_rows.proofs.scenarios_lives.told.Goals as goal
 
-pub window_1 : Window1
+pub returns-clause-lives_1 : goal.returns-clause-lives_1
 unfolding by_place after fits fold greatest best_from those union_all report_self tell advance pass_over trim refresh settle refresh_at_end put_all finish best_of decide begin keep_vote give_up everywhere_else send_row done_row take_row join_row state_row leave_row reset_row ask_row give_up_row tick_row request_row ack_row nack_row spread_row bcast_row order_row accept_row hold_row join_ask_row welcome_row leave_ask_row gone_row invite_row vote_row fetch_row piece_row result_row hand_over_row hear_row row step refused unchanged stepped happens happen is_complete is_lawful greatest_complete last_outcome watch watch_all running hearings_from waves rounds settle_events sent_from lines_from told_of set_of
-window_1 = refl
+returns-clause-lives_1 c = refl
 
-pub window_10 : Window10
+pub returns-clause-lives_10 : goal.returns-clause-lives_10
 unfolding by_place after fits fold greatest best_from those union_all report_self tell advance pass_over trim refresh settle refresh_at_end put_all finish best_of decide begin keep_vote give_up everywhere_else send_row done_row take_row join_row state_row leave_row reset_row ask_row give_up_row tick_row request_row ack_row nack_row spread_row bcast_row order_row accept_row hold_row join_ask_row welcome_row leave_ask_row gone_row invite_row vote_row fetch_row piece_row result_row hand_over_row hear_row row step refused unchanged stepped happens happen is_complete is_lawful greatest_complete last_outcome watch watch_all running hearings_from waves rounds settle_events sent_from lines_from told_of set_of
-window_10 = refl
+returns-clause-lives_10 c = refl
 
-pub window_2 : Window2
+pub returns-clause-lives_2 : goal.returns-clause-lives_2
 unfolding by_place after fits fold greatest best_from those union_all report_self tell advance pass_over trim refresh settle refresh_at_end put_all finish best_of decide begin keep_vote give_up everywhere_else send_row done_row take_row join_row state_row leave_row reset_row ask_row give_up_row tick_row request_row ack_row nack_row spread_row bcast_row order_row accept_row hold_row join_ask_row welcome_row leave_ask_row gone_row invite_row vote_row fetch_row piece_row result_row hand_over_row hear_row row step refused unchanged stepped happens happen is_complete is_lawful greatest_complete last_outcome watch watch_all running hearings_from waves rounds settle_events sent_from lines_from told_of set_of
-window_2 = refl
+returns-clause-lives_2 c = refl
 
-pub window_3 : Window3
+pub returns-clause-lives_3 : goal.returns-clause-lives_3
 unfolding by_place after fits fold greatest best_from those union_all report_self tell advance pass_over trim refresh settle refresh_at_end put_all finish best_of decide begin keep_vote give_up everywhere_else send_row done_row take_row join_row state_row leave_row reset_row ask_row give_up_row tick_row request_row ack_row nack_row spread_row bcast_row order_row accept_row hold_row join_ask_row welcome_row leave_ask_row gone_row invite_row vote_row fetch_row piece_row result_row hand_over_row hear_row row step refused unchanged stepped happens happen is_complete is_lawful greatest_complete last_outcome watch watch_all running hearings_from waves rounds settle_events sent_from lines_from told_of set_of
-window_3 = refl
+returns-clause-lives_3 c = refl
 
-pub window_4 : Window4
+pub returns-clause-lives_4 : goal.returns-clause-lives_4
 unfolding by_place after fits fold greatest best_from those union_all report_self tell advance pass_over trim refresh settle refresh_at_end put_all finish best_of decide begin keep_vote give_up everywhere_else send_row done_row take_row join_row state_row leave_row reset_row ask_row give_up_row tick_row request_row ack_row nack_row spread_row bcast_row order_row accept_row hold_row join_ask_row welcome_row leave_ask_row gone_row invite_row vote_row fetch_row piece_row result_row hand_over_row hear_row row step refused unchanged stepped happens happen is_complete is_lawful greatest_complete last_outcome watch watch_all running hearings_from waves rounds settle_events sent_from lines_from told_of set_of
-window_4 = refl
+returns-clause-lives_4 c = refl
 
-pub window_5 : Window5
+pub returns-clause-lives_5 : goal.returns-clause-lives_5
 unfolding by_place after fits fold greatest best_from those union_all report_self tell advance pass_over trim refresh settle refresh_at_end put_all finish best_of decide begin keep_vote give_up everywhere_else send_row done_row take_row join_row state_row leave_row reset_row ask_row give_up_row tick_row request_row ack_row nack_row spread_row bcast_row order_row accept_row hold_row join_ask_row welcome_row leave_ask_row gone_row invite_row vote_row fetch_row piece_row result_row hand_over_row hear_row row step refused unchanged stepped happens happen is_complete is_lawful greatest_complete last_outcome watch watch_all running hearings_from waves rounds settle_events sent_from lines_from told_of set_of
-window_5 = refl
+returns-clause-lives_5 c = refl
 
-pub window_6 : Window6
+pub returns-clause-lives_6 : goal.returns-clause-lives_6
 unfolding by_place after fits fold greatest best_from those union_all report_self tell advance pass_over trim refresh settle refresh_at_end put_all finish best_of decide begin keep_vote give_up everywhere_else send_row done_row take_row join_row state_row leave_row reset_row ask_row give_up_row tick_row request_row ack_row nack_row spread_row bcast_row order_row accept_row hold_row join_ask_row welcome_row leave_ask_row gone_row invite_row vote_row fetch_row piece_row result_row hand_over_row hear_row row step refused unchanged stepped happens happen is_complete is_lawful greatest_complete last_outcome watch watch_all running hearings_from waves rounds settle_events sent_from lines_from told_of set_of
-window_6 = refl
+returns-clause-lives_6 c = refl
 
-pub window_7 : Window7
+pub returns-clause-lives_7 : goal.returns-clause-lives_7
 unfolding by_place after fits fold greatest best_from those union_all report_self tell advance pass_over trim refresh settle refresh_at_end put_all finish best_of decide begin keep_vote give_up everywhere_else send_row done_row take_row join_row state_row leave_row reset_row ask_row give_up_row tick_row request_row ack_row nack_row spread_row bcast_row order_row accept_row hold_row join_ask_row welcome_row leave_ask_row gone_row invite_row vote_row fetch_row piece_row result_row hand_over_row hear_row row step refused unchanged stepped happens happen is_complete is_lawful greatest_complete last_outcome watch watch_all running hearings_from waves rounds settle_events sent_from lines_from told_of set_of
-window_7 = refl
+returns-clause-lives_7 c = refl
 
-pub window_8 : Window8
+pub returns-clause-lives_8 : goal.returns-clause-lives_8
 unfolding by_place after fits fold greatest best_from those union_all report_self tell advance pass_over trim refresh settle refresh_at_end put_all finish best_of decide begin keep_vote give_up everywhere_else send_row done_row take_row join_row state_row leave_row reset_row ask_row give_up_row tick_row request_row ack_row nack_row spread_row bcast_row order_row accept_row hold_row join_ask_row welcome_row leave_ask_row gone_row invite_row vote_row fetch_row piece_row result_row hand_over_row hear_row row step refused unchanged stepped happens happen is_complete is_lawful greatest_complete last_outcome watch watch_all running hearings_from waves rounds settle_events sent_from lines_from told_of set_of
-window_8 = refl
+returns-clause-lives_8 c = refl
 
-pub window_9 : Window9
+pub returns-clause-lives_9 : goal.returns-clause-lives_9
 unfolding by_place after fits fold greatest best_from those union_all report_self tell advance pass_over trim refresh settle refresh_at_end put_all finish best_of decide begin keep_vote give_up everywhere_else send_row done_row take_row join_row state_row leave_row reset_row ask_row give_up_row tick_row request_row ack_row nack_row spread_row bcast_row order_row accept_row hold_row join_ask_row welcome_row leave_ask_row gone_row invite_row vote_row fetch_row piece_row result_row hand_over_row hear_row row step refused unchanged stepped happens happen is_complete is_lawful greatest_complete last_outcome watch watch_all running hearings_from waves rounds settle_events sent_from lines_from told_of set_of
-window_9 = refl
+returns-clause-lives_9 c = refl

@@ -1,5 +1,5 @@
 -- What these runs tell, by computing. Written by tools/rows.py.
-use Rattle.std.proofs.Common.{◌≡◌, refl}
+use Rattle.std.proofs.Common.{refl}
 use Rattle.am_base.specs.Names.{by_place}
 use Rattle.am_base.specs.Lists.{after, fits, fold}
 use Rattle.am_base.specs.Fronts.{greatest}
@@ -20,128 +20,132 @@ use Rattle.am_model.specs.World.{unchanged, stepped, happens, happen}
 use Rattle.am_model.specs.Lawful.{is_complete, is_lawful, greatest_complete, last_outcome, watch, watch_all}
 use Rattle.am_model.specs.Settle.{running, hearings_from, waves, rounds, settle_events}
 use Rattle.am_rows.specs.Told.{sent_from, lines_from, told_of, set_of}
-use Rattle.am_rows.specs.Worked.{Busy, CoordinatorStopSurvived, CoordinatorStopsToo, Crowded, CrowdedGivenUp, CrowdedTaken, CutPackets, EveryLife, JoinAsked, JoinWithLostWelcome, LeaveAsked, LongBody, NoEvents, OnlyFounderLeaves, RaisedResilience, RaisedResilienceStays, Reordering, Repeat, ReturnAfterLeave, ReturnAfterStop, ReturnedLeaverStops, RunningMember, SequencerLeaves, SequencerStops, ShortBody, SmallestPath, SpreadLost, Tentative, TooFew, TwoCoordinators, WindowOfOne}
+use Rattle.am_rows.proofs.worked.told.Goals as goal
 
-pub busy : Busy
+pub returns-clause-busy : goal.returns-clause-busy
 unfolding by_place after fits fold greatest best_from those union_all report_self tell advance pass_over trim refresh settle refresh_at_end put_all finish best_of decide begin keep_vote give_up everywhere_else send_row done_row take_row join_row state_row leave_row reset_row ask_row give_up_row tick_row request_row ack_row nack_row spread_row bcast_row order_row accept_row hold_row join_ask_row welcome_row leave_ask_row gone_row invite_row vote_row fetch_row piece_row result_row hand_over_row hear_row row step refused unchanged stepped happens happen is_complete is_lawful greatest_complete last_outcome watch watch_all running hearings_from waves rounds settle_events sent_from lines_from told_of set_of
-busy = refl
+returns-clause-busy c = refl
 
-pub coordinator_stop_survived : CoordinatorStopSurvived
+pub returns-clause-coordinator_stop_survived : goal.returns-clause-coordinator_stop_survived
 unfolding by_place after fits fold greatest best_from those union_all report_self tell advance pass_over trim refresh settle refresh_at_end put_all finish best_of decide begin keep_vote give_up everywhere_else send_row done_row take_row join_row state_row leave_row reset_row ask_row give_up_row tick_row request_row ack_row nack_row spread_row bcast_row order_row accept_row hold_row join_ask_row welcome_row leave_ask_row gone_row invite_row vote_row fetch_row piece_row result_row hand_over_row hear_row row step refused unchanged stepped happens happen is_complete is_lawful greatest_complete last_outcome watch watch_all running hearings_from waves rounds settle_events sent_from lines_from told_of set_of
-coordinator_stop_survived = refl
+returns-clause-coordinator_stop_survived c = refl
 
-pub coordinator_stops_too : CoordinatorStopsToo
+pub returns-clause-coordinator_stops_too : goal.returns-clause-coordinator_stops_too
 unfolding by_place after fits fold greatest best_from those union_all report_self tell advance pass_over trim refresh settle refresh_at_end put_all finish best_of decide begin keep_vote give_up everywhere_else send_row done_row take_row join_row state_row leave_row reset_row ask_row give_up_row tick_row request_row ack_row nack_row spread_row bcast_row order_row accept_row hold_row join_ask_row welcome_row leave_ask_row gone_row invite_row vote_row fetch_row piece_row result_row hand_over_row hear_row row step refused unchanged stepped happens happen is_complete is_lawful greatest_complete last_outcome watch watch_all running hearings_from waves rounds settle_events sent_from lines_from told_of set_of
-coordinator_stops_too = refl
+returns-clause-coordinator_stops_too c = refl
 
-pub crowded : Crowded
+pub returns-clause-crowded : goal.returns-clause-crowded
 unfolding by_place after fits fold greatest best_from those union_all report_self tell advance pass_over trim refresh settle refresh_at_end put_all finish best_of decide begin keep_vote give_up everywhere_else send_row done_row take_row join_row state_row leave_row reset_row ask_row give_up_row tick_row request_row ack_row nack_row spread_row bcast_row order_row accept_row hold_row join_ask_row welcome_row leave_ask_row gone_row invite_row vote_row fetch_row piece_row result_row hand_over_row hear_row row step refused unchanged stepped happens happen is_complete is_lawful greatest_complete last_outcome watch watch_all running hearings_from waves rounds settle_events sent_from lines_from told_of set_of
-crowded = refl
+returns-clause-crowded c = refl
 
-pub crowded_given_up : CrowdedGivenUp
+pub returns-clause-crowded_given_up : goal.returns-clause-crowded_given_up
 unfolding by_place after fits fold greatest best_from those union_all report_self tell advance pass_over trim refresh settle refresh_at_end put_all finish best_of decide begin keep_vote give_up everywhere_else send_row done_row take_row join_row state_row leave_row reset_row ask_row give_up_row tick_row request_row ack_row nack_row spread_row bcast_row order_row accept_row hold_row join_ask_row welcome_row leave_ask_row gone_row invite_row vote_row fetch_row piece_row result_row hand_over_row hear_row row step refused unchanged stepped happens happen is_complete is_lawful greatest_complete last_outcome watch watch_all running hearings_from waves rounds settle_events sent_from lines_from told_of set_of
-crowded_given_up = refl
+returns-clause-crowded_given_up c = refl
 
-pub crowded_taken : CrowdedTaken
+pub returns-clause-crowded_taken : goal.returns-clause-crowded_taken
 unfolding by_place after fits fold greatest best_from those union_all report_self tell advance pass_over trim refresh settle refresh_at_end put_all finish best_of decide begin keep_vote give_up everywhere_else send_row done_row take_row join_row state_row leave_row reset_row ask_row give_up_row tick_row request_row ack_row nack_row spread_row bcast_row order_row accept_row hold_row join_ask_row welcome_row leave_ask_row gone_row invite_row vote_row fetch_row piece_row result_row hand_over_row hear_row row step refused unchanged stepped happens happen is_complete is_lawful greatest_complete last_outcome watch watch_all running hearings_from waves rounds settle_events sent_from lines_from told_of set_of
-crowded_taken = refl
+returns-clause-crowded_taken c = refl
 
-pub cut_packets : CutPackets
+pub returns-clause-cut_packets : goal.returns-clause-cut_packets
 unfolding by_place after fits fold greatest best_from those union_all report_self tell advance pass_over trim refresh settle refresh_at_end put_all finish best_of decide begin keep_vote give_up everywhere_else send_row done_row take_row join_row state_row leave_row reset_row ask_row give_up_row tick_row request_row ack_row nack_row spread_row bcast_row order_row accept_row hold_row join_ask_row welcome_row leave_ask_row gone_row invite_row vote_row fetch_row piece_row result_row hand_over_row hear_row row step refused unchanged stepped happens happen is_complete is_lawful greatest_complete last_outcome watch watch_all running hearings_from waves rounds settle_events sent_from lines_from told_of set_of
-cut_packets = refl
+returns-clause-cut_packets c = refl
 
-pub every_life : EveryLife
+pub returns-clause-every_life : goal.returns-clause-every_life
 unfolding by_place after fits fold greatest best_from those union_all report_self tell advance pass_over trim refresh settle refresh_at_end put_all finish best_of decide begin keep_vote give_up everywhere_else send_row done_row take_row join_row state_row leave_row reset_row ask_row give_up_row tick_row request_row ack_row nack_row spread_row bcast_row order_row accept_row hold_row join_ask_row welcome_row leave_ask_row gone_row invite_row vote_row fetch_row piece_row result_row hand_over_row hear_row row step refused unchanged stepped happens happen is_complete is_lawful greatest_complete last_outcome watch watch_all running hearings_from waves rounds settle_events sent_from lines_from told_of set_of
-every_life = refl
+returns-clause-every_life c = refl
 
-pub join_asked : JoinAsked
+pub returns-clause-join_asked : goal.returns-clause-join_asked
 unfolding by_place after fits fold greatest best_from those union_all report_self tell advance pass_over trim refresh settle refresh_at_end put_all finish best_of decide begin keep_vote give_up everywhere_else send_row done_row take_row join_row state_row leave_row reset_row ask_row give_up_row tick_row request_row ack_row nack_row spread_row bcast_row order_row accept_row hold_row join_ask_row welcome_row leave_ask_row gone_row invite_row vote_row fetch_row piece_row result_row hand_over_row hear_row row step refused unchanged stepped happens happen is_complete is_lawful greatest_complete last_outcome watch watch_all running hearings_from waves rounds settle_events sent_from lines_from told_of set_of
-join_asked = refl
+returns-clause-join_asked c = refl
 
-pub join_with_lost_welcome : JoinWithLostWelcome
+pub returns-clause-join_with_lost_welcome : goal.returns-clause-join_with_lost_welcome
 unfolding by_place after fits fold greatest best_from those union_all report_self tell advance pass_over trim refresh settle refresh_at_end put_all finish best_of decide begin keep_vote give_up everywhere_else send_row done_row take_row join_row state_row leave_row reset_row ask_row give_up_row tick_row request_row ack_row nack_row spread_row bcast_row order_row accept_row hold_row join_ask_row welcome_row leave_ask_row gone_row invite_row vote_row fetch_row piece_row result_row hand_over_row hear_row row step refused unchanged stepped happens happen is_complete is_lawful greatest_complete last_outcome watch watch_all running hearings_from waves rounds settle_events sent_from lines_from told_of set_of
-join_with_lost_welcome = refl
+returns-clause-join_with_lost_welcome c = refl
 
-pub leave_asked : LeaveAsked
+pub returns-clause-leave_asked : goal.returns-clause-leave_asked
 unfolding by_place after fits fold greatest best_from those union_all report_self tell advance pass_over trim refresh settle refresh_at_end put_all finish best_of decide begin keep_vote give_up everywhere_else send_row done_row take_row join_row state_row leave_row reset_row ask_row give_up_row tick_row request_row ack_row nack_row spread_row bcast_row order_row accept_row hold_row join_ask_row welcome_row leave_ask_row gone_row invite_row vote_row fetch_row piece_row result_row hand_over_row hear_row row step refused unchanged stepped happens happen is_complete is_lawful greatest_complete last_outcome watch watch_all running hearings_from waves rounds settle_events sent_from lines_from told_of set_of
-leave_asked = refl
+returns-clause-leave_asked c = refl
 
-pub long_body : LongBody
+pub returns-clause-long_body : goal.returns-clause-long_body
 unfolding by_place after fits fold greatest best_from those union_all report_self tell advance pass_over trim refresh settle refresh_at_end put_all finish best_of decide begin keep_vote give_up everywhere_else send_row done_row take_row join_row state_row leave_row reset_row ask_row give_up_row tick_row request_row ack_row nack_row spread_row bcast_row order_row accept_row hold_row join_ask_row welcome_row leave_ask_row gone_row invite_row vote_row fetch_row piece_row result_row hand_over_row hear_row row step refused unchanged stepped happens happen is_complete is_lawful greatest_complete last_outcome watch watch_all running hearings_from waves rounds settle_events sent_from lines_from told_of set_of
-long_body = refl
+returns-clause-long_body c = refl
 
-pub no_events : NoEvents
+pub returns-clause-no_events : goal.returns-clause-no_events
 unfolding by_place after fits fold greatest best_from those union_all report_self tell advance pass_over trim refresh settle refresh_at_end put_all finish best_of decide begin keep_vote give_up everywhere_else send_row done_row take_row join_row state_row leave_row reset_row ask_row give_up_row tick_row request_row ack_row nack_row spread_row bcast_row order_row accept_row hold_row join_ask_row welcome_row leave_ask_row gone_row invite_row vote_row fetch_row piece_row result_row hand_over_row hear_row row step refused unchanged stepped happens happen is_complete is_lawful greatest_complete last_outcome watch watch_all running hearings_from waves rounds settle_events sent_from lines_from told_of set_of
-no_events = refl
+returns-clause-no_events c = refl
 
-pub only_founder_leaves : OnlyFounderLeaves
+pub returns-clause-only_founder_leaves : goal.returns-clause-only_founder_leaves
 unfolding by_place after fits fold greatest best_from those union_all report_self tell advance pass_over trim refresh settle refresh_at_end put_all finish best_of decide begin keep_vote give_up everywhere_else send_row done_row take_row join_row state_row leave_row reset_row ask_row give_up_row tick_row request_row ack_row nack_row spread_row bcast_row order_row accept_row hold_row join_ask_row welcome_row leave_ask_row gone_row invite_row vote_row fetch_row piece_row result_row hand_over_row hear_row row step refused unchanged stepped happens happen is_complete is_lawful greatest_complete last_outcome watch watch_all running hearings_from waves rounds settle_events sent_from lines_from told_of set_of
-only_founder_leaves = refl
+returns-clause-only_founder_leaves c = refl
 
-pub raised_resilience : RaisedResilience
+pub returns-clause-raised_resilience : goal.returns-clause-raised_resilience
 unfolding by_place after fits fold greatest best_from those union_all report_self tell advance pass_over trim refresh settle refresh_at_end put_all finish best_of decide begin keep_vote give_up everywhere_else send_row done_row take_row join_row state_row leave_row reset_row ask_row give_up_row tick_row request_row ack_row nack_row spread_row bcast_row order_row accept_row hold_row join_ask_row welcome_row leave_ask_row gone_row invite_row vote_row fetch_row piece_row result_row hand_over_row hear_row row step refused unchanged stepped happens happen is_complete is_lawful greatest_complete last_outcome watch watch_all running hearings_from waves rounds settle_events sent_from lines_from told_of set_of
-raised_resilience = refl
+returns-clause-raised_resilience c = refl
 
-pub raised_resilience_stays : RaisedResilienceStays
+pub returns-clause-raised_resilience_stays : goal.returns-clause-raised_resilience_stays
 unfolding by_place after fits fold greatest best_from those union_all report_self tell advance pass_over trim refresh settle refresh_at_end put_all finish best_of decide begin keep_vote give_up everywhere_else send_row done_row take_row join_row state_row leave_row reset_row ask_row give_up_row tick_row request_row ack_row nack_row spread_row bcast_row order_row accept_row hold_row join_ask_row welcome_row leave_ask_row gone_row invite_row vote_row fetch_row piece_row result_row hand_over_row hear_row row step refused unchanged stepped happens happen is_complete is_lawful greatest_complete last_outcome watch watch_all running hearings_from waves rounds settle_events sent_from lines_from told_of set_of
-raised_resilience_stays = refl
+returns-clause-raised_resilience_stays c = refl
 
-pub reordering : Reordering
+pub returns-clause-reordering : goal.returns-clause-reordering
 unfolding by_place after fits fold greatest best_from those union_all report_self tell advance pass_over trim refresh settle refresh_at_end put_all finish best_of decide begin keep_vote give_up everywhere_else send_row done_row take_row join_row state_row leave_row reset_row ask_row give_up_row tick_row request_row ack_row nack_row spread_row bcast_row order_row accept_row hold_row join_ask_row welcome_row leave_ask_row gone_row invite_row vote_row fetch_row piece_row result_row hand_over_row hear_row row step refused unchanged stepped happens happen is_complete is_lawful greatest_complete last_outcome watch watch_all running hearings_from waves rounds settle_events sent_from lines_from told_of set_of
-reordering = refl
+returns-clause-reordering c = refl
 
-pub repeat : Repeat
+pub returns-clause-repeat : goal.returns-clause-repeat
 unfolding by_place after fits fold greatest best_from those union_all report_self tell advance pass_over trim refresh settle refresh_at_end put_all finish best_of decide begin keep_vote give_up everywhere_else send_row done_row take_row join_row state_row leave_row reset_row ask_row give_up_row tick_row request_row ack_row nack_row spread_row bcast_row order_row accept_row hold_row join_ask_row welcome_row leave_ask_row gone_row invite_row vote_row fetch_row piece_row result_row hand_over_row hear_row row step refused unchanged stepped happens happen is_complete is_lawful greatest_complete last_outcome watch watch_all running hearings_from waves rounds settle_events sent_from lines_from told_of set_of
-repeat = refl
+returns-clause-repeat c = refl
 
-pub return_after_leave : ReturnAfterLeave
+pub returns-clause-return_after_leave : goal.returns-clause-return_after_leave
 unfolding by_place after fits fold greatest best_from those union_all report_self tell advance pass_over trim refresh settle refresh_at_end put_all finish best_of decide begin keep_vote give_up everywhere_else send_row done_row take_row join_row state_row leave_row reset_row ask_row give_up_row tick_row request_row ack_row nack_row spread_row bcast_row order_row accept_row hold_row join_ask_row welcome_row leave_ask_row gone_row invite_row vote_row fetch_row piece_row result_row hand_over_row hear_row row step refused unchanged stepped happens happen is_complete is_lawful greatest_complete last_outcome watch watch_all running hearings_from waves rounds settle_events sent_from lines_from told_of set_of
-return_after_leave = refl
+returns-clause-return_after_leave c = refl
 
-pub return_after_stop : ReturnAfterStop
+pub returns-clause-return_after_stop : goal.returns-clause-return_after_stop
 unfolding by_place after fits fold greatest best_from those union_all report_self tell advance pass_over trim refresh settle refresh_at_end put_all finish best_of decide begin keep_vote give_up everywhere_else send_row done_row take_row join_row state_row leave_row reset_row ask_row give_up_row tick_row request_row ack_row nack_row spread_row bcast_row order_row accept_row hold_row join_ask_row welcome_row leave_ask_row gone_row invite_row vote_row fetch_row piece_row result_row hand_over_row hear_row row step refused unchanged stepped happens happen is_complete is_lawful greatest_complete last_outcome watch watch_all running hearings_from waves rounds settle_events sent_from lines_from told_of set_of
-return_after_stop = refl
+returns-clause-return_after_stop c = refl
 
-pub returned_leaver_stops : ReturnedLeaverStops
+pub returns-clause-returned_leaver_stops : goal.returns-clause-returned_leaver_stops
 unfolding by_place after fits fold greatest best_from those union_all report_self tell advance pass_over trim refresh settle refresh_at_end put_all finish best_of decide begin keep_vote give_up everywhere_else send_row done_row take_row join_row state_row leave_row reset_row ask_row give_up_row tick_row request_row ack_row nack_row spread_row bcast_row order_row accept_row hold_row join_ask_row welcome_row leave_ask_row gone_row invite_row vote_row fetch_row piece_row result_row hand_over_row hear_row row step refused unchanged stepped happens happen is_complete is_lawful greatest_complete last_outcome watch watch_all running hearings_from waves rounds settle_events sent_from lines_from told_of set_of
-returned_leaver_stops = refl
+returns-clause-returned_leaver_stops c = refl
 
-pub running_member : RunningMember
+pub returns-clause-running_member : goal.returns-clause-running_member
 unfolding by_place after fits fold greatest best_from those union_all report_self tell advance pass_over trim refresh settle refresh_at_end put_all finish best_of decide begin keep_vote give_up everywhere_else send_row done_row take_row join_row state_row leave_row reset_row ask_row give_up_row tick_row request_row ack_row nack_row spread_row bcast_row order_row accept_row hold_row join_ask_row welcome_row leave_ask_row gone_row invite_row vote_row fetch_row piece_row result_row hand_over_row hear_row row step refused unchanged stepped happens happen is_complete is_lawful greatest_complete last_outcome watch watch_all running hearings_from waves rounds settle_events sent_from lines_from told_of set_of
-running_member = refl
+returns-clause-running_member c = refl
 
-pub sequencer_leaves : SequencerLeaves
+pub returns-clause-sequencer_leaves : goal.returns-clause-sequencer_leaves
 unfolding by_place after fits fold greatest best_from those union_all report_self tell advance pass_over trim refresh settle refresh_at_end put_all finish best_of decide begin keep_vote give_up everywhere_else send_row done_row take_row join_row state_row leave_row reset_row ask_row give_up_row tick_row request_row ack_row nack_row spread_row bcast_row order_row accept_row hold_row join_ask_row welcome_row leave_ask_row gone_row invite_row vote_row fetch_row piece_row result_row hand_over_row hear_row row step refused unchanged stepped happens happen is_complete is_lawful greatest_complete last_outcome watch watch_all running hearings_from waves rounds settle_events sent_from lines_from told_of set_of
-sequencer_leaves = refl
+returns-clause-sequencer_leaves c = refl
 
-pub sequencer_stops : SequencerStops
+pub returns-clause-sequencer_stops : goal.returns-clause-sequencer_stops
 unfolding by_place after fits fold greatest best_from those union_all report_self tell advance pass_over trim refresh settle refresh_at_end put_all finish best_of decide begin keep_vote give_up everywhere_else send_row done_row take_row join_row state_row leave_row reset_row ask_row give_up_row tick_row request_row ack_row nack_row spread_row bcast_row order_row accept_row hold_row join_ask_row welcome_row leave_ask_row gone_row invite_row vote_row fetch_row piece_row result_row hand_over_row hear_row row step refused unchanged stepped happens happen is_complete is_lawful greatest_complete last_outcome watch watch_all running hearings_from waves rounds settle_events sent_from lines_from told_of set_of
-sequencer_stops = refl
+returns-clause-sequencer_stops c = refl
 
-pub short_body : ShortBody
+pub returns-clause-settled : goal.returns-clause-settled
 unfolding by_place after fits fold greatest best_from those union_all report_self tell advance pass_over trim refresh settle refresh_at_end put_all finish best_of decide begin keep_vote give_up everywhere_else send_row done_row take_row join_row state_row leave_row reset_row ask_row give_up_row tick_row request_row ack_row nack_row spread_row bcast_row order_row accept_row hold_row join_ask_row welcome_row leave_ask_row gone_row invite_row vote_row fetch_row piece_row result_row hand_over_row hear_row row step refused unchanged stepped happens happen is_complete is_lawful greatest_complete last_outcome watch watch_all running hearings_from waves rounds settle_events sent_from lines_from told_of set_of
-short_body = refl
+returns-clause-settled c = refl
 
-pub smallest_path : SmallestPath
+pub returns-clause-short_body : goal.returns-clause-short_body
 unfolding by_place after fits fold greatest best_from those union_all report_self tell advance pass_over trim refresh settle refresh_at_end put_all finish best_of decide begin keep_vote give_up everywhere_else send_row done_row take_row join_row state_row leave_row reset_row ask_row give_up_row tick_row request_row ack_row nack_row spread_row bcast_row order_row accept_row hold_row join_ask_row welcome_row leave_ask_row gone_row invite_row vote_row fetch_row piece_row result_row hand_over_row hear_row row step refused unchanged stepped happens happen is_complete is_lawful greatest_complete last_outcome watch watch_all running hearings_from waves rounds settle_events sent_from lines_from told_of set_of
-smallest_path = refl
+returns-clause-short_body c = refl
 
-pub spread_lost : SpreadLost
+pub returns-clause-smallest_path : goal.returns-clause-smallest_path
 unfolding by_place after fits fold greatest best_from those union_all report_self tell advance pass_over trim refresh settle refresh_at_end put_all finish best_of decide begin keep_vote give_up everywhere_else send_row done_row take_row join_row state_row leave_row reset_row ask_row give_up_row tick_row request_row ack_row nack_row spread_row bcast_row order_row accept_row hold_row join_ask_row welcome_row leave_ask_row gone_row invite_row vote_row fetch_row piece_row result_row hand_over_row hear_row row step refused unchanged stepped happens happen is_complete is_lawful greatest_complete last_outcome watch watch_all running hearings_from waves rounds settle_events sent_from lines_from told_of set_of
-spread_lost = refl
+returns-clause-smallest_path c = refl
 
-pub tentative : Tentative
+pub returns-clause-spread_lost : goal.returns-clause-spread_lost
 unfolding by_place after fits fold greatest best_from those union_all report_self tell advance pass_over trim refresh settle refresh_at_end put_all finish best_of decide begin keep_vote give_up everywhere_else send_row done_row take_row join_row state_row leave_row reset_row ask_row give_up_row tick_row request_row ack_row nack_row spread_row bcast_row order_row accept_row hold_row join_ask_row welcome_row leave_ask_row gone_row invite_row vote_row fetch_row piece_row result_row hand_over_row hear_row row step refused unchanged stepped happens happen is_complete is_lawful greatest_complete last_outcome watch watch_all running hearings_from waves rounds settle_events sent_from lines_from told_of set_of
-tentative = refl
+returns-clause-spread_lost c = refl
 
-pub too_few : TooFew
+pub returns-clause-tentative : goal.returns-clause-tentative
 unfolding by_place after fits fold greatest best_from those union_all report_self tell advance pass_over trim refresh settle refresh_at_end put_all finish best_of decide begin keep_vote give_up everywhere_else send_row done_row take_row join_row state_row leave_row reset_row ask_row give_up_row tick_row request_row ack_row nack_row spread_row bcast_row order_row accept_row hold_row join_ask_row welcome_row leave_ask_row gone_row invite_row vote_row fetch_row piece_row result_row hand_over_row hear_row row step refused unchanged stepped happens happen is_complete is_lawful greatest_complete last_outcome watch watch_all running hearings_from waves rounds settle_events sent_from lines_from told_of set_of
-too_few = refl
+returns-clause-tentative c = refl
 
-pub two_coordinators : TwoCoordinators
+pub returns-clause-too_few : goal.returns-clause-too_few
 unfolding by_place after fits fold greatest best_from those union_all report_self tell advance pass_over trim refresh settle refresh_at_end put_all finish best_of decide begin keep_vote give_up everywhere_else send_row done_row take_row join_row state_row leave_row reset_row ask_row give_up_row tick_row request_row ack_row nack_row spread_row bcast_row order_row accept_row hold_row join_ask_row welcome_row leave_ask_row gone_row invite_row vote_row fetch_row piece_row result_row hand_over_row hear_row row step refused unchanged stepped happens happen is_complete is_lawful greatest_complete last_outcome watch watch_all running hearings_from waves rounds settle_events sent_from lines_from told_of set_of
-two_coordinators = refl
+returns-clause-too_few c = refl
 
-pub window_of_one : WindowOfOne
+pub returns-clause-two_coordinators : goal.returns-clause-two_coordinators
 unfolding by_place after fits fold greatest best_from those union_all report_self tell advance pass_over trim refresh settle refresh_at_end put_all finish best_of decide begin keep_vote give_up everywhere_else send_row done_row take_row join_row state_row leave_row reset_row ask_row give_up_row tick_row request_row ack_row nack_row spread_row bcast_row order_row accept_row hold_row join_ask_row welcome_row leave_ask_row gone_row invite_row vote_row fetch_row piece_row result_row hand_over_row hear_row row step refused unchanged stepped happens happen is_complete is_lawful greatest_complete last_outcome watch watch_all running hearings_from waves rounds settle_events sent_from lines_from told_of set_of
-window_of_one = refl
+returns-clause-two_coordinators c = refl
+
+pub returns-clause-window_of_one : goal.returns-clause-window_of_one
+unfolding by_place after fits fold greatest best_from those union_all report_self tell advance pass_over trim refresh settle refresh_at_end put_all finish best_of decide begin keep_vote give_up everywhere_else send_row done_row take_row join_row state_row leave_row reset_row ask_row give_up_row tick_row request_row ack_row nack_row spread_row bcast_row order_row accept_row hold_row join_ask_row welcome_row leave_ask_row gone_row invite_row vote_row fetch_row piece_row result_row hand_over_row hear_row row step refused unchanged stepped happens happen is_complete is_lawful greatest_complete last_outcome watch watch_all running hearings_from waves rounds settle_events sent_from lines_from told_of set_of
+returns-clause-window_of_one c = refl

@@ -1,5 +1,5 @@
 -- What these runs tell, by computing. Written by tools/rows.py.
-use Rattle.std.proofs.Common.{◌≡◌, refl}
+use Rattle.std.proofs.Common.{refl}
 use Rattle.am_base.specs.Names.{by_place}
 use Rattle.am_base.specs.Lists.{after, fits, fold}
 use Rattle.am_base.specs.Fronts.{greatest}
@@ -20,32 +20,32 @@ use Rattle.am_model.specs.World.{unchanged, stepped, happens, happen}
 use Rattle.am_model.specs.Lawful.{is_complete, is_lawful, greatest_complete, last_outcome, watch, watch_all}
 use Rattle.am_model.specs.Settle.{running, hearings_from, waves, rounds, settle_events}
 use Rattle.am_rows.specs.Told.{sent_from, lines_from, told_of, set_of}
-use Rattle.am_rows.specs.StopTable.{StopsAfterTheAcknowledgment, StopsAfterTheEmptyTake, StopsAfterTheFirstTake, StopsAfterTheSecondTake, StopsAfterTheSend, StopsAfterTheStoring, StopsBeforeAnything}
+use Rattle.am_rows.proofs.stop_table.told.Goals as goal
 
-pub stops_after_the_acknowledgment : StopsAfterTheAcknowledgment
+pub returns-clause-stops_after_the_acknowledgment : goal.returns-clause-stops_after_the_acknowledgment
 unfolding by_place after fits fold greatest best_from those union_all report_self tell advance pass_over trim refresh settle refresh_at_end put_all finish best_of decide begin keep_vote give_up everywhere_else send_row done_row take_row join_row state_row leave_row reset_row ask_row give_up_row tick_row request_row ack_row nack_row spread_row bcast_row order_row accept_row hold_row join_ask_row welcome_row leave_ask_row gone_row invite_row vote_row fetch_row piece_row result_row hand_over_row hear_row row step refused unchanged stepped happens happen is_complete is_lawful greatest_complete last_outcome watch watch_all running hearings_from waves rounds settle_events sent_from lines_from told_of set_of
-stops_after_the_acknowledgment = refl
+returns-clause-stops_after_the_acknowledgment c = refl
 
-pub stops_after_the_empty_take : StopsAfterTheEmptyTake
+pub returns-clause-stops_after_the_empty_take : goal.returns-clause-stops_after_the_empty_take
 unfolding by_place after fits fold greatest best_from those union_all report_self tell advance pass_over trim refresh settle refresh_at_end put_all finish best_of decide begin keep_vote give_up everywhere_else send_row done_row take_row join_row state_row leave_row reset_row ask_row give_up_row tick_row request_row ack_row nack_row spread_row bcast_row order_row accept_row hold_row join_ask_row welcome_row leave_ask_row gone_row invite_row vote_row fetch_row piece_row result_row hand_over_row hear_row row step refused unchanged stepped happens happen is_complete is_lawful greatest_complete last_outcome watch watch_all running hearings_from waves rounds settle_events sent_from lines_from told_of set_of
-stops_after_the_empty_take = refl
+returns-clause-stops_after_the_empty_take c = refl
 
-pub stops_after_the_first_take : StopsAfterTheFirstTake
+pub returns-clause-stops_after_the_first_take : goal.returns-clause-stops_after_the_first_take
 unfolding by_place after fits fold greatest best_from those union_all report_self tell advance pass_over trim refresh settle refresh_at_end put_all finish best_of decide begin keep_vote give_up everywhere_else send_row done_row take_row join_row state_row leave_row reset_row ask_row give_up_row tick_row request_row ack_row nack_row spread_row bcast_row order_row accept_row hold_row join_ask_row welcome_row leave_ask_row gone_row invite_row vote_row fetch_row piece_row result_row hand_over_row hear_row row step refused unchanged stepped happens happen is_complete is_lawful greatest_complete last_outcome watch watch_all running hearings_from waves rounds settle_events sent_from lines_from told_of set_of
-stops_after_the_first_take = refl
+returns-clause-stops_after_the_first_take c = refl
 
-pub stops_after_the_second_take : StopsAfterTheSecondTake
+pub returns-clause-stops_after_the_second_take : goal.returns-clause-stops_after_the_second_take
 unfolding by_place after fits fold greatest best_from those union_all report_self tell advance pass_over trim refresh settle refresh_at_end put_all finish best_of decide begin keep_vote give_up everywhere_else send_row done_row take_row join_row state_row leave_row reset_row ask_row give_up_row tick_row request_row ack_row nack_row spread_row bcast_row order_row accept_row hold_row join_ask_row welcome_row leave_ask_row gone_row invite_row vote_row fetch_row piece_row result_row hand_over_row hear_row row step refused unchanged stepped happens happen is_complete is_lawful greatest_complete last_outcome watch watch_all running hearings_from waves rounds settle_events sent_from lines_from told_of set_of
-stops_after_the_second_take = refl
+returns-clause-stops_after_the_second_take c = refl
 
-pub stops_after_the_send : StopsAfterTheSend
+pub returns-clause-stops_after_the_send : goal.returns-clause-stops_after_the_send
 unfolding by_place after fits fold greatest best_from those union_all report_self tell advance pass_over trim refresh settle refresh_at_end put_all finish best_of decide begin keep_vote give_up everywhere_else send_row done_row take_row join_row state_row leave_row reset_row ask_row give_up_row tick_row request_row ack_row nack_row spread_row bcast_row order_row accept_row hold_row join_ask_row welcome_row leave_ask_row gone_row invite_row vote_row fetch_row piece_row result_row hand_over_row hear_row row step refused unchanged stepped happens happen is_complete is_lawful greatest_complete last_outcome watch watch_all running hearings_from waves rounds settle_events sent_from lines_from told_of set_of
-stops_after_the_send = refl
+returns-clause-stops_after_the_send c = refl
 
-pub stops_after_the_storing : StopsAfterTheStoring
+pub returns-clause-stops_after_the_storing : goal.returns-clause-stops_after_the_storing
 unfolding by_place after fits fold greatest best_from those union_all report_self tell advance pass_over trim refresh settle refresh_at_end put_all finish best_of decide begin keep_vote give_up everywhere_else send_row done_row take_row join_row state_row leave_row reset_row ask_row give_up_row tick_row request_row ack_row nack_row spread_row bcast_row order_row accept_row hold_row join_ask_row welcome_row leave_ask_row gone_row invite_row vote_row fetch_row piece_row result_row hand_over_row hear_row row step refused unchanged stepped happens happen is_complete is_lawful greatest_complete last_outcome watch watch_all running hearings_from waves rounds settle_events sent_from lines_from told_of set_of
-stops_after_the_storing = refl
+returns-clause-stops_after_the_storing c = refl
 
-pub stops_before_anything : StopsBeforeAnything
+pub returns-clause-stops_before_anything : goal.returns-clause-stops_before_anything
 unfolding by_place after fits fold greatest best_from those union_all report_self tell advance pass_over trim refresh settle refresh_at_end put_all finish best_of decide begin keep_vote give_up everywhere_else send_row done_row take_row join_row state_row leave_row reset_row ask_row give_up_row tick_row request_row ack_row nack_row spread_row bcast_row order_row accept_row hold_row join_ask_row welcome_row leave_ask_row gone_row invite_row vote_row fetch_row piece_row result_row hand_over_row hear_row row step refused unchanged stepped happens happen is_complete is_lawful greatest_complete last_outcome watch watch_all running hearings_from waves rounds settle_events sent_from lines_from told_of set_of
-stops_before_anything = refl
+returns-clause-stops_before_anything c = refl

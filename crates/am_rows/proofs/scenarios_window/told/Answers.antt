@@ -1,5 +1,5 @@
 -- What these runs tell, by computing. Written by tools/rows.py.
-use Rattle.std.proofs.Common.{◌≡◌, refl}
+use Rattle.std.proofs.Common.{refl}
 use Rattle.am_base.specs.Names.{by_place}
 use Rattle.am_base.specs.Lists.{after, fits, fold}
 use Rattle.am_base.specs.Fronts.{greatest}
@@ -20,44 +20,44 @@ use Rattle.am_model.specs.World.{unchanged, stepped, happens, happen}
 use Rattle.am_model.specs.Lawful.{is_complete, is_lawful, greatest_complete, last_outcome, watch, watch_all}
 use Rattle.am_model.specs.Settle.{running, hearings_from, waves, rounds, settle_events}
 use Rattle.am_rows.specs.Told.{sent_from, lines_from, told_of, set_of}
-use Rattle.am_rows.specs.ScenariosMoves.{Moves1, Moves10, Moves2, Moves3, Moves4, Moves5, Moves6, Moves7, Moves8, Moves9}
+use Rattle.am_rows.proofs.scenarios_window.told.Goals as goal
 
-pub moves_1 : Moves1
+pub returns-clause-window_1 : goal.returns-clause-window_1
 unfolding by_place after fits fold greatest best_from those union_all report_self tell advance pass_over trim refresh settle refresh_at_end put_all finish best_of decide begin keep_vote give_up everywhere_else send_row done_row take_row join_row state_row leave_row reset_row ask_row give_up_row tick_row request_row ack_row nack_row spread_row bcast_row order_row accept_row hold_row join_ask_row welcome_row leave_ask_row gone_row invite_row vote_row fetch_row piece_row result_row hand_over_row hear_row row step refused unchanged stepped happens happen is_complete is_lawful greatest_complete last_outcome watch watch_all running hearings_from waves rounds settle_events sent_from lines_from told_of set_of
-moves_1 = refl
+returns-clause-window_1 c = refl
 
-pub moves_10 : Moves10
+pub returns-clause-window_10 : goal.returns-clause-window_10
 unfolding by_place after fits fold greatest best_from those union_all report_self tell advance pass_over trim refresh settle refresh_at_end put_all finish best_of decide begin keep_vote give_up everywhere_else send_row done_row take_row join_row state_row leave_row reset_row ask_row give_up_row tick_row request_row ack_row nack_row spread_row bcast_row order_row accept_row hold_row join_ask_row welcome_row leave_ask_row gone_row invite_row vote_row fetch_row piece_row result_row hand_over_row hear_row row step refused unchanged stepped happens happen is_complete is_lawful greatest_complete last_outcome watch watch_all running hearings_from waves rounds settle_events sent_from lines_from told_of set_of
-moves_10 = refl
+returns-clause-window_10 c = refl
 
-pub moves_2 : Moves2
+pub returns-clause-window_2 : goal.returns-clause-window_2
 unfolding by_place after fits fold greatest best_from those union_all report_self tell advance pass_over trim refresh settle refresh_at_end put_all finish best_of decide begin keep_vote give_up everywhere_else send_row done_row take_row join_row state_row leave_row reset_row ask_row give_up_row tick_row request_row ack_row nack_row spread_row bcast_row order_row accept_row hold_row join_ask_row welcome_row leave_ask_row gone_row invite_row vote_row fetch_row piece_row result_row hand_over_row hear_row row step refused unchanged stepped happens happen is_complete is_lawful greatest_complete last_outcome watch watch_all running hearings_from waves rounds settle_events sent_from lines_from told_of set_of
-moves_2 = refl
+returns-clause-window_2 c = refl
 
-pub moves_3 : Moves3
+pub returns-clause-window_3 : goal.returns-clause-window_3
 unfolding by_place after fits fold greatest best_from those union_all report_self tell advance pass_over trim refresh settle refresh_at_end put_all finish best_of decide begin keep_vote give_up everywhere_else send_row done_row take_row join_row state_row leave_row reset_row ask_row give_up_row tick_row request_row ack_row nack_row spread_row bcast_row order_row accept_row hold_row join_ask_row welcome_row leave_ask_row gone_row invite_row vote_row fetch_row piece_row result_row hand_over_row hear_row row step refused unchanged stepped happens happen is_complete is_lawful greatest_complete last_outcome watch watch_all running hearings_from waves rounds settle_events sent_from lines_from told_of set_of
-moves_3 = refl
+returns-clause-window_3 c = refl
 
-pub moves_4 : Moves4
+pub returns-clause-window_4 : goal.returns-clause-window_4
 unfolding by_place after fits fold greatest best_from those union_all report_self tell advance pass_over trim refresh settle refresh_at_end put_all finish best_of decide begin keep_vote give_up everywhere_else send_row done_row take_row join_row state_row leave_row reset_row ask_row give_up_row tick_row request_row ack_row nack_row spread_row bcast_row order_row accept_row hold_row join_ask_row welcome_row leave_ask_row gone_row invite_row vote_row fetch_row piece_row result_row hand_over_row hear_row row step refused unchanged stepped happens happen is_complete is_lawful greatest_complete last_outcome watch watch_all running hearings_from waves rounds settle_events sent_from lines_from told_of set_of
-moves_4 = refl
+returns-clause-window_4 c = refl
 
-pub moves_5 : Moves5
+pub returns-clause-window_5 : goal.returns-clause-window_5
 unfolding by_place after fits fold greatest best_from those union_all report_self tell advance pass_over trim refresh settle refresh_at_end put_all finish best_of decide begin keep_vote give_up everywhere_else send_row done_row take_row join_row state_row leave_row reset_row ask_row give_up_row tick_row request_row ack_row nack_row spread_row bcast_row order_row accept_row hold_row join_ask_row welcome_row leave_ask_row gone_row invite_row vote_row fetch_row piece_row result_row hand_over_row hear_row row step refused unchanged stepped happens happen is_complete is_lawful greatest_complete last_outcome watch watch_all running hearings_from waves rounds settle_events sent_from lines_from told_of set_of
-moves_5 = refl
+returns-clause-window_5 c = refl
 
-pub moves_6 : Moves6
+pub returns-clause-window_6 : goal.returns-clause-window_6
 unfolding by_place after fits fold greatest best_from those union_all report_self tell advance pass_over trim refresh settle refresh_at_end put_all finish best_of decide begin keep_vote give_up everywhere_else send_row done_row take_row join_row state_row leave_row reset_row ask_row give_up_row tick_row request_row ack_row nack_row spread_row bcast_row order_row accept_row hold_row join_ask_row welcome_row leave_ask_row gone_row invite_row vote_row fetch_row piece_row result_row hand_over_row hear_row row step refused unchanged stepped happens happen is_complete is_lawful greatest_complete last_outcome watch watch_all running hearings_from waves rounds settle_events sent_from lines_from told_of set_of
-moves_6 = refl
+returns-clause-window_6 c = refl
 
-pub moves_7 : Moves7
+pub returns-clause-window_7 : goal.returns-clause-window_7
 unfolding by_place after fits fold greatest best_from those union_all report_self tell advance pass_over trim refresh settle refresh_at_end put_all finish best_of decide begin keep_vote give_up everywhere_else send_row done_row take_row join_row state_row leave_row reset_row ask_row give_up_row tick_row request_row ack_row nack_row spread_row bcast_row order_row accept_row hold_row join_ask_row welcome_row leave_ask_row gone_row invite_row vote_row fetch_row piece_row result_row hand_over_row hear_row row step refused unchanged stepped happens happen is_complete is_lawful greatest_complete last_outcome watch watch_all running hearings_from waves rounds settle_events sent_from lines_from told_of set_of
-moves_7 = refl
+returns-clause-window_7 c = refl
 
-pub moves_8 : Moves8
+pub returns-clause-window_8 : goal.returns-clause-window_8
 unfolding by_place after fits fold greatest best_from those union_all report_self tell advance pass_over trim refresh settle refresh_at_end put_all finish best_of decide begin keep_vote give_up everywhere_else send_row done_row take_row join_row state_row leave_row reset_row ask_row give_up_row tick_row request_row ack_row nack_row spread_row bcast_row order_row accept_row hold_row join_ask_row welcome_row leave_ask_row gone_row invite_row vote_row fetch_row piece_row result_row hand_over_row hear_row row step refused unchanged stepped happens happen is_complete is_lawful greatest_complete last_outcome watch watch_all running hearings_from waves rounds settle_events sent_from lines_from told_of set_of
-moves_8 = refl
+returns-clause-window_8 c = refl
 
-pub moves_9 : Moves9
+pub returns-clause-window_9 : goal.returns-clause-window_9
 unfolding by_place after fits fold greatest best_from those union_all report_self tell advance pass_over trim refresh settle refresh_at_end put_all finish best_of decide begin keep_vote give_up everywhere_else send_row done_row take_row join_row state_row leave_row reset_row ask_row give_up_row tick_row request_row ack_row nack_row spread_row bcast_row order_row accept_row hold_row join_ask_row welcome_row leave_ask_row gone_row invite_row vote_row fetch_row piece_row result_row hand_over_row hear_row row step refused unchanged stepped happens happen is_complete is_lawful greatest_complete last_outcome watch watch_all running hearings_from waves rounds settle_events sent_from lines_from told_of set_of
-moves_9 = refl
+returns-clause-window_9 c = refl

@@ -1,5 +1,5 @@
 -- What these runs tell, by computing. Written by tools/rows.py.
-use Rattle.std.proofs.Common.{◌≡◌, refl}
+use Rattle.std.proofs.Common.{refl}
 use Rattle.am_base.specs.Names.{by_place}
 use Rattle.am_base.specs.Lists.{after, fits, fold}
 use Rattle.am_base.specs.Fronts.{greatest}
@@ -20,44 +20,44 @@ use Rattle.am_model.specs.World.{unchanged, stepped, happens, happen}
 use Rattle.am_model.specs.Lawful.{is_complete, is_lawful, greatest_complete, last_outcome, watch, watch_all}
 use Rattle.am_model.specs.Settle.{running, hearings_from, waves, rounds, settle_events}
 use Rattle.am_rows.specs.Told.{sent_from, lines_from, told_of, set_of}
-use Rattle.am_rows.specs.ScenariosLives.{Lives1, Lives10, Lives2, Lives3, Lives4, Lives5, Lives6, Lives7, Lives8, Lives9}
+use Rattle.am_rows.proofs.scenarios_first.told.Goals as goal
 
-pub lives_1 : Lives1
+pub returns-clause-first_1 : goal.returns-clause-first_1
 unfolding by_place after fits fold greatest best_from those union_all report_self tell advance pass_over trim refresh settle refresh_at_end put_all finish best_of decide begin keep_vote give_up everywhere_else send_row done_row take_row join_row state_row leave_row reset_row ask_row give_up_row tick_row request_row ack_row nack_row spread_row bcast_row order_row accept_row hold_row join_ask_row welcome_row leave_ask_row gone_row invite_row vote_row fetch_row piece_row result_row hand_over_row hear_row row step refused unchanged stepped happens happen is_complete is_lawful greatest_complete last_outcome watch watch_all running hearings_from waves rounds settle_events sent_from lines_from told_of set_of
-lives_1 = refl
+returns-clause-first_1 c = refl
 
-pub lives_10 : Lives10
+pub returns-clause-first_10 : goal.returns-clause-first_10
 unfolding by_place after fits fold greatest best_from those union_all report_self tell advance pass_over trim refresh settle refresh_at_end put_all finish best_of decide begin keep_vote give_up everywhere_else send_row done_row take_row join_row state_row leave_row reset_row ask_row give_up_row tick_row request_row ack_row nack_row spread_row bcast_row order_row accept_row hold_row join_ask_row welcome_row leave_ask_row gone_row invite_row vote_row fetch_row piece_row result_row hand_over_row hear_row row step refused unchanged stepped happens happen is_complete is_lawful greatest_complete last_outcome watch watch_all running hearings_from waves rounds settle_events sent_from lines_from told_of set_of
-lives_10 = refl
+returns-clause-first_10 c = refl
 
-pub lives_2 : Lives2
+pub returns-clause-first_2 : goal.returns-clause-first_2
 unfolding by_place after fits fold greatest best_from those union_all report_self tell advance pass_over trim refresh settle refresh_at_end put_all finish best_of decide begin keep_vote give_up everywhere_else send_row done_row take_row join_row state_row leave_row reset_row ask_row give_up_row tick_row request_row ack_row nack_row spread_row bcast_row order_row accept_row hold_row join_ask_row welcome_row leave_ask_row gone_row invite_row vote_row fetch_row piece_row result_row hand_over_row hear_row row step refused unchanged stepped happens happen is_complete is_lawful greatest_complete last_outcome watch watch_all running hearings_from waves rounds settle_events sent_from lines_from told_of set_of
-lives_2 = refl
+returns-clause-first_2 c = refl
 
-pub lives_3 : Lives3
+pub returns-clause-first_3 : goal.returns-clause-first_3
 unfolding by_place after fits fold greatest best_from those union_all report_self tell advance pass_over trim refresh settle refresh_at_end put_all finish best_of decide begin keep_vote give_up everywhere_else send_row done_row take_row join_row state_row leave_row reset_row ask_row give_up_row tick_row request_row ack_row nack_row spread_row bcast_row order_row accept_row hold_row join_ask_row welcome_row leave_ask_row gone_row invite_row vote_row fetch_row piece_row result_row hand_over_row hear_row row step refused unchanged stepped happens happen is_complete is_lawful greatest_complete last_outcome watch watch_all running hearings_from waves rounds settle_events sent_from lines_from told_of set_of
-lives_3 = refl
+returns-clause-first_3 c = refl
 
-pub lives_4 : Lives4
+pub returns-clause-first_4 : goal.returns-clause-first_4
 unfolding by_place after fits fold greatest best_from those union_all report_self tell advance pass_over trim refresh settle refresh_at_end put_all finish best_of decide begin keep_vote give_up everywhere_else send_row done_row take_row join_row state_row leave_row reset_row ask_row give_up_row tick_row request_row ack_row nack_row spread_row bcast_row order_row accept_row hold_row join_ask_row welcome_row leave_ask_row gone_row invite_row vote_row fetch_row piece_row result_row hand_over_row hear_row row step refused unchanged stepped happens happen is_complete is_lawful greatest_complete last_outcome watch watch_all running hearings_from waves rounds settle_events sent_from lines_from told_of set_of
-lives_4 = refl
+returns-clause-first_4 c = refl
 
-pub lives_5 : Lives5
+pub returns-clause-first_5 : goal.returns-clause-first_5
 unfolding by_place after fits fold greatest best_from those union_all report_self tell advance pass_over trim refresh settle refresh_at_end put_all finish best_of decide begin keep_vote give_up everywhere_else send_row done_row take_row join_row state_row leave_row reset_row ask_row give_up_row tick_row request_row ack_row nack_row spread_row bcast_row order_row accept_row hold_row join_ask_row welcome_row leave_ask_row gone_row invite_row vote_row fetch_row piece_row result_row hand_over_row hear_row row step refused unchanged stepped happens happen is_complete is_lawful greatest_complete last_outcome watch watch_all running hearings_from waves rounds settle_events sent_from lines_from told_of set_of
-lives_5 = refl
+returns-clause-first_5 c = refl
 
-pub lives_6 : Lives6
+pub returns-clause-first_6 : goal.returns-clause-first_6
 unfolding by_place after fits fold greatest best_from those union_all report_self tell advance pass_over trim refresh settle refresh_at_end put_all finish best_of decide begin keep_vote give_up everywhere_else send_row done_row take_row join_row state_row leave_row reset_row ask_row give_up_row tick_row request_row ack_row nack_row spread_row bcast_row order_row accept_row hold_row join_ask_row welcome_row leave_ask_row gone_row invite_row vote_row fetch_row piece_row result_row hand_over_row hear_row row step refused unchanged stepped happens happen is_complete is_lawful greatest_complete last_outcome watch watch_all running hearings_from waves rounds settle_events sent_from lines_from told_of set_of
-lives_6 = refl
+returns-clause-first_6 c = refl
 
-pub lives_7 : Lives7
+pub returns-clause-first_7 : goal.returns-clause-first_7
 unfolding by_place after fits fold greatest best_from those union_all report_self tell advance pass_over trim refresh settle refresh_at_end put_all finish best_of decide begin keep_vote give_up everywhere_else send_row done_row take_row join_row state_row leave_row reset_row ask_row give_up_row tick_row request_row ack_row nack_row spread_row bcast_row order_row accept_row hold_row join_ask_row welcome_row leave_ask_row gone_row invite_row vote_row fetch_row piece_row result_row hand_over_row hear_row row step refused unchanged stepped happens happen is_complete is_lawful greatest_complete last_outcome watch watch_all running hearings_from waves rounds settle_events sent_from lines_from told_of set_of
-lives_7 = refl
+returns-clause-first_7 c = refl
 
-pub lives_8 : Lives8
+pub returns-clause-first_8 : goal.returns-clause-first_8
 unfolding by_place after fits fold greatest best_from those union_all report_self tell advance pass_over trim refresh settle refresh_at_end put_all finish best_of decide begin keep_vote give_up everywhere_else send_row done_row take_row join_row state_row leave_row reset_row ask_row give_up_row tick_row request_row ack_row nack_row spread_row bcast_row order_row accept_row hold_row join_ask_row welcome_row leave_ask_row gone_row invite_row vote_row fetch_row piece_row result_row hand_over_row hear_row row step refused unchanged stepped happens happen is_complete is_lawful greatest_complete last_outcome watch watch_all running hearings_from waves rounds settle_events sent_from lines_from told_of set_of
-lives_8 = refl
+returns-clause-first_8 c = refl
 
-pub lives_9 : Lives9
+pub returns-clause-first_9 : goal.returns-clause-first_9
 unfolding by_place after fits fold greatest best_from those union_all report_self tell advance pass_over trim refresh settle refresh_at_end put_all finish best_of decide begin keep_vote give_up everywhere_else send_row done_row take_row join_row state_row leave_row reset_row ask_row give_up_row tick_row request_row ack_row nack_row spread_row bcast_row order_row accept_row hold_row join_ask_row welcome_row leave_ask_row gone_row invite_row vote_row fetch_row piece_row result_row hand_over_row hear_row row step refused unchanged stepped happens happen is_complete is_lawful greatest_complete last_outcome watch watch_all running hearings_from waves rounds settle_events sent_from lines_from told_of set_of
-lives_9 = refl
+returns-clause-first_9 c = refl
