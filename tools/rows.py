@@ -32,7 +32,7 @@ use Rattle.am_model.specs.Resets.{invite_row, vote_row, fetch_row, piece_row, re
 use Rattle.am_model.specs.Hearing.{hear_row}
 use Rattle.am_model.specs.Step.{row, step, refused}
 use Rattle.am_model.specs.World.{unchanged, stepped, happens, happen}
-use Rattle.am_model.specs.Lawful.{is_complete, is_lawful, greatest_complete, last_outcome, watch, watch_all}
+use Rattle.am_model.specs.Lawful.{is_complete, is_lawful, greatest_complete, watch, watch_all}
 use Rattle.am_model.specs.Settle.{running, hearings_from, waves, rounds, settle_events}
 use Rattle.am_rows.specs.Told.{sent_from, lines_from, told_of, set_of}
 """

@@ -1,16 +1,19 @@
 -- What a run gave to its applications.
-use Rattle.std.specs.Prelude.{ℕ, ◌+◌, List, [], ◌∷◌, ◌++◌, Option, Some, None, Bool, true, false, ◌==◌, if◌then◌else◌}
+use Rattle.std.specs.Prelude.{ℕ, zero, suc, slice_get, List, [], ◌∷◌, Option, None, Bool, true, false, ◌==◌, if◌then◌else◌}
 use Rattle.std.specs.List.{flat_map}
 use Rattle.am_base.specs.declared.entry.Entry.{Entry}
 use Rattle.am_base.specs.declared.outcome.Outcome.{Outcome}
 use Rattle.am_base.specs.declared.outcome.Outcome.TheVariants as said
 use Rattle.am_base.specs.Names.{place_of, name_at}
 use Rattle.am_base.specs.Votes.{all_names}
-use Rattle.am_group.specs.declared.event.Event.{Event}
 use Rattle.am_model.specs.declared.status.Status.{Status}
 use Rattle.am_model.specs.declared.status.Status.TheVariants.{Stranger, Asking, Member, Departed}
-use Rattle.am_model.specs.Node.{Node}
 use Rattle.am_model.specs.World.{Made, World}
+
+-- the entry of a number, from 1
+abbrev pub entry_of : List Entry → ℕ → Option Entry
+entry_of entries zero = None
+entry_of entries (suc before) = slice_get entries before
 
 -- the name that did it
 abbrev pub name_of : Made → ℕ

@@ -1,31 +1,15 @@
 -- Which runs are lawful: between completed views at most as many stop as the resilience then in force.
-use Rattle.std.specs.Prelude.{ℕ, ◌+◌, ◌-◌, min, List, [], ◌∷◌, ◌++◌, length, take, filter, count_by, Option, Some, None, Bool, true, false, not, ◌&&◌, ◌||◌, ◌==◌, nat_lt, nat_le, if◌then◌else◌}
-use Rattle.std.specs.List.{list_any, list_all}
+use Rattle.std.specs.Prelude.{ℕ, ◌+◌, ◌-◌, min, List, [], ◌∷◌, ◌++◌, take, count_by, Option, Some, None, Bool, false, not, ◌&&◌, ◌||◌, nat_lt, nat_le, if◌then◌else◌}
+use Rattle.std.specs.List.{list_any}
 use Rattle.am_base.specs.declared.name.Stamp.{Stamp}
 use Rattle.am_base.specs.declared.entry.Entry.{Entry}
 use Rattle.am_base.specs.declared.entry.Entry.TheVariants.{Data, Join, Leave, View}
-use Rattle.am_base.specs.declared.outcome.Outcome.{Outcome}
-use Rattle.am_base.specs.declared.outcome.Outcome.TheVariants as said
-use Rattle.am_base.specs.Names.{place_of, has, size, names_of}
+use Rattle.am_base.specs.Names.{has, size, names_of}
 use Rattle.am_base.specs.Stamps.{stamp_lt, stamp_eq}
 use Rattle.am_base.specs.Founding.{Rules}
 use Rattle.am_group.specs.declared.event.Event.{Event}
-use Rattle.am_model.specs.Node.{Core, Node, told, view, members, founding_stamp}
-use Rattle.am_model.specs.World.{Made, World, start, current, is_stopped, has_departed, happens}
-
--- a view that was decided: its number and what its View says
-pub record Decided : Type 0 where
-  pub number : ℕ
-  pub stamp : Stamp
-  pub members : List ℕ
-  pub resilience : ℕ
-
-abbrev pub founders_decided : Rules → Decided
-founders_decided rules = record { number = 1; stamp = founding_stamp rules; members = rules.founders; resilience = rules.resilience }
-
--- the view of a node that has just decided it
-abbrev pub just_decided : Node → Decided
-just_decided m = record { number = (told m).view_number; stamp = view m; members = members m; resilience = (told m).resilience }
+use Rattle.am_model.specs.Node.{Node, view}
+use Rattle.am_model.specs.World.{Decided, World, start, founders_decided, is_stopped, has_departed, happens}
 
 -- ---- stored and complete
 
@@ -66,56 +50,35 @@ is_lost w v name = counts w v name && not (has_departed (w.nodes name).status)
 unfoldable pub is_lawful : World → Decided → Bool
 is_lawful w v = nat_le (count_by (is_lost w v) w.stopped) v.resilience
 
--- a run that is watched: the greatest complete view, the greater ones that aren't complete yet, how many events there
--- were, and the first after which it wasn't lawful
+-- a run that is watched: the greatest complete view, how many events there were, and the number of the first after which
+-- the run wasn't lawful
 pub record Watch : Type 0 where
   pub world : World
   pub complete : Decided
-  pub pending : List Decided
   pub count : ℕ
   pub broken : Option ℕ
 
 abbrev pub watch_start : Rules → Watch
-watch_start rules = record { world = start rules; complete = founders_decided rules; pending = []; count = 0; broken = None }
+watch_start rules = record { world = start rules; complete = founders_decided rules; count = 0; broken = None }
 
 -- the greater of a view and of another that is complete
 abbrev pub greater_complete : World → Decided → Decided → Decided
-greater_complete w best v = if stamp_lt best.stamp v.stamp then (if is_complete w v then v else best) else best
+greater_complete w best v = if stamp_lt best.stamp v.stamp && is_complete w v then v else best
 
 unfoldable pub greatest_complete : World → Decided → List Decided → Decided
 greatest_complete w best [] = best
 greatest_complete w best (v ∷ vs) = greatest_complete w (greater_complete w best v) vs
 
--- what an outcome decides
-abbrev pub decided_by : Node → Outcome → List Decided
-decided_by m (said.Decided number names) = just_decided m ∷ []
-decided_by m _ = []
-
-unfoldable pub last_outcome : List Made → Outcome
-last_outcome [] = said.Idle
-last_outcome (r ∷ []) = r.outcome
-last_outcome (r ∷ (q ∷ rs)) = last_outcome (q ∷ rs)
-
 abbrev pub broken_now : World → Decided → ℕ → Option ℕ → Option ℕ
 broken_now w v count (Some k) = Some k
 broken_now w v count None = if is_lawful w v then None else Some count
 
--- the world after an event, looked at with the views that are open then
-abbrev pub looked : Watch → World → List Decided → Watch
-looked s w open_ =
-    let best = greatest_complete w s.complete open_ in
-    record {
-      world = w;
-      complete = best;
-      pending = filter (λ v. stamp_lt best.stamp v.stamp) open_;
-      count = s.count + 1;
-      broken = broken_now w best (s.count + 1) s.broken;
-    }
+-- the world after an event, where this view is the greatest complete one
+abbrev pub looked : Watch → World → Decided → Watch
+looked s w best = record { world = w; complete = best; count = s.count + 1; broken = broken_now w best (s.count + 1) s.broken }
 
 unfoldable pub watch : Watch → Event → Watch
-watch s e =
-    let w = happens s.world e in
-    looked s w (s.pending ++ decided_by (w.nodes (current s.world (place_of e.node))) (last_outcome w.made))
+watch s e = let w = happens s.world e in looked s w (greatest_complete w s.complete w.views)
 
 unfoldable pub watch_all : Watch → List Event → Watch
 watch_all s [] = s

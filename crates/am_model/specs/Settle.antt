@@ -1,5 +1,5 @@
 -- The lossless schedule: rounds in which everybody ticks, and hears what comes of it in five waves.
-use Rattle.std.specs.Prelude.{ℕ, zero, suc, ◌+◌, ◌-◌, ◌*◌, ◌/◌, List, [], ◌∷◌, ◌++◌, length, drop, map, filter, flat_map, not, if◌then◌else◌}
+use Rattle.std.specs.Prelude.{ℕ, zero, suc, ◌+◌, ◌/◌, List, [], ◌∷◌, ◌++◌, length, drop, map, filter, not}
 use Rattle.std.specs.List.{range_with_len}
 use Rattle.am_base.specs.Founding.{Rules}
 use Rattle.am_packet.specs.declared.letter.Letter.{Letter}

@@ -2,6 +2,7 @@
 use Rattle.std.specs.Prelude.{ℕ, zero, suc, ◌+◌, ◌-◌, List, [], ◌∷◌, ◌++◌, length, take, drop, Option, Some, None, Bool, true, false, not, ◌||◌, ◌==◌, nat_lt, nat_le, if◌then◌else◌, slice_get, slice_index}
 use Rattle.std.specs.List.{list_any}
 use Rattle.am_base.specs.declared.entry.Entry.{Entry}
+use Rattle.am_base.specs.declared.name.Stamp.{Stamp}
 use Rattle.am_base.specs.declared.outcome.Outcome.{Outcome}
 use Rattle.am_base.specs.declared.outcome.Outcome.TheVariants as said
 use Rattle.am_base.specs.Names.{place_of, name_at, has}
@@ -15,7 +16,7 @@ use Rattle.am_group.specs.declared.event.Act.TheVariants as act
 use Rattle.am_group.specs.declared.event.Event.{Event}
 use Rattle.am_model.specs.declared.status.Status.{Status}
 use Rattle.am_model.specs.declared.status.Status.TheVariants.{Stranger, Asking, Member, Departed}
-use Rattle.am_model.specs.Node.{Core, Node, view, set_at, founder, stranger, founders_view}
+use Rattle.am_model.specs.Node.{Core, Node, told, view, members, set_at, founder, stranger, founding_stamp, founders_view}
 use Rattle.am_model.specs.Emit.{Step}
 use Rattle.am_model.specs.Step.{step, refused}
 use Rattle.am_model.specs.Lengths.{packet_length}
@@ -27,7 +28,15 @@ pub record Made : Type 0 where
   pub outcome : Outcome
   pub letters : List Letter
 
--- each place's current life, each name's node, who has stopped, all letters in order, all that was made, the group list
+-- a view that was decided: its number, and what its View says
+pub record Decided : Type 0 where
+  pub number : ℕ
+  pub stamp : Stamp
+  pub members : List ℕ
+  pub resilience : ℕ
+
+-- each place's current life, each name's node, who has stopped, all letters in order, all that was made, the group list,
+-- and the views that were decided, the founders' first
 pub record World : Type 0 where
   pub lives : ℕ → ℕ
   pub nodes : ℕ → Node
@@ -35,12 +44,16 @@ pub record World : Type 0 where
   pub letters : List Letter
   pub made : List Made
   pub group : List Entry
+  pub views : List Decided
 
 -- ---- the start
 
 -- the founders are members, and every other name is a stranger that no one has seen
 abbrev pub first_node : Rules → ℕ → Node
 first_node rules name = if has rules.founders name then founder rules name else stranger rules name
+
+abbrev pub founders_decided : Rules → Decided
+founders_decided rules = record { number = 1; stamp = founding_stamp rules; members = rules.founders; resilience = rules.resilience }
 
 abbrev pub start : Rules → World
 start rules = record {
@@ -50,6 +63,7 @@ start rules = record {
   letters = [];
   made = [];
   group = founders_view rules ∷ [];
+  views = founders_decided rules ∷ [];
 }
 
 -- ---- what a world tells
@@ -87,6 +101,16 @@ grown group core = group ++ take (core.acc - length group) (drop (length group -
 abbrev pub group_after : List Entry → Node → List Entry
 group_after group m = if (view m).by == m.core.who then grown group m.core else group
 
+-- ---- decided views
+
+-- the view of a node that has just decided it
+abbrev pub own_view : Node → Decided
+own_view m = record { number = (told m).view_number; stamp = view m; members = members m; resilience = (told m).resilience }
+
+abbrev pub views_after : List Decided → Node → Outcome → List Decided
+views_after views m (said.Decided number names) = views ++ own_view m ∷ []
+views_after views m _ = views
+
 -- ---- events
 
 -- an event that changes no node
@@ -102,6 +126,7 @@ stepped w e name s = record w {
   letters = w.letters ++ s.letters;
   made = w.made ++ record { event = e; life = w.lives (place_of e.node); outcome = s.outcome; letters = s.letters } ∷ [];
   group = group_after w.group s.node;
+  views = views_after w.views s.node s.outcome;
 }
 
 -- a node's own event, which a stopped one doesn't do
