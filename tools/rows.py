@@ -10,6 +10,7 @@ what they are.
 
 import json
 import os
+import re
 import sys
 
 KINDS = ("Request Spread Bcast Order Accept Ack Nack Hold JoinAsk Welcome LeaveAsk Gone Invite Vote Fetch Piece Result"
@@ -20,7 +21,7 @@ use Rattle.am_base.specs.Lists.{after, fits, fold}
 use Rattle.am_base.specs.Fronts.{greatest}
 use Rattle.am_base.specs.Votes.{best_from}
 use Rattle.am_model.specs.Node.{those}
-use Rattle.am_model.specs.Refresh.{union_all, report_self, tell, advance, pass_over, trim, refresh, settle, refresh_at_end}
+use Rattle.am_model.specs.Refresh.{union_all, advanced, lead, refresh, settle, refresh_at_end}
 use Rattle.am_model.specs.Emit.{put_all, finish}
 use Rattle.am_model.specs.Ballots.{best_of, decide, begin, keep_vote, give_up}
 use Rattle.am_model.specs.Calls.{everywhere_else, send_row, done_row, take_row, join_row, state_row, leave_row, reset_row, ask_row, give_up_row}
@@ -192,6 +193,28 @@ use Rattle.am_rows.specs.Told.{Told, Line, Sent, told, told_settled, set_of, fou
 """
 
 
+def used(head, text):
+    """The `use` lines of a head with the names alone that a text uses."""
+    lines = []
+    for line in head.strip().splitlines():
+        if "{" in line:
+            kept = [n for n in line[line.index("{") + 1:-1].split(", ") if is_used(n, text)]
+            if kept:
+                lines.append(line[:line.index("{") + 1] + ", ".join(kept) + "}")
+        elif is_used(line.split(" as ")[1] + ".", text):
+            lines.append(line)
+    return "\n".join(lines) + "\n"
+
+
+def is_used(name, text):
+    """Whether a text uses a name; an operator by its sign."""
+    if name.endswith("."):
+        return re.search(r"\b" + re.escape(name), text) is not None
+    if name in ("◌≡◌", "◌∷◌", "[]"):
+        return name.strip("◌") in text
+    return re.search(r"(?<![\w.])" + re.escape(name) + r"(?![\w])", text) is not None
+
+
 def write(path, text):
     """Writes a file, with its folders."""
     os.makedirs(os.path.dirname(path), exist_ok=True)
@@ -221,13 +244,14 @@ def main():
         module = titled(folder)
         with open(os.path.join(place, "about.txt")) as f:
             about = f.read().strip()
-        specs = ["-- Runs and what they tell. Written by tools/rows.py from %s/%s.\n" % (os.path.basename(cases), folder), SPECS_HEAD]
+        specs = ["-- Runs and what they tell. Written by tools/rows.py from %s/%s.\n" % (os.path.basename(cases), folder)]
         for case in found:
             with open(os.path.join(place, case + ".json")) as f:
                 script = json.load(f)
             with open(os.path.join(place, case + ".txt")) as f:
                 text = f.read()
             specs.append("\n" + statement(titled(case), script, text))
+        specs.insert(1, used(SPECS_HEAD, "".join(specs[1:])))
         source, answers = carrier(module, folder, about, found)
         write(os.path.join(out, "specs", module + ".antt"), "".join(specs))
         write(os.path.join(out, "src", folder + ".rt"), source)

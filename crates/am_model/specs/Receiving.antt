@@ -90,13 +90,13 @@ unfoldable pub order_row : Node → ℕ → ℕ → ℕ → ℕ → ℕ → ℕ 
 order_row m s base acc number from req = received (noted m base acc) s base number (data_of from req (body_of m from req)) (said.NoBody from req)
 
 -- how far the list is accepted, and with a poll a report
-abbrev pub advanced : Node → Node → ℕ → Bool → Plan
-advanced m old s poll = and_where (λ n. poll) (record (quiet m said.Known) { outcome = risen old said.Known (λ n. said.Advanced n.core.acc) }) (only_name s) ack_of
+abbrev pub accepted_to : Node → Node → ℕ → Bool → Plan
+accepted_to m old s poll = and_where (λ n. poll) (record (quiet m said.Known) { outcome = risen old said.Known (λ n. said.Advanced n.core.acc) }) (only_name s) ack_of
 
 unfoldable pub accept_row : Node → ℕ → ℕ → ℕ → ℕ → Bool → Plan
 accept_row m s base acc high poll =
     if nat_lt (top m) high && not (has_own_leave m) then telling (noted m base acc) (said.Gap (top m + 1)) (only_name s) nack_of
-    else advanced (noted m base acc) m s poll
+    else accepted_to (noted m base acc) m s poll
 
 -- the waiting send is put off
 abbrev pub held_up : Node → ℕ → ℕ → ℕ → Option Send → Plan

@@ -4,9 +4,9 @@ use Rattle.std.specs.List.{range_with_len}
 use Rattle.am_base.specs.declared.entry.Entry.{Entry}
 use Rattle.am_base.specs.declared.entry.Entry.TheVariants.{Data, Join, Leave, View}
 use Rattle.am_base.specs.Names.{nobody, names_of, union_of}
-use Rattle.am_base.specs.Lists.{members_at}
+use Rattle.am_base.specs.Lists.{top_of, members_at}
 use Rattle.am_base.specs.Fronts.{accept_front}
-use Rattle.am_model.specs.Node.{Node, Send, top, is_sequencer, report_of, with_report, trimmed, entries_above, is_settled}
+use Rattle.am_model.specs.Node.{Core, Node, Send, top, is_sequencer, report_of, with_report, trimmed, entries_above, is_settled}
 
 -- the least value of a function over names, where there is one
 abbrev pub least_from : (ℕ → ℕ) → ℕ → List ℕ → ℕ
@@ -26,38 +26,48 @@ union_all (set ∷ sets) = union_of set (union_all sets)
 abbrev pub concerned : Node → List ℕ
 concerned m = union_all (map (members_at m.core.log) (range_with_len m.core.acc (top m + 1 - m.core.acc)))
 
--- the sequencer's own report
-unfoldable pub report_self : Node → Node
-report_self m = if is_sequencer m then with_report m m.core.who (report_of m) else m
-
--- the sequencer finds how far the list is accepted
-unfoldable pub tell : Node → Node
-tell m = record m { core = record (m.core) { told = if is_sequencer m then accept_front m.reports m.core.log m.core.acc else m.core.told } }
-
--- what was told of what is stored is accepted
-unfoldable pub advance : Node → Node
-advance m = record m { core = record (m.core) { acc = max m.core.acc (min m.core.told (top m)) } }
+-- ---- what any member does
 
 -- a joiner passes over the entries below its Join
 abbrev pub passed_over : ℕ → ℕ → ℕ → ℕ
 passed_over taken acc start = if nat_lt taken (start - 1) then max taken (min acc (start - 1)) else taken
 
-unfoldable pub pass_over : Node → Node
-pass_over m = record m { core = record (m.core) { taken = passed_over m.core.taken m.core.acc m.core.start } }
+-- how far the list is known to be accepted: what was told of what is stored
+abbrev pub known_accepted : Core → ℕ
+known_accepted core = max core.acc (min core.told (top_of core.log))
 
--- the sequencer trims to what everybody concerned has taken
+unfoldable pub advanced : Core → Core
+advanced core = record core { acc = known_accepted core; taken = passed_over core.taken (known_accepted core) core.start }
+
+abbrev pub advance : Node → Node
+advance m = record m { core = advanced m.core }
+
+-- ---- what the sequencer does
+
+-- its own report
+abbrev pub report_self : Node → Node
+report_self m = with_report m m.core.who (report_of m)
+
+-- it finds how far the list is accepted
+abbrev pub tell : Node → Node
+tell m = record m { core = record (m.core) { told = accept_front m.reports m.core.log m.core.acc } }
+
 abbrev pub least_taken : Node → List ℕ → Option ℕ
 least_taken m set = least_of (λ name. (m.reports name).taken) (names_of set)
 
 abbrev pub least_stored : Node → List ℕ → Option ℕ
 least_stored m set = least_of (λ name. (m.reports name).stored) (names_of set)
 
-unfoldable pub trim : Node → Node
-trim m = trimmed m (if is_sequencer m then unwrap_or (least_taken m (concerned m)) m.core.base else m.core.base)
+-- it trims to what everybody concerned has taken
+abbrev pub trim : Node → Node
+trim m = trimmed m (unwrap_or (least_taken m (concerned m)) m.core.base)
+
+unfoldable pub lead : Node → Node
+lead m = trim (report_self (advance (tell (report_self m))))
 
 -- what a node does with what it knows
 unfoldable pub refresh : Node → Node
-refresh m = trim (report_self (pass_over (advance (tell (report_self m)))))
+refresh m = if is_sequencer m then lead m else advance m
 
 -- ---- the end of a step
 
