@@ -1,0 +1,4 @@
+pub mod Folds
+pub mod Greatest
+pub mod AcceptFronts
+pub mod Refreshes

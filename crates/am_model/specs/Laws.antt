@@ -1,0 +1,57 @@
+-- That the definitions mean what they say.
+use Rattle.std.specs.Prelude.{◌≡◌, ◌≢◌, ◌⊎◌, ℕ, zero, suc, ◌+◌, ◌-◌, ◌<◌, ◌≤◌, max, List, [], ◌∷◌, ◌++◌, length, Option, Some, None, Bool, true, false, nat_le, if◌then◌else◌}
+use Rattle.am_base.specs.declared.image.Image.{Image}
+use Rattle.am_base.specs.declared.image.Report.{Report}
+use Rattle.am_base.specs.declared.image.Vote.{Vote}
+use Rattle.am_base.specs.declared.entry.Entry.{Entry}
+use Rattle.am_base.specs.Names.{name_lt}
+use Rattle.am_base.specs.Lists.{Log, top_of, told_by, fold}
+use Rattle.am_base.specs.Fronts.{is_held, is_satisfied, accept_front}
+use Rattle.am_base.specs.Votes.{Shown, vote_lt, best_vote}
+use Rattle.am_packet.specs.declared.event.NodeEvent.{NodeEvent}
+use Rattle.am_model.specs.Node.{Node}
+use Rattle.am_model.specs.Refresh.{refresh}
+use Rattle.am_model.specs.Emit.{Step}
+use Rattle.am_model.specs.Step.{step}
+
+-- a list that goes on tells what its beginning tells, and then the rest
+abbrev pub FoldGoesOn : Type 0
+FoldGoesOn = (image : Image) (number : ℕ) (xs ys : List Entry) → fold image number (xs ++ ys) ≡ fold (fold image number xs) (number + length xs) ys
+
+-- a second refresh in a row changes nothing
+abbrev pub RefreshOnce : Type 0
+RefreshOnce = (m : Node) → refresh (refresh m) ≡ refresh m
+
+-- ---- the accept front
+
+-- each entry above what is accepted is satisfied up to here
+abbrev pub AllSatisfied : (ℕ → Report) → Log → ℕ → ℕ → Type 0
+AllSatisfied reports log acc front = (number : ℕ) → acc < number → number ≤ front → is_satisfied reports log front number ≡ true
+
+-- the greatest number up to which all is satisfied
+pub record IsGreatestFront (reports : ℕ → Report) (log : Log) (acc front : ℕ) : Type 0 where
+  pub least : acc ≤ front
+  pub most : front ≤ max acc (top_of log)
+  pub satisfied : AllSatisfied reports log acc front
+  pub greatest : (higher : ℕ) → acc ≤ higher → higher ≤ top_of log → AllSatisfied reports log acc higher → higher ≤ front
+
+abbrev pub AcceptFrontIsGreatest : Type 0
+AcceptFrontIsGreatest = (reports : ℕ → Report) (log : Log) (acc : ℕ) → IsGreatestFront reports log acc (accept_front reports log acc)
+
+-- as far up as each entry in turn passes, so many at most
+unfoldable pub climb : (ℕ → Bool) → ℕ → ℕ → ℕ
+climb passes from zero = from
+climb passes from (suc more) = if passes (from + 1) then climb passes (from + 1) more else from
+
+-- from below the last View, which has to be reached
+abbrev pub climb_over : (ℕ → Bool) → ℕ → ℕ → ℕ → ℕ
+climb_over passes view acc top = if nat_le view (climb passes (view - 1) (top - (view - 1))) then climb passes (view - 1) (top - (view - 1)) else acc
+
+-- the walk upwards: entry by entry from what is accepted on, or from the last View where that is higher
+abbrev pub walk : (ℕ → Report) → Log → ℕ → ℕ
+walk reports log acc =
+    if nat_le (told_by log).view_number acc then climb (is_held reports log) acc (top_of log - acc)
+    else climb_over (is_held reports log) (told_by log).view_number acc (top_of log)
+
+abbrev pub AcceptFrontByWalking : Type 0
+AcceptFrontByWalking = (reports : ℕ → Report) (log : Log) (acc : ℕ) → accept_front reports log acc ≡ walk reports log acc
