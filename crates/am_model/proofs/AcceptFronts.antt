@@ -1,13 +1,12 @@
 -- The accept front is the greatest, and the walk upwards gives it.
-use Rattle.std.proofs.Common.{◌≡◌, ℕ, zero, suc, ◌+◌, ◌-◌, ◌<◌, ◌≤◌, ◌⊎◌, max, Bool, true, false, ◌&&◌, if◌then◌else◌, nat_le, List, [], ◌∷◌, length, refl, sym, ap, ◌∙◌, inl, inr, arith}
+use Rattle.std.proofs.Common.{◌≡◌, ℕ, ◌+◌, ◌-◌, ◌<◌, ◌≤◌, true, false, ◌&&◌, nat_le, refl, sym, ap, ◌∙◌, inl, inr, arith}
 use Rattle.std.proofs.lemmas.Bool.{cases_lt}
-use Rattle.std.specs.List.{list_all, range_with_len}
 use Rattle.std.proofs.lemmas.Bool.Decides.{nat_tests}
 use Rattle.am_base.specs.declared.image.Report.{Report}
 use Rattle.am_base.specs.Lists.{Log, top_of, told_by}
-use Rattle.am_base.specs.Fronts.{greatest, is_held, is_satisfied, is_front, accept_front}
+use Rattle.am_base.specs.Fronts.{is_held, is_satisfied, is_front, accept_front}
 use Rattle.am_model.specs.Laws.{AllSatisfied, IsGreatestFront, AcceptFrontIsGreatest, climb, climb_over, walk, AcceptFrontByWalking}
-use Rattle.am_model.proofs.Greatest.{split, and_both, range_passes, passes_range, IsGreatest, greatest_is, IsClimb, climb_is}
+use Rattle.am_model.proofs.Greatest.{split, range_passes, passes_range, IsGreatest, greatest_is, IsClimb, climb_is}
 
 -- what a front says
 pub front_all : (reports : ℕ → Report) (log : Log) (acc front : ℕ) → acc ≤ front → is_front reports log acc front ≡ true → AllSatisfied reports log acc front
@@ -21,12 +20,12 @@ front_from reports log acc g h = record {
   least = h.least;
   most = (let m = h.most in omega arith);
   satisfied = elim h.passed [
-    inl e ↦ λ n low high. absurd (omega arith)
-  | inr t ↦ front_all reports log acc g h.least t
+    | inl e ↦ λ n low high. absurd (omega arith)
+    | inr t ↦ front_all reports log acc g h.least t
   ];
   greatest = λ higher low high all. elim (cases_lt g higher) [
-    inl above ↦ (let f = h.above higher above (omega arith) in let t = all_front reports log acc higher low all in absurd (cc))
-  | inr within ↦ within
+    | inl above ↦ (let f = h.above higher above (omega arith) in let t = all_front reports log acc higher low all in absurd (cc))
+    | inr within ↦ within
   ];
 }
 
@@ -51,8 +50,8 @@ pub one_front : (reports : ℕ → Report) (log : Log) (acc f g : ℕ) → IsGre
 one_front reports log acc f g h k =
     let hl = h.least in let hm = h.most in let kl = k.least in let km = k.most in
     elim (cases_lt (top_of log) acc) [
-      inl none ↦ omega arith
-    | inr some ↦ (let a : f ≤ g = k.greatest f hl (omega arith) h.satisfied in let b : g ≤ f = h.greatest g kl (omega arith) k.satisfied in omega arith)
+      | inl none ↦ omega arith
+      | inr some ↦ (let a : f ≤ g = k.greatest f hl (omega arith) h.satisfied in let b : g ≤ f = h.greatest g kl (omega arith) k.satisfied in omega arith)
     ]
 
 -- ---- the walk
@@ -63,10 +62,10 @@ climb_from reports log acc c reached h = record {
   most = (let m = h.most in omega arith);
   satisfied = λ n low high. above_view reports log c n (omega arith) ∙ h.passed n low high;
   greatest = λ higher low high all. elim (cases_lt c higher) [
-    inl above ↦ (let l = h.least in
-      let t = sym (above_view reports log higher (c + 1) (omega arith)) ∙ all (c + 1) (omega arith) (omega arith) in
-      let f = h.next (omega arith) in absurd (cc))
-  | inr within ↦ within
+    | inl above ↦ (let l = h.least in
+        let t = sym (above_view reports log higher (c + 1) (omega arith)) ∙ all (c + 1) (omega arith) (omega arith) in
+        let f = h.next (omega arith) in absurd (cc))
+    | inr within ↦ within
   ];
 }
 
@@ -76,16 +75,16 @@ view_reached reports log acc m c is under reached h = record {
   least = (let l = h.least in omega arith);
   most = (let p = h.most in omega arith);
   satisfied = λ n low high. elim (cases_lt n m) [
-    inl below ↦ (let e = below_view reports log c n (omega arith) in
-      let v : nat_le (told_by log).view_number c ≡ true = grind (arith, nat_tests) in
-      let held : is_held reports log (told_by log).view_number ≡ true = ap (is_held reports log) is ∙ h.passed m (omega arith) reached in
-      e ∙ (rw (v, held) refl))
-  | inr above ↦ above_view reports log c n (omega arith) ∙ h.passed n (omega arith) high
+    | inl below ↦ (let e = below_view reports log c n (omega arith) in
+        let v : nat_le (told_by log).view_number c ≡ true = grind (arith, nat_tests) in
+        let held : is_held reports log (told_by log).view_number ≡ true = ap (is_held reports log) is ∙ h.passed m (omega arith) reached in
+        e ∙ (rw (v, held) refl))
+    | inr above ↦ above_view reports log c n (omega arith) ∙ h.passed n (omega arith) high
   ];
   greatest = λ higher low high all. elim (cases_lt c higher) [
-    inl above ↦ (let t = sym (above_view reports log higher (c + 1) (omega arith)) ∙ all (c + 1) (omega arith) (omega arith) in
-      let f = h.next (omega arith) in absurd (cc))
-  | inr within ↦ within
+    | inl above ↦ (let t = sym (above_view reports log higher (c + 1) (omega arith)) ∙ all (c + 1) (omega arith) (omega arith) in
+        let f = h.next (omega arith) in absurd (cc))
+    | inr within ↦ within
   ];
 }
 
@@ -96,15 +95,15 @@ view_missed reports log acc m c is under missed h = record {
   most = omega arith;
   satisfied = λ n low high. absurd (omega arith);
   greatest = λ higher low high all. elim (cases_lt acc higher) [
-    inl above ↦ elim (cases_lt higher m) [
-      inl short ↦ (let t = sym (below_view reports log higher higher (omega arith)) ∙ all higher above (omega arith) in
-        let v : nat_le (told_by log).view_number higher ≡ false = grind (arith, nat_tests) in absurd (cc))
-    | inr far ↦ (let t = sym (above_view reports log higher m (omega arith)) ∙ all m under far in
-        let l = h.least in
-        let z : c + 1 ≡ m = omega arith in
-        let f = sym (ap (is_held reports log) z) ∙ h.next (omega arith) in absurd (cc))
+    | inl above ↦ elim (cases_lt higher m) [
+      | inl short ↦ (let t = sym (below_view reports log higher higher (omega arith)) ∙ all higher above (omega arith) in
+          let v : nat_le (told_by log).view_number higher ≡ false = grind (arith, nat_tests) in absurd (cc))
+      | inr far ↦ (let t = sym (above_view reports log higher m (omega arith)) ∙ all m under far in
+          let l = h.least in
+          let z : c + 1 ≡ m = omega arith in
+          let f = sym (ap (is_held reports log) z) ∙ h.next (omega arith) in absurd (cc))
     ]
-  | inr within ↦ within
+    | inr within ↦ within
   ];
 }
 
@@ -117,8 +116,8 @@ walk_over reports log acc m is under =
 
 walk_is : (reports : ℕ → Report) (log : Log) (acc : ℕ) → IsGreatestFront reports log acc (walk reports log acc)
 walk_is reports log acc = split (nat_le (told_by log).view_number acc)
-  (λ t. rw t (climb_from reports log acc (climb (is_held reports log) acc (top_of log - acc)) (grind (arith, nat_tests)) (climb_is (is_held reports log) acc (top_of log - acc))))
-  (λ f. rw f (walk_over reports log acc (told_by log).view_number refl (grind (arith, nat_tests))))
+    (λ t. rw t (climb_from reports log acc (climb (is_held reports log) acc (top_of log - acc)) (grind (arith, nat_tests)) (climb_is (is_held reports log) acc (top_of log - acc))))
+    (λ f. rw f (walk_over reports log acc (told_by log).view_number refl (grind (arith, nat_tests))))
 
 pub accept_front_walks : AcceptFrontByWalking
 accept_front_walks reports log acc = one_front reports log acc (accept_front reports log acc) (walk reports log acc) (accept_front_is reports log acc) (walk_is reports log acc)

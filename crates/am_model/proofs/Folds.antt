@@ -1,8 +1,6 @@
 -- Folds of lists that go on.
-use Rattle.std.proofs.Common.{◌≡◌, ℕ, ◌+◌, List, [], ◌∷◌, ◌++◌, length, refl, ap, ◌∙◌, arith}
+use Rattle.std.proofs.Common.{◌≡◌, ◌+◌, [], ◌∷◌, length, ap, ◌∙◌, arith}
 use Rattle.am_base.specs.Lists.{after, fold}
-use Rattle.am_base.specs.declared.image.Image.{Image}
-use Rattle.am_base.specs.declared.entry.Entry.{Entry}
 use Rattle.am_model.specs.Laws.{FoldGoesOn}
 
 pub fold_append : FoldGoesOn

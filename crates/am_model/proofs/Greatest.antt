@@ -1,8 +1,7 @@
 -- The greatest number that passes, and what passes for a range.
-use Rattle.std.proofs.Common.{◌≡◌, ℕ, zero, suc, ◌+◌, ◌-◌, ◌<◌, ◌≤◌, ◌⊎◌, max, Bool, true, false, ◌&&◌, if◌then◌else◌, nat_le, List, [], ◌∷◌, length, refl, sym, ap, ◌∙◌, inl, inr, arith}
+use Rattle.std.proofs.Common.{◌≡◌, ℕ, zero, suc, ◌+◌, ◌<◌, ◌≤◌, ◌⊎◌, Bool, true, false, ◌&&◌, refl, ap, ◌∙◌, inl, inr, arith}
 use Rattle.std.proofs.lemmas.Bool.{cases_lt}
 use Rattle.std.specs.List.{list_all, range_with_len}
-use Rattle.std.proofs.lemmas.Bool.Decides.{nat_tests}
 use Rattle.am_base.specs.Fronts.{greatest}
 use Rattle.am_model.specs.Laws.{climb}
 
@@ -21,8 +20,8 @@ range_passes p a zero h k low high = absurd (omega arith)
 range_passes p a (suc n) h k low high =
     let both = and_both (p a) (list_all p (range_with_len (a + 1) n)) h in
     elim (cases_lt a k) [
-      inl up ↦ range_passes p (a + 1) n both.1 k (omega arith) (omega arith)
-    | inr same ↦ (let e : k ≡ a = omega arith in ap p e ∙ both.0)
+      | inl up ↦ range_passes p (a + 1) n both.1 k (omega arith) (omega arith)
+      | inr same ↦ (let e : k ≡ a = omega arith in ap p e ∙ both.0)
     ]
 
 pub passes_range : (p : ℕ → Bool) (a n : ℕ) → ((k : ℕ) → a ≤ k → k < a + n → p k ≡ true) → list_all p (range_with_len a n) ≡ true
@@ -44,8 +43,8 @@ lower passes from more g f h = record {
   most = (let m = h.most in omega arith);
   passed = h.passed;
   above = λ n low high. elim (cases_lt (from + more) n) [
-    inl last ↦ (let e : n ≡ from + suc more = omega arith in ap passes e ∙ f)
-  | inr under ↦ h.above n low under
+    | inl last ↦ (let e : n ≡ from + suc more = omega arith in ap passes e ∙ f)
+    | inr under ↦ h.above n low under
   ];
 }
 
@@ -53,8 +52,8 @@ pub greatest_is : (passes : ℕ → Bool) (from more : ℕ) → IsGreatest passe
 unfolding greatest
 greatest_is passes from zero = record { least = omega arith; most = omega arith; passed = inl refl; above = λ n low high. absurd (omega arith) }
 greatest_is passes from (suc more) = split (passes (from + suc more))
-  (λ t. rw t (record { least = omega arith; most = omega arith; passed = inr t; above = λ n low high. absurd (omega arith) }))
-  (λ f. rw f (lower passes from more (greatest passes from more) f (greatest_is passes from more)))
+    (λ t. rw t (record { least = omega arith; most = omega arith; passed = inr t; above = λ n low high. absurd (omega arith) }))
+    (λ f. rw f (lower passes from more (greatest passes from more) f (greatest_is passes from more)))
 
 -- as far up as each number in turn passes
 pub record IsClimb (passes : ℕ → Bool) (from more c : ℕ) : Type 0 where
@@ -68,8 +67,8 @@ higher passes from more c t h = record {
   least = (let l = h.least in omega arith);
   most = (let m = h.most in omega arith);
   passed = λ n low high. elim (cases_lt (from + 1) n) [
-    inl up ↦ h.passed n up high
-  | inr first ↦ (let e : n ≡ from + 1 = omega arith in ap passes e ∙ t)
+    | inl up ↦ h.passed n up high
+    | inr first ↦ (let e : n ≡ from + 1 = omega arith in ap passes e ∙ t)
   ];
   next = λ low. h.next (omega arith);
 }
@@ -78,5 +77,5 @@ pub climb_is : (passes : ℕ → Bool) (from more : ℕ) → IsClimb passes from
 unfolding climb
 climb_is passes from zero = record { least = omega arith; most = omega arith; passed = λ n low high. absurd (omega arith); next = λ low. absurd (omega arith) }
 climb_is passes from (suc more) = split (passes (from + 1))
-  (λ t. rw t (higher passes from more (climb passes (from + 1) more) t (climb_is passes (from + 1) more)))
-  (λ f. rw f (record { least = omega arith; most = omega arith; passed = λ n low high. absurd (omega arith); next = λ low. f }))
+    (λ t. rw t (higher passes from more (climb passes (from + 1) more) t (climb_is passes (from + 1) more)))
+    (λ f. rw f (record { least = omega arith; most = omega arith; passed = λ n low high. absurd (omega arith); next = λ low. f }))

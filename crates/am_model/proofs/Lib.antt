@@ -2,3 +2,5 @@ pub mod Folds
 pub mod Greatest
 pub mod AcceptFronts
 pub mod Refreshes
+pub mod Letters
+pub mod LettersHeard

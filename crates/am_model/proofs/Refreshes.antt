@@ -1,14 +1,14 @@
 -- A second refresh in a row changes nothing.
-use Rattle.std.proofs.Common.{◌≡◌, ℕ, ◌+◌, ◌-◌, ◌<◌, ◌≤◌, max, min, Bool, true, false, ◌&&◌, ◌==◌, if◌then◌else◌, nat_lt, nat_le, Option, Some, None, refl, sym, ap, ◌∙◌, inl, inr, arith}
+use Rattle.std.proofs.Common.{◌≡◌, ℕ, ◌-◌, ◌≤◌, max, min, true, ◌==◌, nat_lt, nat_le, Option, Some, None, refl, sym, ap, ◌∙◌, inl, inr, arith}
 use Rattle.std.specs.Prelude.{unwrap_or}
 use Rattle.std.proofs.lemmas.Bool.{cases_lt}
 use Rattle.std.proofs.lemmas.Bool.Decides.{nat_tests}
 use Rattle.am_base.specs.declared.image.Report.{Report}
 use Rattle.am_base.specs.Lists.{Log, top_of, told_by}
 use Rattle.am_base.specs.Fronts.{is_held, is_satisfied, accept_front}
-use Rattle.am_model.specs.Node.{Core, Node, top, is_sequencer, report_of, set_at, raised, with_report, trimmed}
+use Rattle.am_model.specs.Node.{Core, Node, top, is_sequencer, report_of, set_at, raised}
 use Rattle.am_model.specs.Refresh.{concerned, least_taken, passed_over, known_accepted, advanced, advance, report_self, tell, trim, lead, refresh}
-use Rattle.am_model.specs.Laws.{AllSatisfied, IsGreatestFront, RefreshOnce}
+use Rattle.am_model.specs.Laws.{IsGreatestFront, RefreshOnce}
 use Rattle.am_model.proofs.Greatest.{split, and_both}
 use Rattle.am_model.proofs.AcceptFronts.{above_view, below_view, one_front, accept_front_is}
 
@@ -19,10 +19,10 @@ known_again a t n = omega arith
 
 pass_again : (k a s : ℕ) → passed_over (passed_over k a s) a s ≡ passed_over k a s
 pass_again k a s = split (nat_lt k (s - 1))
-  (λ t. rw t (split (nat_lt (max k (min a (s - 1))) (s - 1))
+    (λ t. rw t (split (nat_lt (max k (min a (s - 1))) (s - 1))
     (λ u. rw u (omega arith))
     (λ u. rw u refl)))
-  (λ f. rw (f, f) refl)
+    (λ f. rw (f, f) refl)
 
 trim_again : (least : Option ℕ) (b : ℕ) → max (max b (unwrap_or least b)) (unwrap_or least (max b (unwrap_or least b))) ≡ max b (unwrap_or least b)
 trim_again None b = omega arith
@@ -44,8 +44,8 @@ set_same f k x = rw (is_same k) refl
 
 set_held : (f : ℕ → Report) (k : ℕ) (x : Report) → f k ≡ x → (j : ℕ) → set_at f k x j ≡ f j
 set_held f k x e j = split (j == k)
-  (λ t. rw t (let z : j ≡ k = grind (arith, nat_tests) in sym (ap f z ∙ e)))
-  (λ u. rw u refl)
+    (λ t. rw t (let z : j ≡ k = grind (arith, nat_tests) in sym (ap f z ∙ e)))
+    (λ u. rw u refl)
 
 self_again : (m : Node) → raised (m.reports m.core.who) (report_of m) ≡ m.reports m.core.who → report_self m ≡ m
 self_again m e = λ i. record m { reports = λ j. set_held m.reports m.core.who (raised (m.reports m.core.who) (report_of m)) (sym e) j i }
@@ -53,8 +53,8 @@ self_again m e = λ i. record m { reports = λ j. set_held m.reports m.core.who 
 -- what a name has stored isn't changed by what another, or the name again, has
 set_stored : (f : ℕ → Report) (k : ℕ) (x : Report) → x.stored ≡ (f k).stored → (j : ℕ) → (set_at f k x j).stored ≡ (f j).stored
 set_stored f k x e j = split (j == k)
-  (λ t. rw t (let z : j ≡ k = grind (arith, nat_tests) in e ∙ ap (λ n. (f n).stored) (sym z)))
-  (λ u. rw u refl)
+    (λ t. rw t (let z : j ≡ k = grind (arith, nat_tests) in e ∙ ap (λ n. (f n).stored) (sym z)))
+    (λ u. rw u refl)
 
 -- ---- the accept front again
 
@@ -68,10 +68,10 @@ same_front f g log acc e = λ i. stored_front (λ j. e j i) log acc
 
 satisfied_on : (reports : ℕ → Report) (log : Log) (f g n : ℕ) → f ≤ g → is_satisfied reports log f n ≡ true → is_satisfied reports log g n ≡ true
 satisfied_on reports log f g n up h = elim (cases_lt n (told_by log).view_number) [
-  inl below ↦ (let b = and_both (nat_le (told_by log).view_number f) (is_held reports log (told_by log).view_number) (sym (below_view reports log f n below) ∙ h) in
-    let v = b.0 in
-    let w : nat_le (told_by log).view_number g ≡ true = grind (arith, nat_tests) in
-    below_view reports log g n below ∙ (rw (w, b.1) refl))
+  | inl below ↦ (let b = and_both (nat_le (told_by log).view_number f) (is_held reports log (told_by log).view_number) (sym (below_view reports log f n below) ∙ h) in
+      let v = b.0 in
+      let w : nat_le (told_by log).view_number g ≡ true = grind (arith, nat_tests) in
+      below_view reports log g n below ∙ (rw (w, b.1) refl))
   | inr above ↦ above_view reports log g n above ∙ (sym (above_view reports log f n above) ∙ h)
 ]
 
@@ -83,10 +83,10 @@ later_front reports log acc t h =
       most = omega arith;
       satisfied = λ n low high. h.satisfied n (omega arith) high;
       greatest = λ higher low high all. elim (cases_lt (top_of log) t) [
-        inl over ↦ omega arith
-      | inr within ↦ h.greatest higher (omega arith) high (λ n a b. elim (cases_lt t n) [
-          inl new ↦ all n (omega arith) b
-        | inr old ↦ satisfied_on reports log t higher n (omega arith) (h.satisfied n a old)
+        | inl over ↦ omega arith
+        | inr within ↦ h.greatest higher (omega arith) high (λ n a b. elim (cases_lt t n) [
+          | inl new ↦ all n (omega arith) b
+          | inr old ↦ satisfied_on reports log t higher n (omega arith) (h.satisfied n a old)
         ])
       ];
     }
@@ -163,5 +163,5 @@ advance_twice m = advance_again (advance m) (known_again m.core.acc m.core.told 
 pub refresh_twice : RefreshOnce
 unfolding refresh
 refresh_twice m = split (is_sequencer m)
-  (λ t. rw t (rw (leads m ∙ t) (lead_fresh (lead m) (is_fresh m))))
-  (λ f. rw f (rw (follows m ∙ f) (advance_twice m)))
+    (λ t. rw t (rw (leads m ∙ t) (lead_fresh (lead m) (is_fresh m))))
+    (λ f. rw f (rw (follows m ∙ f) (advance_twice m)))

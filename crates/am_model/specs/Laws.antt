@@ -1,17 +1,13 @@
 -- That the definitions mean what they say.
-use Rattle.std.specs.Prelude.{◌≡◌, ◌≢◌, ◌⊎◌, ℕ, zero, suc, ◌+◌, ◌-◌, ◌<◌, ◌≤◌, max, List, [], ◌∷◌, ◌++◌, length, Option, Some, None, Bool, true, false, nat_le, if◌then◌else◌}
+use Rattle.std.specs.Prelude.{◌≡◌, ℕ, zero, suc, ◌+◌, ◌-◌, ◌<◌, ◌≤◌, max, List, ◌++◌, length, Bool, true, nat_le, if◌then◌else◌}
 use Rattle.am_base.specs.declared.image.Image.{Image}
 use Rattle.am_base.specs.declared.image.Report.{Report}
-use Rattle.am_base.specs.declared.image.Vote.{Vote}
 use Rattle.am_base.specs.declared.entry.Entry.{Entry}
-use Rattle.am_base.specs.Names.{name_lt}
 use Rattle.am_base.specs.Lists.{Log, top_of, told_by, fold}
 use Rattle.am_base.specs.Fronts.{is_held, is_satisfied, accept_front}
-use Rattle.am_base.specs.Votes.{Shown, vote_lt, best_vote}
 use Rattle.am_packet.specs.declared.event.NodeEvent.{NodeEvent}
 use Rattle.am_model.specs.Node.{Node}
 use Rattle.am_model.specs.Refresh.{refresh}
-use Rattle.am_model.specs.Emit.{Step}
 use Rattle.am_model.specs.Step.{step}
 
 -- a list that goes on tells what its beginning tells, and then the rest
@@ -55,3 +51,9 @@ walk reports log acc =
 
 abbrev pub AcceptFrontByWalking : Type 0
 AcceptFrontByWalking = (reports : ℕ → Report) (log : Log) (acc : ℕ) → accept_front reports log acc ≡ walk reports log acc
+
+-- ---- letters
+
+-- a step sends at most nine letters
+abbrev pub FewLetters : Type 0
+FewLetters = (m : Node) (event : NodeEvent) → length (step m event).letters ≤ 9
