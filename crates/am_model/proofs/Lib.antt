@@ -4,3 +4,4 @@ pub mod AcceptFronts
 pub mod Refreshes
 pub mod Letters
 pub mod LettersHeard
+pub mod BestVotes

@@ -1,8 +1,11 @@
 -- That the definitions mean what they say.
-use Rattle.std.specs.Prelude.{◌≡◌, ℕ, zero, suc, ◌+◌, ◌-◌, ◌<◌, ◌≤◌, max, List, ◌++◌, length, Bool, true, nat_le, if◌then◌else◌}
+use Rattle.std.specs.Prelude.{◌≡◌, ◌≢◌, ◌⊎◌, ℕ, zero, suc, ◌+◌, ◌-◌, ◌<◌, ◌≤◌, max, List, ◌++◌, length, Option, Some, Bool, true, false, nat_le, if◌then◌else◌}
 use Rattle.am_base.specs.declared.image.Image.{Image}
 use Rattle.am_base.specs.declared.image.Report.{Report}
+use Rattle.am_base.specs.declared.image.Vote.{Vote}
 use Rattle.am_base.specs.declared.entry.Entry.{Entry}
+use Rattle.am_base.specs.Names.{name_lt}
+use Rattle.am_base.specs.Votes.{Shown, vote_lt, best_vote}
 use Rattle.am_base.specs.Lists.{Log, top_of, told_by, fold}
 use Rattle.am_base.specs.Fronts.{is_held, is_satisfied, accept_front}
 use Rattle.am_packet.specs.declared.event.NodeEvent.{NodeEvent}
@@ -57,3 +60,17 @@ AcceptFrontByWalking = (reports : ℕ → Report) (log : Log) (acc : ℕ) → ac
 -- a step sends at most nine letters
 abbrev pub FewLetters : Type 0
 FewLetters = (m : Node) (event : NodeEvent) → length (step m event).letters ≤ 9
+
+-- ---- votes
+
+-- who showed a vote, and which is the best: the greatest, of the coordinator where it is among the greatest, else of the lowest name
+pub record IsBestVote (votes : ℕ → Option Vote) (own : ℕ) (vote : Vote) (best : Shown) : Type 0 where
+  pub shown : ((best.by ≡ own) × (best.vote ≡ vote)) ⊎ (votes best.by ≡ Some best.vote)
+  pub above_own : vote_lt best.vote vote ≡ false
+  pub above_all : (name : ℕ) (v : Vote) → name < 256 → votes name ≡ Some v → vote_lt best.vote v ≡ false
+  pub own_first : best.by ≢ own → vote_lt vote best.vote ≡ true
+  pub lowest : best.by ≢ own → (name : ℕ) (v : Vote) → name < 256 → name_lt name best.by ≡ true → votes name ≡ Some v → vote_lt v best.vote ≡ true
+
+-- of votes whose views' names are names
+abbrev pub BestVoteIsGreatest : Type 0
+BestVoteIsGreatest = (votes : ℕ → Option Vote) (own : ℕ) (vote : Vote) → vote.view.by < 256 → ((name : ℕ) (v : Vote) → votes name ≡ Some v → v.view.by < 256) → IsBestVote votes own vote (best_vote votes own vote)

@@ -1,4 +1,4 @@
-ghost use Rattle.am_model.specs.Laws.{FoldGoesOn, RefreshOnce, FewLetters, AcceptFrontIsGreatest, AcceptFrontByWalking};
+ghost use Rattle.am_model.specs.Laws.{FoldGoesOn, RefreshOnce, FewLetters, AcceptFrontIsGreatest, AcceptFrontByWalking, BestVoteIsGreatest};
 
 /// A list that goes on tells what its beginning tells, and then the rest.
 #[tactic(auto, using(crate::proofs::Folds::fold_append))]
@@ -18,4 +18,10 @@ pub fn accept_fronts()
 pub fn steps()
     ensures refresh_once { RefreshOnce }
     ensures few_letters { FewLetters }
+{}
+
+/// The best vote is the greatest; its holder is the coordinator where it is among those that showed it, else the lowest name.
+#[tactic(auto, using(crate::proofs::BestVotes::best_vote_is))]
+pub fn best_votes()
+    ensures { BestVoteIsGreatest }
 {}
