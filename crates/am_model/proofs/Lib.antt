@@ -5,3 +5,4 @@ pub mod Refreshes
 pub mod Letters
 pub mod LettersHeard
 pub mod BestVotes
+pub mod Rows

@@ -3,10 +3,12 @@ use Rattle.std.specs.Prelude.{◌≡◌, ◌≢◌, ◌⊎◌, ℕ, zero, suc, �
 use Rattle.am_base.specs.declared.image.Image.{Image}
 use Rattle.am_base.specs.declared.image.Report.{Report}
 use Rattle.am_base.specs.declared.image.Vote.{Vote}
+use Rattle.am_base.specs.declared.image.Row.{Row}
 use Rattle.am_base.specs.declared.entry.Entry.{Entry}
+use Rattle.am_base.specs.declared.entry.Entry.TheVariants.{Data}
 use Rattle.am_base.specs.Names.{name_lt}
 use Rattle.am_base.specs.Votes.{Shown, vote_lt, best_vote}
-use Rattle.am_base.specs.Lists.{Log, top_of, told_by, fold}
+use Rattle.am_base.specs.Lists.{Log, at_place, row_of, after, fits, fold, AllFit, top_of, told_by}
 use Rattle.am_base.specs.Fronts.{is_held, is_satisfied, accept_front}
 use Rattle.am_packet.specs.declared.event.NodeEvent.{NodeEvent}
 use Rattle.am_model.specs.Node.{Node}
@@ -74,3 +76,43 @@ pub record IsBestVote (votes : ℕ → Option Vote) (own : ℕ) (vote : Vote) (b
 -- of votes whose views' names are names
 abbrev pub BestVoteIsGreatest : Type 0
 BestVoteIsGreatest = (votes : ℕ → Option Vote) (own : ℕ) (vote : Vote) → vote.view.by < 256 → ((name : ℕ) (v : Vote) → votes name ≡ Some v → v.view.by < 256) → IsBestVote votes own vote (best_vote votes own vote)
+
+-- ---- rows
+
+-- what an entry may do to the row of a place where somebody joined: nothing, one more send, the end of a membership that
+-- hadn't ended, or the beginning of a greater life's
+abbrev pub IsSame : Row → Row → Type 0
+IsSame before after_ = after_ ≡ before
+
+abbrev pub HasSent : Row → Row → Type 0
+HasSent before after_ = after_ ≡ record before { last = before.last + 1 }
+
+abbrev pub HasLeft : ℕ → Row → Row → Type 0
+HasLeft number before after_ = (before.left ≡ 0) × (after_ ≡ record before { left = number })
+
+abbrev pub HasJoined : ℕ → Row → Row → Type 0
+HasJoined number before after_ = (life : ℕ) × (before.life < life) × (0 < before.left) × (after_ ≡ record { life = life; joined = number; left = 0; last = 0 })
+
+abbrev pub RowStep : ℕ → Row → Row → Type 0
+RowStep number before after_ = (IsSame before after_ ⊎ HasSent before after_) ⊎ (HasLeft number before after_ ⊎ HasJoined number before after_)
+
+abbrev pub RowsGoOn : Type 0
+RowsGoOn = (image : Image) (number : ℕ) (e : Entry) (name : ℕ) → fits image e ≡ true → 0 < (at_place image name).joined → RowStep number (at_place image name) (at_place (after image number e) name)
+
+-- a Data has the request after its sender's last, which it becomes
+abbrev pub DataGoesOn : Type 0
+DataGoesOn = (image : Image) (number from req : ℕ) (body : List ℕ) → fits image (Data from req body) ≡ true → (req ≡ (row_of image from).last + 1) × ((row_of (after image number (Data from req body)) from).last ≡ req)
+
+-- the same membership, or a later one of the place
+pub record IsSameMembership (before after_ : Row) : Type 0 where
+  pub life : after_.life ≡ before.life
+  pub joined : after_.joined ≡ before.joined
+  pub last : before.last ≤ after_.last
+  pub left : 0 < before.left → after_.left ≡ before.left
+
+abbrev pub GoesOn : Row → Row → Type 0
+GoesOn before after_ = IsSameMembership before after_ ⊎ (before.life < after_.life)
+
+-- along a list a name's number of joining never changes, nor does its last request fall, until a greater life takes its place
+abbrev pub MembershipsGoOn : Type 0
+MembershipsGoOn = (image : Image) (number : ℕ) (es : List Entry) (name : ℕ) → 0 < number → AllFit image number es → 0 < (at_place image name).joined → GoesOn (at_place image name) (at_place (fold image number es) name)

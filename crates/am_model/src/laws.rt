@@ -1,4 +1,4 @@
-ghost use Rattle.am_model.specs.Laws.{FoldGoesOn, RefreshOnce, FewLetters, AcceptFrontIsGreatest, AcceptFrontByWalking, BestVoteIsGreatest};
+ghost use Rattle.am_model.specs.Laws.{FoldGoesOn, RefreshOnce, FewLetters, AcceptFrontIsGreatest, AcceptFrontByWalking, BestVoteIsGreatest, RowsGoOn, DataGoesOn, MembershipsGoOn};
 
 /// A list that goes on tells what its beginning tells, and then the rest.
 #[tactic(auto, using(crate::proofs::Folds::fold_append))]
@@ -24,4 +24,13 @@ pub fn steps()
 #[tactic(auto, using(crate::proofs::BestVotes::best_vote_is))]
 pub fn best_votes()
     ensures { BestVoteIsGreatest }
+{}
+
+/// What an entry does to the row of a place where somebody joined; that a Data has its sender's next request; and that along a
+/// list the number of a joining never changes, until a greater life of the place joins.
+#[tactic(auto, using(crate::proofs::Rows::rows_go_on, crate::proofs::Rows::data_goes_on, crate::proofs::Rows::memberships_go_on))]
+pub fn rows()
+    ensures go_on { RowsGoOn }
+    ensures data { DataGoesOn }
+    ensures memberships { MembershipsGoOn }
 {}
