@@ -6,3 +6,4 @@ pub mod Letters
 pub mod LettersHeard
 pub mod BestVotes
 pub mod Rows
+pub mod Runs

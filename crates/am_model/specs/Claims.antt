@@ -14,13 +14,15 @@ use Rattle.am_packet.specs.declared.letter.Letter.{Letter}
 use Rattle.am_group.specs.declared.event.Act.{Act}
 use Rattle.am_group.specs.declared.event.Act.TheVariants as act
 use Rattle.am_group.specs.declared.event.Event.{Event}
+use Rattle.am_group.specs.declared.event.Record.{Record}
 use Rattle.am_model.specs.Node.{top, view}
-use Rattle.am_model.specs.World.{Made, Decided, World, letter_at, run}
+use Rattle.am_model.specs.World.{Decided, World, letter_at, happens, run}
 use Rattle.am_model.specs.Group.{Accepted, name_of, entry_of, deliveries, accepted_sends}
+use Rattle.am_model.specs.AbstractGroup.{Moves, group_of}
 use Rattle.am_model.specs.Lawful.{whole, is_view_of, is_complete, lawful_front}
 use Rattle.am_model.specs.Receiving.{is_view}
 
--- ---- segment
+-- ---- segment: what a name is given is a gapless piece of the group list
 
 -- the packet that an act hears
 abbrev pub heard_by : Act → ℕ
@@ -38,7 +40,7 @@ welcomed_in _ = []
 
 -- the numbers with which a name was welcomed
 abbrev pub welcomes : World → ℕ → List ℕ
-welcomes w name = flat_map (λ r. if (name_of r == name) && is_welcome (letter_at w.letters (heard_by r.event.act)) then welcomed_in r.outcome else []) w.made
+welcomes w name = flat_map (λ r. if (name_of r == name) && is_welcome (letter_at w.letters (heard_by r.event.act)) then welcomed_in r.outcome else []) w.records
 
 -- a founder begins at 1; a joiner where it was welcomed, once, which is its Join
 pub record BeginsAt (rules : Rules) (w : World) (name s : ℕ) : Type 0 where
@@ -49,20 +51,20 @@ pub record BeginsAt (rules : Rules) (w : World) (name s : ℕ) : Type 0 where
 abbrev pub IsSegment : List (ℕ × Entry) → ℕ → List Entry → Type 0
 IsSegment given s list = (k number : ℕ) (e : Entry) → slice_get given k ≡ Some (number, e) → (number ≡ s + k) × (entry_of list (s + k) ≡ Some e)
 
-abbrev pub Segment : Rules → World → Type 0
-Segment rules w = (name : ℕ) → deliveries w.made name ≢ [] → (s : ℕ) × BeginsAt rules w name s × IsSegment (deliveries w.made name) s w.group
+pub record Segment (rules : Rules) (w : World) : Type 0 where
+  pub each : (name : ℕ) → deliveries w.records name ≢ [] → (s : ℕ) × BeginsAt rules w name s × IsSegment (deliveries w.records name) s w.group
 
--- ---- once
+-- ---- once: a send that was answered as sent stands at its number, and nowhere else
 
 -- the send stands at this number, and nowhere else
 pub record StandsOnce (list : List Entry) (name req number : ℕ) : Type 0 where
   pub there : (body : List ℕ) × (entry_of list number ≡ Some (Data name req body))
   pub only : (k : ℕ) (body : List ℕ) → entry_of list k ≡ Some (Data name req body) → k ≡ number
 
-abbrev pub Once : World → Type 0
-Once w = (k : ℕ) (s : Accepted) → slice_get (accepted_sends w.made) k ≡ Some s → StandsOnce w.group s.name s.req s.number
+pub record Once (w : World) : Type 0 where
+  pub each : (k : ℕ) (s : Accepted) → slice_get (accepted_sends w.records) k ≡ Some s → StandsOnce w.group s.name s.req s.number
 
--- ---- kept
+-- ---- kept: a complete view keeps what was given out before it
 
 -- a list up to before its next View
 unfoldable pub up_to_view : List Entry → List Entry
@@ -84,28 +86,28 @@ BecameComplete rules events v = (k : ℕ) × Contains (run rules (take k events)
 
 pub record KeepsView (rules : Rules) (events : List Event) (v : Decided) : Type 0 where
   -- an entry that a node took while its view was below v stands in the line of v, below its View
-  pub taken : (k number : ℕ) (e : Entry) (r : Made) → slice_get (run rules events).made k ≡ Some r → r.outcome ≡ said.Took number e
+  pub taken : (k number : ℕ) (e : Entry) (r : Record) → slice_get (run rules events).records k ≡ Some r → r.outcome ≡ said.Took number e
       → stamp_lt (view ((run rules (take k events)).nodes (name_of r))) v.stamp ≡ true
       → (number < v.number) × (entry_of (line_of (run rules events) v.stamp) number ≡ Some e)
   -- up to its View the group list is the line of v
   pub group : (number : ℕ) (e : Entry) → number ≤ v.number → entry_of (run rules events).group number ≡ Some e
       → entry_of (line_of (run rules events) v.stamp) number ≡ Some e
 
-abbrev pub Kept : Rules → List Event → Type 0
-Kept rules events = (v : Decided) → BecameComplete rules events v → KeepsView rules events v
+pub record Kept (rules : Rules) (events : List Event) : Type 0 where
+  pub each : (v : Decided) → BecameComplete rules events v → KeepsView rules events v
 
--- ---- sent
+-- ---- sent: each Data was sent by its sender
 
-pub record IsSend (r : Made) (name req : ℕ) (body : List ℕ) : Type 0 where
+pub record IsSend (r : Record) (name req : ℕ) (body : List ℕ) : Type 0 where
   pub by : name_of r ≡ name
   pub asked : r.event.act ≡ act.Send body
   pub answered : r.outcome ≡ said.Queued req
 
-abbrev pub Sent : World → Type 0
-Sent w = (number name req : ℕ) (body : List ℕ) → entry_of w.group number ≡ Some (Data name req body)
-    → (k : ℕ) × (r : Made) × (slice_get w.made k ≡ Some r) × IsSend r name req body
+pub record Sent (w : World) : Type 0 where
+  pub each : (number name req : ℕ) (body : List ℕ) → entry_of w.group number ≡ Some (Data name req body)
+      → (k : ℕ) × (r : Record) × (slice_get w.records k ≡ Some r) × IsSend r name req body
 
--- ---- sender's order
+-- ---- sender's order: a sender's requests are numbered in turn
 
 abbrev pub request_in : ℕ → Entry → List ℕ
 request_in name (Data from req body) = if from == name then req ∷ [] else []
@@ -117,13 +119,13 @@ abbrev pub requests_of : ℕ → List Entry → List ℕ
 requests_of name list = flat_map (request_in name) list
 
 -- the requests 1, 2, 3 and so on
-abbrev pub SendersOrder : World → Type 0
-SendersOrder w = (name : ℕ) → requests_of name w.group ≡ range_with_len 1 (length (requests_of name w.group))
+pub record SendersOrder (w : World) : Type 0 where
+  pub each : (name : ℕ) → requests_of name w.group ≡ range_with_len 1 (length (requests_of name w.group))
 
--- ---- bounded
+-- ---- bounded: how much a node keeps
 
-abbrev pub Bounded : Rules → List Event → Type 0
-Bounded rules events = (k name : ℕ) → top ((run rules (take k events)).nodes name) - ((run rules (take k events)).nodes name).core.base ≤ rules.window + 15
+pub record Bounded (rules : Rules) (events : List Event) : Type 0 where
+  pub each : (k name : ℕ) → top ((run rules (take k events)).nodes name) - ((run rules (take k events)).nodes name).core.base ≤ rules.window + 15
 
 -- ---- the headline
 
@@ -159,3 +161,7 @@ pub record HoldsUnballoted (rules : Rules) (events : List Event) : Type 0 where
 
 abbrev pub UnballotedHolds : Type 0
 UnballotedHolds = (rules : Rules) (events : List Event) → MayFound rules → NoBallot (run rules events) → HoldsUnballoted rules events
+
+-- and each event moves the group by the abstract steps alone
+abbrev pub UnballotedMoves : Type 0
+UnballotedMoves = (rules : Rules) (events : List Event) (e : Event) → MayFound rules → NoBallot (happens (run rules events) e) → Moves (group_of (run rules events)) (group_of (happens (run rules events) e))

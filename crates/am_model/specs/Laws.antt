@@ -1,5 +1,5 @@
 -- That the definitions mean what they say.
-use Rattle.std.specs.Prelude.{◌≡◌, ◌≢◌, ◌⊎◌, ℕ, zero, suc, ◌+◌, ◌-◌, ◌<◌, ◌≤◌, max, List, ◌++◌, length, Option, Some, Bool, true, false, nat_le, if◌then◌else◌}
+use Rattle.std.specs.Prelude.{◌≡◌, ◌≢◌, ◌⊎◌, ℕ, zero, suc, ◌+◌, ◌-◌, ◌<◌, ◌≤◌, max, List, ◌++◌, length, Option, Some, None, Bool, true, false, nat_le, if◌then◌else◌}
 use Rattle.am_base.specs.declared.image.Image.{Image}
 use Rattle.am_base.specs.declared.image.Report.{Report}
 use Rattle.am_base.specs.declared.image.Vote.{Vote}
@@ -12,6 +12,10 @@ use Rattle.am_base.specs.Lists.{Log, at_place, row_of, after, fits, fold, AllFit
 use Rattle.am_base.specs.Fronts.{is_held, is_satisfied, accept_front}
 use Rattle.am_packet.specs.declared.event.NodeEvent.{NodeEvent}
 use Rattle.am_model.specs.Node.{Node}
+use Rattle.am_model.specs.World.{World, happen, run}
+use Rattle.am_model.specs.Lawful.{watched, broken_at, lawful_front}
+use Rattle.am_base.specs.Founding.{Rules}
+use Rattle.am_group.specs.declared.event.Event.{Event}
 use Rattle.am_model.specs.Refresh.{refresh}
 use Rattle.am_model.specs.Step.{step}
 
@@ -116,3 +120,21 @@ GoesOn before after_ = IsSameMembership before after_ ⊎ (before.life < after_.
 -- along a list a name's number of joining never changes, nor does its last request fall, until a greater life takes its place
 abbrev pub MembershipsGoOn : Type 0
 MembershipsGoOn = (image : Image) (number : ℕ) (es : List Entry) (name : ℕ) → 0 < number → AllFit image number es → 0 < (at_place image name).joined → GoesOn (at_place image name) (at_place (fold image number es) name)
+
+-- ---- runs
+
+-- events in turn, and then more of them
+abbrev pub RunsGoOn : Type 0
+RunsGoOn = (w : World) (xs ys : List Event) → happen w (xs ++ ys) ≡ happen (happen w xs) ys
+
+-- watching a run changes nothing of it
+abbrev pub WatchedIsRun : Type 0
+WatchedIsRun = (rules : Rules) (events : List Event) → (watched rules events).world ≡ run rules events
+
+-- each event leaves one record
+abbrev pub OneRecordEach : Type 0
+OneRecordEach = (rules : Rules) (events : List Event) → length (run rules events).records ≡ length events
+
+-- before a run breaks it is lawful
+abbrev pub FrontIsLawful : Type 0
+FrontIsLawful = (rules : Rules) (events : List Event) → broken_at rules (lawful_front rules events) ≡ None

@@ -14,19 +14,15 @@ use Rattle.am_packet.specs.declared.event.NodeEvent.TheVariants as does
 use Rattle.am_group.specs.declared.event.Act.{Act}
 use Rattle.am_group.specs.declared.event.Act.TheVariants as act
 use Rattle.am_group.specs.declared.event.Event.{Event}
+use Rattle.am_group.specs.declared.event.Record.{Record}
+use Rattle.am_group.specs.declared.event.By.{By}
+use Rattle.am_group.specs.declared.event.Part.TheVariants.{Call}
 use Rattle.am_model.specs.declared.status.Status.{Status}
 use Rattle.am_model.specs.declared.status.Status.TheVariants.{Stranger, Asking, Member, Departed}
 use Rattle.am_model.specs.Node.{Core, Node, told, view, members, set_at, founder, stranger, founding_stamp, founders_view}
 use Rattle.am_model.specs.Emit.{Step}
 use Rattle.am_model.specs.Step.{step, refused}
 use Rattle.am_model.specs.Lengths.{packet_length}
-
--- what came of an event: which life of the place did it, the outcome, and what went out
-pub record Made : Type 0 where
-  pub event : Event
-  pub life : ℕ
-  pub outcome : Outcome
-  pub letters : List Letter
 
 -- a view that was decided: its number, and what its View says
 pub record Decided : Type 0 where
@@ -35,14 +31,14 @@ pub record Decided : Type 0 where
   pub members : List ℕ
   pub resilience : ℕ
 
--- each place's current life, each name's node, who has stopped, all letters in order, all that was made, the group list,
+-- each place's current life, each name's node, who has stopped, all letters in order, all records, the group list,
 -- and the views that were decided, the founders' first
 pub record World : Type 0 where
   pub lives : ℕ → ℕ
   pub nodes : ℕ → Node
   pub stopped : List ℕ
   pub letters : List Letter
-  pub made : List Made
+  pub records : List Record
   pub group : List Entry
   pub views : List Decided
 
@@ -61,7 +57,7 @@ start rules = record {
   nodes = first_node rules;
   stopped = [];
   letters = [];
-  made = [];
+  records = [];
   group = founders_view rules ∷ [];
   views = founders_decided rules ∷ [];
 }
@@ -113,18 +109,24 @@ views_after views m _ = views
 
 -- ---- events
 
+-- a run on its own has no callers
+abbrev pub no_caller : By
+no_caller = record { caller = 0; call = 0; part = Call }
+
+-- what came of an event, done by the current life of its place
+abbrev pub record_of : World → Event → Outcome → List Letter → Record
+record_of w e outcome letters = record { event = e; life = w.lives (place_of e.node); by = no_caller; outcome = outcome; packets = letters }
+
 -- an event that changes no node
 unfoldable pub unchanged : World → Event → Outcome → World
-unchanged w e outcome = record w {
-  made = w.made ++ record { event = e; life = w.lives (place_of e.node); outcome = outcome; letters = [] } ∷ [];
-}
+unchanged w e outcome = record w { records = w.records ++ record_of w e outcome [] ∷ [] }
 
 -- a name's step
 unfoldable pub stepped : World → Event → ℕ → Step → World
 stepped w e name s = record w {
   nodes = set_at w.nodes name s.node;
   letters = w.letters ++ s.letters;
-  made = w.made ++ record { event = e; life = w.lives (place_of e.node); outcome = s.outcome; letters = s.letters } ∷ [];
+  records = w.records ++ record_of w e s.outcome s.letters ∷ [];
   group = group_after w.group s.node;
   views = views_after w.views s.node s.outcome;
 }

@@ -1,4 +1,4 @@
-ghost use Rattle.am_model.specs.Laws.{FoldGoesOn, RefreshOnce, FewLetters, AcceptFrontIsGreatest, AcceptFrontByWalking, BestVoteIsGreatest, RowsGoOn, DataGoesOn, MembershipsGoOn};
+ghost use Rattle.am_model.specs.Laws.{FoldGoesOn, RefreshOnce, FewLetters, AcceptFrontIsGreatest, AcceptFrontByWalking, BestVoteIsGreatest, RowsGoOn, DataGoesOn, MembershipsGoOn, RunsGoOn, WatchedIsRun, OneRecordEach, FrontIsLawful};
 
 /// A list that goes on tells what its beginning tells, and then the rest.
 #[tactic(auto, using(crate::proofs::Folds::fold_append))]
@@ -33,4 +33,13 @@ pub fn rows()
     ensures go_on { RowsGoOn }
     ensures data { DataGoesOn }
     ensures memberships { MembershipsGoOn }
+{}
+
+/// Runs go on event by event, each leaves one record, watching changes nothing, and the lawful front of a run is lawful.
+#[tactic(auto, using(crate::proofs::Runs::runs_go_on, crate::proofs::Runs::watched_is_run, crate::proofs::Runs::one_record_each, crate::proofs::Runs::front_is_lawful))]
+pub fn runs()
+    ensures go_on { RunsGoOn }
+    ensures watched { WatchedIsRun }
+    ensures records { OneRecordEach }
+    ensures front { FrontIsLawful }
 {}

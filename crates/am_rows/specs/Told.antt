@@ -9,8 +9,9 @@ use Rattle.am_packet.specs.declared.letter.Letter.{Letter}
 use Rattle.am_packet.specs.Kinds.{kind_of}
 use Rattle.am_group.specs.declared.event.Act.{Act}
 use Rattle.am_group.specs.declared.event.Event.{Event}
-use Rattle.am_model.specs.World.{Made}
-use Rattle.am_model.specs.Group.{Log, logs}
+use Rattle.am_group.specs.declared.event.Record.{Record}
+use Rattle.am_model.specs.World.{Record}
+use Rattle.am_model.specs.Group.{logs}
 use Rattle.am_model.specs.Lawful.{Watch, watched, watch_all}
 use Rattle.am_model.specs.Settle.{settle_events}
 
@@ -28,7 +29,7 @@ pub record Line : Type 0 where
 pub record Told : Type 0 where
   pub lines : List Line
   pub group : List Entry
-  pub logs : List Log
+  pub logs : List (ℕ × List (ℕ × Entry))
   pub broken : Option ℕ
 
 -- the letters from a number on
@@ -36,12 +37,12 @@ unfoldable pub sent_from : ℕ → List Letter → List Sent
 sent_from number [] = []
 sent_from number (l ∷ ls) = record { number = number; kind = kind_of l.packet; to = names_of l.to; any = l.any } ∷ sent_from (number + 1) ls
 
-unfoldable pub lines_from : ℕ → List Made → List Line
+unfoldable pub lines_from : ℕ → List Record → List Line
 lines_from number [] = []
-lines_from number (r ∷ rs) = record { outcome = r.outcome; letters = sent_from number r.letters } ∷ lines_from (number + length r.letters) rs
+lines_from number (r ∷ rs) = record { outcome = r.outcome; letters = sent_from number r.packets } ∷ lines_from (number + length r.packets) rs
 
 unfoldable pub told_of : Watch → Told
-told_of s = record { lines = lines_from 1 s.world.made; group = s.world.group; logs = logs s.world; broken = s.broken }
+told_of s = record { lines = lines_from 1 s.world.records; group = s.world.group; logs = logs s.world; broken = s.broken }
 
 abbrev pub told : Rules → List Event → Told
 told rules events = told_of (watched rules events)
@@ -76,5 +77,5 @@ line outcome letters = record { outcome = outcome; letters = letters }
 abbrev pub sent : ℕ → ℕ → List ℕ → Bool → Sent
 sent number kind to any = record { number = number; kind = kind; to = to; any = any }
 
-abbrev pub log : ℕ → List (ℕ × Entry) → Log
-log name given = record { name = name; given = given }
+abbrev pub log : ℕ → List (ℕ × Entry) → ℕ × List (ℕ × Entry)
+log name given = (name, given)
