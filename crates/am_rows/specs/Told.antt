@@ -10,7 +10,6 @@ use Rattle.am_packet.specs.Kinds.{kind_of}
 use Rattle.am_group.specs.declared.event.Act.{Act}
 use Rattle.am_group.specs.declared.event.Event.{Event}
 use Rattle.am_group.specs.declared.event.Record.{Record}
-use Rattle.am_group.specs.declared.event.Record.{Record}
 use Rattle.am_model.specs.Group.{logs}
 use Rattle.am_model.specs.Lawful.{Watch, watched, watch_all}
 use Rattle.am_model.specs.Settle.{settle_events}
