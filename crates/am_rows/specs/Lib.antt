@@ -1,4 +1,4 @@
-pub mod Told
+pub mod Scripts
 pub mod Worked
 pub mod StopTable
 pub mod ScenariosFirst

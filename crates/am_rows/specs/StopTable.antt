@@ -1,62 +1,127 @@
--- Runs and what they tell. Written by tools/rows.py from cases/stop_table.
-use Rattle.std.specs.Prelude.{◌≡◌, [], ◌∷◌, None, false}
-use Rattle.am_base.specs.declared.entry.Entry.TheVariants.{Data, View}
-use Rattle.am_base.specs.declared.outcome.Outcome.TheVariants as said
+-- Scripts and their texts. Written by tools/rows.py from cases/stop_table.
+use Rattle.std.specs.Prelude.{◌≡◌, [], ◌∷◌, codes}
 use Rattle.am_group.specs.declared.event.Act.TheVariants as act
-use Rattle.am_rows.specs.Told.{told, set_of, founded, on, stamp, line, sent, log}
+use Rattle.am_model.specs.Play.{text_of}
+use Rattle.am_rows.specs.Scripts.{founded, on, lines}
 
 abbrev pub StopsAfterTheAcknowledgment : Type 0
-StopsAfterTheAcknowledgment = told (founded (0 ∷ 1 ∷ 2 ∷ []) 1 64 256) (on 0 (act.Send (97 ∷ [])) ∷ on 0 act.Take ∷ on 0 act.Take ∷ on 1 (act.Hear 1) ∷ on 0 (act.Hear 2) ∷ on 0 act.Stop ∷ on 1 (act.Reset 1 1) ∷ on 2 (act.Hear 4) ∷ on 1 (act.Hear 5) ∷ on 1 (act.GiveUp 0) ∷ []) ≡ record {
-  lines = (line (said.Queued 1) (sent 1 3 (1 ∷ 2 ∷ []) false ∷ []) ∷ line (said.Took 1 (View (stamp 1 0) (set_of (0 ∷ 1 ∷ 2 ∷ [])) 1)) [] ∷ line (said.Empty) [] ∷ line (said.Stored 2) (sent 2 6 (0 ∷ []) false ∷ []) ∷ line (said.Accepted 2) (sent 3 5 (1 ∷ 2 ∷ []) false ∷ []) ∷ line (said.Stopped) [] ∷ line (said.Waiting (set_of (0 ∷ 2 ∷ []))) (sent 4 13 (0 ∷ 2 ∷ []) false ∷ []) ∷ line (said.Voted) (sent 5 14 (1 ∷ []) false ∷ []) ∷ line (said.Waiting (set_of (0 ∷ []))) [] ∷ line (said.Decided 3 (set_of (1 ∷ 2 ∷ []))) (sent 6 17 (2 ∷ []) false ∷ []) ∷ []);
-  group = ((View (stamp 1 0) (set_of (0 ∷ 1 ∷ 2 ∷ [])) 1) ∷ (Data 0 1 (97 ∷ [])) ∷ []);
-  logs = (log 0 ((1, (View (stamp 1 0) (set_of (0 ∷ 1 ∷ 2 ∷ [])) 1)) ∷ []) ∷ log 1 [] ∷ log 2 [] ∷ []);
-  broken = None;
-}
+StopsAfterTheAcknowledgment = text_of (founded (0 ∷ 1 ∷ 2 ∷ []) 1 64 256) (on 0 (act.Send (97 ∷ [])) ∷ on 0 act.Take ∷ on 0 act.Take ∷ on 1 (act.Hear 1) ∷ on 0 (act.Hear 2) ∷ on 0 act.Stop ∷ on 1 (act.Reset 1 1) ∷ on 2 (act.Hear 4) ∷ on 1 (act.Hear 5) ∷ on 1 (act.GiveUp 0) ∷ []) ≡ lines (
+    codes "1 send 0 61 : queued 1 | 1 Bcast to 1,2" ∷
+    codes "2 take 0 : took 1 view 1.0 0,1,2" ∷
+    codes "3 take 0 : empty" ∷
+    codes "4 hear 1 1 : stored 2 | 2 Ack to 0" ∷
+    codes "5 hear 0 2 : accepted 2 | 3 Accept to 1,2" ∷
+    codes "6 stop 0 : stopped" ∷
+    codes "7 reset 1 1 : waiting 0,2 | 4 Invite to 0,2" ∷
+    codes "8 hear 2 4 : voted | 5 Vote to 1" ∷
+    codes "9 hear 1 5 : waiting 0" ∷
+    codes "10 giveup 1 0 : decided 3 1,2 | 6 Result to 2" ∷
+    codes "group 1 view 1.0 0,1,2" ∷
+    codes "group 2 data 0 1 61" ∷
+    codes "log 0 1 view 1.0 0,1,2" ∷
+    codes "log 1 empty" ∷
+    codes "log 2 empty" ∷
+    codes "lawful" ∷
+    [])
 
 abbrev pub StopsAfterTheEmptyTake : Type 0
-StopsAfterTheEmptyTake = told (founded (0 ∷ 1 ∷ 2 ∷ []) 1 64 256) (on 0 (act.Send (97 ∷ [])) ∷ on 0 act.Take ∷ on 0 act.Take ∷ on 0 act.Stop ∷ on 1 (act.Reset 1 1) ∷ on 2 (act.Hear 2) ∷ on 1 (act.Hear 3) ∷ on 1 (act.GiveUp 0) ∷ []) ≡ record {
-  lines = (line (said.Queued 1) (sent 1 3 (1 ∷ 2 ∷ []) false ∷ []) ∷ line (said.Took 1 (View (stamp 1 0) (set_of (0 ∷ 1 ∷ 2 ∷ [])) 1)) [] ∷ line (said.Empty) [] ∷ line (said.Stopped) [] ∷ line (said.Waiting (set_of (0 ∷ 2 ∷ []))) (sent 2 13 (0 ∷ 2 ∷ []) false ∷ []) ∷ line (said.Voted) (sent 3 14 (1 ∷ []) false ∷ []) ∷ line (said.Waiting (set_of (0 ∷ []))) [] ∷ line (said.Decided 2 (set_of (1 ∷ 2 ∷ []))) (sent 4 17 (2 ∷ []) false ∷ []) ∷ []);
-  group = ((View (stamp 1 0) (set_of (0 ∷ 1 ∷ 2 ∷ [])) 1) ∷ []);
-  logs = (log 0 ((1, (View (stamp 1 0) (set_of (0 ∷ 1 ∷ 2 ∷ [])) 1)) ∷ []) ∷ log 1 [] ∷ log 2 [] ∷ []);
-  broken = None;
-}
+StopsAfterTheEmptyTake = text_of (founded (0 ∷ 1 ∷ 2 ∷ []) 1 64 256) (on 0 (act.Send (97 ∷ [])) ∷ on 0 act.Take ∷ on 0 act.Take ∷ on 0 act.Stop ∷ on 1 (act.Reset 1 1) ∷ on 2 (act.Hear 2) ∷ on 1 (act.Hear 3) ∷ on 1 (act.GiveUp 0) ∷ []) ≡ lines (
+    codes "1 send 0 61 : queued 1 | 1 Bcast to 1,2" ∷
+    codes "2 take 0 : took 1 view 1.0 0,1,2" ∷
+    codes "3 take 0 : empty" ∷
+    codes "4 stop 0 : stopped" ∷
+    codes "5 reset 1 1 : waiting 0,2 | 2 Invite to 0,2" ∷
+    codes "6 hear 2 2 : voted | 3 Vote to 1" ∷
+    codes "7 hear 1 3 : waiting 0" ∷
+    codes "8 giveup 1 0 : decided 2 1,2 | 4 Result to 2" ∷
+    codes "group 1 view 1.0 0,1,2" ∷
+    codes "log 0 1 view 1.0 0,1,2" ∷
+    codes "log 1 empty" ∷
+    codes "log 2 empty" ∷
+    codes "lawful" ∷
+    [])
 
 abbrev pub StopsAfterTheFirstTake : Type 0
-StopsAfterTheFirstTake = told (founded (0 ∷ 1 ∷ 2 ∷ []) 1 64 256) (on 0 (act.Send (97 ∷ [])) ∷ on 0 act.Take ∷ on 0 act.Stop ∷ on 1 (act.Reset 1 1) ∷ on 2 (act.Hear 2) ∷ on 1 (act.Hear 3) ∷ on 1 (act.GiveUp 0) ∷ []) ≡ record {
-  lines = (line (said.Queued 1) (sent 1 3 (1 ∷ 2 ∷ []) false ∷ []) ∷ line (said.Took 1 (View (stamp 1 0) (set_of (0 ∷ 1 ∷ 2 ∷ [])) 1)) [] ∷ line (said.Stopped) [] ∷ line (said.Waiting (set_of (0 ∷ 2 ∷ []))) (sent 2 13 (0 ∷ 2 ∷ []) false ∷ []) ∷ line (said.Voted) (sent 3 14 (1 ∷ []) false ∷ []) ∷ line (said.Waiting (set_of (0 ∷ []))) [] ∷ line (said.Decided 2 (set_of (1 ∷ 2 ∷ []))) (sent 4 17 (2 ∷ []) false ∷ []) ∷ []);
-  group = ((View (stamp 1 0) (set_of (0 ∷ 1 ∷ 2 ∷ [])) 1) ∷ []);
-  logs = (log 0 ((1, (View (stamp 1 0) (set_of (0 ∷ 1 ∷ 2 ∷ [])) 1)) ∷ []) ∷ log 1 [] ∷ log 2 [] ∷ []);
-  broken = None;
-}
+StopsAfterTheFirstTake = text_of (founded (0 ∷ 1 ∷ 2 ∷ []) 1 64 256) (on 0 (act.Send (97 ∷ [])) ∷ on 0 act.Take ∷ on 0 act.Stop ∷ on 1 (act.Reset 1 1) ∷ on 2 (act.Hear 2) ∷ on 1 (act.Hear 3) ∷ on 1 (act.GiveUp 0) ∷ []) ≡ lines (
+    codes "1 send 0 61 : queued 1 | 1 Bcast to 1,2" ∷
+    codes "2 take 0 : took 1 view 1.0 0,1,2" ∷
+    codes "3 stop 0 : stopped" ∷
+    codes "4 reset 1 1 : waiting 0,2 | 2 Invite to 0,2" ∷
+    codes "5 hear 2 2 : voted | 3 Vote to 1" ∷
+    codes "6 hear 1 3 : waiting 0" ∷
+    codes "7 giveup 1 0 : decided 2 1,2 | 4 Result to 2" ∷
+    codes "group 1 view 1.0 0,1,2" ∷
+    codes "log 0 1 view 1.0 0,1,2" ∷
+    codes "log 1 empty" ∷
+    codes "log 2 empty" ∷
+    codes "lawful" ∷
+    [])
 
 abbrev pub StopsAfterTheSecondTake : Type 0
-StopsAfterTheSecondTake = told (founded (0 ∷ 1 ∷ 2 ∷ []) 1 64 256) (on 0 (act.Send (97 ∷ [])) ∷ on 0 act.Take ∷ on 0 act.Take ∷ on 1 (act.Hear 1) ∷ on 0 (act.Hear 2) ∷ on 0 act.Take ∷ on 0 act.Stop ∷ on 1 (act.Reset 1 1) ∷ on 2 (act.Hear 4) ∷ on 1 (act.Hear 5) ∷ on 1 (act.GiveUp 0) ∷ []) ≡ record {
-  lines = (line (said.Queued 1) (sent 1 3 (1 ∷ 2 ∷ []) false ∷ []) ∷ line (said.Took 1 (View (stamp 1 0) (set_of (0 ∷ 1 ∷ 2 ∷ [])) 1)) [] ∷ line (said.Empty) [] ∷ line (said.Stored 2) (sent 2 6 (0 ∷ []) false ∷ []) ∷ line (said.Accepted 2) (sent 3 5 (1 ∷ 2 ∷ []) false ∷ []) ∷ line (said.Took 2 (Data 0 1 (97 ∷ []))) [] ∷ line (said.Stopped) [] ∷ line (said.Waiting (set_of (0 ∷ 2 ∷ []))) (sent 4 13 (0 ∷ 2 ∷ []) false ∷ []) ∷ line (said.Voted) (sent 5 14 (1 ∷ []) false ∷ []) ∷ line (said.Waiting (set_of (0 ∷ []))) [] ∷ line (said.Decided 3 (set_of (1 ∷ 2 ∷ []))) (sent 6 17 (2 ∷ []) false ∷ []) ∷ []);
-  group = ((View (stamp 1 0) (set_of (0 ∷ 1 ∷ 2 ∷ [])) 1) ∷ (Data 0 1 (97 ∷ [])) ∷ []);
-  logs = (log 0 ((1, (View (stamp 1 0) (set_of (0 ∷ 1 ∷ 2 ∷ [])) 1)) ∷ (2, (Data 0 1 (97 ∷ []))) ∷ []) ∷ log 1 [] ∷ log 2 [] ∷ []);
-  broken = None;
-}
+StopsAfterTheSecondTake = text_of (founded (0 ∷ 1 ∷ 2 ∷ []) 1 64 256) (on 0 (act.Send (97 ∷ [])) ∷ on 0 act.Take ∷ on 0 act.Take ∷ on 1 (act.Hear 1) ∷ on 0 (act.Hear 2) ∷ on 0 act.Take ∷ on 0 act.Stop ∷ on 1 (act.Reset 1 1) ∷ on 2 (act.Hear 4) ∷ on 1 (act.Hear 5) ∷ on 1 (act.GiveUp 0) ∷ []) ≡ lines (
+    codes "1 send 0 61 : queued 1 | 1 Bcast to 1,2" ∷
+    codes "2 take 0 : took 1 view 1.0 0,1,2" ∷
+    codes "3 take 0 : empty" ∷
+    codes "4 hear 1 1 : stored 2 | 2 Ack to 0" ∷
+    codes "5 hear 0 2 : accepted 2 | 3 Accept to 1,2" ∷
+    codes "6 take 0 : took 2 data 0 1 61" ∷
+    codes "7 stop 0 : stopped" ∷
+    codes "8 reset 1 1 : waiting 0,2 | 4 Invite to 0,2" ∷
+    codes "9 hear 2 4 : voted | 5 Vote to 1" ∷
+    codes "10 hear 1 5 : waiting 0" ∷
+    codes "11 giveup 1 0 : decided 3 1,2 | 6 Result to 2" ∷
+    codes "group 1 view 1.0 0,1,2" ∷
+    codes "group 2 data 0 1 61" ∷
+    codes "log 0 1 view 1.0 0,1,2" ∷
+    codes "log 0 2 data 0 1 61" ∷
+    codes "log 1 empty" ∷
+    codes "log 2 empty" ∷
+    codes "lawful" ∷
+    [])
 
 abbrev pub StopsAfterTheSend : Type 0
-StopsAfterTheSend = told (founded (0 ∷ 1 ∷ 2 ∷ []) 1 64 256) (on 0 (act.Send (97 ∷ [])) ∷ on 0 act.Stop ∷ on 1 (act.Reset 1 1) ∷ on 2 (act.Hear 2) ∷ on 1 (act.Hear 3) ∷ on 1 (act.GiveUp 0) ∷ []) ≡ record {
-  lines = (line (said.Queued 1) (sent 1 3 (1 ∷ 2 ∷ []) false ∷ []) ∷ line (said.Stopped) [] ∷ line (said.Waiting (set_of (0 ∷ 2 ∷ []))) (sent 2 13 (0 ∷ 2 ∷ []) false ∷ []) ∷ line (said.Voted) (sent 3 14 (1 ∷ []) false ∷ []) ∷ line (said.Waiting (set_of (0 ∷ []))) [] ∷ line (said.Decided 2 (set_of (1 ∷ 2 ∷ []))) (sent 4 17 (2 ∷ []) false ∷ []) ∷ []);
-  group = ((View (stamp 1 0) (set_of (0 ∷ 1 ∷ 2 ∷ [])) 1) ∷ []);
-  logs = (log 0 [] ∷ log 1 [] ∷ log 2 [] ∷ []);
-  broken = None;
-}
+StopsAfterTheSend = text_of (founded (0 ∷ 1 ∷ 2 ∷ []) 1 64 256) (on 0 (act.Send (97 ∷ [])) ∷ on 0 act.Stop ∷ on 1 (act.Reset 1 1) ∷ on 2 (act.Hear 2) ∷ on 1 (act.Hear 3) ∷ on 1 (act.GiveUp 0) ∷ []) ≡ lines (
+    codes "1 send 0 61 : queued 1 | 1 Bcast to 1,2" ∷
+    codes "2 stop 0 : stopped" ∷
+    codes "3 reset 1 1 : waiting 0,2 | 2 Invite to 0,2" ∷
+    codes "4 hear 2 2 : voted | 3 Vote to 1" ∷
+    codes "5 hear 1 3 : waiting 0" ∷
+    codes "6 giveup 1 0 : decided 2 1,2 | 4 Result to 2" ∷
+    codes "group 1 view 1.0 0,1,2" ∷
+    codes "log 0 empty" ∷
+    codes "log 1 empty" ∷
+    codes "log 2 empty" ∷
+    codes "lawful" ∷
+    [])
 
 abbrev pub StopsAfterTheStoring : Type 0
-StopsAfterTheStoring = told (founded (0 ∷ 1 ∷ 2 ∷ []) 1 64 256) (on 0 (act.Send (97 ∷ [])) ∷ on 0 act.Take ∷ on 0 act.Take ∷ on 1 (act.Hear 1) ∷ on 0 act.Stop ∷ on 1 (act.Reset 1 1) ∷ on 2 (act.Hear 3) ∷ on 1 (act.Hear 4) ∷ on 1 (act.GiveUp 0) ∷ []) ≡ record {
-  lines = (line (said.Queued 1) (sent 1 3 (1 ∷ 2 ∷ []) false ∷ []) ∷ line (said.Took 1 (View (stamp 1 0) (set_of (0 ∷ 1 ∷ 2 ∷ [])) 1)) [] ∷ line (said.Empty) [] ∷ line (said.Stored 2) (sent 2 6 (0 ∷ []) false ∷ []) ∷ line (said.Stopped) [] ∷ line (said.Waiting (set_of (0 ∷ 2 ∷ []))) (sent 3 13 (0 ∷ 2 ∷ []) false ∷ []) ∷ line (said.Voted) (sent 4 14 (1 ∷ []) false ∷ []) ∷ line (said.Waiting (set_of (0 ∷ []))) [] ∷ line (said.Decided 3 (set_of (1 ∷ 2 ∷ []))) (sent 5 17 (2 ∷ []) false ∷ []) ∷ []);
-  group = ((View (stamp 1 0) (set_of (0 ∷ 1 ∷ 2 ∷ [])) 1) ∷ []);
-  logs = (log 0 ((1, (View (stamp 1 0) (set_of (0 ∷ 1 ∷ 2 ∷ [])) 1)) ∷ []) ∷ log 1 [] ∷ log 2 [] ∷ []);
-  broken = None;
-}
+StopsAfterTheStoring = text_of (founded (0 ∷ 1 ∷ 2 ∷ []) 1 64 256) (on 0 (act.Send (97 ∷ [])) ∷ on 0 act.Take ∷ on 0 act.Take ∷ on 1 (act.Hear 1) ∷ on 0 act.Stop ∷ on 1 (act.Reset 1 1) ∷ on 2 (act.Hear 3) ∷ on 1 (act.Hear 4) ∷ on 1 (act.GiveUp 0) ∷ []) ≡ lines (
+    codes "1 send 0 61 : queued 1 | 1 Bcast to 1,2" ∷
+    codes "2 take 0 : took 1 view 1.0 0,1,2" ∷
+    codes "3 take 0 : empty" ∷
+    codes "4 hear 1 1 : stored 2 | 2 Ack to 0" ∷
+    codes "5 stop 0 : stopped" ∷
+    codes "6 reset 1 1 : waiting 0,2 | 3 Invite to 0,2" ∷
+    codes "7 hear 2 3 : voted | 4 Vote to 1" ∷
+    codes "8 hear 1 4 : waiting 0" ∷
+    codes "9 giveup 1 0 : decided 3 1,2 | 5 Result to 2" ∷
+    codes "group 1 view 1.0 0,1,2" ∷
+    codes "log 0 1 view 1.0 0,1,2" ∷
+    codes "log 1 empty" ∷
+    codes "log 2 empty" ∷
+    codes "lawful" ∷
+    [])
 
 abbrev pub StopsBeforeAnything : Type 0
-StopsBeforeAnything = told (founded (0 ∷ 1 ∷ 2 ∷ []) 1 64 256) (on 0 act.Stop ∷ on 1 (act.Reset 1 1) ∷ on 2 (act.Hear 1) ∷ on 1 (act.Hear 2) ∷ on 1 (act.GiveUp 0) ∷ []) ≡ record {
-  lines = (line (said.Stopped) [] ∷ line (said.Waiting (set_of (0 ∷ 2 ∷ []))) (sent 1 13 (0 ∷ 2 ∷ []) false ∷ []) ∷ line (said.Voted) (sent 2 14 (1 ∷ []) false ∷ []) ∷ line (said.Waiting (set_of (0 ∷ []))) [] ∷ line (said.Decided 2 (set_of (1 ∷ 2 ∷ []))) (sent 3 17 (2 ∷ []) false ∷ []) ∷ []);
-  group = ((View (stamp 1 0) (set_of (0 ∷ 1 ∷ 2 ∷ [])) 1) ∷ []);
-  logs = (log 0 [] ∷ log 1 [] ∷ log 2 [] ∷ []);
-  broken = None;
-}
+StopsBeforeAnything = text_of (founded (0 ∷ 1 ∷ 2 ∷ []) 1 64 256) (on 0 act.Stop ∷ on 1 (act.Reset 1 1) ∷ on 2 (act.Hear 1) ∷ on 1 (act.Hear 2) ∷ on 1 (act.GiveUp 0) ∷ []) ≡ lines (
+    codes "1 stop 0 : stopped" ∷
+    codes "2 reset 1 1 : waiting 0,2 | 1 Invite to 0,2" ∷
+    codes "3 hear 2 1 : voted | 2 Vote to 1" ∷
+    codes "4 hear 1 2 : waiting 0" ∷
+    codes "5 giveup 1 0 : decided 2 1,2 | 3 Result to 2" ∷
+    codes "group 1 view 1.0 0,1,2" ∷
+    codes "log 0 empty" ∷
+    codes "log 1 empty" ∷
+    codes "log 2 empty" ∷
+    codes "lawful" ∷
+    [])

@@ -2,8 +2,8 @@
 
 ghost use Rattle.am_rows.specs.ScenariosAll.{All1, All10, All2, All3, All4, All5, All6, All7, All8, All9};
 
-/// What the definitions tell of these runs.
-pub fn told()
+/// The definitions give these texts for these scripts.
+pub fn texts()
     ensures all_1 { All1 }
     ensures all_10 { All10 }
     ensures all_2 { All2 }

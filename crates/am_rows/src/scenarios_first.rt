@@ -2,8 +2,8 @@
 
 ghost use Rattle.am_rows.specs.ScenariosFirst.{First1, First10, First2, First3, First4, First5, First6, First7, First8, First9};
 
-/// What the definitions tell of these runs.
-pub fn told()
+/// The definitions give these texts for these scripts.
+pub fn texts()
     ensures first_1 { First1 }
     ensures first_10 { First10 }
     ensures first_2 { First2 }

@@ -2,8 +2,8 @@
 
 ghost use Rattle.am_rows.specs.ScenariosLives.{Lives1, Lives10, Lives2, Lives3, Lives4, Lives5, Lives6, Lives7, Lives8, Lives9};
 
-/// What the definitions tell of these runs.
-pub fn told()
+/// The definitions give these texts for these scripts.
+pub fn texts()
     ensures lives_1 { Lives1 }
     ensures lives_10 { Lives10 }
     ensures lives_2 { Lives2 }

@@ -2,8 +2,8 @@
 
 ghost use Rattle.am_rows.specs.ScenariosMoves.{Moves1, Moves10, Moves2, Moves3, Moves4, Moves5, Moves6, Moves7, Moves8, Moves9};
 
-/// What the definitions tell of these runs.
-pub fn told()
+/// The definitions give these texts for these scripts.
+pub fn texts()
     ensures moves_1 { Moves1 }
     ensures moves_10 { Moves10 }
     ensures moves_2 { Moves2 }

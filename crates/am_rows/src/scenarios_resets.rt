@@ -2,8 +2,8 @@
 
 ghost use Rattle.am_rows.specs.ScenariosResets.{Resets1, Resets10, Resets2, Resets3, Resets4, Resets5, Resets6, Resets7, Resets8, Resets9};
 
-/// What the definitions tell of these runs.
-pub fn told()
+/// The definitions give these texts for these scripts.
+pub fn texts()
     ensures resets_1 { Resets1 }
     ensures resets_10 { Resets10 }
     ensures resets_2 { Resets2 }

@@ -2,8 +2,8 @@
 
 ghost use Rattle.am_rows.specs.ScenariosWindow.{Window1, Window10, Window2, Window3, Window4, Window5, Window6, Window7, Window8, Window9};
 
-/// What the definitions tell of these runs.
-pub fn told()
+/// The definitions give these texts for these scripts.
+pub fn texts()
     ensures window_1 { Window1 }
     ensures window_10 { Window10 }
     ensures window_2 { Window2 }

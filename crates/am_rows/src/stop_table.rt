@@ -2,8 +2,8 @@
 
 ghost use Rattle.am_rows.specs.StopTable.{StopsAfterTheAcknowledgment, StopsAfterTheEmptyTake, StopsAfterTheFirstTake, StopsAfterTheSecondTake, StopsAfterTheSend, StopsAfterTheStoring, StopsBeforeAnything};
 
-/// What the definitions tell of these runs.
-pub fn told()
+/// The definitions give these texts for these scripts.
+pub fn texts()
     ensures stops_after_the_acknowledgment { StopsAfterTheAcknowledgment }
     ensures stops_after_the_empty_take { StopsAfterTheEmptyTake }
     ensures stops_after_the_first_take { StopsAfterTheFirstTake }

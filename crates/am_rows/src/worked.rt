@@ -2,8 +2,8 @@
 
 ghost use Rattle.am_rows.specs.Worked.{Busy, CoordinatorStopSurvived, CoordinatorStopsToo, Crowded, CrowdedGivenUp, CrowdedTaken, CutPackets, EveryLife, JoinAsked, JoinWithLostWelcome, LeaveAsked, LongBody, NoEvents, OnlyFounderLeaves, RaisedResilience, RaisedResilienceStays, Reordering, Repeat, ReturnAfterLeave, ReturnAfterStop, ReturnedLeaverStops, RunningMember, SequencerLeaves, SequencerStops, Settled, ShortBody, SmallestPath, SpreadLost, Tentative, TooFew, TwoCoordinators, WindowOfOne};
 
-/// What the definitions tell of these runs.
-pub fn told()
+/// The definitions give these texts for these scripts.
+pub fn texts()
     ensures busy { Busy }
     ensures coordinator_stop_survived { CoordinatorStopSurvived }
     ensures coordinator_stops_too { CoordinatorStopsToo }
