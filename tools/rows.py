@@ -2,10 +2,10 @@
 
     python3 tools/rows.py CASES OUT
 
-CASES is a folder with a file NAME.json, a play script, and a file NAME.txt, the text that it must write, for each case,
-and OUT a crate's folder. For each folder F of CASES it writes specs/F.antt with a statement for each case, src/F.rt
-with a function whose contract they are, and its answers, by computing. A folder has two cases at least, and its file about.txt is a line that says
-what they are.
+CASES is a folder of folders. Each of those has two cases at least, a case being a file NAME.json, a play script, and a
+file NAME.txt, the text that it must write; and a file about.txt, a line that says what its cases are. OUT is a crate's
+folder. For each folder F of CASES this writes specs/F.antt with a statement for each case, src/F.rt with a function
+whose contract they are, and its answers, by computing.
 """
 
 import json
@@ -88,8 +88,8 @@ def statement(title, script, text):
     founding = "(founded %s %d %d %d)" % (name_list(play["founders"]), resilience, play.get("window", 64),
                                           play.get("pb_up_to", 256))
     run = "%s %s %s" % ("settled_text_of" if play.get("settle") else "text_of", founding, items(events))
-    lines = "".join('  codes "%s" ∷\n' % line for line in text.splitlines())
-    return "abbrev pub %s : Type 0\n%s = %s ≡ lines (\n%s  [])\n" % (title, title, run, lines)
+    lines = "".join('    codes "%s" ∷\n' % line for line in text.splitlines())
+    return "abbrev pub %s : Type 0\n%s = %s ≡ lines (\n%s    [])\n" % (title, title, run, lines)
 
 
 def titled(case):
