@@ -1,13 +1,12 @@
 -- A second refresh in a row changes nothing.
 use Rattle.std.proofs.Common.{◌≡◌, ℕ, ◌-◌, ◌≤◌, max, min, true, ◌==◌, nat_lt, nat_le, Option, Some, None, refl, sym, ap, ◌∙◌, inl, inr, arith}
-use Rattle.std.specs.Prelude.{unwrap_or}
 use Rattle.std.proofs.lemmas.Bool.{cases_lt}
 use Rattle.std.proofs.lemmas.Bool.Decides.{nat_tests}
 use Rattle.am_base.specs.declared.image.Report.{Report}
 use Rattle.am_base.specs.Lists.{Log, top_of, told_by}
 use Rattle.am_base.specs.Fronts.{is_held, is_satisfied, accept_front}
 use Rattle.am_model.specs.Node.{Core, Node, top, is_sequencer, report_of, set_at, raised}
-use Rattle.am_model.specs.Refresh.{concerned, least_taken, passed_over, known_accepted, advanced, advance, report_self, tell, trim, lead, refresh}
+use Rattle.am_model.specs.Refresh.{concerned, least_taken, base_after, passed_over, known_accepted, advanced, advance, report_self, tell, trim, lead, refresh}
 use Rattle.am_model.specs.Laws.{IsGreatestFront, RefreshOnce}
 use Rattle.am_model.proofs.Greatest.{split, and_both}
 use Rattle.am_model.proofs.AcceptFronts.{above_view, below_view, one_front, accept_front_is}
@@ -24,8 +23,8 @@ pass_again k a s = split (nat_lt k (s - 1))
     (λ u. rw u refl)))
     (λ f. rw (f, f) refl)
 
-trim_again : (least : Option ℕ) (b : ℕ) → max (max b (unwrap_or least b)) (unwrap_or least (max b (unwrap_or least b))) ≡ max b (unwrap_or least b)
-trim_again None b = omega arith
+trim_again : (least : Option ℕ) (b : ℕ) → base_after least (base_after least b) ≡ base_after least b
+trim_again None b = refl
 trim_again (Some n) b = omega arith
 
 -- ---- reports
@@ -105,7 +104,7 @@ record IsFresh (m : Node) : Type 0 where
   told : accept_front m.reports m.core.log m.core.acc ≡ m.core.told
   known : known_accepted m.core ≡ m.core.acc
   passed : passed_over m.core.taken m.core.acc m.core.start ≡ m.core.taken
-  base : max m.core.base (unwrap_or (least_taken m (concerned m)) m.core.base) ≡ m.core.base
+  base : base_after (least_taken m (concerned m)) m.core.base ≡ m.core.base
 
 tell_again : (m : Node) → accept_front m.reports m.core.log m.core.acc ≡ m.core.told → tell m ≡ m
 tell_again m e = λ i. record m { core = record (m.core) { told = e i } }
@@ -117,7 +116,7 @@ advanced_again c e f = (λ i. record c { acc = e i; taken = passed_over c.taken 
 advance_again : (m : Node) → known_accepted m.core ≡ m.core.acc → passed_over m.core.taken m.core.acc m.core.start ≡ m.core.taken → advance m ≡ m
 advance_again m e f = λ i. record m { core = advanced_again m.core e f i }
 
-base_again : (m : Node) → max m.core.base (unwrap_or (least_taken m (concerned m)) m.core.base) ≡ m.core.base → trim m ≡ m
+base_again : (m : Node) → base_after (least_taken m (concerned m)) m.core.base ≡ m.core.base → trim m ≡ m
 base_again m e = λ i. record m { core = record (m.core) { base = e i } }
 
 lead_fresh : (m : Node) → IsFresh m → lead m ≡ m

@@ -1,5 +1,5 @@
 -- Ballots: a coordinator asks for votes, fetches what the best vote has, and decides a view.
-use Rattle.std.specs.Prelude.{ℕ, ◌+◌, ◌-◌, max, min, List, [], Option, Some, None, Bool, true, false, not, ◌&&◌, ◌||◌, ◌==◌, nat_lt, if◌then◌else◌, unwrap_or, option_map}
+use Rattle.std.specs.Prelude.{ℕ, ◌+◌, ◌-◌, max, min, List, [], Option, Some, None, Bool, true, false, not, ◌&&◌, ◌||◌, ◌==◌, nat_lt, if◌then◌else◌, unwrap_or, option_map, is_some}
 use Rattle.am_base.specs.declared.image.Vote.{Vote}
 use Rattle.am_base.specs.declared.name.Stamp.{Stamp}
 use Rattle.am_base.specs.declared.entry.Entry.TheVariants.{View}
@@ -12,7 +12,7 @@ use Rattle.am_packet.specs.declared.packet.Packet.{Packet}
 use Rattle.am_packet.specs.declared.packet.Packet.TheVariants as packet
 use Rattle.am_packet.specs.declared.letter.Letter.{Letter}
 use Rattle.am_packet.specs.Boxes.{with_letter}
-use Rattle.am_model.specs.Node.{Node, Ballot, top, told, members, view, others, only_name, those, set_at, pushed, trimmed, is_some}
+use Rattle.am_model.specs.Node.{Node, Ballot, top, told, members, view, others, only_name, those, set_at, pushed, trimmed, no_report}
 use Rattle.am_model.specs.Refresh.{least_of}
 use Rattle.am_model.specs.Emit.{Plan, quiet, invite_of, fetch_of, result_of}
 
@@ -72,9 +72,9 @@ goes_on m b outcome = record { node = record m { ballot = Some (record b { answe
 abbrev pub ends : Node → Ballot → Outcome → Verdict
 ends m b outcome = record { node = record m { ballot = Some (record b { answer = outcome; is_over = true }) }; outcome = outcome }
 
--- all reports begin anew
+-- the reports of all names begin anew
 abbrev pub restarted : Node → Node
-restarted m = record m { reports = λ name. record { stored = m.core.base; taken = m.core.base } }
+restarted m = record m { reports = λ name. if nat_lt name 256 then record { stored = m.core.base; taken = m.core.base } else no_report }
 
 -- the view is pushed, where there is room for so many members
 abbrev pub decide_view : Node → Ballot → List ℕ → Verdict

@@ -1,5 +1,5 @@
 -- The calls of an application, and the tick.
-use Rattle.std.specs.Prelude.{ℕ, ◌+◌, List, [], ◌∷◌, ◌++◌, length, filter, find, Option, Some, None, Bool, true, false, not, ◌&&◌, ◌||◌, ◌==◌, nat_lt, nat_le, if◌then◌else◌}
+use Rattle.std.specs.Prelude.{ℕ, ◌+◌, List, [], ◌∷◌, ◌++◌, length, filter, find, Option, Some, None, Bool, true, false, not, ◌&&◌, ◌||◌, ◌==◌, nat_lt, nat_le, if◌then◌else◌, is_some}
 use Rattle.am_base.specs.declared.entry.Entry.{Entry}
 use Rattle.am_base.specs.declared.entry.Entry.TheVariants.{Data, Leave}
 use Rattle.am_base.specs.declared.outcome.Outcome.{Outcome}
@@ -8,7 +8,7 @@ use Rattle.am_base.specs.Names.{place_of, by_place, has, size}
 use Rattle.am_base.specs.Lists.{entry_at}
 use Rattle.am_model.specs.declared.status.Status.{Status}
 use Rattle.am_model.specs.declared.status.Status.TheVariants as status
-use Rattle.am_model.specs.Node.{Node, Send, Ballot, top, view, members, own_row, others, only_name, lowest_or_first, acts, is_sequencer, is_member, has_room, is_some, waiting, unsettled_in, pushed}
+use Rattle.am_model.specs.Node.{Node, Send, Ballot, top, view, members, own_row, others, only_name, lowest_or_first, acts, is_sequencer, is_member, has_room, waiting, unsettled, pushed}
 use Rattle.am_model.specs.Emit.{Plan, quiet, telling, and_telling, numbering, request_of, spread_of, bcast_of, join_ask_of, leave_ask_of, hand_over_of}
 use Rattle.am_model.specs.Ballots.{begin, give_up}
 
@@ -122,7 +122,7 @@ is_unfinished (Some b) = not b.is_over
 abbrev pub leave_now : Node → Plan
 leave_now m =
     if m.leaving then quiet m said.Leaving
-    else if nat_lt 0 (unsettled_in m.sends.kept) || is_unfinished m.ballot then quiet m (said.Busy (unsettled_in m.sends.kept))
+    else if nat_lt 0 (unsettled m) || is_unfinished m.ballot then quiet m (said.Busy (unsettled m))
     else go (quiet (record m { leaving = true }) said.Asked)
 
 abbrev pub leave_by : Node → Status → Plan

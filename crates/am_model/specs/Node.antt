@@ -1,5 +1,5 @@
 -- A node of the protocol. Its list is never cut: the base is only a number.
-use Rattle.std.specs.Prelude.{ℕ, ◌+◌, ◌-◌, max, List, [], ◌∷◌, ◌++◌, drop, Option, Some, None, Bool, true, false, ◌&&◌, ◌==◌, nat_lt, nat_le, if◌then◌else◌, unwrap_or, slice_index}
+use Rattle.std.specs.Prelude.{ℕ, ◌+◌, ◌-◌, max, List, [], ◌∷◌, ◌++◌, drop, Option, None, Bool, true, false, ◌&&◌, ◌==◌, nat_lt, nat_le, if◌then◌else◌, unwrap_or, slice_index, find, count_by, is_none, option_map}
 use Rattle.am_base.specs.declared.image.Report.{Report}
 use Rattle.am_base.specs.declared.image.Row.{Row}
 use Rattle.am_base.specs.declared.image.Image.{Image}
@@ -144,29 +144,23 @@ report_fits m report = nat_le report.taken report.stored && nat_le report.stored
 
 -- ---- sends and bodies
 
-abbrev pub is_some : {A : Type 0} → Option A → Bool
-is_some None = false
-is_some (Some x) = true
-
-abbrev pub is_settled : Send → Bool
-is_settled s = is_some s.number
-
 -- the waiting send: the first that isn't settled
-abbrev pub waiting_in : List Send → Option Send
-waiting_in [] = None
-waiting_in (s ∷ rest) = if is_settled s then waiting_in rest else Some s
+abbrev pub is_unsettled : Send → Bool
+is_unsettled s = is_none s.number
 
 abbrev pub waiting : Node → Option Send
-waiting m = waiting_in m.sends.kept
+waiting m = find is_unsettled m.sends.kept
 
-abbrev pub unsettled_in : List Send → ℕ
-unsettled_in [] = 0
-unsettled_in (s ∷ rest) = if is_settled s then unsettled_in rest else unsettled_in rest + 1
+-- how many aren't settled
+abbrev pub unsettled : Node → ℕ
+unsettled m = count_by is_unsettled m.sends.kept
 
--- the body that is kept for this sender and request
-abbrev pub body_in : ℕ → ℕ → List KeptBody → Option (List ℕ)
-body_in from req [] = None
-body_in from req (b ∷ rest) = if (b.from == from) && (b.req == req) then Some b.body else body_in from req rest
+-- a body that is kept for this sender and request
+abbrev pub is_of : ℕ → ℕ → KeptBody → Bool
+is_of from req kept = (kept.from == from) && (kept.req == req)
+
+abbrev pub find_body : ℕ → ℕ → List KeptBody → Option (List ℕ)
+find_body from req bodies = option_map (λ kept. kept.body) (find (is_of from req) bodies)
 
 -- ---- changes
 

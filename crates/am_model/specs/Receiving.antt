@@ -7,7 +7,7 @@ use Rattle.am_base.specs.declared.outcome.Outcome.{Outcome}
 use Rattle.am_base.specs.declared.outcome.Outcome.TheVariants as said
 use Rattle.am_base.specs.Names.{without_name, names_of}
 use Rattle.am_base.specs.Lists.{fits}
-use Rattle.am_model.specs.Node.{Node, Send, KeptBody, top, told, members, only_name, has_own_leave, is_within_bound, waiting, body_in, is_some, pushed, trimmed}
+use Rattle.am_model.specs.Node.{Node, Send, KeptBody, top, told, members, only_name, has_own_leave, is_within_bound, waiting, is_of, find_body, pushed, trimmed}
 use Rattle.am_model.specs.Emit.{Plan, quiet, telling, and_where, ack_of, nack_of}
 use Rattle.am_model.specs.Sequencing.{row_at, risen}
 
@@ -15,12 +15,12 @@ use Rattle.am_model.specs.Sequencing.{row_at, risen}
 
 -- a full pool of sixteen gives up its oldest body
 abbrev pub kept_with : List KeptBody → KeptBody → List KeptBody
-kept_with bodies body = (if nat_lt (length bodies) 16 then bodies else drop 1 bodies) ++ body ∷ []
+kept_with bodies body = (if nat_le 16 (length bodies) then drop 1 bodies else bodies) ++ body ∷ []
 
 -- a Spread at a member that isn't the sequencer
 unfoldable pub spread_row : Node → ℕ → ℕ → List ℕ → Plan
 spread_row m s req body =
-    if nat_le req (row_at m s).last || is_some (body_in s req m.bodies) then quiet m said.Known
+    if nat_le req (row_at m s).last || list_any (is_of s req) m.bodies then quiet m said.Known
     else quiet (record m { bodies = kept_with m.bodies (record { from = s; req = req; body = body }) }) said.Kept
 
 -- the bodies that a stored Data leaves
@@ -40,7 +40,7 @@ first_body None second = second
 first_body (Some body) second = Some body
 
 abbrev pub body_of : Node → ℕ → ℕ → Option (List ℕ)
-body_of m from req = first_body (own_body m from req (waiting m)) (body_in from req m.bodies)
+body_of m from req = first_body (own_body m from req (waiting m)) (find_body from req m.bodies)
 
 -- ---- entries
 

@@ -1,30 +1,31 @@
 -- What a node does at the end of every step, and in some rows before: it takes in what it knows by now.
-use Rattle.std.specs.Prelude.{ℕ, ◌+◌, ◌-◌, max, min, List, [], ◌∷◌, take, map, Option, Some, None, Bool, false, ◌&&◌, ◌==◌, nat_lt, if◌then◌else◌, unwrap_or, position}
-use Rattle.std.specs.List.{range_with_len}
+use Rattle.std.specs.Prelude.{ℕ, ◌+◌, ◌-◌, max, min, List, [], ◌∷◌, take, map, Option, Some, None, Bool, false, ◌&&◌, ◌==◌, nat_lt, if◌then◌else◌, position, zero, suc}
 use Rattle.am_base.specs.declared.entry.Entry.{Entry}
 use Rattle.am_base.specs.declared.entry.Entry.TheVariants.{Data, Join, Leave, View}
-use Rattle.am_base.specs.Names.{nobody, names_of, union_of}
-use Rattle.am_base.specs.Lists.{top_of, members_at}
+use Rattle.am_base.specs.Names.{names_of, union_of}
+use Rattle.am_base.specs.Lists.{Log, top_of, members_at}
 use Rattle.am_base.specs.Fronts.{accept_front}
-use Rattle.am_model.specs.Node.{Core, Node, Send, top, is_sequencer, report_of, with_report, trimmed, entries_above, is_settled}
+use Rattle.am_model.specs.Node.{Core, Node, Send, top, is_sequencer, report_of, with_report, entries_above, waiting}
 
--- the least value of a function over names, where there is one
-abbrev pub least_from : (ℕ → ℕ) → ℕ → List ℕ → ℕ
-least_from f least [] = least
-least_from f least (name ∷ names) = least_from f (min least (f name)) names
+-- the lesser of two numbers that may be there
+abbrev pub lesser : Option ℕ → Option ℕ → Option ℕ
+lesser None b = b
+lesser (Some x) None = Some x
+lesser (Some x) (Some y) = Some (min x y)
 
-abbrev pub least_of : (ℕ → ℕ) → List ℕ → Option ℕ
+-- the least of what some names have
+unfoldable pub least_of : (ℕ → ℕ) → List ℕ → Option ℕ
 least_of f [] = None
-least_of f (name ∷ names) = Some (least_from f (f name) names)
+least_of f (name ∷ names) = lesser (Some (f name)) (least_of f names)
 
--- the names of all these sets, with the greater life of each place
-unfoldable pub union_all : List (List ℕ) → List ℕ
-union_all [] = nobody
-union_all (set ∷ sets) = union_of set (union_all sets)
+-- the members after each number from one on, so many numbers up, together
+unfoldable pub unions : Log → ℕ → ℕ → List ℕ
+unions log from zero = members_at log from
+unions log from (suc more) = union_of (unions log from more) (members_at log (from + suc more))
 
 -- whose reports hold back the base: whoever is a member after some number from what is accepted up to the top
 abbrev pub concerned : Node → List ℕ
-concerned m = union_all (map (members_at m.core.log) (range_with_len m.core.acc (top m + 1 - m.core.acc)))
+concerned m = unions m.core.log m.core.acc (top m - m.core.acc)
 
 -- ---- what any member does
 
@@ -59,8 +60,12 @@ abbrev pub least_stored : Node → List ℕ → Option ℕ
 least_stored m set = least_of (λ name. (m.reports name).stored) (names_of set)
 
 -- it trims to what everybody concerned has taken
+abbrev pub base_after : Option ℕ → ℕ → ℕ
+base_after None base = base
+base_after (Some to) base = max base to
+
 abbrev pub trim : Node → Node
-trim m = trimmed m (unwrap_or (least_taken m (concerned m)) m.core.base)
+trim m = record m { core = record (m.core) { base = base_after (least_taken m (concerned m)) m.core.base } }
 
 unfoldable pub lead : Node → Node
 lead m = trim (report_self (advance (tell (report_self m))))
@@ -81,17 +86,21 @@ is_data_of who req (View stamp members resilience) = false
 abbrev pub accepted_at : Node → ℕ → Option ℕ
 accepted_at m req = position (is_data_of m.core.who req) (take (m.core.acc - m.core.base) (entries_above m m.core.base))
 
-abbrev pub settled_at : Node → Send → Option ℕ → Send
-settled_at m s None = s
-settled_at m s (Some k) = record s { number = Some (m.core.base + 1 + k) }
+-- the send of this request has this number
+abbrev pub with_number : ℕ → ℕ → Send → Send
+with_number req number s = if s.req == req then record s { number = Some number } else s
 
--- the waiting send, settled where it is accepted
-abbrev pub settled_in : Node → List Send → List Send
-settled_in m [] = []
-settled_in m (s ∷ rest) = if is_settled s then s ∷ settled_in m rest else settled_at m s (accepted_at m s.req) ∷ rest
+abbrev pub settled_at : Node → ℕ → Option ℕ → Node
+settled_at m req None = m
+settled_at m req (Some k) = record m { sends = record (m.sends) { kept = map (with_number req (m.core.base + 1 + k)) m.sends.kept } }
+
+-- the waiting send is settled where it is accepted
+abbrev pub settled : Node → Option Send → Node
+settled m None = m
+settled m (Some s) = settled_at m s.req (accepted_at m s.req)
 
 unfoldable pub settle : Node → Node
-settle m = record m { sends = record (m.sends) { kept = settled_in m m.sends.kept } }
+settle m = settled m (waiting m)
 
 unfoldable pub refresh_at_end : Node → Node
 refresh_at_end m = settle (refresh m)
