@@ -7,3 +7,4 @@ pub mod LettersHeard
 pub mod BestVotes
 pub mod Rows
 pub mod Runs
+pub mod Held

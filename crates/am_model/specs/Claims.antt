@@ -6,7 +6,8 @@ use Rattle.am_base.specs.declared.entry.Entry.{Entry}
 use Rattle.am_base.specs.declared.entry.Entry.TheVariants.{Data, Join, Leave, View}
 use Rattle.am_base.specs.declared.outcome.Outcome.{Outcome}
 use Rattle.am_base.specs.declared.outcome.Outcome.TheVariants as said
-use Rattle.am_base.specs.Names.{has}
+use Rattle.am_base.specs.Names.{has, size}
+use Rattle.am_base.specs.Lists.{members_at}
 use Rattle.am_base.specs.Stamps.{stamp_lt}
 use Rattle.am_base.specs.Founding.{Rules, MayFound}
 use Rattle.am_packet.specs.Kinds.{kind_of}
@@ -15,8 +16,9 @@ use Rattle.am_group.specs.declared.event.Act.{Act}
 use Rattle.am_group.specs.declared.event.Act.TheVariants as act
 use Rattle.am_group.specs.declared.event.Event.{Event}
 use Rattle.am_group.specs.declared.event.Record.{Record}
-use Rattle.am_model.specs.Node.{top, view}
-use Rattle.am_model.specs.World.{Decided, World, letter_at, happens, run}
+use Rattle.am_model.specs.Node.{Node, top, view, members, acts, is_sequencer}
+use Rattle.am_model.specs.Settle.{settle_events}
+use Rattle.am_model.specs.World.{Decided, World, current, is_stopped, has_departed, letter_at, happens, happen, run}
 use Rattle.am_model.specs.Group.{Accepted, name_of, entry_of, deliveries, accepted_sends}
 use Rattle.am_model.specs.AbstractGroup.{Moves, group_of}
 use Rattle.am_model.specs.Lawful.{whole, is_view_of, is_complete, lawful_front}
@@ -165,3 +167,30 @@ UnballotedHolds = (rules : Rules) (events : List Event) → MayFound rules → N
 -- and each event moves the group by the abstract steps alone
 abbrev pub UnballotedMoves : Type 0
 UnballotedMoves = (rules : Rules) (events : List Event) (e : Event) → MayFound rules → NoBallot (happens (run rules events) e) → Moves (group_of (run rules events)) (group_of (happens (run rules events) e))
+
+-- ---- up to where a run is lawful a View that leaves somebody out always fits
+
+pub record FitsView (rules : Rules) (m : Node) : Type 0 where
+  pub each : (number : ℕ) → m.core.base < number → number ≤ top m → number - m.core.base ≤ rules.window + 16 - size (members_at m.core.log number)
+
+abbrev pub ViewsFit : Type 0
+ViewsFit = (rules : Rules) (events : List Event) (name : ℕ) → MayFound rules → FitsView rules ((run rules (lawful_front rules events)).nodes name)
+
+-- ---- what a lossless schedule repairs
+
+-- a sequencer whose members all act in its view, while nobody is leaving and whoever stopped had departed
+pub record MayRepair (w : World) (place : ℕ) : Type 0 where
+  pub leads : is_sequencer (w.nodes (current w place)) ≡ true
+  pub nobody_stopped : (name : ℕ) → is_stopped w name ≡ true → has_departed (w.nodes name).status ≡ true
+  pub nobody_leaves : (name : ℕ) → (w.nodes name).leaving ≡ true → has_departed (w.nodes name).status ≡ true
+  pub all_act : (name : ℕ) → has (members (w.nodes (current w place))) name ≡ true → (acts (w.nodes name) ≡ true) × (view (w.nodes name) ≡ view (w.nodes (current w place)))
+
+-- a member has stored and accepted all up to a number
+pub record HasCaughtUp (m : Node) (number : ℕ) : Type 0 where
+  pub stored : number ≤ top m
+  pub accepted : number ≤ m.core.acc
+
+abbrev pub Repairs : Type 0
+Repairs = (rules : Rules) (events : List Event) (place : ℕ) → MayFound rules → place < 16 → MayRepair (run rules events) place
+    → (name : ℕ) → has (members ((run rules events).nodes (current (run rules events) place))) name ≡ true
+    → HasCaughtUp ((happen (run rules events) (settle_events rules (run rules events))).nodes name) (top ((run rules events).nodes (current (run rules events) place)))

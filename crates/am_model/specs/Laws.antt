@@ -1,5 +1,5 @@
 -- That the definitions mean what they say.
-use Rattle.std.specs.Prelude.{◌≡◌, ◌≢◌, ◌⊎◌, ℕ, zero, suc, ◌+◌, ◌-◌, ◌<◌, ◌≤◌, max, List, ◌++◌, length, Option, Some, None, Bool, true, false, nat_le, if◌then◌else◌}
+use Rattle.std.specs.Prelude.{◌≡◌, ◌≢◌, ◌⊎◌, ℕ, zero, suc, ◌+◌, ◌-◌, ◌<◌, ◌≤◌, max, List, ◌++◌, length, Option, Some, None, Bool, true, false, nat_le, if◌then◌else◌, ◌↔◌}
 use Rattle.am_base.specs.declared.image.Image.{Image}
 use Rattle.am_base.specs.declared.image.Report.{Report}
 use Rattle.am_base.specs.declared.image.Vote.{Vote}
@@ -11,7 +11,10 @@ use Rattle.am_base.specs.Votes.{Shown, vote_lt, best_vote}
 use Rattle.am_base.specs.Lists.{Log, at_place, row_of, after, fits, fold, AllFit, top_of, told_by}
 use Rattle.am_base.specs.Fronts.{is_held, is_satisfied, accept_front}
 use Rattle.am_packet.specs.declared.event.NodeEvent.{NodeEvent}
-use Rattle.am_model.specs.Node.{Node}
+use Rattle.am_model.specs.Node.{Node, told, report_fits, has_room}
+use Rattle.am_model.specs.Sequencing.{reported, request_row}
+use Rattle.am_base.specs.declared.outcome.Outcome.{Outcome}
+use Rattle.am_base.specs.declared.outcome.Outcome.TheVariants as said
 use Rattle.am_model.specs.World.{World, happen, run}
 use Rattle.am_model.specs.Lawful.{watched, broken_at, lawful_front}
 use Rattle.am_base.specs.Founding.{Rules}
@@ -138,3 +141,20 @@ OneRecordEach = (rules : Rules) (events : List Event) → length (run rules even
 -- before a run breaks it is lawful
 abbrev pub FrontIsLawful : Type 0
 FrontIsLawful = (rules : Rules) (events : List Event) → broken_at rules (lawful_front rules events) ≡ None
+
+-- ---- held
+
+-- a member's next send, with a report that fits
+pub record IsNextSend (m : Node) (s : ℕ) (report : Report) (req : ℕ) : Type 0 where
+  pub known : 0 < (row_of (told m) s).joined
+  pub fits : report_fits m report ≡ true
+  pub stays : (row_of (told m) s).left ≡ 0
+  pub next : req ≡ (row_of (told m) s).last + 1
+
+abbrev pub IsHeld : Outcome → Type 0
+IsHeld outcome = (base : ℕ) × (high : ℕ) × (outcome ≡ said.Held base high)
+
+-- a send is held exactly where it is a member's next one, with a report that fits, and there is no room once that is taken
+abbrev pub HeldExactly : Type 0
+HeldExactly = (m n : Node) (s : ℕ) (report : Report) (req : ℕ) (body : List ℕ) (by_order : Bool)
+    → IsHeld ((request_row m s report req body by_order).outcome n) ↔ (IsNextSend m s report req × (has_room (reported m s report) ≡ false))
