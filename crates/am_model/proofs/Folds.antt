@@ -1,0 +1,11 @@
+-- Folds of lists that go on.
+use Rattle.std.proofs.Common.{◌≡◌, ◌+◌, [], ◌∷◌, length, ap, ◌∙◌, arith}
+use Rattle.am_base.specs.Lists.{after, fold}
+use Rattle.am_model.specs.Laws.{FoldGoesOn}
+
+pub fold_append : FoldGoesOn
+unfolding fold
+fold_append image number [] ys = let z : number ≡ number + 0 = omega arith in ap (λ n. fold image n ys) z
+fold_append image number (x ∷ xs) ys =
+    let z : (number + 1) + length xs ≡ number + length (x ∷ xs) = omega arith in
+    fold_append (after image number x) (number + 1) xs ys ∙ ap (λ n. fold (fold (after image number x) (number + 1) xs) n ys) z

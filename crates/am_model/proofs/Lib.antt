@@ -1,0 +1,10 @@
+pub mod Folds
+pub mod Greatest
+pub mod AcceptFronts
+pub mod Refreshes
+pub mod Letters
+pub mod LettersHeard
+pub mod BestVotes
+pub mod Rows
+pub mod Runs
+pub mod Held

@@ -1,0 +1,154 @@
+-- Ballots: a coordinator asks for votes, fetches what the best vote has, and decides a view.
+use Rattle.std.specs.Prelude.{ℕ, ◌+◌, ◌-◌, max, min, List, [], Option, Some, None, Bool, true, false, not, ◌&&◌, ◌||◌, ◌==◌, nat_lt, if◌then◌else◌, unwrap_or, option_map, is_some}
+use Rattle.am_base.specs.declared.image.Vote.{Vote}
+use Rattle.am_base.specs.declared.name.Stamp.{Stamp}
+use Rattle.am_base.specs.declared.entry.Entry.TheVariants.{View}
+use Rattle.am_base.specs.declared.outcome.Outcome.{Outcome}
+use Rattle.am_base.specs.declared.outcome.Outcome.TheVariants as said
+use Rattle.am_base.specs.Names.{has, size, minus, without_name, names_of}
+use Rattle.am_base.specs.Stamps.{stamp_lt}
+use Rattle.am_base.specs.Votes.{Shown, best_vote}
+use Rattle.am_packet.specs.declared.packet.Packet.{Packet}
+use Rattle.am_packet.specs.declared.packet.Packet.TheVariants as packet
+use Rattle.am_packet.specs.declared.letter.Letter.{Letter}
+use Rattle.am_packet.specs.Boxes.{with_letter}
+use Rattle.am_model.specs.Node.{Node, Ballot, top, told, members, view, others, only_name, those, set_at, pushed, trimmed, no_report}
+use Rattle.am_model.specs.Refresh.{least_of}
+use Rattle.am_model.specs.Emit.{Plan, quiet, invite_of, fetch_of, result_of}
+
+-- ---- promises
+
+-- an unfinished ballot of a lower stamp is overtaken
+abbrev pub overtaken : Stamp → Option Ballot → Option Ballot
+overtaken by None = None
+overtaken by (Some b) = if not b.is_over && stamp_lt b.stamp by then Some (record b { answer = said.Overtaken by; is_over = true }) else Some b
+
+-- the promise becomes this stamp
+abbrev pub promised : Node → Stamp → Node
+promised m stamp = record m { core = record (m.core) { promise = stamp }; ballot = overtaken stamp m.ballot }
+
+-- ---- votes
+
+-- what the node itself shows
+abbrev pub own_vote : Node → Vote
+own_vote m = record { view = view m; top = top m; taken = m.core.taken; members = members m }
+
+abbrev pub vote_of : Node → Packet
+vote_of n = packet.Vote n.core.who n.core.promise (own_vote n)
+
+unfoldable pub best_of : Node → Ballot → Shown
+best_of m b = best_vote b.votes m.core.who (own_vote m)
+
+-- whose votes a ballot needs: the best vote's members
+abbrev pub need_of : Node → Ballot → List ℕ
+need_of m b = (best_of m b).vote.members
+
+-- the coordinator counts as having voted
+abbrev pub has_voted : Node → Ballot → ℕ → Bool
+has_voted m b name = (name == m.core.who) || is_some (b.votes name)
+
+abbrev pub is_waited_for : Node → Ballot → ℕ → Bool
+is_waited_for m b name = not (has_voted m b name) && not (b.given_up name)
+
+-- the need set without the given-up
+abbrev pub left_in : Ballot → List ℕ → List ℕ
+left_in b need = those (λ name. not (b.given_up name)) need
+
+-- how far a voter's application has taken the list
+abbrev pub taken_by : Node → Ballot → ℕ → ℕ
+taken_by m b name = if name == m.core.who then m.core.taken else unwrap_or (option_map (λ vote. vote.taken) (b.votes name)) 0
+
+-- ---- deciding
+
+-- what a ballot comes to
+pub record Verdict : Type 0 where
+  pub node : Node
+  pub outcome : Outcome
+
+-- the ballot goes on, or has ended, with this answer
+abbrev pub goes_on : Node → Ballot → Outcome → Verdict
+goes_on m b outcome = record { node = record m { ballot = Some (record b { answer = outcome; is_over = false }) }; outcome = outcome }
+
+abbrev pub ends : Node → Ballot → Outcome → Verdict
+ends m b outcome = record { node = record m { ballot = Some (record b { answer = outcome; is_over = true }) }; outcome = outcome }
+
+-- the reports of all names begin anew
+abbrev pub restarted : Node → Node
+restarted m = record m { reports = λ name. if nat_lt name 256 then record { stored = m.core.base; taken = m.core.base } else no_report }
+
+-- the view is pushed, where there is room for so many members
+abbrev pub decide_view : Node → Ballot → List ℕ → Verdict
+decide_view m b names =
+    if nat_lt (m.core.rules.window + 16 - size names) (top m + 1 - m.core.base) then ends m b (said.Crowded m.core.base (top m))
+    else ends (restarted (pushed m (View b.stamp names (max b.resilience (told m).resilience)))) b (said.Decided (top m + 1) names)
+
+-- trimmed to what all of these have taken
+abbrev pub trimmed_for : Node → Ballot → List ℕ → Node
+trimmed_for m b names = trimmed m (unwrap_or (least_of (taken_by m b) (names_of names)) 0)
+
+unfoldable pub decide : Node → Ballot → Verdict
+decide m b =
+    if not (has (need_of m b) m.core.who) then ends m b (said.NotIn (best_of m b).vote.view)
+    else if nat_lt 0 (size (those (is_waited_for m b) (need_of m b))) then goes_on m b (said.Waiting (those (is_waited_for m b) (need_of m b)))
+    else if not ((best_of m b).by == m.core.who) then goes_on m b (said.Fetching (best_of m b).by (top m + 1))
+    else if nat_lt (size (left_in b (need_of m b))) b.least then ends m b (said.TooFew (size (left_in b (need_of m b))) b.least)
+    else decide_view (trimmed_for m b (left_in b (need_of m b))) b (left_in b (need_of m b))
+
+-- ---- what a verdict sends
+
+-- a decided view is told to its members
+abbrev pub with_result : Outcome → Node → List Letter → List Letter
+with_result (said.Decided number names) n letters = with_letter (without_name names n.core.who) (result_of n number names (told n).resilience) letters
+with_result _ n letters = letters
+
+-- and what is to be fetched is asked for
+abbrev pub with_fetch : Outcome → Node → List Letter → List Letter
+with_fetch (said.Fetching from want) n letters = with_letter (only_name from) (fetch_of n) letters
+with_fetch _ n letters = letters
+
+abbrev pub answered : Verdict → (Node → List Letter) → Plan
+answered verdict letters = record (quiet verdict.node verdict.outcome) { letters = λ n. with_result verdict.outcome n (letters n) }
+
+-- ---- rows of ballots
+
+-- the next round of the node's own
+abbrev pub next_stamp : Node → Stamp
+next_stamp m = record { round = m.core.promise.round + 1; by = m.core.who }
+
+abbrev pub new_ballot : Stamp → ℕ → ℕ → Ballot
+new_ballot stamp least resilience = record {
+  stamp = stamp;
+  least = least;
+  resilience = resilience;
+  votes = λ name. None;
+  given_up = λ name. false;
+  answer = said.Asked;
+  is_over = false;
+}
+
+-- a ballot begins, with a resilience of at most 15
+unfoldable pub begin : Node → ℕ → ℕ → Plan
+begin m least resilience = answered (decide (promised m (next_stamp m)) (new_ballot (next_stamp m) least (min resilience 15))) (λ n. with_letter (others m) (invite_of n) [])
+
+abbrev pub with_vote : Ballot → ℕ → Vote → Ballot
+with_vote b name vote = record b { votes = set_at b.votes name (Some vote) }
+
+-- who is needed since this vote, and hasn't voted
+abbrev pub newly_needed : Node → Ballot → Ballot → List ℕ
+newly_needed m old new = those (λ name. not (has_voted m new name)) (minus (need_of m new) (need_of m old))
+
+-- a vote is kept
+unfoldable pub keep_vote : Node → Ballot → ℕ → Vote → Plan
+keep_vote m b name vote =
+    let new = with_vote b name vote in
+    let verdict = decide m new in
+    answered verdict (λ n. with_fetch verdict.outcome n (with_letter (newly_needed m b new) (invite_of n) []))
+
+abbrev pub without_voter : Ballot → ℕ → Ballot
+without_voter b name = record b { votes = set_at b.votes name None; given_up = set_at b.given_up name true }
+
+-- a name is given up
+unfoldable pub give_up : Node → Ballot → ℕ → Plan
+give_up m b name =
+    let verdict = decide m (without_voter b name) in
+    answered verdict (λ n. with_fetch verdict.outcome n [])

@@ -1,0 +1,243 @@
+-- A node of the protocol. Its list is never cut: the base is only a number.
+use Rattle.std.specs.Prelude.{ℕ, ◌+◌, ◌-◌, max, List, [], ◌∷◌, ◌++◌, drop, Option, None, Bool, true, false, ◌&&◌, ◌==◌, nat_lt, nat_le, if◌then◌else◌, unwrap_or, slice_index, find, count_by, is_none, option_map}
+use Rattle.am_base.specs.declared.image.Report.{Report}
+use Rattle.am_base.specs.declared.image.Row.{Row}
+use Rattle.am_base.specs.declared.image.Image.{Image}
+use Rattle.am_base.specs.declared.image.Vote.{Vote}
+use Rattle.am_base.specs.declared.name.Stamp.{Stamp}
+use Rattle.am_base.specs.declared.entry.Entry.{Entry}
+use Rattle.am_base.specs.declared.entry.Entry.TheVariants.{View}
+use Rattle.am_base.specs.declared.outcome.Outcome.{Outcome}
+use Rattle.am_base.specs.Names.{nobody, by_place, name_at, has, with_name, without_name, lowest_of}
+use Rattle.am_base.specs.Stamps.{stamp_eq, no_stamp}
+use Rattle.am_base.specs.Founding.{Rules}
+use Rattle.am_base.specs.Lists.{Log, blank, top_of, told_by, members_of, row_of}
+use Rattle.am_model.specs.declared.status.Status.{Status}
+use Rattle.am_model.specs.declared.status.Status.TheVariants.{Stranger, Asking, Member, Departed}
+
+-- what each part of a node knows: its name, the rules, its list and how far that counts as trimmed, the greatest stamp
+-- promised, how far the sequencer told that the list is accepted, how far it is known to be accepted, how far it was
+-- taken, and the number with which the node joined
+pub record Core : Type 0 where
+  pub who : ℕ
+  pub rules : Rules
+  pub log : Log
+  pub base : ℕ
+  pub promise : Stamp
+  pub told : ℕ
+  pub acc : ℕ
+  pub taken : ℕ
+  pub start : ℕ
+
+-- a send that isn't collected, with its number once it is settled
+pub record Send : Type 0 where
+  pub req : ℕ
+  pub body : List ℕ
+  pub number : Option ℕ
+
+-- the request of the last send, and the sends that aren't collected, in order
+pub record Sends : Type 0 where
+  pub last : ℕ
+  pub kept : List Send
+
+-- a body that was spread and isn't numbered yet
+pub record KeptBody : Type 0 where
+  pub from : ℕ
+  pub req : ℕ
+  pub body : List ℕ
+
+-- the last ballot of a node: the least size and the resilience asked for, who voted what, who was given up, and what was
+-- last decided on it, or how it ended
+pub record Ballot : Type 0 where
+  pub stamp : Stamp
+  pub least : ℕ
+  pub resilience : ℕ
+  pub votes : ℕ → Option Vote
+  pub given_up : ℕ → Bool
+  pub answer : Outcome
+  pub is_over : Bool
+
+pub record Node : Type 0 where
+  pub core : Core
+  pub status : Status
+  pub leaving : Bool
+  pub sends : Sends
+  pub bodies : List KeptBody
+  pub reports : ℕ → Report
+  pub ballot : Option Ballot
+
+-- ---- what a node's state tells
+
+abbrev pub is_asking : Status → Bool
+is_asking Stranger = false
+is_asking Asking = true
+is_asking Member = false
+is_asking Departed = false
+
+abbrev pub is_member : Status → Bool
+is_member Stranger = false
+is_member Asking = false
+is_member Member = true
+is_member Departed = false
+
+-- the number of the last entry
+abbrev pub top : Node → ℕ
+top m = top_of m.core.log
+
+-- what the whole list tells
+abbrev pub told : Node → Image
+told m = told_by m.core.log
+
+abbrev pub members : Node → List ℕ
+members m = members_of (told m)
+
+abbrev pub view : Node → Stamp
+view m = (told m).view
+
+abbrev pub own_row : Node → Row
+own_row m = row_of (told m) m.core.who
+
+-- the members without the node itself
+abbrev pub others : Node → List ℕ
+others m = without_name (members m) m.core.who
+
+abbrev pub only_name : ℕ → List ℕ
+only_name name = with_name nobody name
+
+-- the names of a set that pass a test
+abbrev pub name_where : (ℕ → Bool) → ℕ → ℕ → ℕ
+name_where test place life = if life == 0 then 0 else if test (name_at place life) then life else 0
+
+unfoldable pub those : (ℕ → Bool) → List ℕ → List ℕ
+those test set = by_place (λ place. name_where test place (slice_index set place))
+
+-- a member that has promised nothing above its view
+abbrev pub acts : Node → Bool
+acts m = is_member m.status && stamp_eq m.core.promise (view m)
+
+-- it acts in a view of its own
+abbrev pub is_sequencer : Node → Bool
+is_sequencer m = acts m && ((view m).by == m.core.who)
+
+-- another entry may be numbered
+abbrev pub has_room : Node → Bool
+has_room m = nat_le (top m + 1 - m.core.base) m.core.rules.window
+
+-- an entry of this number may be stored above this base
+abbrev pub is_within_bound : Node → ℕ → ℕ → Bool
+is_within_bound m base number = nat_le (number - base) (m.core.rules.window + 15)
+
+-- its own Leave stands in its list
+abbrev pub has_own_leave : Node → Bool
+has_own_leave m = nat_lt 0 (own_row m).left
+
+-- the entries above a number
+abbrev pub entries_above : Node → ℕ → List Entry
+entries_above m number = drop (number - m.core.log.start) m.core.log.entries
+
+abbrev pub report_of : Node → Report
+report_of m = record { stored = top m; taken = m.core.taken }
+
+-- a report that its sender could have made of this list
+abbrev pub report_fits : Node → Report → Bool
+report_fits m report = nat_le report.taken report.stored && nat_le report.stored (top m)
+
+-- ---- sends and bodies
+
+-- the waiting send: the first that isn't settled
+abbrev pub is_unsettled : Send → Bool
+is_unsettled s = is_none s.number
+
+abbrev pub waiting : Node → Option Send
+waiting m = find is_unsettled m.sends.kept
+
+-- how many aren't settled
+abbrev pub unsettled : Node → ℕ
+unsettled m = count_by is_unsettled m.sends.kept
+
+-- a body that is kept for this sender and request
+abbrev pub is_of : ℕ → ℕ → KeptBody → Bool
+is_of from req kept = (kept.from == from) && (kept.req == req)
+
+abbrev pub find_body : ℕ → ℕ → List KeptBody → Option (List ℕ)
+find_body from req bodies = option_map (λ kept. kept.body) (find (is_of from req) bodies)
+
+-- ---- changes
+
+-- the map with another value at one place
+abbrev pub set_at : {A : Type 0} → (ℕ → A) → ℕ → A → ℕ → A
+set_at f k x j = if j == k then x else f j
+
+abbrev pub with_core : Node → Core → Node
+with_core m core = record m { core = core }
+
+abbrev pub pushed : Node → Entry → Node
+pushed m e = record m { core = record (m.core) { log = record (m.core.log) { entries = m.core.log.entries ++ e ∷ [] } } }
+
+-- trimmed up to a number, where that is greater
+abbrev pub trimmed : Node → ℕ → Node
+trimmed m base = record m { core = record (m.core) { base = max m.core.base base } }
+
+abbrev pub raised : Report → Report → Report
+raised old report = record { stored = max old.stored report.stored; taken = max old.taken report.taken }
+
+abbrev pub with_report : Node → ℕ → Report → Node
+with_report m name report = record m { reports = set_at m.reports name (raised (m.reports name) report) }
+
+-- ---- the first states
+
+abbrev pub lowest_or_first : List ℕ → ℕ
+lowest_or_first set = unwrap_or (lowest_of set) 0
+
+-- the stamp of the founders' view
+abbrev pub founding_stamp : Rules → Stamp
+founding_stamp rules = record { round = 1; by = lowest_or_first rules.founders }
+
+-- the first entry of the list
+abbrev pub founders_view : Rules → Entry
+founders_view rules = View (founding_stamp rules) rules.founders rules.resilience
+
+abbrev pub no_report : Report
+no_report = record { stored = 0; taken = 0 }
+
+abbrev pub founder : Rules → ℕ → Node
+founder rules who = record {
+  core = record {
+    who = who;
+    rules = rules;
+    log = record { start = 0; image = blank; entries = founders_view rules ∷ [] };
+    base = 0;
+    promise = founding_stamp rules;
+    told = 1;
+    acc = 1;
+    taken = 0;
+    start = 1;
+  };
+  status = Member;
+  leaving = false;
+  sends = record { last = 0; kept = [] };
+  bodies = [];
+  reports = λ name. if has rules.founders name then record { stored = 1; taken = 0 } else no_report;
+  ballot = None;
+}
+
+abbrev pub stranger : Rules → ℕ → Node
+stranger rules who = record {
+  core = record {
+    who = who;
+    rules = rules;
+    log = record { start = 0; image = blank; entries = [] };
+    base = 0;
+    promise = no_stamp;
+    told = 0;
+    acc = 0;
+    taken = 0;
+    start = 0;
+  };
+  status = Stranger;
+  leaving = false;
+  sends = record { last = 0; kept = [] };
+  bodies = [];
+  reports = λ name. no_report;
+  ballot = None;
+}

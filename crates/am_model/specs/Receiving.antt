@@ -1,0 +1,107 @@
+-- What a member does with the sequencer's packets, and with bodies that are spread.
+use Rattle.std.specs.Prelude.{ℕ, ◌+◌, max, List, [], ◌∷◌, ◌++◌, length, drop, take, filter, Option, Some, None, Bool, true, false, not, ◌&&◌, ◌||◌, ◌==◌, nat_lt, nat_le, if◌then◌else◌}
+use Rattle.std.specs.List.{list_any}
+use Rattle.am_base.specs.declared.entry.Entry.{Entry}
+use Rattle.am_base.specs.declared.entry.Entry.TheVariants.{Data, Join, Leave, View}
+use Rattle.am_base.specs.declared.outcome.Outcome.{Outcome}
+use Rattle.am_base.specs.declared.outcome.Outcome.TheVariants as said
+use Rattle.am_base.specs.Names.{without_name, names_of}
+use Rattle.am_base.specs.Lists.{fits}
+use Rattle.am_model.specs.Node.{Node, Send, KeptBody, top, told, members, only_name, has_own_leave, is_within_bound, waiting, is_of, find_body, pushed, trimmed}
+use Rattle.am_model.specs.Emit.{Plan, quiet, telling, and_where, ack_of, nack_of}
+use Rattle.am_model.specs.Sequencing.{row_at, risen}
+
+-- ---- bodies
+
+-- a full pool of sixteen gives up its oldest body
+abbrev pub kept_with : List KeptBody → KeptBody → List KeptBody
+kept_with bodies body = (if nat_le 16 (length bodies) then drop 1 bodies else bodies) ++ body ∷ []
+
+-- a Spread at a member that isn't the sequencer
+unfoldable pub spread_row : Node → ℕ → ℕ → List ℕ → Plan
+spread_row m s req body =
+    if nat_le req (row_at m s).last || list_any (is_of s req) m.bodies then quiet m said.Known
+    else quiet (record m { bodies = kept_with m.bodies (record { from = s; req = req; body = body }) }) said.Kept
+
+-- the bodies that a stored Data leaves
+abbrev pub bodies_after : List KeptBody → Entry → List KeptBody
+bodies_after bodies (Data from req body) = filter (λ b. not ((b.from == from) && nat_le b.req req)) bodies
+bodies_after bodies (Join name) = bodies
+bodies_after bodies (Leave name) = bodies
+bodies_after bodies (View stamp names resilience) = bodies
+
+-- the body of a send that was spread: its own waiting send's, or a kept one's
+abbrev pub own_body : Node → ℕ → ℕ → Option Send → Option (List ℕ)
+own_body m from req None = None
+own_body m from req (Some s) = if (from == m.core.who) && (s.req == req) then Some s.body else None
+
+abbrev pub first_body : Option (List ℕ) → Option (List ℕ) → Option (List ℕ)
+first_body None second = second
+first_body (Some body) second = Some body
+
+abbrev pub body_of : Node → ℕ → ℕ → Option (List ℕ)
+body_of m from req = first_body (own_body m from req (waiting m)) (find_body from req m.bodies)
+
+-- ---- entries
+
+abbrev pub is_view : Entry → Bool
+is_view (Data from req body) = false
+is_view (Join name) = false
+is_view (Leave name) = false
+is_view (View stamp names resilience) = true
+
+-- what the sequencer's packet tells of its fronts
+abbrev pub noted : Node → ℕ → ℕ → Node
+noted m base acc = trimmed (record m { core = record (m.core) { told = max m.core.told acc } }) (if nat_le base m.core.taken then base else m.core.base)
+
+-- this node is among so many lowest members other than the sequencer
+abbrev pub acknowledges : Node → ℕ → Node → Bool
+acknowledges m s n = list_any (λ name. name == n.core.who) (take (told m).resilience (names_of (without_name (members m) s)))
+
+-- the entry is stored; some members acknowledge it at once
+abbrev pub stored : Node → ℕ → ℕ → Entry → Plan
+stored m s number e =
+    and_where (acknowledges (pushed m e) s) (quiet (record (pushed m e) { bodies = bodies_after m.bodies e }) (said.Stored number)) (only_name s) ack_of
+
+-- a numbered entry, whose body may be missing
+abbrev pub store : Node → ℕ → ℕ → Option Entry → Outcome → Plan
+store m s number None missing = telling m missing (only_name s) nack_of
+store m s number (Some e) missing =
+    if is_view e || (not (fits (told m) e) || not (is_within_bound m m.core.base number)) then quiet m said.Unfit
+    else stored m s number e
+
+-- once what it tells is noted
+abbrev pub received : Node → ℕ → ℕ → ℕ → Option Entry → Outcome → Plan
+received m s base number e missing =
+    if nat_le number (top m) then quiet m said.Known
+    else if has_own_leave m then quiet m said.Behind
+    else if nat_lt (top m + 1) number then telling m (said.Gap (top m + 1)) (only_name s) nack_of
+    else if nat_lt m.core.taken base then quiet m said.Behind
+    else store m s number e missing
+
+unfoldable pub bcast_row : Node → ℕ → ℕ → ℕ → ℕ → Entry → Plan
+bcast_row m s base acc number e = received (noted m base acc) s base number (Some e) said.Known
+
+abbrev pub data_of : ℕ → ℕ → Option (List ℕ) → Option Entry
+data_of from req None = None
+data_of from req (Some body) = Some (Data from req body)
+
+unfoldable pub order_row : Node → ℕ → ℕ → ℕ → ℕ → ℕ → ℕ → Plan
+order_row m s base acc number from req = received (noted m base acc) s base number (data_of from req (body_of m from req)) (said.NoBody from req)
+
+-- how far the list is accepted, and with a poll a report
+abbrev pub accepted_to : Node → Node → ℕ → Bool → Plan
+accepted_to m old s poll = and_where (λ n. poll) (record (quiet m said.Known) { outcome = risen old said.Known (λ n. said.Advanced n.core.acc) }) (only_name s) ack_of
+
+unfoldable pub accept_row : Node → ℕ → ℕ → ℕ → ℕ → Bool → Plan
+accept_row m s base acc high poll =
+    if nat_lt (top m) high && not (has_own_leave m) then telling (noted m base acc) (said.Gap (top m + 1)) (only_name s) nack_of
+    else accepted_to (noted m base acc) m s poll
+
+-- the waiting send is put off
+abbrev pub held_up : Node → ℕ → ℕ → ℕ → Option Send → Plan
+held_up m base high req None = quiet m said.Known
+held_up m base high req (Some s) = if s.req == req then quiet m (said.PutOff req base high) else quiet m said.Known
+
+unfoldable pub hold_row : Node → ℕ → ℕ → ℕ → Plan
+hold_row m base high req = held_up m base high req (waiting m)

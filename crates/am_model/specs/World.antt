@@ -1,0 +1,207 @@
+-- Runs of a whole group: sixteen places, each with the node of its current life, and all letters that went out.
+use Rattle.std.specs.Prelude.{ℕ, zero, suc, ◌+◌, ◌-◌, List, [], ◌∷◌, ◌++◌, length, take, drop, Option, Some, None, Bool, true, false, not, ◌||◌, ◌==◌, nat_lt, nat_le, if◌then◌else◌, slice_get, slice_index}
+use Rattle.std.specs.List.{list_any}
+use Rattle.am_base.specs.declared.entry.Entry.{Entry}
+use Rattle.am_base.specs.declared.name.Stamp.{Stamp}
+use Rattle.am_base.specs.declared.outcome.Outcome.{Outcome}
+use Rattle.am_base.specs.declared.outcome.Outcome.TheVariants as said
+use Rattle.am_base.specs.Names.{place_of, name_at, has}
+use Rattle.am_base.specs.Founding.{Rules}
+use Rattle.am_packet.specs.declared.packet.Packet.{Packet}
+use Rattle.am_packet.specs.declared.letter.Letter.{Letter}
+use Rattle.am_packet.specs.declared.event.NodeEvent.{NodeEvent}
+use Rattle.am_packet.specs.declared.event.NodeEvent.TheVariants as does
+use Rattle.am_group.specs.declared.event.Act.{Act}
+use Rattle.am_group.specs.declared.event.Act.TheVariants as act
+use Rattle.am_group.specs.declared.event.Event.{Event}
+use Rattle.am_group.specs.declared.event.Record.{Record}
+use Rattle.am_group.specs.declared.event.By.{By}
+use Rattle.am_group.specs.declared.event.Part.TheVariants.{Call}
+use Rattle.am_model.specs.declared.status.Status.{Status}
+use Rattle.am_model.specs.declared.status.Status.TheVariants.{Stranger, Asking, Member, Departed}
+use Rattle.am_model.specs.Node.{Core, Node, told, view, members, set_at, founder, stranger, founding_stamp, founders_view}
+use Rattle.am_model.specs.Emit.{Step}
+use Rattle.am_model.specs.Step.{step, refused}
+use Rattle.am_model.specs.Lengths.{packet_length}
+
+-- a view that was decided: its number, and what its View says
+pub record Decided : Type 0 where
+  pub number : ℕ
+  pub stamp : Stamp
+  pub members : List ℕ
+  pub resilience : ℕ
+
+-- each place's current life, each name's node, who has stopped, all letters in order, all records, the group list,
+-- and the views that were decided, the founders' first
+pub record World : Type 0 where
+  pub lives : ℕ → ℕ
+  pub nodes : ℕ → Node
+  pub stopped : List ℕ
+  pub letters : List Letter
+  pub records : List Record
+  pub group : List Entry
+  pub views : List Decided
+
+-- ---- the start
+
+-- the founders are members, and every other name is a stranger that no one has seen
+abbrev pub first_node : Rules → ℕ → Node
+first_node rules name = if has rules.founders name then founder rules name else stranger rules name
+
+abbrev pub founders_decided : Rules → Decided
+founders_decided rules = record { number = 1; stamp = founding_stamp rules; members = rules.founders; resilience = rules.resilience }
+
+abbrev pub start : Rules → World
+start rules = record {
+  lives = λ place. 1;
+  nodes = first_node rules;
+  stopped = [];
+  letters = [];
+  records = [];
+  group = founders_view rules ∷ [];
+  views = founders_decided rules ∷ [];
+}
+
+-- ---- what a world tells
+
+-- the current name of a place
+abbrev pub current : World → ℕ → ℕ
+current w place = name_at place (w.lives place)
+
+-- a name has stopped by a Stop, or because its place has a greater life
+abbrev pub is_stopped : World → ℕ → Bool
+is_stopped w name = list_any (λ x. x == name) w.stopped
+
+abbrev pub has_departed : Status → Bool
+has_departed Stranger = false
+has_departed Asking = false
+has_departed Member = false
+has_departed Departed = true
+
+-- a letter by its number, from 1
+abbrev pub letter_at : List Letter → ℕ → Option Letter
+letter_at letters zero = None
+letter_at letters (suc before) = slice_get letters before
+
+-- a letter for any life of a place, or for this very name
+abbrev pub is_addressed : Letter → ℕ → Bool
+is_addressed letter name = if letter.any then nat_lt 0 (slice_index letter.to (place_of name)) else has letter.to name
+
+-- ---- the group list
+
+-- the list, with what a node has accepted beyond it
+abbrev pub grown : List Entry → Core → List Entry
+grown group core = group ++ take (core.acc - length group) (drop (length group - core.log.start) core.log.entries)
+
+-- only a node in a view of its own adds to it
+abbrev pub group_after : List Entry → Node → List Entry
+group_after group m = if (view m).by == m.core.who then grown group m.core else group
+
+-- ---- decided views
+
+-- the view of a node that has just decided it
+abbrev pub own_view : Node → Decided
+own_view m = record { number = (told m).view_number; stamp = view m; members = members m; resilience = (told m).resilience }
+
+abbrev pub views_after : List Decided → Node → Outcome → List Decided
+views_after views m (said.Decided number names) = views ++ own_view m ∷ []
+views_after views m _ = views
+
+-- ---- events
+
+-- a run on its own has no callers
+abbrev pub no_caller : By
+no_caller = record { caller = 0; call = 0; part = Call }
+
+-- what came of an event, done by the current life of its place
+abbrev pub record_of : World → Event → Outcome → List Letter → Record
+record_of w e outcome letters = record { event = e; life = w.lives (place_of e.node); by = no_caller; outcome = outcome; packets = letters }
+
+-- an event that changes no node
+unfoldable pub unchanged : World → Event → Outcome → World
+unchanged w e outcome = record w { records = w.records ++ record_of w e outcome [] ∷ [] }
+
+-- a name's step
+unfoldable pub stepped : World → Event → ℕ → Step → World
+stepped w e name s = record w {
+  nodes = set_at w.nodes name s.node;
+  letters = w.letters ++ s.letters;
+  records = w.records ++ record_of w e s.outcome s.letters ∷ [];
+  group = group_after w.group s.node;
+  views = views_after w.views s.node s.outcome;
+}
+
+-- a node's own event, which a stopped one doesn't do
+abbrev pub does_event : World → Event → ℕ → NodeEvent → World
+does_event w e name event = if is_stopped w name then unchanged w e said.IsStopped else stepped w e name (step (w.nodes name) event)
+
+-- only a stopped name is given up
+abbrev pub gives_up : World → Event → ℕ → ℕ → World
+gives_up w e name other =
+    if is_stopped w name then unchanged w e said.IsStopped
+    else if is_stopped w other then stepped w e name (step (w.nodes name) (does.GiveUp other))
+    else unchanged w e said.NotStopped
+
+abbrev pub stops : World → Event → ℕ → World
+stops w e name =
+    if is_stopped w name then unchanged w e said.IsStopped
+    else unchanged (record w { stopped = w.stopped ++ name ∷ [] }) e said.Stopped
+
+-- hearing a letter, by a step
+abbrev pub heard : World → Event → ℕ → (Packet → Step) → Option Letter → World
+heard w e name hearing None = unchanged w e said.NoPacket
+heard w e name hearing (Some letter) =
+    if not (is_addressed letter name) then unchanged w e said.NotAddressed
+    else if is_stopped w name then unchanged w e said.IsStopped
+    else stepped w e name (hearing letter.packet)
+
+-- the first bytes of a packet: too few for a header, or fewer than its length says, are refused
+abbrev pub hear_cut : Node → ℕ → Packet → Step
+hear_cut m keep packet =
+    if nat_le (packet_length packet) keep then step m (does.Hear packet)
+    else if nat_lt keep 12 then refused m 1
+    else refused m 5
+
+-- the next life of a place begins, and the name before it has stopped
+abbrev pub lives_on : World → ℕ → World
+lives_on w place = record w {
+  lives = set_at w.lives place (w.lives place + 1);
+  stopped = if is_stopped w (current w place) then w.stopped else w.stopped ++ current w place ∷ [];
+}
+
+-- a place returns where its name has gone or stopped, sixteen lives at most
+abbrev pub returned : World → Event → ℕ → World
+returned w e place =
+    if not (is_stopped w (current w place) || has_departed (w.nodes (current w place)).status) then unchanged w e (said.Running (w.lives place))
+    else if w.lives place == 16 then unchanged w e said.NoLife
+    else lives_on (unchanged w e (said.Returned (w.lives place + 1))) place
+
+-- an act of a place's current name
+abbrev pub acts_as : World → Event → ℕ → Act → World
+acts_as w e name (act.Send body) = does_event w e name (does.Send body)
+acts_as w e name (act.Done req) = does_event w e name (does.Done req)
+acts_as w e name act.Take = does_event w e name does.Take
+acts_as w e name act.Join = does_event w e name does.Join
+acts_as w e name act.State = does_event w e name does.State
+acts_as w e name act.Leave = does_event w e name does.Leave
+acts_as w e name (act.Reset least resilience) = does_event w e name (does.Reset least resilience)
+acts_as w e name (act.Ask round) = does_event w e name (does.Ask round)
+acts_as w e name (act.GiveUp other) = gives_up w e name other
+acts_as w e name act.Stop = stops w e name
+acts_as w e name act.Tick = does_event w e name does.Tick
+acts_as w e name (act.Hear number) = heard w e name (λ packet. step (w.nodes name) (does.Hear packet)) (letter_at w.letters number)
+acts_as w e name (act.Cut number keep) = heard w e name (hear_cut (w.nodes name) keep) (letter_at w.letters number)
+acts_as w e name act.Return = returned w e (place_of name)
+
+-- what an event makes of a world
+unfoldable pub happens : World → Event → World
+happens w e = acts_as w e (current w (place_of e.node)) e.act
+
+-- what events in turn make of it
+unfoldable pub happen : World → List Event → World
+happen w [] = w
+happen w (e ∷ es) = happen (happens w e) es
+
+-- the run of these events
+abbrev pub run : Rules → List Event → World
+run rules events = happen (start rules) events

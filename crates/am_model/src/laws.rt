@@ -1,0 +1,47 @@
+ghost use Rattle.am_model.specs.Laws.{FoldGoesOn, RefreshOnce, FewLetters, HeldExactly, AcceptFrontIsGreatest, AcceptFrontByWalking, BestVoteIsGreatest, RowsGoOn, DataGoesOn, MembershipsGoOn, RunsGoOn, WatchedIsRun, OneRecordEach, FrontIsLawful};
+
+/// A list that goes on tells what its beginning tells, and then the rest.
+#[tactic(auto, using(crate::proofs::Folds::fold_append))]
+pub fn folds()
+    ensures goes_on { FoldGoesOn }
+{}
+
+/// The accept front is the greatest number up to which all is satisfied, and going upwards finds it.
+#[tactic(auto, using(crate::proofs::AcceptFronts::accept_front_is, crate::proofs::AcceptFronts::accept_front_walks))]
+pub fn accept_fronts()
+    ensures greatest { AcceptFrontIsGreatest }
+    ensures by_walking { AcceptFrontByWalking }
+{}
+
+/// A second refresh in a row changes nothing; a step sends at most nine letters; and a send is held exactly where it is a
+/// member's next one, its report fits, and there is no room once that is taken.
+#[tactic(auto, using(crate::proofs::Refreshes::refresh_twice, crate::proofs::LettersHeard::few_letters))]
+pub fn steps()
+    ensures refresh_once { RefreshOnce }
+    ensures few_letters { FewLetters }
+    ensures held { HeldExactly }
+{}
+
+/// The best vote is the greatest; its holder is the coordinator where it is among those that showed it, else the lowest name.
+#[tactic(auto, using(crate::proofs::BestVotes::best_vote_is))]
+pub fn best_votes()
+    ensures { BestVoteIsGreatest }
+{}
+
+/// What an entry does to the row of a place where somebody joined; that a Data has its sender's next request; and that along a
+/// list the number of a joining never changes, until a greater life of the place joins.
+#[tactic(auto, using(crate::proofs::Rows::rows_go_on, crate::proofs::Rows::data_goes_on, crate::proofs::Rows::memberships_go_on))]
+pub fn rows()
+    ensures go_on { RowsGoOn }
+    ensures data { DataGoesOn }
+    ensures memberships { MembershipsGoOn }
+{}
+
+/// Runs go on event by event, each leaves one record, watching changes nothing, and the lawful front of a run is lawful.
+#[tactic(auto, using(crate::proofs::Runs::runs_go_on, crate::proofs::Runs::watched_is_run, crate::proofs::Runs::one_record_each, crate::proofs::Runs::front_is_lawful))]
+pub fn runs()
+    ensures go_on { RunsGoOn }
+    ensures watched { WatchedIsRun }
+    ensures records { OneRecordEach }
+    ensures front { FrontIsLawful }
+{}

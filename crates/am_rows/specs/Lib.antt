@@ -1,0 +1,9 @@
+pub mod Scripts
+pub mod Worked
+pub mod StopTable
+pub mod ScenariosFirst
+pub mod ScenariosWindow
+pub mod ScenariosMoves
+pub mod ScenariosResets
+pub mod ScenariosLives
+pub mod ScenariosAll

@@ -1,0 +1,11 @@
+//! Worked runs, computed from the definitions.
+#![tactic(auto)]
+
+pub mod scenarios_all;
+pub mod scenarios_first;
+pub mod scenarios_lives;
+pub mod scenarios_moves;
+pub mod scenarios_resets;
+pub mod scenarios_window;
+pub mod stop_table;
+pub mod worked;

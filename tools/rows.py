@@ -1,0 +1,171 @@
+"""Writes statements that say which text the definitions give for a script, from scripts and their expected texts.
+
+    python3 tools/rows.py CASES OUT
+
+CASES is a folder of folders. Each of those has two cases at least, a case being a file NAME.json, a play script, and a
+file NAME.txt, the text that it must write; and a file about.txt, a line that says what its cases are. OUT is a crate's
+folder. For each folder F of CASES this writes specs/F.antt with a statement for each case, src/F.rt with a function
+whose contract they are, and its answers, by computing.
+"""
+
+import json
+import os
+import re
+import sys
+
+OPENED = """
+use Rattle.am_base.specs.Names.{by_place}
+use Rattle.am_base.specs.Lists.{after, fits, fold}
+use Rattle.am_base.specs.Fronts.{greatest}
+use Rattle.am_base.specs.Votes.{best_from}
+use Rattle.am_model.specs.Node.{those}
+use Rattle.am_model.specs.Refresh.{unions, least_of, advanced, lead, refresh, settle, refresh_at_end}
+use Rattle.am_model.specs.Emit.{put_all, finish}
+use Rattle.am_model.specs.Ballots.{best_of, decide, begin, keep_vote, give_up}
+use Rattle.am_model.specs.Calls.{everywhere_else, send_row, done_row, take_row, join_row, state_row, leave_row, reset_row, ask_row, give_up_row}
+use Rattle.am_model.specs.Ticks.{tick_row}
+use Rattle.am_model.specs.Sequencing.{request_row, ack_row, nack_row}
+use Rattle.am_model.specs.Receiving.{spread_row, bcast_row, order_row, accept_row, hold_row}
+use Rattle.am_model.specs.Joining.{join_ask_row, welcome_row, leave_ask_row, gone_row}
+use Rattle.am_model.specs.Resets.{invite_row, vote_row, fetch_row, piece_row, result_row, hand_over_row}
+use Rattle.am_model.specs.Hearing.{hear_row}
+use Rattle.am_model.specs.Step.{row, step, refused}
+use Rattle.am_model.specs.World.{unchanged, stepped, happens, happen}
+use Rattle.am_model.specs.Lawful.{is_complete, is_lawful, greatest_complete, watch, watch_all}
+use Rattle.am_model.specs.Settle.{running, hearings_from, waves, rounds, settle_events}
+use Rattle.am_model.specs.Text.{name_text, stamp_text, names_text, body_text, resilience_text, entry_text, outcome_word, outcome_parts, outcome_text, act_word, act_parts, event_text, kind_word, addressees_text, letter_text, record_line, records_text, group_line, group_text, log_line, empty_log_line, log_text, logs_text, mark_line, play_text}
+use Rattle.std.specs.Fmt.{digits}
+use Rattle.am_rows.specs.Scripts.{set_of}
+"""
+
+
+def opened_names():
+    """The names of OPENED, for an `unfolding` line."""
+    return " ".join(name.strip() for line in OPENED.strip().splitlines() for name in line[line.index("{") + 1:-1].split(","))
+
+
+def items(xs):
+    """A list term."""
+    return "[]" if not xs else "(" + " ∷ ".join(xs) + " ∷ [])"
+
+
+def body(text):
+    """A body's bytes, from its hexadecimal digits or a dash."""
+    digits = "" if text == "-" else text
+    return items([str(int(digits[i:i + 2], 16)) for i in range(0, len(digits), 2)])
+
+
+def name_list(numbers):
+    return items([str(n) for n in numbers])
+
+
+def act(event, resilience):
+    """The act of a script's event."""
+    do = event["do"]
+    if do == "send":
+        return "(act.Send %s)" % body(event["body"])
+    if do == "done":
+        return "(act.Done %d)" % event["req"]
+    if do == "reset":
+        return "(act.Reset %d %d)" % (event["least"], event.get("resilience", resilience))
+    if do == "ask":
+        return "(act.Ask %d)" % event["round"]
+    if do == "giveup":
+        return "(act.GiveUp %d)" % (event["name"] + 16 * (event.get("life", 1) - 1))
+    if do == "hear":
+        return "(act.Hear %d)" % event["packet"]
+    if do == "cut":
+        return "(act.Cut %d %d)" % (event["packet"], event["keep"])
+    return "act." + {"take": "Take", "join": "Join", "state": "State", "leave": "Leave", "stop": "Stop", "tick": "Tick",
+                     "return": "Return"}[do]
+
+
+def statement(title, script, text):
+    """The statement of a case: the text of its events is this one."""
+    play = script["play"]
+    resilience = play.get("resilience", 0)
+    events = ["on %d %s" % (e["node"], act(e, resilience)) for e in play["events"]]
+    founding = "(founded %s %d %d %d)" % (name_list(play["founders"]), resilience, play.get("window", 64),
+                                          play.get("pb_up_to", 256))
+    run = "%s %s %s" % ("settled_text_of" if play.get("settle") else "text_of", founding, items(events))
+    lines = "".join('    codes "%s" ∷\n' % line for line in text.splitlines())
+    return "abbrev pub %s : Type 0\n%s = %s ≡ lines (\n%s    [])\n" % (title, title, run, lines)
+
+
+def titled(case):
+    return "".join(part.capitalize() for part in case.replace("-", "_").split("_"))
+
+
+SPECS_HEAD = """use Rattle.std.specs.Prelude.{◌≡◌, [], ◌∷◌, codes}
+use Rattle.am_group.specs.declared.event.Act.TheVariants as act
+use Rattle.am_model.specs.Play.{text_of, settled_text_of}
+use Rattle.am_rows.specs.Scripts.{founded, on, lines}
+"""
+
+
+def used(head, text):
+    """The `use` lines of a head with the names alone that a text uses."""
+    lines = []
+    for line in head.strip().splitlines():
+        if "{" in line:
+            kept = [n for n in line[line.index("{") + 1:-1].split(", ") if is_used(n, text)]
+            if kept:
+                lines.append(line[:line.index("{") + 1] + ", ".join(kept) + "}")
+        elif is_used(line.split(" as ")[1] + ".", text):
+            lines.append(line)
+    return "\n".join(lines) + "\n"
+
+
+def is_used(name, text):
+    """Whether a text uses a name; an operator by its sign."""
+    if name.endswith("."):
+        return re.search(r"\b" + re.escape(name), text) is not None
+    if name in ("◌≡◌", "◌∷◌", "[]"):
+        return name.strip("◌") in text
+    return re.search(r"(?<![\w.])" + re.escape(name) + r"(?![\w])", text) is not None
+
+
+def write(path, text):
+    """Writes a file, with its folders."""
+    os.makedirs(os.path.dirname(path), exist_ok=True)
+    with open(path, "w") as f:
+        f.write(text)
+
+
+def carrier(module, folder, about, found):
+    """The function whose contract the statements are, and its answers."""
+    clauses = "".join("    ensures %s { %s }\n" % (c, titled(c)) for c in found)
+    source = ("//! %s Written by tools/rows.py.\n\nghost use Rattle.am_rows.specs.%s.{%s};\n\n"
+              "/// The definitions give these texts for these scripts.\npub fn texts()\n%s{}\n") % (
+                  about, module, ", ".join(titled(c) for c in found), clauses)
+    answers = ("-- The texts of these scripts, by computing. Written by tools/rows.py.\nuse Rattle.std.proofs.Common.{refl}\n" + OPENED.lstrip()
+               + "use Rattle.am_rows.proofs.%s.texts.Goals as goal\n" % folder)
+    for c in found:
+        answers += "\npub returns-clause-%s : goal.returns-clause-%s\nunfolding %s\nreturns-clause-%s c = refl\n" % (
+            c, c, opened_names(), c)
+    return source, answers
+
+
+def main():
+    cases, out = sys.argv[1:]
+    for folder in sorted(os.listdir(cases)):
+        place = os.path.join(cases, folder)
+        found = sorted(f[:-5] for f in os.listdir(place) if f.endswith(".json"))
+        module = titled(folder)
+        with open(os.path.join(place, "about.txt")) as f:
+            about = f.read().strip()
+        specs = ["-- Scripts and their texts. Written by tools/rows.py from %s/%s.\n" % (os.path.basename(cases), folder)]
+        for case in found:
+            with open(os.path.join(place, case + ".json")) as f:
+                script = json.load(f)
+            with open(os.path.join(place, case + ".txt")) as f:
+                text = f.read()
+            specs.append("\n" + statement(titled(case), script, text))
+        specs.insert(1, used(SPECS_HEAD, "".join(specs[1:])))
+        source, answers = carrier(module, folder, about, found)
+        write(os.path.join(out, "specs", module + ".antt"), "".join(specs))
+        write(os.path.join(out, "src", folder + ".rt"), source)
+        write(os.path.join(out, "proofs", folder, "texts", "Answers.antt"), answers)
+
+
+main()
