@@ -13,7 +13,7 @@ use Rattle.am_base.specs.declared.entry.Entry.TheVariants.{View}
 use Rattle.am_base.specs.Names.{place_of, is_within}
 use Rattle.am_base.specs.Lists.{blank_row, member_life, viewed, with_row, is_blank, after}
 use Rattle.am_base.proofs.Places.{by_place_all}
-use Rattle.am_table.specs.Images.{IsRow, IsImage}
+use Rattle.am_core.specs.Images.{IsRow, IsImage}
 
 -- a member's life by its place
 pub member_at : (rows : List Row) (place : ℕ) → place < length rows → slice_index (map member_life rows) place ≡ member_life (slice_index_or rows place blank_row)

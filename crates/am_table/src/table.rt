@@ -2,7 +2,7 @@ ghost use Rattle.std.specs.Prelude.{◌≡◌, ◌≤◌, ◌<◌, ℕ, List, sl
 ghost use Rattle.std.specs.List.{list_all};
 ghost use Rattle.am_base.specs.Names.{place_of, life_of, has, is_within};
 ghost use Rattle.am_base.specs.Lists.{blank, blank_row, after, fits, members_of, member_life, at_place, row_of, with_row, viewed, is_blank, is_blank_row};
-ghost use Rattle.am_table.specs.Images.{IsImage, IsRow};
+ghost use Rattle.am_core.specs.Images.{IsImage, IsRow};
 ghost use Rattle.am_base.specs.declared.entry.Entry.TheVariants.{View};
 
 use am_base::entry::Entry;
@@ -27,7 +27,7 @@ pub struct Table {
 
 impl Model for Table {
     ghost use Rattle.am_base.specs.declared.image.Image.{Image};
-    ghost use Rattle.am_table.specs.Images.{IsImage};
+    ghost use Rattle.am_core.specs.Images.{IsImage};
 
     ghost Value = { Image };
 
@@ -244,7 +244,8 @@ impl Table {
     #[tactic(auto, using(crate::proofs::Rows::with_row_image))]
     fn set_row(&mut self, name: Name, row: Row)
         requires { IsRow row }
-        ensures { self.new ≡ with_row self.old name row }
+        ensures value { self.new ≡ with_row self.old name row }
+        ensures rows { IsImage self.new }
     {
         self.image.rows[usize::from(name.place())] = row;
     }
@@ -253,8 +254,10 @@ impl Table {
     #[tactic(auto, unfolding(am_base::specs::Lists::after))]
     pub fn apply(&mut self, number: u32, entry: &Entry)
         requires number { (1 ≤ number) × (number ≤ 2000000000) }
-        ensures { self.new ≡ after self.old number entry.now }
+        ensures value { self.new ≡ after self.old number entry.now }
+        ensures rows { IsImage self.new }
     {
+        let _rows = &self.image.rows;
         match entry {
             Entry::Data { from, req, .. } => {
                 let row = self.at_place(*from);
@@ -293,7 +296,8 @@ impl Table {
 
     #[tactic(auto, unfolding(am_base::specs::Lists::after))]
     fn begin_view(&mut self, number: u32, stamp: Stamp, members: Names, resilience: u8)
-        ensures { self.new ≡ after self.old number (View stamp members resilience) }
+        ensures value { self.new ≡ after self.old number (View stamp members resilience) }
+        ensures rows { IsImage self.new }
     {
         let first = self.is_blank();
         let mut rows = self.image.rows;

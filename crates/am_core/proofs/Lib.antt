@@ -1,0 +1,3 @@
+pub mod Folds
+pub mod Ends
+pub mod CoreLaws
