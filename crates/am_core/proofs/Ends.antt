@@ -1,15 +1,16 @@
 -- The end of a list tells the same as all of it.
-use Rattle.std.proofs.Common.{◌≡◌, ℕ, zero, suc, ◌+◌, ◌-◌, ◌<◌, ◌≤◌, List, [], ◌∷◌, ◌++◌, length, take, drop, refl, sym, ◌∙◌, ap, arith, length-append, length-drop, slice_get, Some, true, nat_le, add-one}
+use Rattle.std.proofs.Common.{◌≡◌, ℕ, zero, suc, ◌+◌, ◌-◌, ◌<◌, ◌≤◌, List, [], ◌∷◌, ◌++◌, length, take, drop, refl, sym, ◌∙◌, ap, subst, arith, length-append, length-drop, slice_get, Some, true, nat_le, add-one}
 use Rattle.std.proofs.lemmas.List.{take-append-le, drop-append-le, length-take-le, take-append-drop, drop-drop, take_more}
 use Rattle.std.proofs.lemmas.Option.{slice_get_within, get_or_from_slice_get}
 use Rattle.std.proofs.lemmas.Bool.Decides.{nat_tests}
 use Rattle.std.proofs.Math.Seq.{take-add, take-length}
 use Rattle.std.proofs.Math.Nat.{sub_self}
 use Rattle.am_base.specs.declared.entry.Entry.{Entry}
-use Rattle.am_base.specs.Lists.{fold, after, Log, top_of, image_at, entry_at, told_by, with_entry}
-use Rattle.am_core.specs.Kept.{IsEnd, above}
+use Rattle.am_base.specs.Lists.{fold, after, fits, AllFit, Log, top_of, image_at, entry_at, told_by, with_entry}
+use Rattle.am_core.specs.Images.{IsImage}
+use Rattle.am_core.specs.Kept.{IsEnd, IsKept, above}
 use Rattle.am_core.specs.Laws.{EndsTellTheSame, EndsStay}
-use Rattle.am_core.proofs.Folds.{fold-append, fold-push, slice_get-drop}
+use Rattle.am_core.proofs.Folds.{fold-append, fold-push, AllFit-push, AllFit-drop, slice_get-drop}
 
 -- how many entries all of it has more
 abbrev pub gone : Log → Log → ℕ
@@ -133,7 +134,13 @@ image-next log number e h is =
     ∙ fold-push log.image (log.start + 1) (take i log.entries) e
     ∙ ap (λ k. after (image_at log number) k e) to
 
--- letting go in two steps
+-- nothing is let go, or in two steps
+pub above-self : (log : Log) → above log log.start ≡ log
+above-self log =
+    let i = image-start log in
+    let es = ap (λ k. drop k log.entries) (sub_self log.start) in
+    λ k. record { start = log.start; image = i k; entries = es k }
+
 pub above-above : (log : Log) (a b : ℕ) → log.start ≤ a → a ≤ b → b ≤ top_of log → above (above log a) b ≡ above log b
 above-above log a b low le high =
     let is = end-above log log a (end-self log) low (omega arith) in
@@ -141,5 +148,29 @@ above-above log a b low le high =
     let i = end-image log (above log a) b is le in
     let es = drop-drop (b - a) (a - log.start) log.entries ∙ ap (λ k. drop k log.entries) at in
     λ k. record { start = b; image = i k; entries = es k }
+
+-- what a history keeps, with an entry more and with some let go
+pub kept-push : (log : Log) (capacity : ℕ) (e : Entry) → IsKept log capacity → fits (told_by log) e ≡ true → length log.entries < capacity → top_of log < 2000000000 → IsKept (with_entry log e) capacity
+kept-push log capacity e is fit room numbers =
+    let more = length-append log.entries (e ∷ []) in
+    record {
+      image = is.image;
+      fit = AllFit-push log.image (log.start + 1) log.entries e is.fit fit;
+      room = omega arith;
+      numbers = omega arith;
+    }
+
+pub kept-above : (log : Log) (capacity to : ℕ) → IsKept log capacity → log.start ≤ to → to ≤ top_of log → IsImage (image_at log to) → IsKept (above log to) capacity
+kept-above log capacity to is low high rows =
+    let k = to - log.start in
+    let less = length-drop k log.entries in
+    let at : log.start + 1 + k ≡ to + 1 = omega arith in
+    let P : ℕ → Type 0 = λ n. AllFit (image_at log to) n (drop k log.entries) in
+    record {
+      image = rows;
+      fit = subst P at (AllFit-drop log.image (log.start + 1) k log.entries (omega arith) is.fit);
+      room = let r = is.room in omega arith;
+      numbers = let n = is.numbers in omega arith;
+    }
 
 pub ruleset end_laws = (end-same, end-stays)

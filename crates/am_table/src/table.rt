@@ -87,7 +87,8 @@ fn viewed(first: bool, number: u32, life: u8, row: &Row) -> Row
 impl Table {
     /// What the empty list tells.
     pub fn blank() -> Table
-        ensures { result ≡ blank }
+        ensures value { result ≡ blank }
+        ensures rows { IsImage result }
     {
         Table {
             image: Image {
