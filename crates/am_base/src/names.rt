@@ -54,6 +54,14 @@ impl Names {
         self.lives[usize::from(place)]
     }
 
+    /// The lives of the sixteen places, 0 where a place isn't there.
+    pub fn each_life(self) -> [u8; 16]
+        ensures value { result ≡ self }
+        ensures set { IsSet self }
+    {
+        self.lives
+    }
+
     /// The set with this name, in place of another life of its place.
     pub fn with(self, name: Name) -> Names
         ensures { result ≡ with_name self name }
