@@ -1,11 +1,13 @@
 -- A core that keeps the end of a list, one change after another.
-use Rattle.std.proofs.Common.{◌≡◌, ℕ, ◌≤◌, max, refl, sym, ◌∙◌, ap, arith}
+use Rattle.std.proofs.Common.{◌≡◌, ℕ, zero, suc, ◌+◌, ◌-◌, ◌≤◌, max, refl, sym, ◌∙◌, ap, arith}
+use Rattle.std.proofs.Math.Nat.{sub_self}
+use Rattle.am_base.specs.Names.{union_of}
 use Rattle.am_base.specs.declared.entry.Entry.{Entry}
-use Rattle.am_base.specs.Lists.{Log, top_of, with_entry}
-use Rattle.am_core.specs.Kept.{above}
-use Rattle.am_core.specs.Cores.{CoreState, Stands, Keeps, Adds, Sends, Makes, whole, accept, pass_over, advance, trim_to}
+use Rattle.am_base.specs.Lists.{Log, top_of, members_of, members_at, with_entry}
+use Rattle.am_core.specs.Kept.{IsEnd, above}
+use Rattle.am_core.specs.Cores.{CoreState, Stands, Keeps, Adds, Sends, Makes, whole, accept, pass_over, advance, trim_to, unions, since_accepted}
 use Rattle.am_core.specs.Laws.{TellsTheSame}
-use Rattle.am_core.proofs.Ends.{end-same, end-top, end-push, end-above, end-self}
+use Rattle.am_core.proofs.Ends.{end-same, end-top, end-image, end-push, end-above, end-self}
 
 pub stands_same : (all : Log) (c : CoreState) → Stands all c → TellsTheSame all c.log
 stands_same all c s = end-same all c.log s.kept
@@ -63,5 +65,31 @@ makes_keeps f row told a b c first next = λ all s.
     let one = first all s in
     let two = next one.0 one.1 in
     (one.0, two.0, one.2 ∙ ap told (sym two.1))
+
+-- the unions, one number more, and those of the whole list
+pub unions_more : (log : Log) (from number : ℕ) → from ≤ number → unions log from (number + 1 - from) ≡ union_of (unions log from (number - from)) (members_at log (number + 1))
+unfolding unions
+unions_more log from number h =
+    let next : number + 1 - from ≡ suc (number - from) = omega arith in
+    let at : from + suc (number - from) ≡ number + 1 = omega arith in
+    ap (unions log from) next ∙ ap (λ k. union_of (unions log from (number - from)) (members_at log k)) at
+
+pub unions_none : (log : Log) (from : ℕ) → unions log from (from - from) ≡ members_at log from
+unfolding unions
+unions_none log from = ap (unions log from) (sub_self from)
+
+pub unions_whole : (all kept : Log) (from more : ℕ) → IsEnd all kept → kept.start ≤ from → unions kept from more ≡ unions all from more
+unfolding unions
+unions_whole all kept from zero is h = ap members_of (end-image all kept from is h)
+unions_whole all kept from (suc more) is h =
+    let at = end-image all kept (from + suc more) is (omega arith) in
+    ap (λ a. union_of a (members_at kept (from + suc more))) (unions_whole all kept from more is h) ∙ ap (λ i. union_of (unions all from more) (members_of i)) at
+
+pub since_whole : (c : CoreState) → c.base ≤ c.acc → Sends since_accepted c (since_accepted c)
+since_whole c h = λ all s.
+    let at = s.base in
+    unions_whole all c.log c.acc (top_of c.log - c.acc) s.kept (omega arith) ∙ ap (λ t. unions all c.acc (t - c.acc)) (end-top all c.log s.kept)
+
+pub ruleset union_laws = (unions_more, unions_none, since_whole)
 
 pub ruleset core_laws = (advance_keeps, cut_keeps, stay_keeps, push_adds)

@@ -1,8 +1,13 @@
 -- Folding a list in two parts.
-use Rattle.std.proofs.Common.{◌≡◌, ℕ, zero, suc, ◌+◌, ◌≤◌, List, [], ◌∷◌, ◌++◌, length, take, drop, refl, sym, ◌∙◌, ap, subst, true, slice_get, arith, add-zero, zero-add}
+use Rattle.std.proofs.Common.{Bool, false, ◌≡◌, ℕ, zero, suc, ◌+◌, ◌≤◌, List, [], ◌∷◌, ◌++◌, length, take, drop, refl, sym, ◌∙◌, ap, subst, true, slice_get, arith, add-zero, zero-add}
 use Rattle.am_base.specs.declared.image.Image.{Image}
 use Rattle.am_base.specs.declared.entry.Entry.{Entry}
 use Rattle.am_base.specs.Lists.{fold, after, fits, AllFit}
+
+-- by what a test says
+pub split : {G : Type 0} (b : Bool) → (b ≡ true → G) → (b ≡ false → G) → G
+split true f g = f refl
+split false f g = g refl
 
 pub fold-append : (image : Image) (number : ℕ) (xs ys : List Entry) → fold image number (xs ++ ys) ≡ fold (fold image number xs) (number + length xs) ys
 unfolding fold

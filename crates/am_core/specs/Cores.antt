@@ -1,9 +1,10 @@
 -- A node's part of a group: the list, and how far it is known, accepted and given out.
-use Rattle.std.specs.Prelude.{◌≡◌, ℕ, ◌+◌, ◌-◌, ◌≤◌, max, min, nat_lt, if◌then◌else◌}
+use Rattle.std.specs.Prelude.{◌≡◌, ℕ, zero, suc, ◌+◌, ◌-◌, List, ◌≤◌, max, min, nat_lt, if◌then◌else◌}
 use Rattle.am_base.specs.declared.name.Stamp.{Stamp}
 use Rattle.am_base.specs.declared.entry.Entry.{Entry}
 use Rattle.am_base.specs.Founding.{Rules}
-use Rattle.am_base.specs.Lists.{Log, top_of, with_entry}
+use Rattle.am_base.specs.Lists.{Log, top_of, members_at, with_entry}
+use Rattle.am_base.specs.Names.{union_of}
 use Rattle.am_core.specs.Kept.{IsEnd, above}
 
 -- the list is trimmed up to the base; a core of the code keeps its end from there on, and one of the protocol all of it
@@ -42,6 +43,15 @@ pass_over c = record c { taken = if nat_lt c.taken (c.start - 1) then max c.take
 
 abbrev pub advance : CoreState → CoreState
 advance c = pass_over (accept c)
+
+-- the members after each number from one on, so many numbers up, together
+unfoldable pub unions : Log → ℕ → ℕ → List ℕ
+unions log from zero = members_at log from
+unions log from (suc more) = union_of (unions log from more) (members_at log (from + suc more))
+
+-- all who are members after some number from what is accepted on
+abbrev pub since_accepted : CoreState → List ℕ
+since_accepted c = unions c.log c.acc (top_of c.log - c.acc)
 
 -- the list is trimmed up to a number, where that is above the base: for the protocol, whose list stays, and for the code
 abbrev pub trim_to : ℕ → CoreState → CoreState

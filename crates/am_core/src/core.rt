@@ -4,6 +4,7 @@ use crate::log::Log;
 use am_base::entry::Entry;
 use am_base::founding::Founding;
 use am_base::name::{Name, Stamp};
+use am_base::names::Names;
 use std::marker::Model;
 
 /// A node's part of a group: its log, what it has promised, and how far the list is told, accepted and taken.
@@ -51,7 +52,7 @@ impl<L: Log> Model for Core<L> {
 impl<L: Log> Core<L> {
     ghost use Rattle.std.specs.Prelude.{◌+◌, ◌<◌, true, length};
     ghost use Rattle.am_base.specs.Lists.{top_of, told_by, fits, with_entry};
-    ghost use Rattle.am_core.specs.Cores.{Keeps, Adds, advance, trim_to, trimmed, IsInOrder};
+    ghost use Rattle.am_core.specs.Cores.{Keeps, Adds, Sends, advance, since_accepted, trim_to, trimmed, IsInOrder};
 
     /// What is accepted goes on to what is told, as far as the list is stored; and who joined passes over what is
     /// accepted below its Join.
@@ -92,5 +93,18 @@ impl<L: Log> Core<L> {
         ensures order { IsInOrder self.new }
     {
         self.log.push(entry);
+    }
+
+    /// All who are members after some number from what is accepted on.
+    #[tactic(auto, using(crate::proofs::CoreLaws::union_laws))]
+    pub fn since_accepted(&self) -> Names
+        ensures value { result ≡ since_accepted self.now }
+        ensures model { Sends since_accepted self.now result }
+    {
+        let mut names = self.log.members_after(self.acc);
+        for number in self.acc..self.log.top() {
+            names = names.union(self.log.members_after(number + 1));
+        }
+        names
     }
 }

@@ -1,0 +1,139 @@
+ghost use Rattle.std.specs.Prelude.{◌≡◌, ℕ, ◌+◌, ◌-◌, ◌≤◌, ◌<◌, nat_le, count_by, Some, None, true, false, option_map, nat_lt, if◌then◌else◌};
+ghost use Rattle.am_base.specs.Names.{names_of, name_at};
+ghost use Rattle.am_base.specs.Lists.{top_of, told_by};
+ghost use Rattle.am_base.specs.Fronts.{accept_front, is_held, counted_at};
+ghost use Rattle.am_fronts.specs.Reports.{reports_of, no_reports, reported, admitted, restarted, lesser, least_stored, least_taken};
+
+use am_base::entry::Entry;
+use am_base::image::Report;
+use am_base::name::Name;
+use am_base::names::Names;
+use am_core::core::Core;
+use am_core::log::Log;
+use std::marker::Model;
+
+/// Nothing is reported.
+const NO_REPORT: Report = Report {
+    stored: 0,
+    taken: 0,
+};
+
+/// What each of the 256 names has reported. Contracts see it as the list of the reports, by the names' bytes.
+#[derive(Drop, Debug)]
+pub struct Fronts {
+    reports: [Report; 256],
+}
+
+impl Model for Fronts {
+    ghost use Rattle.std.specs.Prelude.{List};
+    ghost use Rattle.am_base.specs.declared.image.Report.{Report};
+
+    ghost Value = { List Report };
+
+    ghost view = { λ f. f.reports };
+}
+
+fn lesser(least: Option<u32>, number: Option<u32>) -> Option<u32>
+    ensures { result ≡ lesser least number }
+{
+    match (least, number) {
+        (None, other) => other,
+        (Some(least), None) => Some(least),
+        (Some(least), Some(other)) => Some(least.min(other)),
+    }
+}
+
+impl Fronts {
+    /// Nobody has reported anything.
+    pub fn new() -> Fronts
+        ensures { reports_of result ≡ no_reports }
+    {
+        Fronts {
+            reports: [NO_REPORT; 256],
+        }
+    }
+
+    /// What a name has reported.
+    pub fn of(&self, name: Name) -> Report
+        ensures { result ≡ reports_of self.now name }
+    {
+        self.reports[usize::from(name.get())]
+    }
+
+    fn stored_at(&self, place: u8, life: u8) -> Option<u32>
+        requires { (place < 16) × (life ≤ 16) }
+        ensures { result ≡ (if nat_lt 0 life then Some ((reports_of self.now (name_at place life)).stored) else None) }
+    {
+        match Name::of(place, life) {
+            Some(name) => Some(self.of(name).stored),
+            None => None,
+        }
+    }
+
+    fn taken_at(&self, place: u8, life: u8) -> Option<u32>
+        requires { (place < 16) × (life ≤ 16) }
+        ensures { result ≡ (if nat_lt 0 life then Some ((reports_of self.now (name_at place life)).taken) else None) }
+    {
+        match Name::of(place, life) {
+            Some(name) => Some(self.of(name).taken),
+            None => None,
+        }
+    }
+
+    /// A name reports: each number is raised, and none falls.
+    pub fn report(&mut self, name: Name, report: Report)
+        ensures { reports_of self.new ≡ reported (reports_of self.old) name report }
+    {
+        let old = self.of(name);
+        self.reports[usize::from(name.get())] = Report {
+            stored: old.stored.max(report.stored),
+            taken: old.taken.max(report.taken),
+        };
+    }
+
+    /// A name begins at a number.
+    pub fn admit(&mut self, name: Name, base: u32)
+        ensures { reports_of self.new ≡ admitted (reports_of self.old) name base }
+    {
+        self.reports[usize::from(name.get())] = Report {
+            stored: base,
+            taken: base,
+        };
+    }
+
+    /// Each name begins at a number.
+    pub fn restart(&mut self, base: u32)
+        ensures { reports_of self.new ≡ restarted base }
+    {
+        self.reports = [Report {
+            stored: base,
+            taken: base,
+        }; 256];
+    }
+
+    /// The least that the names of a set have taken; None exactly where the set is empty.
+    #[tactic(auto, using(crate::proofs::ReportLaws::least_laws))]
+    pub fn least_taken(&self, set: Names) -> Option<u32>
+        ensures { result ≡ least_taken (reports_of self.now) set }
+    {
+        let lives = set.each_life();
+        let mut least = None;
+        for place in 0..16u8 {
+            least = lesser(least, self.taken_at(place, lives[usize::from(place)]));
+        }
+        least
+    }
+
+    /// The least that the names of a set have stored; None exactly where the set is empty.
+    #[tactic(auto, using(crate::proofs::ReportLaws::least_laws))]
+    pub fn least_stored(&self, set: Names) -> Option<u32>
+        ensures { result ≡ least_stored (reports_of self.now) set }
+    {
+        let lives = set.each_life();
+        let mut least = None;
+        for place in 0..16u8 {
+            least = lesser(least, self.stored_at(place, lives[usize::from(place)]));
+        }
+        least
+    }
+}
