@@ -1,3 +1,4 @@
 pub mod Folds
 pub mod Ends
 pub mod CoreLaws
+pub mod Ranges

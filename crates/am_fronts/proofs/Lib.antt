@@ -1,1 +1,3 @@
 pub mod ReportLaws
+pub mod Walks
+pub mod Views

@@ -1,11 +1,12 @@
 -- Reports by the names' bytes, and the least of them.
-use Rattle.std.proofs.Common.{◌≡◌, ℕ, zero, suc, ◌+◌, ◌-◌, ◌<◌, ◌≤◌, min, List, [], ◌∷◌, length, drop, replicate, refl, sym, ◌∙◌, ap, Bool, true, false, nat_lt, nat_le, ◌&&◌, if◌then◌else◌, Option, Some, None, slice_index, slice_index_or, get_or, count_by, arith}
+use Rattle.std.proofs.Common.{◌≡◌, ℕ, zero, suc, ◌+◌, ◌<◌, ◌≤◌, List, [], ◌∷◌, length, drop, replicate, refl, sym, ◌∙◌, ap, Bool, true, nat_lt, ◌&&◌, if◌then◌else◌, Option, Some, None, slice_index, count_by, zero-add, arith}
 use Rattle.std.proofs.lemmas.List.{get_or-replicate, get_or_past, length-replicate, drop_more, drop_all}
+use Rattle.std.proofs.lemmas.List.Sums.{sum_by-cons}
 use Rattle.std.proofs.lemmas.Bool.Decides.{nat_tests}
 use Rattle.am_base.specs.declared.image.Report.{Report}
-use Rattle.am_base.specs.Names.{names_of, names_from, name_at}
+use Rattle.am_base.specs.Names.{names_from, name_at}
 use Rattle.am_core.proofs.Folds.{split}
-use Rattle.am_fronts.specs.Reports.{no_report, no_reports, reports_of, all_up_to, restarted, lesser, least_of}
+use Rattle.am_fronts.specs.Reports.{no_report, no_reports, reports_of, all_up_to, lesser, least_of}
 
 -- the same report for so many names
 pub all_same : (n : ℕ) (report : Report) (name : ℕ) → reports_of (replicate n report) name ≡ (if nat_lt name n then report else no_report)
@@ -56,5 +57,26 @@ least_more f least set place h =
 pub least_end : (f : ℕ → ℕ) (least : Option ℕ) (set : List ℕ) (place : ℕ) → length set ≤ place → lesser least (least_of f (names_from place (drop place set))) ≡ least
 unfolding least_of
 least_end f least set place h = ap (λ names. lesser least (least_of f names)) (names_end set place h) ∙ lesser_none least
+
+-- how many pass, from a place on
+count_cons : (p : ℕ → Bool) (x : ℕ) (xs : List ℕ) → count_by p (x ∷ xs) ≡ (if p x then 1 else 0) + count_by p xs
+count_cons p x xs = sum_by-cons (λ y. if p y then 1 else 0) x xs
+
+pub count_more : (p : ℕ → Bool) (set : List ℕ) (place : ℕ) → place < length set → count_by p (names_from place (drop place set)) ≡ (if nat_lt 0 (slice_index set place) && p (name_at place (slice_index set place)) then 1 else 0) + count_by p (names_from (place + 1) (drop (place + 1) set))
+count_more p set place h =
+    let name = name_at place (slice_index set place) in
+    let rest = names_from (place + 1) (drop (place + 1) set) in
+    split (nat_lt 0 (slice_index set place))
+    (λ t.
+    let e : names_from place (drop place set) ≡ name ∷ rest = rw t at (names_more set place h) in
+    rw t (ap (count_by p) e ∙ count_cons p name rest))
+    (λ t.
+    let e : names_from place (drop place set) ≡ rest = rw t at (names_more set place h) in
+    rw t (ap (count_by p) e ∙ sym (zero-add (count_by p rest))))
+
+pub count_end : (p : ℕ → Bool) (set : List ℕ) (place : ℕ) → length set ≤ place → count_by p (names_from place (drop place set)) ≡ 0
+count_end p set place h = ap (count_by p) (names_end set place h)
+
+pub ruleset count_laws = (count_more, count_end)
 
 pub ruleset least_laws = (least_more, least_end)

@@ -1,5 +1,5 @@
 -- What each name has reported.
-use Rattle.std.specs.Prelude.{◌≡◌, ℕ, ◌+◌, max, min, List, [], ◌∷◌, Option, Some, None, Bool, ◌==◌, nat_lt, if◌then◌else◌, slice_index_or}
+use Rattle.std.specs.Prelude.{ℕ, max, min, List, [], ◌∷◌, Option, Some, None, ◌==◌, nat_lt, if◌then◌else◌, slice_index_or}
 use Rattle.am_base.specs.declared.image.Report.{Report}
 use Rattle.am_base.specs.Names.{names_of}
 

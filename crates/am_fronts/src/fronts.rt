@@ -1,4 +1,4 @@
-ghost use Rattle.std.specs.Prelude.{◌≡◌, ℕ, ◌+◌, ◌-◌, ◌≤◌, ◌<◌, nat_le, count_by, Some, None, true, false, option_map, nat_lt, if◌then◌else◌};
+ghost use Rattle.std.specs.Prelude.{◌≡◌, ℕ, ◌+◌, ◌-◌, ◌≤◌, ◌<◌, nat_le, count_by, Some, None, true, false, option_map, nat_lt, ◌&&◌, if◌then◌else◌};
 ghost use Rattle.am_base.specs.Names.{names_of, name_at};
 ghost use Rattle.am_base.specs.Lists.{top_of, told_by};
 ghost use Rattle.am_base.specs.Fronts.{accept_front, is_held, counted_at};
@@ -40,6 +40,22 @@ fn lesser(least: Option<u32>, number: Option<u32>) -> Option<u32>
         (None, other) => other,
         (Some(least), None) => Some(least),
         (Some(least), Some(other)) => Some(least.min(other)),
+    }
+}
+
+fn counted<L: Log>(log: &L, number: u32) -> Names
+    requires low { (L.list log.now).start < number }
+    requires high { number ≤ top_of (L.list log.now) }
+    ensures { result ≡ counted_at (L.list log.now) number }
+{
+    match log.entry(number) {
+        None => log.members_after(number - 1),
+        Some(entry) => match entry {
+            Entry::View { members, .. } => *members,
+            Entry::Data { .. } => log.members_after(number - 1),
+            Entry::Join(_) => log.members_after(number - 1),
+            Entry::Leave(_) => log.members_after(number - 1),
+        },
     }
 }
 
@@ -135,5 +151,79 @@ impl Fronts {
             least = lesser(least, self.stored_at(place, lives[usize::from(place)]));
         }
         least
+    }
+
+    fn has_stored(&self, place: u8, life: u8, number: u32) -> bool
+        requires { (place < 16) × (life ≤ 16) }
+        ensures { result ≡ (nat_lt 0 life && nat_le number (reports_of self.now (name_at place life)).stored) }
+    {
+        match Name::of(place, life) {
+            Some(name) => number <= self.of(name).stored,
+            None => false,
+        }
+    }
+
+    #[tactic(auto, using(crate::proofs::ReportLaws::count_laws))]
+    fn holders(&self, counted: Names, number: u32) -> u32
+        ensures { result ≡ count_by (λ name. nat_le number (reports_of self.now name).stored) (names_of counted) }
+    {
+        let lives = counted.each_life();
+        let mut held = 0;
+        for place in 0..16u8 {
+            held += u32::from(self.has_stored(place, lives[usize::from(place)], number));
+        }
+        held
+    }
+
+    #[tactic(auto, using(crate::proofs::Views::resilience_at))]
+    fn is_held<L: Log>(&self, log: &L, number: u32) -> bool
+        requires low { (L.list log.now).start < number }
+        requires high { number ≤ top_of (L.list log.now) }
+        requires view { (told_by (L.list log.now)).view_number ≤ number }
+        ensures { result ≡ is_held (reports_of self.now) (L.list log.now) number }
+    {
+        let counted = counted(log, number);
+        let need = (u32::from(log.resilience()) + 1).min(counted.len());
+        need <= self.holders(counted, number)
+    }
+
+    fn walk<L: Log>(&self, log: &L, from: u32) -> u32
+        requires low { (L.list log.now).start ≤ from }
+        requires high { from ≤ top_of (L.list log.now) }
+        requires view { (told_by (L.list log.now)).view_number ≤ from }
+        ensures low { from ≤ result }
+        ensures high { result ≤ top_of (L.list log.now) }
+        ensures held { (n : ℕ) → from < n → n ≤ result → is_held (reports_of self.now) (L.list log.now) n ≡ true }
+        ensures stops { result < top_of (L.list log.now) → is_held (reports_of self.now) (L.list log.now) (result + 1) ≡ false }
+    {
+        let top = log.top();
+        for number in from..top {
+            if !self.is_held(log, number + 1) {
+                return number;
+            }
+        }
+        top
+    }
+
+    /// The accept front: the greatest number, from what is accepted on, up to which every entry has as many holders as
+    /// it needs. Those below the last View are accepted together with it.
+    pub fn accept_front<L: Log>(&self, log: &L, acc: u32) -> u32
+        requires low { (L.list log.now).start ≤ acc }
+        requires high { acc ≤ top_of (L.list log.now) }
+        ensures value { result ≡ accept_front (reports_of self.now) (L.list log.now) acc }
+        ensures low { acc ≤ result }
+        ensures high { result ≤ top_of (L.list log.now) }
+    {
+        let view = log.view_number();
+        if view <= acc {
+            return self.walk(log, acc);
+        }
+        if log.top() < view {
+            return acc;
+        }
+        if !self.is_held(log, view) {
+            return acc;
+        }
+        self.walk(log, view)
     }
 }

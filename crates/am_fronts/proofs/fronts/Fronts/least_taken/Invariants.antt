@@ -1,5 +1,5 @@
-use Rattle.std.proofs.Common.{◌≡◌, length, drop}
-use Rattle.am_base.specs.Names.{IsSet, names_from}
+use Rattle.std.proofs.Common.{◌≡◌, drop}
+use Rattle.am_base.specs.Names.{names_from}
 use Rattle.am_fronts.specs.Reports.{reports_of, lesser, least_of, least_taken}
 use Rattle.am_fronts.proofs.fronts.Fronts.least_taken.Given as goal
 
