@@ -93,3 +93,5 @@ since_whole c h = λ all s.
 pub ruleset union_laws = (unions_more, unions_none, since_whole)
 
 pub ruleset core_laws = (advance_keeps, cut_keeps, stay_keeps, push_adds)
+
+pub ruleset step_laws = (keeps_then, keeps_sends, keeps_makes, adds_makes, makes_keeps)

@@ -2,3 +2,4 @@ pub mod Folds
 pub mod Ends
 pub mod CoreLaws
 pub mod Ranges
+pub mod Lives

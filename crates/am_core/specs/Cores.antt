@@ -29,6 +29,7 @@ pub record CoreKeeps (log : Log) (capacity : ℕ) (rules : Rules) (acc taken : �
 
 -- the numbers of a core stand in their order
 pub record IsInOrder (c : CoreState) : Type 0 where
+  pub kept : c.base ≡ c.log.start
   pub let_go : c.base ≤ c.taken
   pub given : c.taken ≤ c.acc
   pub accepted : c.acc ≤ top_of c.log

@@ -59,7 +59,7 @@ unfolding least_of
 least_end f least set place h = ap (λ names. lesser least (least_of f names)) (names_end set place h) ∙ lesser_none least
 
 -- how many pass, from a place on
-count_cons : (p : ℕ → Bool) (x : ℕ) (xs : List ℕ) → count_by p (x ∷ xs) ≡ (if p x then 1 else 0) + count_by p xs
+pub count_cons : (p : ℕ → Bool) (x : ℕ) (xs : List ℕ) → count_by p (x ∷ xs) ≡ (if p x then 1 else 0) + count_by p xs
 count_cons p x xs = sum_by-cons (λ y. if p y then 1 else 0) x xs
 
 pub count_more : (p : ℕ → Bool) (set : List ℕ) (place : ℕ) → place < length set → count_by p (names_from place (drop place set)) ≡ (if nat_lt 0 (slice_index set place) && p (name_at place (slice_index set place)) then 1 else 0) + count_by p (names_from (place + 1) (drop (place + 1) set))

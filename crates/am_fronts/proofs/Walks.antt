@@ -28,10 +28,10 @@ satisfied_by held view front number = if nat_le view number then held number els
 abbrev pub front_by : (ℕ → Bool) → ℕ → ℕ → ℕ → Bool
 front_by held view acc front = list_all (satisfied_by held view front) (range_with_len (acc + 1) (front - acc))
 
-satisfied_high : (held : ℕ → Bool) (view front number : ℕ) → view ≤ number → satisfied_by held view front number ≡ held number
+pub satisfied_high : (held : ℕ → Bool) (view front number : ℕ) → view ≤ number → satisfied_by held view front number ≡ held number
 satisfied_high held view front number h = let t : nat_le view number ≡ true = grind (arith, nat_tests) in rw t refl
 
-satisfied_low : (held : ℕ → Bool) (view front number : ℕ) → number < view → satisfied_by held view front number ≡ (nat_le view front && held view)
+pub satisfied_low : (held : ℕ → Bool) (view front number : ℕ) → number < view → satisfied_by held view front number ≡ (nat_le view front && held view)
 satisfied_low held view front number h = let f : nat_le view number ≡ false = grind (arith, nat_tests) in rw f refl
 
 -- all is held up to here from the last view on, and the next isn't

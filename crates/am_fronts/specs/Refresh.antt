@@ -1,11 +1,11 @@
 -- What a sequencer does at the beginning and at the end of a step.
-use Rattle.std.specs.Prelude.{◌≡◌, ℕ, ◌⊎◌, List, Option, Some, None, true}
+use Rattle.std.specs.Prelude.{◌≡◌, ℕ, ◌⊎◌, max, List, Option, Some, None, true}
 use Rattle.am_base.specs.declared.image.Report.{Report}
 use Rattle.am_base.specs.declared.entry.Entry.TheVariants.{Leave}
 use Rattle.am_base.specs.Names.{has, size}
 use Rattle.am_base.specs.Lists.{Log, top_of, told_by, entry_at, members_of}
 use Rattle.am_base.specs.Fronts.{accept_front}
-use Rattle.am_core.specs.Cores.{CoreState, Stands, whole, advance, since_accepted, trim_to}
+use Rattle.am_core.specs.Cores.{CoreState, Stands, whole, advance, since_accepted}
 use Rattle.am_fronts.specs.Reports.{reports_of, reported, least_taken}
 
 -- a core with what each name has reported
@@ -28,28 +28,37 @@ tell s = record s { core = record s.core { told = accept_front s.reports s.core.
 unfoldable pub go_on : Led → Led
 go_on s = record s { core = advance s.core }
 
--- the list is trimmed to what all who may need it have taken
-abbrev pub trim_by : Option ℕ → CoreState → CoreState
-trim_by None c = c
-trim_by (Some base) c = trim_to base c
+-- the base after a trim to a number that may be there
+abbrev pub base_after : Option ℕ → ℕ → ℕ
+base_after None base = base
+base_after (Some to) base = max base to
 
+-- the list is trimmed to what all who may need it have taken
 unfoldable pub let_go : Led → Led
-let_go s = record s { core = trim_by (least_taken s.reports (since_accepted s.core)) s.core }
+let_go s = record s { core = record s.core { base = base_after (least_taken s.reports (since_accepted s.core)) s.core.base } }
+
+-- what is accepted goes as far as the reports let it
+abbrev pub go_up : Led → Led
+go_up s = own_report (go_on (tell (own_report s)))
 
 -- the whole refresh
 abbrev pub refresh : Led → Led
-refresh s = let_go (own_report (go_on (tell (own_report s))))
+refresh s = let_go (go_up s)
+
+-- the same with this list
+abbrev pub whole_led : Log → Led → Led
+whole_led all s = record s { core = whole all s.core }
 
 abbrev pub led : CoreState → List Report → Led
 led core kept = record { core = core; reports = reports_of kept }
 
 -- core and reports change as the protocol's
-abbrev pub LeadsBy : (Led → Led) → CoreState → List Report → CoreState → List Report → Type 0
-LeadsBy f old_core old new_core new = (all : Log) → Stands all old_core → Stands all new_core × (led (whole all new_core) new ≡ f (led (whole all old_core) old))
+abbrev pub LeadsBy : (Led → Led) → Led → Led → Type 0
+LeadsBy f old new = (all : Log) → Stands all old.core → Stands all new.core × (whole_led all new ≡ f (whole_led all old))
 
--- another time changes nothing
-abbrev pub IsDone : (Led → Led) → Led → Type 0
-IsDone f s = f s ≡ s
+-- and doing it again changes nothing
+abbrev pub StaysAt : (Led → Led) → Led → Led → Type 0
+StaysAt f old new = (all : Log) → Stands all old.core → f (whole_led all new) ≡ whole_led all new
 
 -- the node is a member, or its own Leave stands last and nobody is left
 abbrev pub MayLead : CoreState → Type 0

@@ -60,6 +60,10 @@ fn counted<L: Log>(log: &L, number: u32) -> Names
 }
 
 impl Fronts {
+    ghost use Rattle.am_core.specs.Kept.{IsKept};
+    ghost use Rattle.am_core.specs.Cores.{IsInOrder};
+    ghost use Rattle.am_fronts.specs.Refresh.{led, own_report, go_up, refresh, LeadsBy, StaysAt, MayLead};
+
     /// Nobody has reported anything.
     pub fn new() -> Fronts
         ensures { reports_of result ≡ no_reports }
@@ -225,5 +229,49 @@ impl Fronts {
             return acc;
         }
         self.walk(log, view)
+    }
+
+    #[tactic(auto, unfolding(crate::specs::Refresh::own_report))]
+    fn report_own<L: Log>(&mut self, core: &Core<L>)
+        ensures { led core.now self.new ≡ own_report (led core.now self.old) }
+    {
+        self.report(
+            core.who,
+            Report {
+                stored: core.log.top(),
+                taken: core.taken,
+            },
+        );
+    }
+
+    fn go_up<L: Log>(&mut self, core: &mut Core<L>)
+        ensures value { led core.new self.new ≡ go_up (led core.old self.old) }
+        ensures was { IsInOrder core.old }
+        ensures order { IsInOrder core.new }
+        ensures kept { IsKept core.new.log (core.new.rules.window + 15) }
+    {
+        self.report_own(core);
+        core.told = self.accept_front(&core.log, core.acc);
+        core.advance();
+        let _top = core.log.top();
+        self.report_own(core);
+    }
+
+    /// What a sequencer does at the beginning and at the end of a step: its own report is what it has, what is told is
+    /// the accept front, what is accepted goes on, and the list is trimmed to what all who may need it have taken.
+    pub fn refresh<L: Log>(&mut self, core: &mut Core<L>)
+        requires own { (reports_of self.old core.old.who).taken ≤ core.old.taken }
+        requires leads { MayLead core.old }
+        ensures value { LeadsBy refresh (led core.old self.old) (led core.new self.new) }
+        ensures again { StaysAt refresh (led core.old self.old) (led core.new self.new) }
+        ensures order { IsInOrder core.new }
+        ensures own { (reports_of self.new core.new.who).taken ≡ core.new.taken }
+    {
+        self.go_up(core);
+        let names = core.since_accepted();
+        match self.least_taken(names) {
+            Some(taken) => core.trim_to(taken),
+            None => {}
+        }
     }
 }
