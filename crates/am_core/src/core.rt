@@ -8,7 +8,8 @@ use am_base::names::Names;
 use std::marker::Model;
 
 /// A node's part of a group: its log, what it has promised, and how far the list is told, accepted and taken.
-/// Contracts see it as these, with the log's list (docs/PROTOCOL.md, "A node").
+/// Contracts see it as these, with the log's list.
+#[derive(Drop)]
 pub struct Core<L: Log> {
     /// The node's name.
     pub who: Name,

@@ -170,3 +170,63 @@ impl Log for History {
         self.above = Table::of_image(image);
     }
 }
+
+#[cfg(test)]
+mod tests {
+    use super::*;
+    use am_base::body::Body;
+
+    fn pushed(history: &mut History, entry: Entry) -> bool
+        requires { history.old.capacity ≡ 16 }
+        ensures { history.new.capacity ≡ 16 }
+    {
+        if history.top() - history.base() >= 16 || history.top() >= 2_000_000_000 {
+            return false;
+        }
+        if !history.fits(&entry) {
+            return false;
+        }
+        history.push(entry);
+        true
+    }
+
+    fn data(req: u32) -> Entry {
+        Entry::Data {
+            from: Name::of_byte(0),
+            req,
+            body: Body::default(),
+        }
+    }
+
+    #[test]
+    fn window_of_one_takes_sixteen(rt: HostRuntime) {
+        let made = History::new(rt.alloc(), 1);
+        assert!(rt; made.is_ok());
+        if let Ok(mut history) = made {
+            history.begin(0, &Table::blank().image());
+            let first = Name::of_byte(0);
+            let view = Entry::View {
+                stamp: Stamp {
+                    round: 1,
+                    by: first,
+                },
+                members: Names::empty().with(first),
+                resilience: 0,
+            };
+            assert!(rt; pushed(&mut history, view));
+            for req in 1..16 {
+                assert!(rt; pushed(&mut history, data(req)), "at {req}");
+            }
+            assert!(rt; !pushed(&mut history, data(16)));
+            assert_eq!(rt; history.ring().len(), 16);
+            assert_eq!(rt; history.row(first).last, 15);
+            let top = history.top();
+            assert_eq!(rt; top, 16);
+            history.trim(top);
+            assert_eq!(rt; history.base(), 16);
+            assert_eq!(rt; history.top(), 16);
+            assert!(rt; history.entry(16).is_none());
+            assert!(rt; history.members_after(16).has(first));
+        }
+    }
+}

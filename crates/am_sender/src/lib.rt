@@ -179,3 +179,26 @@ impl Sender {
         self.queue.retain(|send| send.req != req);
     }
 }
+
+#[cfg(test)]
+mod tests {
+    use super::*;
+
+    #[test]
+    fn four_sends_until_one_is_collected(rt: HostRuntime) {
+        let mut sender = Sender::new();
+        for want in [Ok(1), Ok(2), Ok(3), Ok(4), Err(Busy { queued: 4 })] {
+            assert!(rt; sender.submit(Body::default()) == want);
+        }
+        assert!(rt; matches!(sender.collect(1), Outcome::Pending { req: 1 }));
+        assert!(rt; matches!(sender.collect(5), Outcome::Unknown));
+        if let Some((req, _)) = sender.waiting() {
+            assert_eq!(rt; req, 1);
+            sender.settle(req, 7);
+        }
+        assert!(rt; sender.settled(1));
+        assert_eq!(rt; sender.unsettled(), 3);
+        assert!(rt; matches!(sender.collect(1), Outcome::Sent { req: 1, number: 7 }));
+        assert!(rt; sender.submit(Body::default()) == Ok(5));
+    }
+}
