@@ -1,0 +1,139 @@
+//! The bodies of sends that came before their numbers.
+#![tactic(auto)]
+
+ghost use Rattle.std.specs.Prelude.{◌≡◌, ◌≤◌, [], length, option_map};
+ghost use Rattle.std.specs.List.{list_any};
+ghost use Rattle.am_bodies.specs.Bodies.{is_of, find_body, keep_body, drop_bodies};
+
+use am_base::body::Body;
+use am_base::name::Name;
+use arrayvec::ArrayVec;
+use std::marker::Model;
+
+/// A kept body, with the send that it belongs to.
+#[derive(Drop, Debug)]
+pub struct KeptBody {
+    /// Whose send it is.
+    pub from: Name,
+    /// The send's request number.
+    pub req: u32,
+    /// The body.
+    pub body: Body,
+}
+
+impl Default for KeptBody {
+    fn default() -> KeptBody {
+        KeptBody {
+            from: Name::default(),
+            req: 0,
+            body: Body::default(),
+        }
+    }
+}
+
+/// At most sixteen kept bodies, the oldest first. Contracts see it as their list.
+#[derive(Drop, Debug)]
+pub struct Pool {
+    bodies: ArrayVec<KeptBody, 16>,
+}
+
+impl Model for Pool {
+    ghost use Rattle.std.specs.Prelude.{List, ◌≤◌, length};
+    ghost use Rattle.am_bodies.specs.declared.KeptBody.{KeptBody};
+
+    ghost Value = { List KeptBody };
+
+    ghost view = { λ p. p.bodies.items };
+
+    ghost invariant = { λ p. length p.bodies.items ≤ 16 };
+}
+
+impl Pool {
+    /// A pool without bodies.
+    pub fn new() -> Pool
+        ensures { result ≡ [] }
+    {
+        Pool {
+            bodies: ArrayVec::new(),
+        }
+    }
+
+    /// The body of this name's send with this request; None exactly where it isn't kept.
+    pub fn find(&self, from: Name, req: u32) -> Option<&Body>
+        ensures { option_map (λ body. body.now) result ≡ find_body from req self.now }
+    {
+        self.bodies
+            .as_slice()
+            .iter()
+            .find(|kept| kept.from == from && kept.req == req)
+            .map(|kept| &kept.body)
+    }
+
+    fn holds(&self, from: Name, req: u32) -> bool
+        ensures { result ≡ list_any (is_of from req) self.now }
+    {
+        self.bodies
+            .as_slice()
+            .iter()
+            .any(|kept| kept.from == from && kept.req == req)
+    }
+
+    /// Keeps a body, unless one of the same send is there; a full pool gives up its oldest.
+    pub fn keep(&mut self, from: Name, req: u32, body: &Body)
+        ensures value { self.new ≡ keep_body from req body.now self.old }
+        ensures few { length self.new ≤ 16 }
+    {
+        if self.holds(from, req) {
+            return;
+        }
+        let kept = KeptBody {
+            from,
+            req,
+            body: body.copied(),
+        };
+        if self.bodies.is_full() {
+            self.bodies.remove(0);
+            self.bodies.push(kept);
+            return;
+        }
+        self.bodies.push(kept);
+    }
+
+    /// Gives up this name's bodies up to a request.
+    pub fn drop_upto(&mut self, from: Name, req: u32)
+        ensures { self.new ≡ drop_bodies from req self.old }
+    {
+        self.bodies
+            .retain(|kept| !(kept.from == from && kept.req <= req));
+    }
+}
+
+#[cfg(test)]
+mod tests {
+    use super::*;
+
+    #[test]
+    fn the_oldest_goes(rt: HostRuntime) {
+        let mut pool = Pool::new();
+        let one = Name::of_byte(1);
+        let body = Body::of(b"0123").unwrap_or(Body::default());
+        for req in 1..17 {
+            pool.keep(one, req, &body);
+        }
+        assert!(rt; pool.find(one, 1).is_some());
+        pool.keep(Name::of_byte(2), 1, &Body::default());
+        assert!(rt; pool.find(one, 1).is_none());
+        pool.keep(one, 2, &Body::default());
+        for (req, there) in [(2, true), (16, true), (17, false)] {
+            let found = pool.find(one, req);
+            assert_eq!(rt; found.is_some(), there, "at {req}");
+            if let Some(body) = found {
+                assert!(rt; body.bytes() == b"0123".as_slice(), "at {req}");
+            }
+        }
+        pool.drop_upto(one, 15);
+        assert!(rt; pool.find(one, 15).is_none());
+        assert!(rt; pool.find(one, 16).is_some());
+        assert!(rt; pool.find(Name::of_byte(2), 1).is_some());
+    }
+}

@@ -1,0 +1,5 @@
+pub mod Folds
+pub mod Ends
+pub mod CoreLaws
+pub mod Ranges
+pub mod Lives

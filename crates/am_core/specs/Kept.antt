@@ -1,0 +1,23 @@
+-- The end of a list, and what a history keeps.
+use Rattle.std.specs.Prelude.{◌≡◌, ℕ, ◌+◌, ◌-◌, ◌≤◌, length, drop}
+use Rattle.am_base.specs.Lists.{Log, top_of, image_at, AllFit}
+use Rattle.am_core.specs.Images.{IsImage}
+
+-- the list above a number
+abbrev pub above : Log → ℕ → Log
+above log to = record { start = to; image = image_at log to; entries = drop (to - log.start) log.entries }
+
+-- one list is the end of another, from its start on
+pub record IsEnd (all kept : Log) : Type 0 where
+  pub low : all.start ≤ kept.start
+  pub high : kept.start ≤ top_of all
+  pub image : kept.image ≡ image_at all kept.start
+  pub entries : kept.entries ≡ drop (kept.start - all.start) all.entries
+
+-- what a history always keeps: rows of sixteen places, entries of which each fits, no more of them than it has room
+-- for, and numbers up to two thousand million
+pub record IsKept (log : Log) (capacity : ℕ) : Type 0 where
+  pub image : IsImage log.image
+  pub fit : AllFit log.image (log.start + 1) log.entries
+  pub room : length log.entries ≤ capacity
+  pub numbers : top_of log ≤ 2000000000

@@ -1,0 +1,4 @@
+pub mod Images
+pub mod Kept
+pub mod Cores
+pub mod Laws

@@ -1,0 +1,122 @@
+-- Who leads is among those who may need its list, so no more is let go than it has taken itself.
+use Rattle.std.proofs.Common.{◌≡◌, ◌⊎◌, ⊎_elim, inl, inr, ℕ, zero, suc, ◌+◌, ◌-◌, ◌<◌, ◌≤◌, min, List, [], ◌∷◌, length, refl, sym, ◌∙◌, ap, true, nat_lt, Option, Some, None, slice_index, if◌then◌else◌, arith}
+use Rattle.std.proofs.lemmas.Bool.Decides.{nat_tests}
+use Rattle.std.proofs.Math.Nat.{eq-or-lt_of_le}
+use Rattle.am_base.specs.declared.image.Report.{Report}
+use Rattle.am_base.specs.declared.image.Image.{Image}
+use Rattle.am_base.specs.declared.entry.Entry.TheVariants.{Leave}
+use Rattle.am_base.specs.Names.{place_of, life_of, name_at, names_from, has, size}
+use Rattle.am_base.specs.Lists.{top_of, told_by, image_at, members_of, members_at, entry_at, fits}
+use Rattle.am_core.specs.Kept.{IsKept}
+use Rattle.am_core.specs.Cores.{CoreState, unions, since_accepted}
+use Rattle.am_core.proofs.Ends.{image-top, image-next, entry-get}
+use Rattle.am_core.proofs.Lives.{member_most, member_row, row_at, image_used, unions_most, unions_least, unions_long, fit_at, leave_life}
+use Rattle.am_fronts.specs.Reports.{lesser, least_of, least_taken}
+use Rattle.am_fronts.specs.Refresh.{MayLead}
+use Rattle.am_fronts.proofs.ReportLaws.{count_cons}
+
+lesser_some : (a y : ℕ) → (x : ℕ) × (lesser (Some a) (Some y) ≡ Some x) × (x ≤ y)
+lesser_some a y = (min a y, refl, omega arith)
+
+lesser_first : (a : ℕ) (o : Option ℕ) → (x : ℕ) × (lesser (Some a) o ≡ Some x) × (x ≤ a)
+lesser_first a None = (a, refl, omega arith)
+lesser_first a (Some y) = (min a y, refl, omega arith)
+
+-- the least is at most what each name of the set has
+least_in : (f : ℕ → ℕ) (set : List ℕ) (from place : ℕ) → place < length set → 0 < slice_index set place → (x : ℕ) × (least_of f (names_from from set) ≡ Some x) × (x ≤ f (name_at (from + place) (slice_index set place)))
+unfolding least_of
+least_in f [] from place h l = absurd (omega arith)
+least_in f (zero ∷ lives) from zero h l = absurd (omega arith)
+least_in f (zero ∷ lives) from (suc place) h l =
+    let rest = least_in f lives (from + 1) place (omega arith) l in
+    let at : from + 1 + place ≡ from + suc place = omega arith in
+    let same = ap (λ k. f (name_at k (slice_index lives place))) at in
+    let most = rest.2 in
+    (rest.0, rest.1, omega arith)
+least_in f (suc before ∷ lives) from zero h l =
+    let first = lesser_first (f (name_at from (suc before))) (least_of f (names_from (from + 1) lives)) in
+    let at : from ≡ from + zero = omega arith in
+    let same = ap (λ k. f (name_at k (suc before))) at in
+    let most = first.2 in
+    (first.0, first.1, omega arith)
+least_in f (suc before ∷ lives) from (suc place) h l =
+    let rest = least_in f lives (from + 1) place (omega arith) l in
+    let both = lesser_some (f (name_at from (suc before))) rest.0 in
+    let at : from + 1 + place ≡ from + suc place = omega arith in
+    let same = ap (λ k. f (name_at k (slice_index lives place))) at in
+    let a = rest.2 in
+    let b = both.2 in
+    (both.0, ap (lesser (Some (f (name_at from (suc before))))) rest.1 ∙ both.1, omega arith)
+
+size_cons : (before : ℕ) (lives : List ℕ) → size (suc before ∷ lives) ≡ 1 + size lives
+size_cons before lives =
+    let t : nat_lt 0 (suc before) ≡ true = grind (arith, nat_tests) in
+    count_cons (λ life. nat_lt 0 life) (suc before) lives ∙ ap (λ b. (if b then 1 else 0) + size lives) t
+
+none_in : (set : List ℕ) (from : ℕ) → size set ≡ 0 → names_from from set ≡ []
+none_in [] from h = refl
+none_in (zero ∷ lives) from h = none_in lives (from + 1) (let c = count_cons (λ life. nat_lt 0 life) zero lives in omega arith)
+none_in (suc before ∷ lives) from h = let more = size_cons before lives in absurd (omega arith)
+
+is_there : (set : List ℕ) (name : ℕ) → has set name ≡ true → slice_index set (place_of name) ≡ life_of name
+is_there set name h = grind (arith, nat_tests)
+
+leave_fits : (image : Image) (name : ℕ) → fits image (Leave name) ≡ true → has (members_of image) name ≡ true
+unfolding fits
+leave_fits image name h = h
+
+-- the union has the life of who leads
+leader_there : (c : CoreState) (capacity number : ℕ) → IsKept c.log capacity → c.log.start ≤ c.acc → c.acc ≤ number → number ≤ top_of c.log → has (members_at c.log number) c.who ≡ true → (row_at (told_by c.log) (place_of c.who)).life ≡ life_of c.who → slice_index (since_accepted c) (place_of c.who) ≡ life_of c.who
+leader_there c capacity number is low after high member row =
+    let place = place_of c.who in
+    let there = is_there (members_at c.log number) c.who member in
+    let least = unions_least c.log c.acc (top_of c.log - c.acc) place number (omega arith) after (omega arith) in
+    let most = unions_most c.log c.acc (top_of c.log - c.acc) place (row_at (told_by c.log) place).life (omega arith) (λ k l u. member_most c.log capacity k place is (omega arith) (omega arith) (omega arith)) in
+    omega arith
+
+leader_in : (c : CoreState) (capacity : ℕ) → IsKept c.log capacity → c.log.start ≤ c.acc → c.acc ≤ top_of c.log → MayLead c → (slice_index (since_accepted c) (place_of c.who) ≡ life_of c.who) ⊎ (size (since_accepted c) ≡ 0)
+unfolding unions
+leader_in c capacity is low high leads = ⊎_elim
+    (λ (member : has (members_of (told_by c.log)) c.who ≡ true).
+    let top = image-top c.log in
+    let used = image_used c.log capacity (top_of c.log) is in
+    let here : has (members_at c.log (top_of c.log)) c.who ≡ true = ap (λ i. has (members_of i) c.who) top ∙ member in
+    let row = ap (λ i. (row_at i (place_of c.who)).life) (sym top) ∙ member_row (image_at c.log (top_of c.log)) c.who used here in
+    inl (leader_there c capacity (top_of c.log) is low high (omega arith) here row))
+    (λ (left : (entry_at c.log (top_of c.log) ≡ Some (Leave c.who)) × (size (members_of (told_by c.log)) ≡ 0)). ⊎_elim
+    (λ (e : c.acc ≡ top_of c.log).
+    let none : top_of c.log - c.acc ≡ 0 = omega arith in
+    inr (ap (λ k. size (unions c.log c.acc k)) none ∙ ap (λ k. size (members_at c.log k)) e ∙ ap (λ i. size (members_of i)) (image-top c.log) ∙ left.1))
+    (λ (below : c.acc < top_of c.log).
+    let before = top_of c.log - 1 in
+    let next : before + 1 ≡ top_of c.log = omega arith in
+    let entry : entry_at c.log (before + 1) ≡ Some (Leave c.who) = ap (entry_at c.log) next ∙ left.0 in
+    let get = entry-get c.log before (Leave c.who) (omega arith) entry in
+    let fit = fit_at c.log.image (c.log.start + 1) (before - c.log.start) c.log.entries (Leave c.who) is.fit get in
+    let member : has (members_at c.log before) c.who ≡ true = leave_fits (image_at c.log before) c.who fit in
+    let used = image_used c.log capacity before is in
+    let after = image-next c.log before (Leave c.who) (omega arith) entry in
+    let told = ap (λ i. (row_at i (place_of c.who)).life) (sym (image-top c.log) ∙ ap (image_at c.log) (sym next) ∙ after) in
+    let row = told ∙ leave_life (image_at c.log before) (before + 1) c.who (place_of c.who) (omega arith) used ∙ member_row (image_at c.log before) c.who used member in
+    inl (leader_there c capacity before is low (omega arith) (omega arith) member row))
+    (eq-or-lt_of_le high))
+    leads
+
+-- no more is let go than it has taken
+pub let_go_within : (reports : ℕ → Report) (c : CoreState) (capacity to : ℕ) → IsKept c.log capacity → c.log.start ≤ c.acc → c.acc ≤ top_of c.log → MayLead c → (reports c.who).taken ≤ c.taken → least_taken reports (since_accepted c) ≡ Some to → to ≤ c.taken
+unfolding least_of
+let_go_within reports c capacity to is low high leads own least = ⊎_elim
+    (λ (life : slice_index (since_accepted c) (place_of c.who) ≡ life_of c.who).
+    let used = image_used c.log capacity c.acc is in
+    let long = unions_long c.log c.acc (top_of c.log - c.acc) used.places in
+    let found = least_in (λ name. (reports name).taken) (since_accepted c) 0 (place_of c.who) (omega arith) (omega arith) in
+    let same : Some to ≡ Some found.0 = sym least ∙ found.1 in
+    let is : to ≡ found.0 = cc in
+    let at : name_at (0 + place_of c.who) (slice_index (since_accepted c) (place_of c.who)) ≡ c.who = omega arith in
+    let who = ap (λ n. (reports n).taken) at in
+    let most = found.2 in
+    omega arith)
+    (λ (none : size (since_accepted c) ≡ 0).
+    let e : None ≡ Some to = sym (ap (least_of (λ name. (reports name).taken)) (none_in (since_accepted c) 0 none)) ∙ least in
+    absurd (cc))
+    (leader_in c capacity is low high leads)

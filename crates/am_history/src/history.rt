@@ -1,0 +1,232 @@
+ghost use Rattle.std.specs.Prelude.{◌≡◌, ℕ, ◌+◌, ◌≤◌, ◌<◌, [], IfOk};
+ghost use Rattle.am_base.specs.Lists.{blank};
+
+use am_base::entry::Entry;
+use am_base::image::{Image, Row};
+use am_base::name::{Name, Stamp};
+use am_base::names::Names;
+use am_core::log::Log;
+use am_table::table::Table;
+use circular_buffer::HeapCircularBuffer;
+use std::alloc::{AllocError, Global};
+use std::marker::Model;
+
+/// An entry with the members after it.
+#[derive(Drop, Debug)]
+pub struct Slot {
+    /// The entry.
+    pub entry: Entry,
+    /// The members after it.
+    pub members: Names,
+}
+
+/// The ring of a history.
+pub type Ring = HeapCircularBuffer<Slot, Global>;
+
+/// The end of a list, with what is told up to its base and to its top. Contracts see it as the list from the base on
+/// and the capacity (docs/PROTOCOL.md, "The list").
+#[derive(Drop)]
+pub struct History {
+    base: u32,
+    below: Table,
+    above: Table,
+    ring: Ring,
+}
+
+impl Model for History {
+    ghost use Rattle.am_history.specs.Histories.{HistoryState, IsRing, list_of};
+
+    ghost Value = { HistoryState };
+
+    ghost view = { λ h. record { list = list_of h.base h.below h.ring.items; capacity = h.ring.capacity } };
+
+    ghost invariant = { λ h. IsRing h.base h.below h.above h.ring.items h.ring.capacity };
+}
+
+impl History {
+    ghost use Rattle.std.specs.Prelude.{length};
+    ghost use Rattle.am_core.specs.Kept.{above};
+    ghost use Rattle.am_history.specs.Histories.{HaveMembers, entries_of};
+
+    /// A blank history with room for what the window asks for.
+    #[tactic(auto, using(crate::proofs::Rings::ring_laws))]
+    pub fn new(alloc: Global, window: u16) -> Result<History, AllocError>
+        requires { (1 ≤ window) × (window ≤ 1008) }
+        ensures list { IfOk result (λ history. history.list ≡ record { start = 0; image = blank; entries = [] }) }
+        ensures capacity { IfOk result (λ history. history.capacity ≡ window + 15) }
+    {
+        let ring = HeapCircularBuffer::with_capacity(alloc, usize::from(window) + 15)?;
+        Ok(History {
+            base: 0,
+            below: Table::blank(),
+            above: Table::blank(),
+            ring,
+        })
+    }
+
+    /// Its ring: the entries from `base + 1` to `top` in order, each with the members after it.
+    pub fn ring(&self) -> &Ring
+        ensures entries { entries_of result.now.items ≡ self.now.list.entries }
+        ensures members { HaveMembers self.now.list result.now.items }
+        ensures capacity { result.now.capacity ≡ self.now.capacity }
+    {
+        &self.ring
+    }
+
+    fn let_go(&mut self)
+        requires { 0 < length self.old.list.entries }
+        ensures list { self.new.list ≡ above self.old.list (self.old.list.start + 1) }
+        ensures capacity { self.new.capacity ≡ self.old.capacity }
+    {
+        match self.ring.pop_front() {
+            Some(slot) => {
+                self.base += 1;
+                self.below.apply(self.base, &slot.entry);
+            }
+            None => {}
+        }
+    }
+}
+
+impl Log for History {
+    ghost use Rattle.std.specs.Prelude.{ℕ};
+
+    ghost list = { λ h. h.list };
+
+    ghost capacity = { λ h. h.capacity };
+
+    fn base(&self) -> u32 {
+        self.base
+    }
+
+    fn top(&self) -> u32 {
+        self.base + self.ring.len() as u32
+    }
+
+    fn entry(&self, number: u32) -> Option<&Entry> {
+        if number <= self.base {
+            return None;
+        }
+        match self.ring.get((number - self.base - 1) as usize) {
+            Some(slot) => Some(&slot.entry),
+            None => None,
+        }
+    }
+
+    fn members_after(&self, number: u32) -> Names {
+        if number == self.base {
+            return self.below.members();
+        }
+        match self.ring.get((number - self.base - 1) as usize) {
+            Some(slot) => slot.members,
+            None => self.above.members(),
+        }
+    }
+
+    fn view(&self) -> Stamp {
+        self.above.view()
+    }
+
+    fn view_number(&self) -> u32 {
+        self.above.view_number()
+    }
+
+    fn resilience(&self) -> u8 {
+        self.above.resilience()
+    }
+
+    fn at_place(&self, name: Name) -> Row {
+        self.above.at_place(name)
+    }
+
+    fn row(&self, name: Name) -> Row {
+        self.above.row(name)
+    }
+
+    fn image_at_base(&self) -> Image {
+        self.below.image()
+    }
+
+    fn fits(&self, entry: &Entry) -> bool {
+        self.above.fits(entry)
+    }
+
+    fn push(&mut self, entry: Entry) {
+        self.above
+            .apply(self.base + self.ring.len() as u32 + 1, &entry);
+        let members = self.above.members();
+        let _ = self.ring.push_back(Slot { entry, members });
+    }
+
+    fn trim(&mut self, to: u32) {
+        for _number in self.base..to {
+            self.let_go();
+        }
+    }
+
+    fn begin(&mut self, base: u32, image: &Image) {
+        self.base = base;
+        self.below = Table::of_image(image);
+        self.above = Table::of_image(image);
+    }
+}
+
+#[cfg(test)]
+mod tests {
+    use super::*;
+    use am_base::body::Body;
+
+    fn pushed(history: &mut History, entry: Entry) -> bool
+        requires { history.old.capacity ≡ 16 }
+        ensures { history.new.capacity ≡ 16 }
+    {
+        if history.top() - history.base() >= 16 || history.top() >= 2_000_000_000 {
+            return false;
+        }
+        if !history.fits(&entry) {
+            return false;
+        }
+        history.push(entry);
+        true
+    }
+
+    fn data(req: u32) -> Entry {
+        Entry::Data {
+            from: Name::of_byte(0),
+            req,
+            body: Body::default(),
+        }
+    }
+
+    #[test]
+    fn window_of_one_takes_sixteen(rt: HostRuntime) {
+        let made = History::new(rt.alloc(), 1);
+        assert!(rt; made.is_ok());
+        if let Ok(mut history) = made {
+            history.begin(0, &Table::blank().image());
+            let first = Name::of_byte(0);
+            let view = Entry::View {
+                stamp: Stamp {
+                    round: 1,
+                    by: first,
+                },
+                members: Names::empty().with(first),
+                resilience: 0,
+            };
+            assert!(rt; pushed(&mut history, view));
+            for req in 1..16 {
+                assert!(rt; pushed(&mut history, data(req)), "at {req}");
+            }
+            assert!(rt; !pushed(&mut history, data(16)));
+            assert_eq!(rt; history.ring().len(), 16);
+            assert_eq!(rt; history.row(first).last, 15);
+            let top = history.top();
+            assert_eq!(rt; top, 16);
+            history.trim(top);
+            assert_eq!(rt; history.base(), 16);
+            assert_eq!(rt; history.top(), 16);
+            assert!(rt; history.entry(16).is_none());
+            assert!(rt; history.members_after(16).has(first));
+        }
+    }
+}

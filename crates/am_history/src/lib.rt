@@ -1,0 +1,4 @@
+//! The end of a list in a ring of fixed size.
+#![tactic(auto)]
+
+pub mod history;

@@ -1,0 +1,204 @@
+//! A node's own sends until they are collected.
+#![tactic(auto)]
+
+ghost use Rattle.std.specs.Prelude.{ℕ, List, find, ◌≡◌, ◌≢◌, ◌<◌, ◌≤◌, ◌+◌, length, OnOk, OnErr, IfOk, IfErr, IsOk, ◌↔◌, Some, option_map};
+ghost use Rattle.std.specs.Option.{option_copied};
+ghost use Rattle.am_sender.specs.Sends.{no_sends, without_request, is_request, waiting_send, collected_of, unsettled, is_settled, submit, settle, collect, collect_outcome};
+
+use am_base::body::Body;
+use am_base::outcome::Outcome;
+use arrayvec::ArrayVec;
+use std::marker::Model;
+
+/// A send of this node: its request number, its body, and the number of its entry once that is known.
+#[derive(Drop, Debug)]
+pub struct OwnSend {
+    /// Its request number, from 1.
+    pub req: u32,
+    /// Its body.
+    pub body: Body,
+    /// The number at which it stands in the list, once it is settled.
+    pub number: Option<u32>,
+}
+
+impl Default for OwnSend {
+    fn default() -> OwnSend {
+        OwnSend {
+            req: 0,
+            body: Body::default(),
+            number: None,
+        }
+    }
+}
+
+impl OwnSend {
+    fn outcome(&self, req: u32) -> Outcome
+        ensures { result ≡ collected_of req self.now.number }
+    {
+        match self.number {
+            None => Outcome::Pending { req },
+            Some(number) => Outcome::Sent { req, number },
+        }
+    }
+}
+
+/// Too many sends aren't collected.
+#[derive(Clone, Copy, PartialEq, Eq, Debug)]
+pub struct Busy {
+    /// How many there are.
+    pub queued: u8,
+}
+
+/// A node's sends that aren't collected, at most four, and the last request number that it gave out.
+#[derive(Drop, Debug)]
+pub struct Sender {
+    last: u32,
+    queue: ArrayVec<OwnSend, 4>,
+}
+
+impl Model for Sender {
+    ghost use Rattle.std.specs.Prelude.{◌≤◌, length};
+    ghost use Rattle.am_sender.specs.Sends.{Sends};
+
+    ghost Value = { Sends };
+
+    ghost view = { λ s. record { last = s.last; queue = s.queue.items } };
+
+    ghost invariant = { λ s. length s.queue.items ≤ 4 };
+}
+
+impl Sender {
+    /// No sends.
+    pub fn new() -> Sender
+        ensures { result ≡ no_sends }
+    {
+        Sender {
+            last: 0,
+            queue: ArrayVec::new(),
+        }
+    }
+
+    /// Queues a send and gives its request number, one more than the last. Busy exactly where four sends aren't
+    /// collected; then nothing changes.
+    pub fn submit(&mut self, body: Body) -> Result<u32, Busy>
+        requires { self.old.last < 2000000000 }
+        ensures variant { IsOk result ↔ (length self.old.queue < 4) }
+        ensures number { IfOk result (λ req. req ≡ self.old.last + 1) }
+        ensures ok { OnOk result (self.new ≡ submit body self.old) }
+        ensures busy { IfErr result (λ busy. busy.queued ≡ 4) }
+        ensures err { OnErr result (self.new ≡ self.old) }
+    {
+        if self.queue.is_full() {
+            return Err(Busy { queued: 4 });
+        }
+        self.last += 1;
+        self.queue.push(OwnSend {
+            req: self.last,
+            body,
+            number: None,
+        });
+        Ok(self.last)
+    }
+
+    /// The send that is sent next, the first that isn't settled; None exactly where there is none.
+    pub fn waiting(&self) -> Option<(u32, &Body)>
+        ensures { option_map {U = ℕ × List ℕ} (λ send. (send.0, send.1.now)) result ≡ waiting_send self.now }
+    {
+        self.queue
+            .as_slice()
+            .iter()
+            .find(|send| send.number.is_none())
+            .map(|send| (send.req, &send.body))
+    }
+
+    /// Settles the send that waits: it stands in the list at this number.
+    pub fn settle(&mut self, req: u32, number: u32)
+        requires { option_map (λ send. send.0) (waiting_send self.old) ≡ Some req }
+        ensures { self.new ≡ settle req number self.old }
+    {
+        for send in self.queue.as_mut_slice().iter_mut() {
+            if send.req == req {
+                send.number = Some(number);
+            }
+        }
+    }
+
+    /// Whether a send with this request is there and settled.
+    pub fn settled(&self, req: u32) -> bool
+        ensures { result ≡ is_settled req self.now }
+    {
+        self.queue
+            .as_slice()
+            .iter()
+            .any(|send| send.req == req && send.number.is_some())
+    }
+
+    /// How many sends aren't settled.
+    pub fn unsettled(&self) -> u32
+        ensures value { result ≡ unsettled self.now }
+        ensures few { result ≤ 4 }
+    {
+        self.queue
+            .as_slice()
+            .iter()
+            .filter(|send| send.number.is_none())
+            .count() as u32
+    }
+
+    /// Answers Sent and removes the send where it is settled, Pending where it isn't, and Unknown where there is none
+    /// with this request.
+    pub fn collect(&mut self, req: u32) -> Outcome
+        ensures answer { result ≡ collect_outcome req self.old }
+        ensures rest { self.new ≡ collect req self.old }
+    {
+        let outcome = self.outcome(req);
+        if self.settled(req) {
+            self.remove(req);
+        }
+        outcome
+    }
+
+    fn find(&self, req: u32) -> Option<&OwnSend>
+        ensures { option_copied result ≡ find (is_request req) self.now.queue }
+    {
+        self.queue.as_slice().iter().find(|send| send.req == req)
+    }
+
+    fn outcome(&self, req: u32) -> Outcome
+        ensures { result ≡ collect_outcome req self.now }
+    {
+        match self.find(req) {
+            None => Outcome::Unknown,
+            Some(send) => send.outcome(req),
+        }
+    }
+
+    fn remove(&mut self, req: u32)
+        ensures { self.new ≡ without_request req self.old }
+    {
+        self.queue.retain(|send| send.req != req);
+    }
+}
+
+#[cfg(test)]
+mod tests {
+    use super::*;
+
+    #[test]
+    fn four_sends_until_one_is_collected(rt: HostRuntime) {
+        let mut sender = Sender::new();
+        for want in [Ok(1), Ok(2), Ok(3), Ok(4), Err(Busy { queued: 4 })] {
+            assert!(rt; sender.submit(Body::default()) == want);
+        }
+        assert!(rt; matches!(sender.collect(1), Outcome::Pending { req: 1 }));
+        assert!(rt; matches!(sender.collect(5), Outcome::Unknown));
+        if let Some((req, _)) = sender.waiting() {
+            assert_eq!(rt; req, 1);
+            sender.settle(req, 7);
+        }
+        assert!(rt; sender.settled(1));
+        assert_eq!(rt; sender.unsettled(), 3);
+        assert!(rt; matches!(sender.collect(1), Outcome::Sent { req: 1, number: 7 }));
+        assert!(rt; sender.submit(Body::default()) == Ok(5));
+    }
+}

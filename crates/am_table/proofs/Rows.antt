@@ -1,0 +1,67 @@
+-- The rows of the sixteen places.
+use Rattle.std.proofs.Common.{◌≡◌, ◌≢◌, ◌⊎◌, ⊎_elim, inl, inr, ℕ, suc, ◌+◌, ◌<◌, ◌≤◌, List, length, map, refl, sym, ◌∙◌, ap, subst, zero, zero-add, Bool, true, false, ◌==◌, ◌||◌, slice_index, slice_index_or, get_or, arith}
+use Rattle.std.specs.List.{list_all, range_with_len}
+use Rattle.std.proofs.lemmas.List.{get_or-map, length-map, length-set, get_or-set_other}
+use Rattle.std.proofs.lemmas.List.FromFn.{get_or-range_with_len}
+use Rattle.std.proofs.lemmas.List.Folds.{list_all_at}
+use Rattle.std.proofs.lemmas.Grind.{get_or-set_at}
+use Rattle.std.proofs.lemmas.Bool.Decides.{nat_tests, eqb_tells}
+use Rattle.am_base.specs.declared.image.Row.{Row}
+use Rattle.am_base.specs.declared.image.Image.{Image}
+use Rattle.am_base.specs.declared.name.Stamp.{Stamp}
+use Rattle.am_base.specs.declared.entry.Entry.TheVariants.{View}
+use Rattle.am_base.specs.Names.{place_of, is_within}
+use Rattle.am_base.specs.Lists.{blank_row, member_life, viewed, with_row, is_blank, after}
+use Rattle.am_base.proofs.Places.{by_place_all}
+use Rattle.am_core.specs.Images.{IsRow, IsImage}
+
+-- a member's life by its place
+pub member_at : (rows : List Row) (place : ℕ) → place < length rows → slice_index (map member_life rows) place ≡ member_life (slice_index_or rows place blank_row)
+member_at rows place h = get_or-map member_life rows place blank_row 0 h
+
+-- the members, each by its place
+pub members_by_place : (rows : List Row) (lives : List ℕ) → length rows ≡ 16 → length lives ≡ 16 → ((k : ℕ) → k < 16 → get_or lives k 0 ≡ member_life (slice_index_or rows k blank_row)) → lives ≡ map member_life rows
+members_by_place rows lives long wide each =
+    let all = by_place_all (λ k. member_life (slice_index_or rows k blank_row)) lives 0 wide each in
+    let those = by_place_all (λ k. member_life (slice_index_or rows k blank_row)) (map member_life rows) 0 (length-map rows member_life ∙ long) (λ k h. member_at rows k (omega arith)) in
+    all ∙ sym those
+
+pub viewed_row : (first : Bool) (number life : ℕ) (r : Row) → IsRow r → life ≤ 16 → IsRow (viewed first number life r)
+viewed_row first number life r is h = record {
+  within = let a = is.within in grind (arith, nat_tests);
+  unused = let b = is.unused in grind (arith, nat_tests);
+  used = let b = is.used in grind (arith, nat_tests);
+}
+
+eq_or_not : (a b : ℕ) → (a ≡ b) ⊎ (a ≢ b)
+eq_or_not a b = ⊎_elim (λ p. inl p.1) (λ p. inr p.1) (eqb_tells a b)
+
+pub with_row_image : (image : Image) (name : ℕ) (r : Row) → IsImage image → IsRow r → IsImage (with_row image name r)
+with_row_image image name r is row = record {
+  places = length-set image.rows (place_of name) r ∙ is.places;
+  rows = λ place h. ⊎_elim
+      (λ (e : place ≡ place_of name). let P : Row → Type 0 = IsRow in subst P (sym (let at : place_of name < length image.rows = omega (arith, is.places) in get_or-set_at image.rows (place_of name) place r blank_row e at)) row)
+      (λ (n : place ≢ place_of name). let P : Row → Type 0 = IsRow in subst P (sym (get_or-set_other image.rows (place_of name) place r blank_row n)) (is.rows place h))
+      (eq_or_not place (place_of name));
+}
+
+-- the rows after a View
+pub viewed_image : (image : Image) (first : Bool) (number : ℕ) (stamp : Stamp) (members : List ℕ) (resilience : ℕ) (rows : List Row) → first ≡ is_blank image → length rows ≡ 16 → ((k : ℕ) → k < 16 → slice_index_or rows k blank_row ≡ viewed first number (slice_index members k) (slice_index_or image.rows k blank_row)) → after image number (View stamp members resilience) ≡ record { view = stamp; view_number = number; resilience = resilience; rows = rows }
+unfolding after
+viewed_image image first number stamp members resilience rows e long each = rw (← e) (ap (λ l. let i : Image = record { view = stamp; view_number = number; resilience = resilience; rows = l } in i) (sym (by_place_all (λ k. viewed first number (slice_index members k) (slice_index_or image.rows k blank_row)) rows blank_row long each)))
+
+pub viewed_rows : (image : Image) (first : Bool) (number : ℕ) (members : List ℕ) (rows : List Row) → IsImage image → ((k : ℕ) → k < 16 → slice_index members k ≤ 16) → ((k : ℕ) → k < 16 → slice_index_or rows k blank_row ≡ viewed first number (slice_index members k) (slice_index_or image.rows k blank_row)) → (k : ℕ) → k < 16 → IsRow (slice_index_or rows k blank_row)
+viewed_rows image first number members rows is lives each k h = let P : Row → Type 0 = IsRow in subst P (sym (each k h)) (viewed_row first number (slice_index members k) (slice_index_or image.rows k blank_row) (is.rows k h) (lives k h))
+
+-- one that isn't within
+pub within_none : (a b : List ℕ) (place : ℕ) → place < 16 → ((slice_index a place == 0) || (slice_index a place == slice_index b place)) ≡ false → false ≡ is_within a b
+within_none a b place h e =
+    let p : ℕ → Bool = λ k. (slice_index a k == 0) || (slice_index a k == slice_index b k) in
+    sym (list_all_at p (range_with_len 0 16) place 0 h (ap p (get_or-range_with_len 0 16 place 0 h ∙ zero-add place) ∙ e))
+
+all_true : (p : ℕ → Bool) (a n : ℕ) → ((k : ℕ) → a ≤ k → k < a + n → p k ≡ true) → list_all p (range_with_len a n) ≡ true
+all_true p a zero each = refl
+all_true p a (suc n) each = rw (each a (omega arith) (omega arith)) (all_true p (a + 1) n (λ k l h. each k (omega arith) (omega arith)))
+
+pub within_all : (a b : List ℕ) → ((k : ℕ) → k < 16 → ((slice_index a k == 0) || (slice_index a k == slice_index b k)) ≡ true) → true ≡ is_within a b
+within_all a b each = sym (all_true (λ k. (slice_index a k == 0) || (slice_index a k == slice_index b k)) 0 16 (λ k l h. each k (omega arith)))

@@ -1,0 +1,10 @@
+use Rattle.std.proofs.Common.{◌≡◌, ℕ, ◌<◌, ◌≤◌, length, get_or, slice_index_or}
+use Rattle.am_base.specs.Lists.{member_life, blank_row}
+use Rattle.am_table.proofs.table.Table.members.Given as goal
+
+abbrev pub invariant-loop-place : goal.invariant-loop-place
+invariant-loop-place l = record {
+  long : length l.members ≡ 16;
+  done : (k : ℕ) → k < l.place → get_or l.members k 0 ≡ member_life (slice_index_or l.self-inside.image.rows k blank_row);
+  rest : (k : ℕ) → l.place ≤ k → get_or l.members k 0 ≡ 0;
+}

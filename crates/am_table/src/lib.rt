@@ -1,0 +1,4 @@
+//! What a list tells, changed with each entry.
+#![tactic(auto)]
+
+pub mod table;

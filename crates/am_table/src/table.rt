@@ -1,0 +1,354 @@
+ghost use Rattle.std.specs.Prelude.{◌≡◌, ◌≤◌, ◌<◌, ℕ, List, slice_index_or, slice_index, slice_set, if◌then◌else◌, ◌==◌};
+ghost use Rattle.std.specs.List.{list_all};
+ghost use Rattle.am_base.specs.Names.{place_of, life_of, has, is_within};
+ghost use Rattle.am_base.specs.Lists.{blank, blank_row, after, fits, members_of, member_life, at_place, row_of, with_row, viewed, is_blank, is_blank_row};
+ghost use Rattle.am_core.specs.Images.{IsImage, IsRow};
+ghost use Rattle.am_base.specs.declared.entry.Entry.TheVariants.{View};
+
+use am_base::entry::Entry;
+use am_base::image::{Image, Row};
+use am_base::name::{Name, Stamp};
+use am_base::names::Names;
+use std::marker::Model;
+
+/// Nobody joined here.
+const BLANK_ROW: Row = Row {
+    life: 0,
+    joined: 0,
+    left: 0,
+    last: 0,
+};
+
+/// What a list tells: its last view, and a row for each place. Contracts see it as an image.
+#[derive(Drop, Debug)]
+pub struct Table {
+    image: Image,
+}
+
+impl Model for Table {
+    ghost use Rattle.am_base.specs.declared.image.Image.{Image};
+    ghost use Rattle.am_core.specs.Images.{IsImage};
+
+    ghost Value = { Image };
+
+    ghost view = { λ t. t.image };
+
+    ghost invariant = { λ t. IsImage t.image };
+}
+
+fn is_blank_row(row: &Row) -> bool
+    ensures { result ≡ is_blank_row row.now }
+{
+    row.life == 0 && row.joined == 0 && row.left == 0 && row.last == 0
+}
+
+fn are_blank(rows: &[Row]) -> bool
+    ensures { result ≡ list_all is_blank_row rows.now }
+{
+    rows.iter().all(|row| is_blank_row(row))
+}
+
+fn member_life(row: &Row) -> u8
+    ensures { result ≡ member_life row.now }
+{
+    if 0 < row.joined && row.left == 0 {
+        row.life
+    } else {
+        0
+    }
+}
+
+fn viewed(first: bool, number: u32, life: u8, row: &Row) -> Row
+    ensures { result ≡ viewed first number life row.now }
+{
+    if first {
+        if life == 0 {
+            return *row;
+        }
+        return Row {
+            life,
+            joined: 1,
+            left: 0,
+            last: 0,
+        };
+    }
+    let member = member_life(row);
+    if 0 < member && member != life {
+        return Row {
+            life: row.life,
+            joined: row.joined,
+            left: number,
+            last: row.last,
+        };
+    }
+    *row
+}
+
+impl Table {
+    /// What the empty list tells.
+    pub fn blank() -> Table
+        ensures value { result ≡ blank }
+        ensures rows { IsImage result }
+    {
+        Table {
+            image: Image {
+                view: Stamp {
+                    round: 0,
+                    by: Name::of_byte(0),
+                },
+                view_number: 0,
+                resilience: 0,
+                rows: [BLANK_ROW; 16],
+            },
+        }
+    }
+
+    /// The table of an image.
+    pub fn of_image(image: &Image) -> Table
+        requires { IsImage image.now }
+        ensures { result ≡ image.now }
+    {
+        Table { image: *image }
+    }
+
+    /// What the list tells as an image.
+    pub fn image(&self) -> Image
+        ensures value { result ≡ self.now }
+        ensures rows { IsImage result }
+    {
+        self.image
+    }
+
+    /// The row of a name's place.
+    pub fn at_place(&self, name: Name) -> Row
+        ensures value { result ≡ at_place self.now name }
+        ensures row { IsRow result }
+    {
+        self.image.rows[usize::from(name.place())]
+    }
+
+    /// The row of a name's place where its life is the name's, and else all zeros.
+    pub fn row(&self, name: Name) -> Row
+        ensures { result ≡ row_of self.now name }
+    {
+        let row = self.at_place(name);
+        if row.life == name.life() {
+            return row;
+        }
+        BLANK_ROW
+    }
+
+    /// The stamp of the last View, round 0 and name 0 where there is none.
+    pub fn view(&self) -> Stamp
+        ensures { result ≡ self.now.view }
+    {
+        self.image.view
+    }
+
+    /// The number of the last View, 0 where there is none.
+    pub fn view_number(&self) -> u32
+        ensures { result ≡ self.now.view_number }
+    {
+        self.image.view_number
+    }
+
+    /// The resilience of the last View, 0 where there is none.
+    pub fn resilience(&self) -> u8
+        ensures { result ≡ self.now.resilience }
+    {
+        self.image.resilience
+    }
+
+    /// The members.
+    pub fn members(&self) -> Names
+        ensures { result ≡ members_of self.now }
+    {
+        let mut members = Names::empty();
+        for place in 0..16u8 {
+            let row = self.image.rows[usize::from(place)];
+            if let Some(name) = Name::of(place, member_life(&row)) {
+                members = members.with(name);
+            }
+        }
+        members
+    }
+
+    fn is_blank(&self) -> bool
+        ensures { result ≡ is_blank self.now }
+    {
+        if self.image.view.round != 0 || self.image.view.by.get() != 0 {
+            return false;
+        }
+        if self.image.view_number != 0 || self.image.resilience != 0 {
+            return false;
+        }
+        are_blank(&self.image.rows)
+    }
+
+    #[tactic(auto, using(crate::proofs::Rows::member_at))]
+    fn has_member(&self, name: Name) -> bool
+        ensures { result ≡ has (members_of self.now) name }
+    {
+        member_life(&self.image.rows[usize::from(name.place())]) == name.life()
+    }
+
+    fn are_members(&self, names: Names) -> bool
+        ensures { result ≡ is_within names (members_of self.now) }
+    {
+        for place in 0..16u8 {
+            let life = names.life_at(place);
+            if life != 0 && life != member_life(&self.image.rows[usize::from(place)]) {
+                return false;
+            }
+        }
+        true
+    }
+
+    /// Whether an entry fits: a member's next send; a Join whose place is free, or has a smaller life that has left; a
+    /// member's Leave; a greater view of some of the members with its own name among them and no less resilience. On a
+    /// blank table a View's members needn't be members.
+    #[tactic(auto, unfolding(am_base::specs::Lists::fits))]
+    pub fn fits(&self, entry: &Entry) -> bool
+        ensures { result ≡ fits self.now entry.now }
+    {
+        match entry {
+            Entry::Data { from, req, .. } => {
+                self.has_member(*from) && u64::from(*req) == u64::from(self.row(*from).last) + 1
+            }
+            Entry::Join(name) => {
+                let row = self.at_place(*name);
+                row.joined == 0 || (0 < row.left && row.life < name.life())
+            }
+            Entry::Leave(name) => self.has_member(*name),
+            Entry::View {
+                stamp,
+                members,
+                resilience,
+            } => self.fits_view(*stamp, *members, *resilience),
+        }
+    }
+
+    #[tactic(auto, unfolding(am_base::specs::Lists::fits))]
+    fn fits_view(&self, stamp: Stamp, members: Names, resilience: u8) -> bool
+        ensures { result ≡ fits self.now (View stamp members resilience) }
+    {
+        let by = stamp.by;
+        if !self.view().is_below(stamp) {
+            return false;
+        }
+        if !self.is_blank() && !self.are_members(members) {
+            return false;
+        }
+        members.has(by) && self.resilience() <= resilience
+    }
+
+    #[tactic(auto, using(crate::proofs::Rows::with_row_image))]
+    fn set_row(&mut self, name: Name, row: Row)
+        requires { IsRow row }
+        ensures value { self.new ≡ with_row self.old name row }
+        ensures rows { IsImage self.new }
+    {
+        self.image.rows[usize::from(name.place())] = row;
+    }
+
+    /// Adds an entry, which has this number.
+    #[tactic(auto, unfolding(am_base::specs::Lists::after))]
+    pub fn apply(&mut self, number: u32, entry: &Entry)
+        requires number { (1 ≤ number) × (number ≤ 2000000000) }
+        ensures value { self.new ≡ after self.old number entry.now }
+        ensures rows { IsImage self.new }
+    {
+        let _rows = &self.image.rows;
+        match entry {
+            Entry::Data { from, req, .. } => {
+                let row = self.at_place(*from);
+                if row.life == from.life() {
+                    self.set_row(*from, Row { last: *req, ..row });
+                }
+            }
+            Entry::Join(name) => {
+                let row = Row {
+                    life: name.life(),
+                    joined: number,
+                    ..BLANK_ROW
+                };
+                self.set_row(*name, row);
+            }
+            Entry::Leave(name) => {
+                let row = self.at_place(*name);
+                if row.life == name.life() {
+                    self.set_row(
+                        *name,
+                        Row {
+                            left: number,
+                            ..row
+                        },
+                    );
+                }
+            }
+            Entry::View {
+                stamp,
+                members,
+                resilience,
+            } => self.begin_view(number, *stamp, *members, *resilience),
+        }
+    }
+
+    #[tactic(auto, unfolding(am_base::specs::Lists::after))]
+    fn begin_view(&mut self, number: u32, stamp: Stamp, members: Names, resilience: u8)
+        ensures value { self.new ≡ after self.old number (View stamp members resilience) }
+        ensures rows { IsImage self.new }
+    {
+        let first = self.is_blank();
+        let mut rows = self.image.rows;
+        for place in 0..16u8 {
+            rows[usize::from(place)] = viewed(
+                first,
+                number,
+                members.life_at(place),
+                &self.image.rows[usize::from(place)],
+            );
+        }
+        self.image = Image {
+            view: stamp,
+            view_number: number,
+            resilience,
+            rows,
+        };
+    }
+}
+
+#[cfg(test)]
+mod tests {
+    use super::*;
+
+    #[test]
+    fn a_place_joins_again_with_a_greater_life(rt: HostRuntime) {
+        let mut table = Table::blank();
+        let zero = Name::of_byte(0);
+        let one = Name::of_byte(1);
+        let again = Name::of_byte(17);
+        let view = Entry::View {
+            stamp: Stamp { round: 1, by: zero },
+            members: Names::empty().with(zero).with(one),
+            resilience: 0,
+        };
+        assert!(rt; table.fits(&view));
+        table.apply(1, &view);
+        assert!(rt; !table.fits(&Entry::Join(again)));
+        table.apply(2, &Entry::Leave(one));
+        assert!(rt; !table.fits(&Entry::Join(one)));
+        assert!(rt; table.fits(&Entry::Join(again)));
+        table.apply(3, &Entry::Join(again));
+        let row = Row {
+            life: 2,
+            joined: 3,
+            left: 0,
+            last: 0,
+        };
+        assert!(rt; table.at_place(one) == row);
+        assert!(rt; table.row(again) == row);
+        assert!(rt; table.row(one) == BLANK_ROW);
+        assert!(rt; table.members().has(again) && table.members().len() == 2);
+    }
+}
