@@ -1,4 +1,4 @@
-ghost use Rattle.std.specs.Prelude.{◌≡◌, ◌⊎◌, ◌↔◌, ℕ, ◌+◌, ◌<◌, ◌≤◌, [], length, take, drop, min, Some, IfOk, Contains};
+ghost use Rattle.std.specs.Prelude.{◌≡◌, ◌⊎◌, ◌↔◌, ◌+◌, ◌<◌, ◌≤◌, [], length, take, min, Some, IfOk, Contains};
 ghost use Rattle.std.specs.Io.KnownBytes.{Consumes, Appends, Keeps};
 ghost use Rattle.am_io.specs.Outside.{Rises, ReadToEnd, IfTook, OnEnd, OnFailed, IfPut, OnRefused};
 ghost use Rattle.am_io.specs.Memory.{Supply, Store, next};

@@ -3,7 +3,7 @@ ghost use Rattle.std.specs.List.{list_all};
 ghost use Rattle.std.specs.Result.{result_ok};
 ghost use Rattle.serde_json.specs.View.{view};
 ghost use Rattle.am_script.specs.Refusals.{text_refusal, number_refusal, number_at_refusal};
-ghost use Rattle.am_script.specs.Keys.{word_of, is_among, has_only, value_at, text_at, number_in, number_at};
+ghost use Rattle.am_script.specs.Keys.{is_among, has_only, value_at, text_at, number_in, number_at};
 
 use crate::key::Key;
 use crate::refusal::ScriptRefusal;
