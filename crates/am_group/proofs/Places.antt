@@ -52,13 +52,8 @@ below_or k n = grind arith
 pub letters_more : (records : List Record) (r : Record) → letters_of (records ++ r ∷ []) ≡ letters_of records ++ r.packets
 letters_more records r = flat_map-append (λ (x : Record). x.packets) records (r ∷ []) ∙ ap (λ ls. letters_of records ++ ls) (append-nil r.packets)
 
-<<<<<<< HEAD
-pub places_more : (records : List Record) (places : List Place) (r : Record) → ArePlaces records places → length r.packets ≤ 24 → ArePlaces (records ++ r ∷ []) (places ++ places_of (length records) (length r.packets))
-places_more records places r ok few =
-=======
 pub places_more : (records : List Record) (places : List Place) (r : Record) → ArePlaces records places → length r.packets ≤ 24 → length records < 100000 → ArePlaces (records ++ r ∷ []) (places ++ places_of (length records) (length r.packets))
 places_more records places r ok few more_records =
->>>>>>> b1839ff4f4ac1b002913341672681abe68602c32
     let number = length records in
     let many = length r.packets in
     let f : ℕ → Place = λ index. record { number = number; index = index } in
@@ -85,10 +80,7 @@ places_more records places r ok few more_records =
           (omega arith, ap (λ o. letter_of o j) (get_last records r) ∙ sym (get_behind (letters_of records) r.packets j) ∙ ap (slice_get (letters_of records ++ r.packets)) same ∙ ap (λ ls. slice_get ls k) (sym (letters_more records r))))
           (below_or k (length places));
       few = omega arith;
-<<<<<<< HEAD
-=======
       short = omega arith;
->>>>>>> b1839ff4f4ac1b002913341672681abe68602c32
     }
 
 pub ruleset places = (places_more)

@@ -29,10 +29,7 @@ pub record ArePlaces (records : List Record) (places : List Place) : Type 0 wher
   pub count : length places ≡ length (letters_of records)
   pub each : (k : ℕ) (p : Place) → slice_get places k ≡ Some p → (p.number < length records) × (letter_of (slice_get records p.number) p.index ≡ slice_get (letters_of records) k)
   pub few : length places ≤ 24 * length records
-<<<<<<< HEAD
-=======
   pub short : length records ≤ 100000
->>>>>>> b1839ff4f4ac1b002913341672681abe68602c32
 
 -- what happened since a founding, and whether there is room for one record more
 pub record History : Type 0 where

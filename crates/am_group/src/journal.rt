@@ -1,8 +1,4 @@
-<<<<<<< HEAD
 ghost use Rattle.std.specs.Prelude.{◌≡◌, ◌+◌, ◌*◌, ◌<◌, ◌≤◌, ◌++◌, ◌∷◌, ◌↔◌, [], length, OnOk, OnErr, IsSome, IfSome, option_map, true, vec_len, vec_capacity, slice_get};
-=======
-ghost use Rattle.std.specs.Prelude.{◌≡◌, ◌+◌, ◌<◌, ◌≤◌, ◌++◌, ◌∷◌, ◌↔◌, [], length, OnOk, OnErr, IsSome, IfSome, option_map, true, vec_len, vec_capacity, slice_get};
->>>>>>> b1839ff4f4ac1b002913341672681abe68602c32
 ghost use Rattle.std.specs.Option.{option_copied};
 ghost use Rattle.am_group.specs.Journals.{letters_of, letter_at, letter_of, item_at, places_of};
 
@@ -60,16 +56,10 @@ impl Journal {
         &self.founding
     }
 
-<<<<<<< HEAD
     /// The records in order. Each has at most 24 letters.
     pub fn records(&self) -> &[Record]
         ensures value { result.now ≡ self.now.records }
         ensures few { length (letters_of result.now) ≤ 24 * length result.now }
-=======
-    /// The records in order.
-    pub fn records(&self) -> &[Record]
-        ensures { result.now ≡ self.now.records }
->>>>>>> b1839ff4f4ac1b002913341672681abe68602c32
     {
         self.records.as_slice()
     }
@@ -98,8 +88,6 @@ impl Journal {
         self.records.push_reserved(item);
     }
 
-<<<<<<< HEAD
-=======
     /// How many letters the records sent.
     pub fn packets(&self) -> u32
         ensures { result ≡ length (letters_of self.now.records) }
@@ -107,7 +95,6 @@ impl Journal {
         self.places.len() as u32
     }
 
->>>>>>> b1839ff4f4ac1b002913341672681abe68602c32
     /// A letter by its number, from 1; None exactly where there is none.
     pub fn packet(&self, number: u32) -> Option<&Letter>
         ensures { option_copied result ≡ letter_at (letters_of self.now.records) number }

@@ -3,7 +3,8 @@ ghost use Rattle.std.specs.Io.KnownBytes.{Appends};
 ghost use Rattle.am_io.specs.Outside.{Rises, ReadToEnd, GaveMore, GaveAtMost};
 ghost use Rattle.am_model.specs.FirstPlay.{first_text};
 ghost use Rattle.am_group.specs.declared.event.Event.{Event};
-ghost use Rattle.am_script.specs.Scripts.{NoScript, IsCause};
+ghost use Rattle.am_script.specs.Scripts.{NoScript};
+ghost use Rattle.am_script.specs.Causes.{IsCause};
 ghost use Rattle.am_script.specs.Limits.{ScriptWithin, IsWithin};
 ghost use Rattle.am_sim.specs.Simulation.{IsPlay, OnDone, OnWriteFault, IfBadScript, Played, WrotePart};
 
