@@ -89,6 +89,13 @@ impl Names {
         Names { lives: [0; 16] }
     }
 
+    /// Does nothing: it says what is known of every set.
+    pub fn known(self)
+        ensures { IsSet self }
+    {
+        let _ = &self.lives;
+    }
+
     #[tactic(auto, using(crate::proofs::Masks::is_set))]
     /// Life 1 of each place of a mask, whose bit 0 is place 0's.
     pub fn of_mask(mask: u16) -> Names

@@ -1,7 +1,8 @@
 ghost use Rattle.std.specs.Prelude.{◌≡◌, ℕ, ◌+◌, ◌≤◌, ◌<◌, ◌++◌, ◌∷◌, [], length};
 ghost use Rattle.byteorder.specs.Endian.{big_bytes};
+ghost use Rattle.am_base.specs.Names.{IsSet};
 ghost use Rattle.am_packet.specs.Kinds.{kind_of};
-ghost use Rattle.am_codec.specs.Limits.{IsWithin};
+ghost use Rattle.am_codec.specs.Limits.{IsWithin, IsPacket, HasParts, HasEntryParts};
 ghost use Rattle.am_codec.specs.Spelling.{spelling, header, fields_of, entry_bytes, image_bytes, vote_bytes, rows_bytes, row_bytes, set_bytes, report_bytes, stamp_bytes, flag_byte, sender_of, stamp_of};
 
 use am_base::body::{Body, PacketBytes};
@@ -115,6 +116,7 @@ fn put_image(into: &mut PacketBytes, image: &Image)
 fn rows_len(rows: &[Row; 16]) -> usize
     ensures value { result ≡ length (rows_bytes rows.now) }
     ensures fits { result ≤ 208 }
+    ensures parts { length rows.now ≡ 16 }
 {
     13 * rows.len()
 }
@@ -122,6 +124,7 @@ fn rows_len(rows: &[Row; 16]) -> usize
 fn image_len(image: &Image) -> usize
     ensures value { result ≡ length (image_bytes image.now) }
     ensures fits { result ≤ 218 }
+    ensures parts { length image.now.rows ≡ 16 }
 {
     10 + rows_len(&image.rows)
 }
@@ -136,16 +139,25 @@ fn put_vote(into: &mut PacketBytes, vote: Vote)
     put_set(into, vote.members);
 }
 
+fn set_len(set: Names) -> usize
+    ensures value { result ≡ length (set_bytes set) }
+    ensures parts { IsSet set }
+{
+    set.known();
+    10
+}
+
 #[tactic(auto, unfolding(crate::specs::Spelling::entry_bytes))]
 fn entry_len(entry: &Entry) -> usize
     ensures value { result ≡ length (entry_bytes entry.now) }
     ensures fits { result ≤ 1030 }
+    ensures parts { HasEntryParts entry.now }
 {
     match entry {
-        Entry::Data { body, .. } => 6 + body.bytes().len(),
+        Entry::Data { body, .. } => 6 + body_len(body),
         Entry::Join(_) => 2,
         Entry::Leave(_) => 2,
-        Entry::View { .. } => 17,
+        Entry::View { members, .. } => 7 + set_len(*members),
     }
 }
 
@@ -189,10 +201,11 @@ fn body_len(body: &Body) -> usize
     body.bytes().len()
 }
 
-#[tactic(auto, unfolding(crate::specs::Spelling::fields_of))]
+#[tactic(auto, unfolding(crate::specs::Spelling::fields_of, crate::specs::Limits::HasParts))]
 fn fields_len(packet: &Packet) -> usize
     ensures value { result ≡ length (fields_of packet.now) }
     ensures fits { result ≤ 1100 }
+    ensures parts { HasParts packet.now }
 {
     match packet {
         Packet::Request { body, .. } => 12 + body_len(body),
@@ -208,10 +221,10 @@ fn fields_len(packet: &Packet) -> usize
         Packet::LeaveAsk { .. } => 8,
         Packet::Gone { .. } => 4,
         Packet::Invite { .. } => 0,
-        Packet::Vote { .. } => 23,
+        Packet::Vote { vote, .. } => 13 + set_len(vote.members),
         Packet::Fetch { .. } => 4,
         Packet::Piece { entry, .. } => 8 + entry_len(entry),
-        Packet::Result { .. } => 19,
+        Packet::Result { members, .. } => 9 + set_len(*members),
         Packet::HandOver { .. } => 0,
     }
 }
@@ -427,7 +440,8 @@ fn put_header(into: &mut PacketBytes, kind: u8, sender: Name, stamp: Stamp, tota
 #[tactic(auto, unfolding(crate::specs::Spelling::spelling))]
 pub fn encode(packet: &Packet, into: &mut PacketBytes)
     requires { IsWithin packet.now }
-    ensures { into.new ≡ spelling packet.now }
+    ensures spelled { into.new ≡ spelling packet.now }
+    ensures packet { IsPacket packet.now }
 {
     let total = 12 + fields_len(packet) as u16;
     into.clear();
