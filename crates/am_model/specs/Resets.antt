@@ -8,7 +8,7 @@ use Rattle.am_base.specs.declared.outcome.Outcome.{Outcome}
 use Rattle.am_base.specs.declared.outcome.Outcome.TheVariants as said
 use Rattle.am_base.specs.Stamps.{stamp_lt, stamp_eq}
 use Rattle.am_base.specs.Lists.{fits}
-use Rattle.am_model.specs.Node.{Node, Ballot, top, told, view, only_name, is_within_bound, pushed, trimmed}
+use Rattle.am_model.specs.Node.{Node, Ballot, top, told, view, has_own_leave, only_name, is_within_bound, pushed, trimmed}
 use Rattle.am_model.specs.Emit.{Plan, quiet, telling, and_where, ack_of, fetch_of, piece_of, served, put_all}
 use Rattle.am_model.specs.Ballots.{promised, vote_of, decide, answered, keep_vote}
 use Rattle.am_model.specs.Calls.{reset_row}
@@ -58,10 +58,11 @@ is_view_past v in_ballot (Join name) = false
 is_view_past v in_ballot (Leave name) = false
 is_view_past v in_ballot (View stamp names resilience) = stamp_lt v stamp || (in_ballot && stamp_eq stamp v)
 
--- a fetched entry that comes next is pushed above this base
+-- a fetched entry that comes next is pushed above this base; nobody follows a list past its own Leave
 abbrev pub fetched : Node → Stamp → ℕ → ℕ → Entry → Bool → (Node → Plan) → Plan
 fetched m v base number e in_ballot then_ =
     if nat_le number (top m) then quiet m said.Known
+    else if has_own_leave m then quiet m said.Behind
     else if nat_lt (top m + 1) number then quiet m (said.Gap (top m + 1))
     else if nat_lt m.core.taken base then quiet m said.Behind
     else if not (fits (told m) e) || (is_view_past v in_ballot e || not (is_within_bound m (max m.core.base base) number)) then quiet m said.Unfit
@@ -104,6 +105,7 @@ abbrev pub hears_result : Node → ℕ → Stamp → ℕ → ℕ → List ℕ �
 hears_result m s v base number names resilience =
     if stamp_eq (view m) v then telling m said.Known (only_name s) ack_of
     else if nat_le number (top m) then quiet m said.Unfit
+    else if has_own_leave m then quiet m said.Behind
     else if nat_lt (top m + 1) number then telling m (said.Catching (top m + 1)) (only_name s) fetch_of
     else if nat_lt m.core.taken base then quiet m said.Behind
     else if not (fits (told m) (View v names resilience)) || not (is_within_bound m (max m.core.base base) number) then quiet m said.Unfit
