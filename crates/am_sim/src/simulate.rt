@@ -1,4 +1,4 @@
-ghost use Rattle.std.specs.Prelude.{◌≡◌, ◌≢◌, ◌↔◌, ℕ, ◌≤◌, List, [], ◌∷◌, map, take, length, IfOk, string_bytes};
+ghost use Rattle.std.specs.Prelude.{◌≡◌, ◌≢◌, ◌↔◌, ℕ, ◌≤◌, List, [], ◌∷◌, map, take, length, IfOk, IfErr, string_bytes};
 ghost use Rattle.std.specs.Io.KnownBytes.{Appends};
 ghost use Rattle.am_io.specs.Outside.{Rises, ReadToEnd, GaveMore, GaveAtMost};
 ghost use Rattle.am_model.specs.FirstPlay.{first_text};
@@ -57,4 +57,50 @@ fn text_of(alloc: Global, founding: &Founding, events: &[Event]) -> Result<Strin
         }
     }
     play_text(alloc, founding, world.journal().records(), world.group())
+}
+
+/// Reads a script to its end, runs it, and writes the text of its run.
+fn play<S: Source, K: Sink>(alloc: Global, source: &mut S, sink: &mut K) -> Status
+    ensures not_usage { result ≢ Status.Usage }
+    ensures not_spent { result ≢ Status.Spent }
+    ensures read_fault { result ≡ Status.ReadFault → Rises (S.count source.old) (S.count source.new) }
+    ensures too_long { result ≡ Status.TooLong → GaveMore 16777216 (S.left source.old) (S.left source.new) }
+    ensures bad_script { IfBadScript result (λ cause. (bytes : List ℕ) × ReadToEnd (S.left source.old) (S.left source.new) bytes × NoScript bytes × IsCause bytes cause) }
+    ensures write_fault { OnWriteFault result (Rises (K.count sink.old) (K.count sink.new)) }
+    ensures part { OnWriteFault result ((bytes text : List ℕ) × ReadToEnd (S.left source.old) (S.left source.new) bytes × Played bytes text × WrotePart (K.contents sink.old) (K.contents sink.new) text) }
+    ensures done { OnDone result ((bytes text : List ℕ) × ReadToEnd (S.left source.old) (S.left source.new) bytes × Played bytes text × Appends (K.contents sink.old) (K.contents sink.new) text) }
+{
+    let bytes = match read_all(alloc, source, INPUT_MOST) {
+        Ok(bytes) => bytes,
+        Err(ReadRefusal::Fault) => return Status::ReadFault,
+        Err(ReadRefusal::TooLong) => return Status::TooLong,
+        Err(ReadRefusal::NoMemory) => return Status::NoMemory,
+    };
+    let text = match answer(alloc, bytes.as_slice()) {
+        Ok(text) => text,
+        Err(ScriptRefusal::NoMemory) => return Status::NoMemory,
+        Err(cause) => return Status::BadScript(cause),
+    };
+    match write_all(sink, text.as_bytes()) {
+        Ok(()) => Status::Done,
+        Err(_) => Status::WriteFault,
+    }
+}
+
+/// The text of the run of a script's bytes.
+fn answer(alloc: Global, bytes: &[u8]) -> Result<String, ScriptRefusal>
+    ensures played { IfOk result (λ text. Played bytes.now (string_bytes text)) }
+    ensures refused { IfErr result (λ e. e ≢ ScriptRefusal.NoMemory → NoScript bytes.now) }
+    ensures cause { IfErr result (λ e. e ≢ ScriptRefusal.NoMemory → IsCause bytes.now e) }
+{
+    let script = read_script(alloc, Key::Play, bytes)?;
+    let Script::Play {
+        founding,
+        events,
+        settle: _,
+    } = script;
+    match text_of(alloc, &founding, events.as_slice()) {
+        Ok(text) => Ok(text),
+        Err(_) => Err(ScriptRefusal::NoMemory),
+    }
 }

@@ -1,12 +1,14 @@
 -- Runs go on event by event.
-use Rattle.std.proofs.Common.{◌≡◌, ℕ, ◌+◌, ◌≤◌, ◌==◌, List, [], ◌∷◌, ◌++◌, length, Bool, true, false, if◌then◌else◌, refl, sym, subst, arith}
+use Rattle.std.proofs.Common.{◌≡◌, ℕ, ◌+◌, ◌≤◌, ◌==◌, List, [], ◌∷◌, ◌++◌, length, drop, take, Bool, true, false, if◌then◌else◌, refl, sym, subst, arith, length-append, length-drop}
+use Rattle.std.proofs.lemmas.List.{length-take}
+use Rattle.am_base.specs.declared.entry.Entry.{Entry}
 use Rattle.std.proofs.lemmas.Bool.Decides.{nat_tests}
 use Rattle.am_base.specs.Founding.{Rules}
 use Rattle.am_base.specs.Names.{place_of, has}
 use Rattle.am_group.specs.declared.event.Event.{Event}
-use Rattle.am_model.specs.FirstNode.{Node, founder, stranger}
+use Rattle.am_model.specs.FirstNode.{Node, founder, stranger, is_sequencer}
 use Rattle.am_model.specs.FirstTable.{Step, step}
-use Rattle.am_model.specs.FirstRun.{World, recorded, refused, happens, run_on, run, start}
+use Rattle.am_model.specs.FirstRun.{World, recorded, refused, happens, run_on, run, start, grown}
 use Rattle.am_world.specs.declared.plan.Plan.{Plan}
 use Rattle.am_world.specs.declared.plan.Plan.TheVariants.{Does, Refuses}
 use Rattle.am_world.specs.Plans.{planned, plan_for}
@@ -61,3 +63,40 @@ run_bounds rules events j =
     let f = first_slow rules j in
     let r0 = r.0 in let r1 = r.1 in let f0 = f.0 in let f1 = f.1 in
     (omega arith, omega arith)
+
+-- the group list is no longer than some number, nor is any node's list
+abbrev pub IsShort : ℕ → World → Type 0
+IsShort n w = (length w.group ≤ n) × ((j : ℕ) → length (w.nodes j).log ≤ n)
+
+grown_short : (n : ℕ) (group : List Entry) (m : Node) → length group ≤ n + 1 → length m.log ≤ n + 1 → length (grown group m) ≤ n + 1
+unfolding grown
+grown_short n group m g l = go (is_sequencer m)
+  where
+    go : (b : Bool) → length (if b then group ++ drop (length group) (take m.acc m.log) else group) ≤ n + 1
+    go true = simp (length-append, length-drop, length-take) (omega arith)
+    go false = g
+
+planned_short : (n : ℕ) (w : World) (event : Event) (p : Plan) → IsShort n w → length (planned w event p).group ≤ n + 1
+unfolding recorded refused
+planned_short n w event (Does what) short =
+    let place = place_of event.node in
+    let slow = step_slow (w.nodes place) what in
+    let long = slow.0 in
+    let g = short.0 in
+    let l = short.1 place in
+    grown_short n w.group (step (w.nodes place) what).node (omega arith) (omega arith)
+planned_short n w event (Refuses outcome) short = let g = short.0 in omega arith
+
+happens_short : (n : ℕ) (w : World) (event : Event) → IsShort n w → IsShort (n + 1) (happens w event)
+happens_short n w event short =
+    (subst (λ (v : World). length v.group ≤ n + 1) (sym (happens_is w event)) (planned_short n w event (plan_for w.letters (place_of event.node) event.act) short),
+     λ j. let h = (happens_slow w event j).0 in let l = short.1 j in omega arith)
+
+run_short : (events : List Event) (n : ℕ) (w : World) → IsShort n w → length (run_on w events).group ≤ n + length events
+unfolding run_on
+run_short [] n w short = let g = short.0 in omega arith
+run_short (e ∷ events) n w short = let r = run_short events (n + 1) (happens w e) (happens_short n w e short) in omega arith
+
+-- the group list has at most one entry an event besides the first
+pub group_bound : (rules : Rules) (events : List Event) → length (run rules events).group ≤ 1 + length events
+group_bound rules events = run_short events 1 (start rules) (omega arith, λ j. (first_slow rules j).0)

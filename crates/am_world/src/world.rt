@@ -238,7 +238,8 @@ impl World {
 
     /// The group list.
     pub fn group(&self) -> &[Entry]
-        ensures { result.now ≡ (replay self.now).group }
+        ensures value { result.now ≡ (replay self.now).group }
+        ensures few { length result.now ≤ 1 + length self.now.events }
     {
         self.group.as_slice()
     }
