@@ -1,12 +1,11 @@
 -- What places were given, record by record, and their lines place by place.
-use Rattle.std.proofs.Common.{◌≡◌, ℕ, zero, suc, ◌+◌, ◌*◌, ◌-◌, ◌<◌, ◌≤◌, ◌==◌, List, [], ◌∷◌, ◌++◌, length, map, drop, slice_index, slice_index_or, not, Bool, true, false, if◌then◌else◌, EachIndex, refl, sym, ap, ◌∙◌, arith, length-append}
-use Rattle.std.specs.List.{flat_map}
+use Rattle.std.proofs.Common.{◌≡◌, ℕ, zero, suc, ◌+◌, ◌<◌, ◌≤◌, ◌==◌, List, [], ◌∷◌, ◌++◌, length, map, drop, slice_index, slice_index_or, true, false, refl, ap, ◌∙◌, arith}
 use Rattle.std.proofs.lemmas.Bool.Decides.{nat_tests}
 use Rattle.std.proofs.lemmas.List.{drop_more, drop_all}
 use Rattle.std.proofs.lemmas.List.Concat.{flat_map-append}
 use Rattle.am_base.specs.declared.entry.Entry.{Entry}
 use Rattle.am_base.specs.Founding.{Rules, MayFound}
-use Rattle.am_base.specs.Names.{names_from, names_of, name_at}
+use Rattle.am_base.specs.Names.{names_from, name_at}
 use Rattle.am_group.specs.declared.event.Record.{Record}
 use Rattle.am_model.specs.FirstRun.{deliveries}
 use Rattle.am_model.specs.FirstPlay.{logs_of}

@@ -1,5 +1,5 @@
 -- What a call of the program did.
-use Rattle.std.specs.Prelude.{◌≡◌, ℕ, List, [], ◌∷◌, map, take, codes, Option}
+use Rattle.std.specs.Prelude.{◌≡◌, ℕ, List, [], ◌∷◌, take, codes, Option}
 use Rattle.std.specs.Io.KnownBytes.{Appends}
 use Rattle.am_base.specs.Founding.{Rules}
 use Rattle.am_group.specs.declared.event.Event.{Event}
@@ -8,12 +8,18 @@ use Rattle.am_model.specs.FirstPlay.{first_text}
 use Rattle.am_runs.specs.FirstClaims.{FirstHolds}
 use Rattle.am_script.specs.Scripts.{ValidScript}
 use Rattle.am_script.specs.declared.refusal.ScriptRefusal.{ScriptRefusal}
+use Rattle.am_script.specs.declared.script.Script.{Script}
+use Rattle.am_script.specs.declared.script.Script.TheVariants.{Play}
 use Rattle.am_sim.specs.declared.simulate.Status.{Status}
 use Rattle.am_sim.specs.declared.simulate.Status.TheVariants.{Done, Usage, BadScript, TooLong, ReadFault, WriteFault, NoMemory, Spent}
 
 -- the one word play
 abbrev pub IsPlay : List (List ℕ) → Type 0
 IsPlay words = words ≡ codes "play" ∷ []
+
+-- the text of a script's run
+abbrev pub script_text : Script → List ℕ
+script_text (Play founding events settle) = first_text founding events
 
 -- what was read is a script, what was written is the text of its run, and that run keeps what is claimed: each node gave
 -- out a gapless segment of the one group list, from 1 on; accepted sends stand there once, in their senders' order, and
@@ -24,6 +30,23 @@ pub record Played (bytes text : List ℕ) : Type 0 where
   pub script : ValidScript bytes founding events
   pub written : text ≡ first_text founding events
   pub holds : FirstHolds (run founding events)
+
+-- the statuses that come with writing
+abbrev pub Writes : Status → Type 0
+Writes Done = Unit {0}
+Writes WriteFault = Unit {0}
+Writes _ = ⊥
+
+-- the numbers of the statuses
+abbrev pub number_of : Status → ℕ
+number_of Done = 0
+number_of Usage = 1
+number_of (BadScript cause) = 2
+number_of TooLong = 3
+number_of ReadFault = 4
+number_of WriteFault = 5
+number_of NoMemory = 6
+number_of Spent = 7
 
 -- what holds where all was done
 abbrev pub OnDone : Status → Type 0 → Type 0

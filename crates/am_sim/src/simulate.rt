@@ -1,4 +1,4 @@
-ghost use Rattle.std.specs.Prelude.{◌≡◌, ◌≢◌, ◌↔◌, ℕ, ◌≤◌, List, [], ◌∷◌, map, take, length, IfOk, IfErr, string_bytes};
+ghost use Rattle.std.specs.Prelude.{◌≡◌, ◌≢◌, ◌↔◌, ℕ, List, map, IfOk, IfErr, string_bytes, IsTrue};
 ghost use Rattle.std.specs.Io.KnownBytes.{Appends};
 ghost use Rattle.am_io.specs.Outside.{Rises, ReadToEnd, GaveMore, GaveAtMost};
 ghost use Rattle.am_model.specs.FirstPlay.{first_text};
@@ -6,7 +6,7 @@ ghost use Rattle.am_group.specs.declared.event.Event.{Event};
 ghost use Rattle.am_script.specs.Scripts.{NoScript};
 ghost use Rattle.am_script.specs.Causes.{IsCause};
 ghost use Rattle.am_script.specs.Limits.{ScriptWithin, IsWithin};
-ghost use Rattle.am_sim.specs.Simulation.{IsPlay, OnDone, OnWriteFault, IfBadScript, Played, WrotePart};
+ghost use Rattle.am_sim.specs.Simulation.{IsPlay, OnDone, OnWriteFault, IfBadScript, Writes, Played, WrotePart, number_of, script_text};
 
 use crate::text::play_text;
 use am_base::NoMemory;
@@ -45,6 +45,59 @@ pub enum Status {
     Spent,
 }
 
+impl Status {
+    /// Its number, which a process ends with: 0 to 7.
+    pub fn number(self) -> u8
+        ensures { result ≡ number_of self }
+    {
+        match self {
+            Status::Done => 0,
+            Status::Usage => 1,
+            Status::BadScript(_) => 2,
+            Status::TooLong => 3,
+            Status::ReadFault => 4,
+            Status::WriteFault => 5,
+            Status::NoMemory => 6,
+            Status::Spent => 7,
+        }
+    }
+}
+
+fn is_play(words: &[&str]) -> bool
+    ensures { IsTrue result ↔ IsPlay (map (λ word. word.now) words.now) }
+{
+    match words {
+        [word] => *word == "play",
+        _ => false,
+    }
+}
+
+/// Does what the words ask for. `play` reads a script of at most 16,777,216 bytes to its end, runs it, and writes the text
+/// of its run (docs/PROTOCOL.md, "Texts"); no other words are a form yet. On every status but Done and WriteFault nothing
+/// is written, and on Usage nothing is read.
+pub fn simulate<S: Source, K: Sink>(
+    alloc: Global,
+    words: &[&str],
+    source: &mut S,
+    sink: &mut K,
+) -> Status
+    ensures usage { (result ≡ Status.Usage) ↔ (IsPlay (map (λ word. word.now) words.now) → ⊥) }
+    ensures unread { result ≡ Status.Usage → source.new ≡ source.old }
+    ensures not_spent { result ≢ Status.Spent }
+    ensures read_fault { result ≡ Status.ReadFault → Rises (S.count source.old) (S.count source.new) }
+    ensures too_long { result ≡ Status.TooLong → GaveMore 16777216 (S.left source.old) (S.left source.new) }
+    ensures bad_script { IfBadScript result (λ cause. (bytes : List ℕ) × ReadToEnd (S.left source.old) (S.left source.new) bytes × NoScript bytes × IsCause bytes cause) }
+    ensures write_fault { OnWriteFault result (Rises (K.count sink.old) (K.count sink.new)) }
+    ensures part { OnWriteFault result ((bytes text : List ℕ) × ReadToEnd (S.left source.old) (S.left source.new) bytes × Played bytes text × WrotePart (K.contents sink.old) (K.contents sink.new) text) }
+    ensures done { OnDone result ((bytes text : List ℕ) × ReadToEnd (S.left source.old) (S.left source.new) bytes × Played bytes text × Appends (K.contents sink.old) (K.contents sink.new) text) }
+    ensures unwritten { (Writes result → ⊥) → sink.new ≡ sink.old }
+{
+    if !is_play(words) {
+        return Status::Usage;
+    }
+    play(alloc, source, sink)
+}
+
 /// Runs a script's events, and gives the text of their run.
 fn text_of(alloc: Global, founding: &Founding, events: &[Event]) -> Result<String, NoMemory>
     requires { IsWithin founding.now events.now }
@@ -69,6 +122,7 @@ fn play<S: Source, K: Sink>(alloc: Global, source: &mut S, sink: &mut K) -> Stat
     ensures write_fault { OnWriteFault result (Rises (K.count sink.old) (K.count sink.new)) }
     ensures part { OnWriteFault result ((bytes text : List ℕ) × ReadToEnd (S.left source.old) (S.left source.new) bytes × Played bytes text × WrotePart (K.contents sink.old) (K.contents sink.new) text) }
     ensures done { OnDone result ((bytes text : List ℕ) × ReadToEnd (S.left source.old) (S.left source.new) bytes × Played bytes text × Appends (K.contents sink.old) (K.contents sink.new) text) }
+    ensures unwritten { (Writes result → ⊥) → sink.new ≡ sink.old }
 {
     let bytes = match read_all(alloc, source, INPUT_MOST) {
         Ok(bytes) => bytes,
@@ -78,8 +132,12 @@ fn play<S: Source, K: Sink>(alloc: Global, source: &mut S, sink: &mut K) -> Stat
     };
     let text = match answer(alloc, bytes.as_slice()) {
         Ok(text) => text,
-        Err(ScriptRefusal::NoMemory) => return Status::NoMemory,
-        Err(cause) => return Status::BadScript(cause),
+        Err(cause) => {
+            if cause == ScriptRefusal::NoMemory {
+                return Status::NoMemory;
+            }
+            return Status::BadScript(cause);
+        }
     };
     match write_all(sink, text.as_bytes()) {
         Ok(()) => Status::Done,
@@ -87,19 +145,28 @@ fn play<S: Source, K: Sink>(alloc: Global, source: &mut S, sink: &mut K) -> Stat
     }
 }
 
+fn text_of_script(alloc: Global, script: &Script) -> Result<String, NoMemory>
+    requires { ScriptWithin script.now }
+    ensures { IfOk result (λ text. string_bytes text ≡ script_text script.now) }
+{
+    match script {
+        Script::Play {
+            founding,
+            events,
+            ..
+        } => text_of(alloc, founding, events.as_slice()),
+    }
+}
+
 /// The text of the run of a script's bytes.
+#[tactic(auto, using(crate::proofs::Answered::played_by))]
 fn answer(alloc: Global, bytes: &[u8]) -> Result<String, ScriptRefusal>
     ensures played { IfOk result (λ text. Played bytes.now (string_bytes text)) }
     ensures refused { IfErr result (λ e. e ≢ ScriptRefusal.NoMemory → NoScript bytes.now) }
     ensures cause { IfErr result (λ e. e ≢ ScriptRefusal.NoMemory → IsCause bytes.now e) }
 {
     let script = read_script(alloc, Key::Play, bytes)?;
-    let Script::Play {
-        founding,
-        events,
-        settle: _,
-    } = script;
-    match text_of(alloc, &founding, events.as_slice()) {
+    match text_of_script(alloc, &script) {
         Ok(text) => Ok(text),
         Err(_) => Err(ScriptRefusal::NoMemory),
     }
