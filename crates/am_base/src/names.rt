@@ -62,6 +62,14 @@ impl Names {
         self.lives
     }
 
+    /// The set with these lives of the sixteen places, each at most 16.
+    pub fn of_lives(lives: [u8; 16]) -> Names
+        requires { EachIndex lives (λ place. slice_index lives place ≤ 16) }
+        ensures { result ≡ lives }
+    {
+        Names { lives }
+    }
+
     /// The set with this name, in place of another life of its place.
     pub fn with(self, name: Name) -> Names
         ensures { result ≡ with_name self name }

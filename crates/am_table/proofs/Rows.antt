@@ -19,6 +19,9 @@ use Rattle.am_core.specs.Images.{IsRow, IsImage}
 pub member_at : (rows : List Row) (place : ℕ) → place < length rows → slice_index (map member_life rows) place ≡ member_life (slice_index_or rows place blank_row)
 member_at rows place h = get_or-map member_life rows place blank_row 0 h
 
+pub member_life_most : (r : Row) → member_life r ≤ r.life
+member_life_most r = grind (arith, nat_tests)
+
 -- the members, each by its place
 pub members_by_place : (rows : List Row) (lives : List ℕ) → length rows ≡ 16 → length lives ≡ 16 → ((k : ℕ) → k < 16 → get_or lives k 0 ≡ member_life (slice_index_or rows k blank_row)) → lives ≡ map member_life rows
 members_by_place rows lives long wide each =

@@ -49,7 +49,8 @@ fn are_blank(rows: &[Row]) -> bool
 }
 
 fn member_life(row: &Row) -> u8
-    ensures { result ≡ member_life row.now }
+    ensures value { result ≡ member_life row.now }
+    ensures most { result ≤ row.now.life }
 {
     if 0 < row.joined && row.left == 0 {
         row.life
@@ -160,17 +161,15 @@ impl Table {
     }
 
     /// The members.
+    #[tactic(auto, using(crate::proofs::Rows::members_by_place, crate::proofs::Rows::member_life_most))]
     pub fn members(&self) -> Names
         ensures { result ≡ members_of self.now }
     {
-        let mut members = Names::empty();
-        for place in 0..16u8 {
-            let row = self.image.rows[usize::from(place)];
-            if let Some(name) = Name::of(place, member_life(&row)) {
-                members = members.with(name);
-            }
+        let mut lives = [0; 16];
+        for place in 0..16usize {
+            lives[place] = member_life(&self.image.rows[place]);
         }
-        members
+        Names::of_lives(lives)
     }
 
     fn is_blank(&self) -> bool

@@ -4,7 +4,7 @@ use Rattle.am_table.proofs.table.Table.members.Given as goal
 
 abbrev pub invariant-loop-place : goal.invariant-loop-place
 invariant-loop-place l = record {
-  long : length l.members ≡ 16;
-  done : (k : ℕ) → k < l.place → get_or l.members k 0 ≡ member_life (slice_index_or l.self-inside.image.rows k blank_row);
-  rest : (k : ℕ) → l.place ≤ k → get_or l.members k 0 ≡ 0;
+  long : length l.lives ≡ 16;
+  done : (k : ℕ) → k < l.place → get_or l.lives k 0 ≡ member_life (slice_index_or l.self-inside.image.rows k blank_row);
+  most : (k : ℕ) → k < l.place → get_or l.lives k 0 ≤ 16;
 }
