@@ -261,7 +261,7 @@ fn accept_front(reports: &[Report; 256], history: &History, acc: u32) -> u32 {
 const ROUNDS: u32 = 400;
 const FRONTS: u32 = 20_000;
 
-fn measure(window: u32, body: &Body) {
+fn measure(window: u32) {
     let room = window + 15;
     let mut history = History::founded(window);
     history.trim(1);
@@ -274,7 +274,7 @@ fn measure(window: u32, body: &Body) {
                 let entry = Entry::Data {
                     from: 0,
                     req: req + 1,
-                    body: *body,
+                    body: Body::of(&[]),
                 };
                 if history.top() - history.base < room && history.above.fits(&entry) {
                     history.push(entry);
@@ -310,15 +310,14 @@ fn measure(window: u32, body: &Body) {
 }
 
 fn main() {
-    let body = Body::of(&[]);
-    measure(112, &body);
-    measure(1008, &body);
+    measure(112);
+    measure(1008);
     let mut history = History::founded(112);
     for req in 1..127 {
         history.push(Entry::Data {
             from: 0,
             req,
-            body,
+            body: Body::of(&[]),
         });
     }
     let mut reports = [Report::default(); 256];
@@ -333,5 +332,4 @@ fn main() {
     let front = start.elapsed().as_nanos() / u128::from(FRONTS);
     assert_eq!(black_box(sum), 127 * u64::from(FRONTS));
     println!("plain accept_front {front}");
-    black_box(body.len);
 }
