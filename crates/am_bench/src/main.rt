@@ -241,7 +241,7 @@ fn main(rt: HostRuntime) -> io::Result<()> {
 mod tests {
     use super::*;
     use am_base::founding::Founding;
-    use am_core::core::Core;
+    use am_core::state::Core;
 
     const REPORTS: [(u8, u32); 3] = [(0, 3), (1, 2), (2, 1)];
 

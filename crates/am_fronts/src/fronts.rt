@@ -8,7 +8,7 @@ use am_base::entry::Entry;
 use am_base::image::Report;
 use am_base::name::Name;
 use am_base::names::Names;
-use am_core::core::Core;
+use am_core::state::Core;
 use am_core::log::Log;
 use std::marker::Model;
 
