@@ -174,3 +174,5 @@ kept-above log capacity to is low high rows =
     }
 
 pub ruleset end_laws = (end-same, end-stays)
+
+pub ruleset top_laws = (image-top)

@@ -8,7 +8,7 @@ use am_base::entry::Entry;
 use am_base::image::Report;
 use am_base::name::Name;
 use am_base::names::Names;
-use am_core::core::Core;
+use am_core::state::Core;
 use am_core::log::Log;
 use std::marker::Model;
 
@@ -161,10 +161,10 @@ impl Fronts {
         requires { (place < 16) × (life ≤ 16) }
         ensures { result ≡ (nat_lt 0 life && nat_le number (reports_of self.now (name_at place life)).stored) }
     {
-        match Name::of(place, life) {
-            Some(name) => number <= self.of(name).stored,
-            None => false,
+        if life == 0 {
+            return false;
         }
+        number <= self.reports[usize::from(place) + 16 * usize::from(life - 1)].stored
     }
 
     #[tactic(auto, using(crate::proofs::ReportLaws::count_laws))]

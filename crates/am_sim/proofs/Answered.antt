@@ -1,6 +1,8 @@
 -- What a script's text is.
-use Rattle.std.proofs.Common.{◌≡◌, ◌↔◌, ℕ, ◌≤◌, ◌<◌, List, [], ◌∷◌, length, map, Bool, true, false, IsTrue, nat_eq, slice_index_or, Bor, codes, sym, ap, refl, true≢false, arith}
+use Rattle.std.proofs.Common.{◌≡◌, ◌↔◌, ℕ, ◌≤◌, ◌<◌, List, [], ◌∷◌, length, map, Bool, true, false, IsTrue, nat_eq, slice_index_or, Bor, Option, Some, None, append-nil, subst, ◌∙◌, codes, sym, ap, refl, true≢false, arith}
 use Rattle.std.specs.Cmp.Lexicographic.{pointwise, same_text, other_text}
+use Rattle.std.specs.Io.KnownBytes.{Consumes}
+use Rattle.am_io.specs.Outside.{ReadToEnd, GaveAtMost}
 use Rattle.am_script.specs.declared.script.Script.{Script}
 use Rattle.am_script.specs.declared.script.Script.TheVariants.{Play}
 use Rattle.am_script.specs.Scripts.{IsScriptOf}
@@ -33,3 +35,12 @@ pub only_play : (words : List (Bor (List ℕ))) (r : Bool) → 1 ≤ length word
 only_play [] r some few is = absurd (omega arith)
 only_play (word ∷ []) r some few is = told word.now r is
 only_play (word ∷ other ∷ words) r some few is = absurd (omega arith)
+
+-- what was read whole was given
+pub gave_whole : (limit : ℕ) (before after : Option (List ℕ)) (bytes : List ℕ) → ReadToEnd before after bytes → length bytes ≤ limit → GaveAtMost limit before after
+gave_whole limit (Some left) after bytes whole few = (bytes, subst (λ a. Consumes (Some left) a bytes) (sym whole.1) (whole.0 ∙ sym (append-nil bytes)), few)
+gave_whole limit None after bytes whole few = (bytes, tt, few)
+
+pub gave_none : (limit : ℕ) (left : Option (List ℕ)) → GaveAtMost limit left left
+gave_none limit (Some left) = ([], refl, omega arith)
+gave_none limit None = ([], tt, omega arith)

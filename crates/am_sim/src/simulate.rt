@@ -75,6 +75,7 @@ fn is_play(words: &[&str]) -> bool
 /// Does what the words ask for. `play` reads a script of at most 16,777,216 bytes to its end, runs it, and writes the text
 /// of its run (docs/PROTOCOL.md, "Texts"); no other words are a form yet. On every status but Done and WriteFault nothing
 /// is written, and on Usage nothing is read.
+#[tactic(auto, using(crate::proofs::Answered::gave_none))]
 pub fn simulate<S: Source, K: Sink>(
     alloc: Global,
     words: &[&str],
@@ -86,6 +87,7 @@ pub fn simulate<S: Source, K: Sink>(
     ensures not_spent { result ≢ Status.Spent }
     ensures read_fault { result ≡ Status.ReadFault → Rises (S.count source.old) (S.count source.new) }
     ensures too_long { result ≡ Status.TooLong → GaveMore 16777216 (S.left source.old) (S.left source.new) }
+    ensures within { result ≢ Status.TooLong → GaveAtMost 16777216 (S.left source.old) (S.left source.new) }
     ensures bad_script { IfBadScript result (λ cause. (bytes : List ℕ) × ReadToEnd (S.left source.old) (S.left source.new) bytes × NoScript bytes × IsCause bytes cause) }
     ensures write_fault { OnWriteFault result (Rises (K.count sink.old) (K.count sink.new)) }
     ensures part { OnWriteFault result ((bytes text : List ℕ) × ReadToEnd (S.left source.old) (S.left source.new) bytes × Played bytes text × WrotePart (K.contents sink.old) (K.contents sink.new) text) }
@@ -113,11 +115,13 @@ fn text_of(alloc: Global, founding: &Founding, events: &[Event]) -> Result<Strin
 }
 
 /// Reads a script to its end, runs it, and writes the text of its run.
+#[tactic(auto, using(crate::proofs::Answered::gave_whole))]
 fn play<S: Source, K: Sink>(alloc: Global, source: &mut S, sink: &mut K) -> Status
     ensures not_usage { result ≢ Status.Usage }
     ensures not_spent { result ≢ Status.Spent }
     ensures read_fault { result ≡ Status.ReadFault → Rises (S.count source.old) (S.count source.new) }
     ensures too_long { result ≡ Status.TooLong → GaveMore 16777216 (S.left source.old) (S.left source.new) }
+    ensures within { result ≢ Status.TooLong → GaveAtMost 16777216 (S.left source.old) (S.left source.new) }
     ensures bad_script { IfBadScript result (λ cause. (bytes : List ℕ) × ReadToEnd (S.left source.old) (S.left source.new) bytes × NoScript bytes × IsCause bytes cause) }
     ensures write_fault { OnWriteFault result (Rises (K.count sink.old) (K.count sink.new)) }
     ensures part { OnWriteFault result ((bytes text : List ℕ) × ReadToEnd (S.left source.old) (S.left source.new) bytes × Played bytes text × WrotePart (K.contents sink.old) (K.contents sink.new) text) }

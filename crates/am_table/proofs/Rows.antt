@@ -1,7 +1,7 @@
 -- The rows of the sixteen places.
-use Rattle.std.proofs.Common.{◌≡◌, ◌≢◌, ◌⊎◌, ⊎_elim, inl, inr, ℕ, suc, ◌+◌, ◌<◌, ◌≤◌, List, length, map, refl, sym, ◌∙◌, ap, subst, zero, zero-add, Bool, true, false, ◌==◌, ◌||◌, slice_index, slice_index_or, get_or, arith}
+use Rattle.std.proofs.Common.{◌≡◌, ◌≢◌, ◌⊎◌, ⊎_elim, inl, inr, ℕ, suc, ◌+◌, ◌<◌, ◌≤◌, List, length, map, refl, sym, ◌∙◌, ap, subst, zero, zero-add, Bool, true, false, ◌==◌, ◌||◌, slice_index, slice_index_or, slice_set, get_or, arith}
 use Rattle.std.specs.List.{list_all, range_with_len}
-use Rattle.std.proofs.lemmas.List.{get_or-map, length-map, length-set, get_or-set_other}
+use Rattle.std.proofs.lemmas.List.{map-set, set-get_or, get_or-map, length-map, length-set, get_or-set_other}
 use Rattle.std.proofs.lemmas.List.FromFn.{get_or-range_with_len}
 use Rattle.std.proofs.lemmas.List.Folds.{list_all_at}
 use Rattle.std.proofs.lemmas.Grind.{get_or-set_at}
@@ -10,14 +10,20 @@ use Rattle.am_base.specs.declared.image.Row.{Row}
 use Rattle.am_base.specs.declared.image.Image.{Image}
 use Rattle.am_base.specs.declared.name.Stamp.{Stamp}
 use Rattle.am_base.specs.declared.entry.Entry.TheVariants.{View}
-use Rattle.am_base.specs.Names.{place_of, is_within}
-use Rattle.am_base.specs.Lists.{blank_row, member_life, viewed, with_row, is_blank, after}
+use Rattle.am_base.specs.Names.{place_of, life_of, has, with_name, without_name, is_within}
+use Rattle.am_base.specs.Lists.{blank_row, at_place, members_of, member_life, viewed, with_row, is_blank, after}
 use Rattle.am_base.proofs.Places.{by_place_all}
+use Rattle.std.proofs.Math.Seq.{map-set_same}
+use Rattle.am_core.proofs.Folds.{split}
 use Rattle.am_core.specs.Images.{IsRow, IsImage}
+use Rattle.am_table.specs.Tables.{IsTable}
 
 -- a member's life by its place
 pub member_at : (rows : List Row) (place : ℕ) → place < length rows → slice_index (map member_life rows) place ≡ member_life (slice_index_or rows place blank_row)
 member_at rows place h = get_or-map member_life rows place blank_row 0 h
+
+pub member_life_most : (r : Row) → member_life r ≤ r.life
+member_life_most r = grind (arith, nat_tests)
 
 -- the members, each by its place
 pub members_by_place : (rows : List Row) (lives : List ℕ) → length rows ≡ 16 → length lives ≡ 16 → ((k : ℕ) → k < 16 → get_or lives k 0 ≡ member_life (slice_index_or rows k blank_row)) → lives ≡ map member_life rows
@@ -65,3 +71,32 @@ all_true p a (suc n) each = rw (each a (omega arith) (omega arith)) (all_true p 
 
 pub within_all : (a b : List ℕ) → ((k : ℕ) → k < 16 → ((slice_index a k == 0) || (slice_index a k == slice_index b k)) ≡ true) → true ≡ is_within a b
 within_all a b each = sym (all_true (λ k. (slice_index a k == 0) || (slice_index a k == slice_index b k)) 0 16 (λ k l h. each k (omega arith)))
+
+-- the members after a row is set: whose membership stays, who joins and who leaves
+pub stays_member : (image : Image) (name : ℕ) (r : Row) → r.life ≡ (at_place image name).life → r.joined ≡ (at_place image name).joined → r.left ≡ (at_place image name).left → members_of image ≡ slice_set (members_of image) (place_of name) (member_life r)
+stays_member image name r a b d =
+    let e : member_life r ≡ member_life (at_place image name) = rw (a, b, d) refl in
+    sym (map-set_same member_life image.rows (place_of name) r blank_row e) ∙ map-set member_life image.rows (place_of name) r
+
+pub joins_member : (image : Image) (name : ℕ) (r : Row) → r.life ≡ life_of name → 0 < r.joined → r.left ≡ 0 → with_name (members_of image) name ≡ slice_set (members_of image) (place_of name) (member_life r)
+joins_member image name r a b d =
+    let e : member_life r ≡ life_of name = grind (arith, nat_tests) in
+    ap (slice_set (members_of image) (place_of name)) (sym e)
+
+no_member : (r : Row) (m life : ℕ) → m ≡ member_life r → r.life ≡ life → (m == life) ≡ false → member_life r ≡ 0
+no_member r m life a b f = grind (arith, nat_tests)
+
+pub leaves_member : (image : Image) (name : ℕ) (r : Row) → length image.rows ≡ 16 → (at_place image name).life ≡ life_of name → r.life ≡ life_of name → 0 < r.left → without_name (members_of image) name ≡ slice_set (members_of image) (place_of name) (member_life r)
+leaves_member image name r long a b d =
+    let none : member_life r ≡ 0 = grind (arith, nat_tests) in
+    let at = member_at image.rows (place_of name) (omega arith) in
+    split (has (members_of image) name)
+    (λ t. rw t (ap (slice_set (members_of image) (place_of name)) (sym none)))
+    (λ f.
+    let gone : slice_index (members_of image) (place_of name) ≡ 0 = at ∙ no_member (at_place image name) (slice_index (members_of image) (place_of name)) (life_of name) at a f in
+    rw f (sym (ap (slice_set (members_of image) (place_of name)) (none ∙ sym gone) ∙ set-get_or (members_of image) (place_of name) 0)))
+
+pub ruleset row_laws = (stays_member, joins_member, leaves_member)
+
+pub table_row : (image : Image) (name : ℕ) (r : Row) (members : List ℕ) → IsImage image → IsRow r → members ≡ slice_set (members_of image) (place_of name) (member_life r) → IsTable (with_row image name r) members
+table_row image name r members is row e = record { rows = with_row_image image name r is row; names = e ∙ sym (map-set member_life image.rows (place_of name) r) }

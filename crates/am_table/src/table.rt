@@ -1,4 +1,4 @@
-ghost use Rattle.std.specs.Prelude.{◌≡◌, ◌≤◌, ◌<◌, ℕ, List, slice_index_or, slice_index, slice_set, if◌then◌else◌, ◌==◌};
+ghost use Rattle.std.specs.Prelude.{map, ◌≡◌, ◌≤◌, ◌<◌, ℕ, List, slice_index_or, slice_index, slice_set, if◌then◌else◌, ◌==◌};
 ghost use Rattle.std.specs.List.{list_all};
 ghost use Rattle.am_base.specs.Names.{place_of, life_of, has, is_within};
 ghost use Rattle.am_base.specs.Lists.{blank, blank_row, after, fits, members_of, member_life, at_place, row_of, with_row, viewed, is_blank, is_blank_row};
@@ -23,17 +23,18 @@ const BLANK_ROW: Row = Row {
 #[derive(Drop, Debug)]
 pub struct Table {
     image: Image,
+    members: Names,
 }
 
 impl Model for Table {
     ghost use Rattle.am_base.specs.declared.image.Image.{Image};
-    ghost use Rattle.am_core.specs.Images.{IsImage};
+    ghost use Rattle.am_table.specs.Tables.{IsTable};
 
     ghost Value = { Image };
 
     ghost view = { λ t. t.image };
 
-    ghost invariant = { λ t. IsImage t.image };
+    ghost invariant = { λ t. IsTable t.image t.members };
 }
 
 fn is_blank_row(row: &Row) -> bool
@@ -49,13 +50,26 @@ fn are_blank(rows: &[Row]) -> bool
 }
 
 fn member_life(row: &Row) -> u8
-    ensures { result ≡ member_life row.now }
+    ensures value { result ≡ member_life row.now }
+    ensures most { result ≤ row.now.life }
 {
     if 0 < row.joined && row.left == 0 {
         row.life
     } else {
         0
     }
+}
+
+#[tactic(auto, using(crate::proofs::Rows::member_life_most))]
+fn members_of(rows: &[Row; 16]) -> Names
+    requires { (place : ℕ) → place < 16 → IsRow (slice_index_or rows.now place blank_row) }
+    ensures { result ≡ map member_life rows.now }
+{
+    let mut lives = [0; 16];
+    for place in 0..16usize {
+        lives[place] = member_life(&rows[place]);
+    }
+    Names::of_lives(lives)
 }
 
 fn viewed(first: bool, number: u32, life: u8, row: &Row) -> Row
@@ -100,6 +114,7 @@ impl Table {
                 resilience: 0,
                 rows: [BLANK_ROW; 16],
             },
+            members: Names::empty(),
         }
     }
 
@@ -108,7 +123,10 @@ impl Table {
         requires { IsImage image.now }
         ensures { result ≡ image.now }
     {
-        Table { image: *image }
+        Table {
+            image: *image,
+            members: members_of(&image.rows),
+        }
     }
 
     /// What the list tells as an image.
@@ -163,14 +181,7 @@ impl Table {
     pub fn members(&self) -> Names
         ensures { result ≡ members_of self.now }
     {
-        let mut members = Names::empty();
-        for place in 0..16u8 {
-            let row = self.image.rows[usize::from(place)];
-            if let Some(name) = Name::of(place, member_life(&row)) {
-                members = members.with(name);
-            }
-        }
-        members
+        self.members
     }
 
     fn is_blank(&self) -> bool
@@ -185,11 +196,10 @@ impl Table {
         are_blank(&self.image.rows)
     }
 
-    #[tactic(auto, using(crate::proofs::Rows::member_at))]
     fn has_member(&self, name: Name) -> bool
         ensures { result ≡ has (members_of self.now) name }
     {
-        member_life(&self.image.rows[usize::from(name.place())]) == name.life()
+        self.members.has(name)
     }
 
     fn are_members(&self, names: Names) -> bool
@@ -197,7 +207,7 @@ impl Table {
     {
         for place in 0..16u8 {
             let life = names.life_at(place);
-            if life != 0 && life != member_life(&self.image.rows[usize::from(place)]) {
+            if life != 0 && life != self.members.life_at(place) {
                 return false;
             }
         }
@@ -243,16 +253,18 @@ impl Table {
     }
 
     #[tactic(auto, using(crate::proofs::Rows::with_row_image))]
-    fn set_row(&mut self, name: Name, row: Row)
-        requires { IsRow row }
+    fn set_row(&mut self, name: Name, row: Row, members: Names)
+        requires row { IsRow row }
+        requires members { members ≡ slice_set (members_of self.old) (place_of name) (member_life row) }
         ensures value { self.new ≡ with_row self.old name row }
         ensures rows { IsImage self.new }
     {
         self.image.rows[usize::from(name.place())] = row;
+        self.members = members;
     }
 
     /// Adds an entry, which has this number.
-    #[tactic(auto, unfolding(am_base::specs::Lists::after))]
+    #[tactic(auto, using(crate::proofs::Rows::row_laws), unfolding(am_base::specs::Lists::after))]
     pub fn apply(&mut self, number: u32, entry: &Entry)
         requires number { (1 ≤ number) × (number ≤ 2000000000) }
         ensures value { self.new ≡ after self.old number entry.now }
@@ -263,7 +275,8 @@ impl Table {
             Entry::Data { from, req, .. } => {
                 let row = self.at_place(*from);
                 if row.life == from.life() {
-                    self.set_row(*from, Row { last: *req, ..row });
+                    let members = self.members();
+                    self.set_row(*from, Row { last: *req, ..row }, members);
                 }
             }
             Entry::Join(name) => {
@@ -272,17 +285,20 @@ impl Table {
                     joined: number,
                     ..BLANK_ROW
                 };
-                self.set_row(*name, row);
+                let members = self.members().with(*name);
+                self.set_row(*name, row, members);
             }
             Entry::Leave(name) => {
                 let row = self.at_place(*name);
                 if row.life == name.life() {
+                    let members = self.members().without(*name);
                     self.set_row(
                         *name,
                         Row {
                             left: number,
                             ..row
                         },
+                        members,
                     );
                 }
             }
@@ -309,6 +325,7 @@ impl Table {
                 &self.image.rows[usize::from(place)],
             );
         }
+        self.members = members_of(&rows);
         self.image = Image {
             view: stamp,
             view_number: number,

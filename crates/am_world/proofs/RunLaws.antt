@@ -88,9 +88,10 @@ planned_short n w event (Does what) short =
 planned_short n w event (Refuses outcome) short = let g = short.0 in omega arith
 
 happens_short : (n : ℕ) (w : World) (event : Event) → IsShort n w → IsShort (n + 1) (happens w event)
-happens_short n w event short =
-    (subst (λ (v : World). length v.group ≤ n + 1) (sym (happens_is w event)) (planned_short n w event (plan_for w.letters (place_of event.node) event.act) short),
-     λ j. let h = (happens_slow w event j).0 in let l = short.1 j in omega arith)
+happens_short n w event short = (
+  subst (λ (v : World). length v.group ≤ n + 1) (sym (happens_is w event)) (planned_short n w event (plan_for w.letters (place_of event.node) event.act) short),
+  λ j. let h = (happens_slow w event j).0 in let l = short.1 j in omega arith,
+)
 
 run_short : (events : List Event) (n : ℕ) (w : World) → IsShort n w → length (run_on w events).group ≤ n + length events
 unfolding run_on

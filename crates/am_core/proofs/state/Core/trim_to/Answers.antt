@@ -1,7 +1,7 @@
 use Rattle.std.proofs.Common.{arith, ap}
 use Rattle.am_core.specs.Cores.{CoreState}
 use Rattle.am_core.proofs.CoreLaws.{cut_keeps}
-use Rattle.am_core.proofs.core.Core.trim_to.Goals as goal
+use Rattle.am_core.proofs.state.Core.trim_to.Goals as goal
 
 pub returns-then-base-clause-keeps : goal.returns-then-base-clause-keeps
 returns-then-base-clause-keeps g c =

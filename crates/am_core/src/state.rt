@@ -52,7 +52,8 @@ impl<L: Log> Model for Core<L> {
 
 impl<L: Log> Core<L> {
     ghost use Rattle.std.specs.Prelude.{◌+◌, ◌<◌, true, length};
-    ghost use Rattle.am_base.specs.Lists.{top_of, told_by, fits, with_entry};
+    ghost use Rattle.am_base.specs.Names.{has};
+    ghost use Rattle.am_base.specs.Lists.{top_of, told_by, members_of, fits, with_entry};
     ghost use Rattle.am_core.specs.Cores.{Keeps, Adds, Sends, advance, since_accepted, trim_to, trimmed, IsInOrder};
 
     /// What is accepted goes on to what is told, as far as the list is stored; and who joined passes over what is
@@ -107,5 +108,13 @@ impl<L: Log> Core<L> {
             names = names.union(self.log.members_after(number + 1));
         }
         names
+    }
+
+    /// Whether the node is a member after the last entry.
+    #[tactic(auto, using(crate::proofs::Ends::top_laws))]
+    pub fn is_member(&self) -> bool
+        ensures { result ≡ has (members_of (told_by self.now.log)) self.now.who }
+    {
+        self.log.members_after(self.log.top()).has(self.who)
     }
 }

@@ -1,0 +1,354 @@
+//! What a node calls most, over and over. It prints what came of it, and with the word `time` how long each call took.
+#![tactic(auto)]
+
+ghost use Rattle.std.specs.Prelude.{◌≡◌, ◌+◌, ◌≤◌, IfOk};
+
+use am_base::body::Body;
+use am_base::entry::Entry;
+use am_base::image::Report;
+use am_base::name::{Name, Stamp};
+use am_base::names::Names;
+use am_core::log::Log;
+use am_fronts::fronts::Fronts;
+use am_history::history::History;
+use std::alloc::{AllocError, Global};
+use std::rt::Clock;
+use std::time::Instant;
+use std::{env, io};
+
+/// How many times a history is filled and emptied for one line, where that is timed.
+const ROUNDS: u32 = 400;
+
+/// How many accept fronts are found, where that is timed.
+const FRONTS: u32 = 20_000;
+
+/// How long the calls took, in nanoseconds, and what they gave.
+#[derive(Clone, Copy, Debug, Default)]
+struct Spent {
+    push: u64,
+    entry: u64,
+    members: u64,
+    trim: u64,
+    calls: u64,
+    gave: u64,
+}
+
+fn all_places() -> Names {
+    let mut names = Names::empty();
+    for place in 0..16u8 {
+        names = names.with(Name::of_byte(place));
+    }
+    names
+}
+
+fn push(history: &mut History, room: u32, entry: Entry) -> bool
+    requires { history.old.capacity ≡ room }
+    ensures { history.new.capacity ≡ room }
+{
+    if history.top() - history.base() >= room || history.top() >= 2_000_000_000 {
+        return false;
+    }
+    if !history.fits(&entry) {
+        return false;
+    }
+    history.push(entry);
+    true
+}
+
+fn founded(alloc: Global, window: u16, resilience: u8) -> Result<History, AllocError>
+    requires { (1 ≤ window) × (window ≤ 1008) }
+    ensures { IfOk result (λ history. history.capacity ≡ window + 15) }
+{
+    let mut history = History::new(alloc, window)?;
+    let view = Entry::View {
+        stamp: Stamp {
+            round: 1,
+            by: Name::of_byte(0),
+        },
+        members: all_places(),
+        resilience,
+    };
+    let _ = push(&mut history, u32::from(window) + 15, view);
+    Ok(history)
+}
+
+fn fill(history: &mut History, room: u32, last: u32, body: &Body) -> u32
+    requires { history.old.capacity ≡ room }
+    ensures { history.new.capacity ≡ room }
+{
+    let mut req = last;
+    for _ in 0..room {
+        let entry = Entry::Data {
+            from: Name::of_byte(0),
+            req: req.wrapping_add(1),
+            body: Body::default(),
+        };
+        if push(history, room, entry) {
+            req = req.wrapping_add(1);
+        }
+    }
+    req
+}
+
+fn read(history: &History) -> u64 {
+    let mut sum = 0u64;
+    for number in history.base()..history.top() {
+        if let Some(Entry::Data { req, .. }) = history.entry(number + 1) {
+            sum = sum.wrapping_add(u64::from(*req));
+        }
+    }
+    sum
+}
+
+fn count_members(history: &History) -> u64 {
+    let mut sum = 0u64;
+    for number in history.base()..history.top() {
+        sum = sum.wrapping_add(u64::from(history.members_after(number + 1).life_at(3)));
+    }
+    sum
+}
+
+fn empty(history: &mut History, room: u32)
+    requires { history.old.capacity ≡ room }
+    ensures { history.new.capacity ≡ room }
+{
+    for _ in 0..room {
+        let base = history.base();
+        if base < history.top() {
+            history.trim(base + 1);
+        }
+    }
+}
+
+fn nanos(rt: &impl Clock, start: &Instant) -> io::Result<u64> {
+    Ok(u64::try_from(start.elapsed(rt)?.as_nanos()).unwrap_or(u64::MAX))
+}
+
+fn round(
+    rt: &impl Clock,
+    history: &mut History,
+    room: u32,
+    last: u32,
+    body: &Body,
+    spent: &mut Spent,
+) -> io::Result<u32>
+    requires { history.old.capacity ≡ room }
+    ensures { history.new.capacity ≡ room }
+{
+    let start = Instant::now(rt)?;
+    let req = fill(history, room, last, body);
+    spent.push = spent.push.wrapping_add(nanos(rt, &start)?);
+    let start = Instant::now(rt)?;
+    let sum = read(history);
+    spent.entry = spent.entry.wrapping_add(nanos(rt, &start)?);
+    let start = Instant::now(rt)?;
+    let members = count_members(history);
+    spent.members = spent.members.wrapping_add(nanos(rt, &start)?);
+    let start = Instant::now(rt)?;
+    empty(history, room);
+    spent.trim = spent.trim.wrapping_add(nanos(rt, &start)?);
+    spent.calls = spent.calls.wrapping_add(u64::from(room));
+    spent.gave = spent.gave.wrapping_add(sum).wrapping_add(members);
+    Ok(req)
+}
+
+fn each(spent: u64, calls: u64) -> u64 {
+    if calls == 0 { 0 } else { spent / calls }
+}
+
+/// Fills and empties a history, early and late in its list.
+fn measure(
+    rt: &(impl Clock + Print + AllocGlobal),
+    window: u16,
+    body: &Body,
+    timed: bool,
+) -> io::Result<()>
+    requires { (1 ≤ window) × (window ≤ 1008) }
+{
+    let room = u32::from(window) + 15;
+    let mut history = founded(rt.alloc(), window, 15)?;
+    empty(&mut history, room);
+    let rounds = if timed { ROUNDS } else { 2 };
+    let mut req = 0;
+    for line in 0..4u32 {
+        let mut spent = Spent::default();
+        for _ in 0..rounds {
+            req = round(rt, &mut history, room, req, body, &mut spent)?;
+        }
+        if timed {
+            let push = each(spent.push, spent.calls);
+            let entry = each(spent.entry, spent.calls);
+            let members = each(spent.members, spent.calls);
+            let trim = each(spent.trim, spent.calls);
+            println!(rt;
+                "ours {window} {line} push {push} entry {entry} members_after {members} trim {trim}"
+            )?;
+        } else {
+            let gave = spent.gave;
+            println!(rt; "{window} {line} last {req} gave {gave}")?;
+        }
+    }
+    Ok(())
+}
+
+/// Finds the accept front of 127 entries that all of sixteen members have stored.
+fn measure_fronts(
+    rt: &(impl Clock + Print + AllocGlobal),
+    body: &Body,
+    timed: bool,
+) -> io::Result<()> {
+    let mut history = founded(rt.alloc(), 112, 15)?;
+    let _ = fill(&mut history, 127, 0, body);
+    let mut fronts = Fronts::new();
+    for place in 0..16u8 {
+        fronts.report(
+            Name::of_byte(place),
+            Report {
+                stored: 127,
+                taken: 0,
+            },
+        );
+    }
+    let rounds = if timed { FRONTS } else { 2 };
+    let mut sum = 0u64;
+    let start = Instant::now(rt)?;
+    for _ in 0..rounds {
+        if history.base() == 0 {
+            sum = sum.wrapping_add(u64::from(fronts.accept_front(&history, 0)));
+        }
+    }
+    let spent = nanos(rt, &start)?;
+    if timed {
+        let front = each(spent, u64::from(rounds));
+        println!(rt; "ours accept_front {front}")?;
+    } else {
+        println!(rt; "fronts {sum}")?;
+    }
+    Ok(())
+}
+
+fn main(rt: HostRuntime) -> io::Result<()> {
+    let alloc = rt.alloc();
+    let words: Vec<String> = env::args(&rt)?.collect(alloc)?;
+    let timed = words.iter().any(|word| word.as_str() == "time");
+    let body = Body::default();
+    measure(&rt, 112, &body, timed)?;
+    measure(&rt, 1008, &body, timed)?;
+    measure_fronts(&rt, &body, timed)
+}
+
+#[cfg(test)]
+mod tests {
+    use super::*;
+    use am_base::founding::Founding;
+    use am_core::state::Core;
+
+    const REPORTS: [(u8, u32); 3] = [(0, 3), (1, 2), (2, 1)];
+
+    fn three() -> Names {
+        Names::empty()
+            .with(Name::of_byte(0))
+            .with(Name::of_byte(1))
+            .with(Name::of_byte(2))
+    }
+
+    // The view of three founders, and two sends.
+    fn list_of_three(alloc: Global, resilience: u8) -> Result<History, AllocError>
+        ensures { IfOk result (λ history. history.capacity ≡ 79) }
+    {
+        let mut history = History::new(alloc, 64)?;
+        let by = Name::of_byte(0);
+        let stamp = Stamp { round: 1, by };
+        let members = three();
+        let _ = push(
+            &mut history,
+            79,
+            Entry::View {
+                stamp,
+                members,
+                resilience,
+            },
+        );
+        for req in 1..3 {
+            let body = Body::default();
+            let _ = push(
+                &mut history,
+                79,
+                Entry::Data {
+                    from: by,
+                    req,
+                    body,
+                },
+            );
+        }
+        Ok(history)
+    }
+
+    fn reported() -> Fronts {
+        let mut fronts = Fronts::new();
+        for (place, stored) in REPORTS {
+            fronts.report(Name::of_byte(place), Report { stored, taken: 0 });
+        }
+        fronts
+    }
+
+    #[test]
+    fn fronts_by_resilience(rt: HostRuntime) {
+        let fronts = reported();
+        for (resilience, want) in [(0, 3), (1, 2), (2, 1)] {
+            let made = list_of_three(rt.alloc(), resilience);
+            assert!(rt; made.is_ok());
+            if let Ok(history) = made {
+                assert_eq!(rt; history.base(), 0);
+                assert_eq!(rt; history.top(), 3);
+                assert_eq!(rt; fronts.accept_front(&history, 1), want, "at {resilience}");
+            }
+        }
+    }
+
+    #[test]
+    fn a_refresh_accepts_and_trims(rt: HostRuntime) {
+        let mut fronts = reported();
+        let who = Name::of_byte(0);
+        if let (Ok(log), Some(rules)) = (
+            list_of_three(rt.alloc(), 1),
+            Founding::new(three(), 1, 64, 256),
+        ) {
+            assert_eq!(rt; log.base(), 0);
+            assert_eq!(rt; log.top(), 3);
+            let promise = log.view();
+            let mut core = Core {
+                who,
+                rules,
+                log,
+                promise,
+                told: 1,
+                acc: 1,
+                taken: 1,
+                start: 1,
+            };
+            fronts.report(
+                Name::of_byte(1),
+                Report {
+                    stored: 2,
+                    taken: 1,
+                },
+            );
+            fronts.report(
+                Name::of_byte(2),
+                Report {
+                    stored: 1,
+                    taken: 1,
+                },
+            );
+            assert!(rt; core.is_member());
+            assert_eq!(rt; fronts.of(who).taken, 0);
+            fronts.refresh(&mut core);
+            assert_eq!(rt; core.told, 2);
+            assert_eq!(rt; core.acc, 2);
+            assert_eq!(rt; core.log.base(), 1);
+            assert_eq!(rt; fronts.of(who).stored, 3);
+            assert_eq!(rt; fronts.of(who).taken, 1);
+        }
+    }
+}
