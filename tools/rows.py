@@ -9,7 +9,7 @@ folder. For each folder F of CASES this writes specs/F.antt with a statement for
 whose contract they are, and its answers, by computing.
 
 LIST is a file of CASES with a line FOLDER/NAME for each of some cases. With it the statements are of these cases alone, in one
-file, and of the first path's definitions.
+file, and of the first path's definitions. A folder without an about.txt is there for LIST only.
 """
 
 import json
@@ -213,7 +213,7 @@ def main():
         write_list(cases, out, sys.argv[3])
         return
     for folder in sorted(os.listdir(cases)):
-        if os.path.isdir(os.path.join(cases, folder)):
+        if os.path.exists(os.path.join(cases, folder, "about.txt")):
             write_folder(cases, out, folder)
 
 

@@ -1,6 +1,6 @@
 //! Scripts of sends, losses and repeats, by the first path's definitions. Written by tools/rows.py.
 
-ghost use Rattle.am_first_rows.specs.FirstPath.{NoEvents, SmallestPath, Repeat, Reordering, Busy, First1, First2, First3, First4, First5, First6, First7, First8, First9, First10};
+ghost use Rattle.am_first_rows.specs.FirstPath.{NoEvents, SmallestPath, Repeat, Reordering, Busy, First1, First2, First3, First4, First5, First6, First7, First8, First9, First10, NotAddressed, NoPacket};
 
 /// The definitions give these texts for these scripts.
 pub fn texts()
@@ -19,4 +19,6 @@ pub fn texts()
     ensures first_8 { First8 }
     ensures first_9 { First9 }
     ensures first_10 { First10 }
+    ensures not_addressed { NotAddressed }
+    ensures no_packet { NoPacket }
 {}

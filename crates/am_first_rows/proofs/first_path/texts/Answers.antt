@@ -67,3 +67,11 @@ returns-clause-first_9 c = refl
 pub returns-clause-first_10 : goal.returns-clause-first_10
 unfolding last_from with_report own_report tell advance least_taken trim settled_sends settle queued send_step done_step take_step request_taken request_step bcasts nack_taken nack_step note stored_step hear_step step grown recorded refused happens run_on deliveries name_text stamp_text names_text body_text resilience_text entry_text outcome_word outcome_parts outcome_text act_word act_parts event_text kind_word addressees_text letter_text record_line records_text group_line group_text log_line empty_log_line log_text logs_text mark_line play_text digits set_of
 returns-clause-first_10 c = refl
+
+pub returns-clause-not_addressed : goal.returns-clause-not_addressed
+unfolding last_from with_report own_report tell advance least_taken trim settled_sends settle queued send_step done_step take_step request_taken request_step bcasts nack_taken nack_step note stored_step hear_step step grown recorded refused happens run_on deliveries name_text stamp_text names_text body_text resilience_text entry_text outcome_word outcome_parts outcome_text act_word act_parts event_text kind_word addressees_text letter_text record_line records_text group_line group_text log_line empty_log_line log_text logs_text mark_line play_text digits set_of
+returns-clause-not_addressed c = refl
+
+pub returns-clause-no_packet : goal.returns-clause-no_packet
+unfolding last_from with_report own_report tell advance least_taken trim settled_sends settle queued send_step done_step take_step request_taken request_step bcasts nack_taken nack_step note stored_step hear_step step grown recorded refused happens run_on deliveries name_text stamp_text names_text body_text resilience_text entry_text outcome_word outcome_parts outcome_text act_word act_parts event_text kind_word addressees_text letter_text record_line records_text group_line group_text log_line empty_log_line log_text logs_text mark_line play_text digits set_of
+returns-clause-no_packet c = refl
