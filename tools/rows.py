@@ -46,9 +46,7 @@ FIRST_OPENED = """
 use Rattle.am_model.specs.FirstNode.{last_from, with_report, own_report, tell, advance, least_taken, trim, settled_sends, settle}
 use Rattle.am_model.specs.FirstTable.{queued, send_step, done_step, take_step, request_taken, request_step, bcasts, nack_taken, nack_step, note, stored_step, hear_step, step}
 use Rattle.am_model.specs.FirstRun.{grown, recorded, refused, happens, run_on, deliveries}
-""" + "".join(line + "\n" for line in OPENED.splitlines() if ".Text." in line or ".Fmt." in line) + """
-use Rattle.am_first_rows.specs.Scripts.{set_of}
-""".lstrip()
+""" + "".join(line + "\n" for line in OPENED.splitlines() if any(part in line for part in (".Text.", ".Fmt.", ".Scripts.")))
 
 
 def opened_names(opened):
@@ -118,7 +116,7 @@ use Rattle.am_rows.specs.Scripts.{founded, on, lines}
 FIRST_SPECS_HEAD = """use Rattle.std.specs.Prelude.{◌≡◌, [], ◌∷◌, codes}
 use Rattle.am_group.specs.declared.event.Act.TheVariants as act
 use Rattle.am_model.specs.FirstPlay.{first_text}
-use Rattle.am_first_rows.specs.Scripts.{founded, on, lines}
+use Rattle.am_rows.specs.Scripts.{founded, on, lines}
 """
 
 

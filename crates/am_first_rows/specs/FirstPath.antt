@@ -2,7 +2,7 @@
 use Rattle.std.specs.Prelude.{◌≡◌, [], ◌∷◌, codes}
 use Rattle.am_group.specs.declared.event.Act.TheVariants as act
 use Rattle.am_model.specs.FirstPlay.{first_text}
-use Rattle.am_first_rows.specs.Scripts.{founded, on, lines}
+use Rattle.am_rows.specs.Scripts.{founded, on, lines}
 
 abbrev pub NoEvents : Type 0
 NoEvents = first_text (founded (0 ∷ 1 ∷ []) 0 64 256) [] ≡ lines (

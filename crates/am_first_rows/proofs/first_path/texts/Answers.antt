@@ -5,7 +5,7 @@ use Rattle.am_model.specs.FirstTable.{queued, send_step, done_step, take_step, r
 use Rattle.am_model.specs.FirstRun.{grown, recorded, refused, happens, run_on, deliveries}
 use Rattle.am_model.specs.Text.{name_text, stamp_text, names_text, body_text, resilience_text, entry_text, outcome_word, outcome_parts, outcome_text, act_word, act_parts, event_text, kind_word, addressees_text, letter_text, record_line, records_text, group_line, group_text, log_line, empty_log_line, log_text, logs_text, mark_line, play_text}
 use Rattle.std.specs.Fmt.{digits}
-use Rattle.am_first_rows.specs.Scripts.{set_of}
+use Rattle.am_rows.specs.Scripts.{set_of}
 use Rattle.am_first_rows.proofs.first_path.texts.Goals as goal
 
 pub returns-clause-no_events : goal.returns-clause-no_events
