@@ -1,11 +1,15 @@
 """Writes statements that say which text the definitions give for a script, from scripts and their expected texts.
 
     python3 tools/rows.py CASES OUT
+    python3 tools/rows.py CASES OUT LIST
 
 CASES is a folder of folders. Each of those has two cases at least, a case being a file NAME.json, a play script, and a
 file NAME.txt, the text that it must write; and a file about.txt, a line that says what its cases are. OUT is a crate's
 folder. For each folder F of CASES this writes specs/F.antt with a statement for each case, src/F.rt with a function
 whose contract they are, and its answers, by computing.
+
+LIST is a file of CASES with a line FOLDER/NAME for each of some cases. With it the statements are of these cases alone, in one
+file, and of the first path's definitions. A folder without an about.txt is there for LIST only.
 """
 
 import json
@@ -38,10 +42,16 @@ use Rattle.std.specs.Fmt.{digits}
 use Rattle.am_rows.specs.Scripts.{set_of}
 """
 
+FIRST_OPENED = """
+use Rattle.am_model.specs.FirstNode.{last_from, with_report, own_report, tell, advance, least_taken, trim, settled_sends, settle}
+use Rattle.am_model.specs.FirstTable.{queued, send_step, done_step, take_step, request_taken, request_step, bcasts, nack_taken, nack_step, note, stored_step, hear_step, step}
+use Rattle.am_model.specs.FirstRun.{grown, recorded, refused, happens, run_on, deliveries}
+""" + "".join(line + "\n" for line in OPENED.splitlines() if any(part in line for part in (".Text.", ".Fmt.", ".Scripts.")))
 
-def opened_names():
-    """The names of OPENED, for an `unfolding` line."""
-    return " ".join(name.strip() for line in OPENED.strip().splitlines() for name in line[line.index("{") + 1:-1].split(","))
+
+def opened_names(opened):
+    """The names of `use` lines, for an `unfolding` line."""
+    return " ".join(name.strip() for line in opened.strip().splitlines() for name in line[line.index("{") + 1:-1].split(","))
 
 
 def items(xs):
@@ -80,14 +90,15 @@ def act(event, resilience):
                      "return": "Return"}[do]
 
 
-def statement(title, script, text):
+def statement(title, script, text, first=False):
     """The statement of a case: the text of its events is this one."""
     play = script["play"]
     resilience = play.get("resilience", 0)
     events = ["on %d %s" % (e["node"], act(e, resilience)) for e in play["events"]]
     founding = "(founded %s %d %d %d)" % (name_list(play["founders"]), resilience, play.get("window", 64),
                                           play.get("pb_up_to", 256))
-    run = "%s %s %s" % ("settled_text_of" if play.get("settle") else "text_of", founding, items(events))
+    words = "first_text" if first else "settled_text_of" if play.get("settle") else "text_of"
+    run = "%s %s %s" % (words, founding, items(events))
     lines = "".join('    codes "%s" ∷\n' % line for line in text.splitlines())
     return "abbrev pub %s : Type 0\n%s = %s ≡ lines (\n%s    [])\n" % (title, title, run, lines)
 
@@ -99,6 +110,12 @@ def titled(case):
 SPECS_HEAD = """use Rattle.std.specs.Prelude.{◌≡◌, [], ◌∷◌, codes}
 use Rattle.am_group.specs.declared.event.Act.TheVariants as act
 use Rattle.am_model.specs.Play.{text_of, settled_text_of}
+use Rattle.am_rows.specs.Scripts.{founded, on, lines}
+"""
+
+FIRST_SPECS_HEAD = """use Rattle.std.specs.Prelude.{◌≡◌, [], ◌∷◌, codes}
+use Rattle.am_group.specs.declared.event.Act.TheVariants as act
+use Rattle.am_model.specs.FirstPlay.{first_text}
 use Rattle.am_rows.specs.Scripts.{founded, on, lines}
 """
 
@@ -132,40 +149,70 @@ def write(path, text):
         f.write(text)
 
 
-def carrier(module, folder, about, found):
+def carrier(crate, opened, module, folder, about, found):
     """The function whose contract the statements are, and its answers."""
     clauses = "".join("    ensures %s { %s }\n" % (c, titled(c)) for c in found)
-    source = ("//! %s Written by tools/rows.py.\n\nghost use Rattle.am_rows.specs.%s.{%s};\n\n"
+    source = ("//! %s Written by tools/rows.py.\n\nghost use Rattle.%s.specs.%s.{%s};\n\n"
               "/// The definitions give these texts for these scripts.\npub fn texts()\n%s{}\n") % (
-                  about, module, ", ".join(titled(c) for c in found), clauses)
-    answers = ("-- The texts of these scripts, by computing. Written by tools/rows.py.\nuse Rattle.std.proofs.Common.{refl}\n" + OPENED.lstrip()
-               + "use Rattle.am_rows.proofs.%s.texts.Goals as goal\n" % folder)
+                  about, crate, module, ", ".join(titled(c) for c in found), clauses)
+    answers = ("-- The texts of these scripts, by computing. Written by tools/rows.py.\nuse Rattle.std.proofs.Common.{refl}\n" + opened.lstrip()
+               + "use Rattle.%s.proofs.%s.texts.Goals as goal\n" % (crate, folder))
     for c in found:
         answers += "\npub returns-clause-%s : goal.returns-clause-%s\nunfolding %s\nreturns-clause-%s c = refl\n" % (
-            c, c, opened_names(), c)
+            c, c, opened_names(opened), c)
     return source, answers
 
 
+def read_case(cases, folder, case):
+    """A case's script and its text."""
+    place = os.path.join(cases, folder)
+    with open(os.path.join(place, case + ".json")) as f:
+        script = json.load(f)
+    with open(os.path.join(place, case + ".txt")) as f:
+        return script, f.read()
+
+
+def write_module(out, folder, head, source, answers, head_line, statements):
+    """Writes a module's three files."""
+    specs = "".join("\n" + s for s in statements)
+    write(os.path.join(out, "specs", titled(folder) + ".antt"), head_line + used(head, specs) + specs)
+    write(os.path.join(out, "src", folder + ".rt"), source)
+    write(os.path.join(out, "proofs", folder, "texts", "Answers.antt"), answers)
+
+
+def write_folder(cases, out, folder):
+    """The statements of a folder of cases."""
+    place = os.path.join(cases, folder)
+    found = sorted(f[:-5] for f in os.listdir(place) if f.endswith(".json"))
+    with open(os.path.join(place, "about.txt")) as f:
+        about = f.read().strip()
+    statements = [statement(titled(case), *read_case(cases, folder, case)) for case in found]
+    source, answers = carrier("am_rows", OPENED, titled(folder), folder, about, found)
+    head_line = "-- Scripts and their texts. Written by tools/rows.py from %s/%s.\n" % (os.path.basename(cases), folder)
+    write_module(out, folder, SPECS_HEAD, source, answers, head_line, statements)
+
+
+def write_list(cases, out, listed):
+    """The statements of the listed cases, of the first path."""
+    with open(listed) as f:
+        pairs = [line.strip().split("/") for line in f if line.strip()]
+    statements = [statement(titled(case), *read_case(cases, folder, case), first=True) for folder, case in pairs]
+    folder = os.path.splitext(os.path.basename(listed))[0]
+    about = "Scripts of sends, losses and repeats, by the first path's definitions."
+    source, answers = carrier("am_first_rows", FIRST_OPENED, titled(folder), folder, about, [case for _, case in pairs])
+    head_line = "-- Scripts and their texts on the first path. Written by tools/rows.py from %s/%s.\n" % (
+        os.path.basename(cases), os.path.basename(listed))
+    write_module(out, folder, FIRST_SPECS_HEAD, source, answers, head_line, statements)
+
+
 def main():
-    cases, out = sys.argv[1:]
+    cases, out = sys.argv[1:3]
+    if len(sys.argv) == 4:
+        write_list(cases, out, sys.argv[3])
+        return
     for folder in sorted(os.listdir(cases)):
-        place = os.path.join(cases, folder)
-        found = sorted(f[:-5] for f in os.listdir(place) if f.endswith(".json"))
-        module = titled(folder)
-        with open(os.path.join(place, "about.txt")) as f:
-            about = f.read().strip()
-        specs = ["-- Scripts and their texts. Written by tools/rows.py from %s/%s.\n" % (os.path.basename(cases), folder)]
-        for case in found:
-            with open(os.path.join(place, case + ".json")) as f:
-                script = json.load(f)
-            with open(os.path.join(place, case + ".txt")) as f:
-                text = f.read()
-            specs.append("\n" + statement(titled(case), script, text))
-        specs.insert(1, used(SPECS_HEAD, "".join(specs[1:])))
-        source, answers = carrier(module, folder, about, found)
-        write(os.path.join(out, "specs", module + ".antt"), "".join(specs))
-        write(os.path.join(out, "src", folder + ".rt"), source)
-        write(os.path.join(out, "proofs", folder, "texts", "Answers.antt"), answers)
+        if os.path.exists(os.path.join(cases, folder, "about.txt")):
+            write_folder(cases, out, folder)
 
 
 main()

@@ -1,0 +1,24 @@
+//! Scripts of sends, losses and repeats, by the first path's definitions. Written by tools/rows.py.
+
+ghost use Rattle.am_first_rows.specs.FirstPath.{NoEvents, SmallestPath, Repeat, Reordering, Busy, First1, First2, First3, First4, First5, First6, First7, First8, First9, First10, NotAddressed, NoPacket};
+
+/// The definitions give these texts for these scripts.
+pub fn texts()
+    ensures no_events { NoEvents }
+    ensures smallest_path { SmallestPath }
+    ensures repeat { Repeat }
+    ensures reordering { Reordering }
+    ensures busy { Busy }
+    ensures first_1 { First1 }
+    ensures first_2 { First2 }
+    ensures first_3 { First3 }
+    ensures first_4 { First4 }
+    ensures first_5 { First5 }
+    ensures first_6 { First6 }
+    ensures first_7 { First7 }
+    ensures first_8 { First8 }
+    ensures first_9 { First9 }
+    ensures first_10 { First10 }
+    ensures not_addressed { NotAddressed }
+    ensures no_packet { NoPacket }
+{}
