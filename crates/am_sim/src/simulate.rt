@@ -73,7 +73,7 @@ fn is_play(words: &[&str]) -> bool
 }
 
 /// Does what the words ask for. `play` reads a script of at most 16,777,216 bytes to its end, runs it, and writes the text
-/// of its run (docs/PROTOCOL.md, "Texts"); no other words are a form yet. On every status but Done and WriteFault nothing
+/// of its run (docs/PROTOCOL.md, "Play text"); no other words are a form yet. On every status but Done and WriteFault nothing
 /// is written, and on Usage nothing is read.
 #[tactic(auto, using(crate::proofs::Answered::gave_none))]
 pub fn simulate<S: Source, K: Sink>(
