@@ -7,9 +7,10 @@ use Rattle.am_base.specs.declared.image.Image.{Image}
 use Rattle.am_base.specs.declared.entry.Entry.TheVariants.{Leave}
 use Rattle.am_base.specs.Names.{place_of, life_of, name_at, names_from, has, size}
 use Rattle.am_base.specs.Lists.{top_of, told_by, image_at, members_of, members_at, entry_at, fits}
-use Rattle.am_core.specs.Kept.{IsKept}
-use Rattle.am_core.specs.Cores.{CoreState, unions, since_accepted}
-use Rattle.am_core.proofs.Ends.{image-top, image-next, entry-get}
+use Rattle.am_core.specs.Kept.{IsKept, above}
+use Rattle.am_core.specs.Cores.{CoreState, unions, since_accepted, trimmed}
+use Rattle.am_core.proofs.Folds.{split}
+use Rattle.am_core.proofs.Ends.{end-self, end-above, end-told, end-top, end-entry, image-top, image-next, entry-get}
 use Rattle.am_core.proofs.Lives.{member_most, member_row, row_at, image_used, unions_most, unions_least, unions_long, fit_at, leave_life}
 use Rattle.am_fronts.specs.Reports.{lesser, least_of, least_taken}
 use Rattle.am_fronts.specs.Refresh.{MayLead}
@@ -120,3 +121,34 @@ let_go_within reports c capacity to is low high leads own least = ⊎_elim
     let e : None ≡ Some to = sym (ap (least_of (λ name. (reports name).taken)) (none_in (since_accepted c) 0 none)) ∙ least in
     absurd (cc))
     (leader_in c capacity is low high leads)
+
+-- where nobody is left, what is let go stays below the last entry
+below_top : (reports : ℕ → Report) (c : CoreState) (to : ℕ) → c.acc ≤ top_of c.log → size (members_of (told_by c.log)) ≡ 0 → least_taken reports (since_accepted c) ≡ Some to → to ≤ c.acc → to < top_of c.log
+unfolding unions least_of
+below_top reports c to high none least h = ⊎_elim
+    (λ (e : c.acc ≡ top_of c.log).
+    let zero_more : top_of c.log - c.acc ≡ 0 = omega arith in
+    let nobody = ap (λ k. size (unions c.log c.acc k)) zero_more ∙ ap (λ k. size (members_at c.log k)) e ∙ ap (λ i. size (members_of i)) (image-top c.log) ∙ none in
+    let wrong : None ≡ Some to = sym (ap (least_of (λ name. (reports name).taken)) (none_in (since_accepted c) 0 nobody)) ∙ least in
+    absurd (cc))
+    (λ (below : c.acc < top_of c.log). omega arith)
+    (eq-or-lt_of_le high)
+
+leads_above : (c : CoreState) (to : ℕ) → c.log.start ≤ to → to ≤ top_of c.log → (size (members_of (told_by c.log)) ≡ 0 → to < top_of c.log) → MayLead c → MayLead (record c { log = above c.log to; base = to })
+leads_above c to low high below leads =
+    let is = end-above c.log c.log to (end-self c.log) low high in
+    let told = end-told c.log (above c.log to) is in
+    ⊎_elim
+    (λ (member : has (members_of (told_by c.log)) c.who ≡ true). inl (ap (λ i. has (members_of i) c.who) told ∙ member))
+    (λ (left : (entry_at c.log (top_of c.log) ≡ Some (Leave c.who)) × (size (members_of (told_by c.log)) ≡ 0)).
+    let entry = ap (entry_at (above c.log to)) (end-top c.log (above c.log to) is) ∙ end-entry c.log (above c.log to) (top_of c.log) is (below left.1) ∙ left.0 in
+    inr (entry, ap (λ i. size (members_of i)) told ∙ left.1))
+    leads
+
+-- who may lead still may after a trim
+pub leads_trimmed : (reports : ℕ → Report) (c : CoreState) (to : ℕ) → c.base ≡ c.log.start → c.acc ≤ top_of c.log → to ≤ c.acc → least_taken reports (since_accepted c) ≡ Some to → MayLead c → MayLead (trimmed to c)
+leads_trimmed reports c to base high h least leads = split (nat_lt c.base to)
+    (λ t.
+    let l : c.base < to = grind (arith, nat_tests) in
+    rw t (leads_above c to (omega arith) (omega arith) (λ none. below_top reports c to high none least h) leads))
+    (λ f. rw f leads)

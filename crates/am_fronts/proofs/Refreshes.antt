@@ -212,6 +212,9 @@ pub go_up_leads : (s : Led) → MayLead s.core → MayLead (go_up s).core
 unfolding own_report tell go_on accept pass_over
 go_up_leads s leads = leads
 
+pub leads_up : (old now : Led) → now ≡ go_up old → MayLead old.core → MayLead now.core
+leads_up old now e leads = let P : Led → Type 0 = λ s. MayLead s.core in subst P (sym e) (go_up_leads old leads)
+
 -- the steps of the code
 pub go_up_is : (c0 core c3 : CoreState) (r0 r1 r4 : List Report) (front : ℕ) → core ≡ c0 → led c0 r1 ≡ own_report (led c0 r0) → front ≡ accept_front (reports_of r1) core.log core.acc → c3 ≡ advance (record core { told = front }) → led c3 r4 ≡ own_report (led c3 r1) → led c3 r4 ≡ go_up (led c0 r0)
 unfolding tell go_on

@@ -8,8 +8,8 @@ use am_base::entry::Entry;
 use am_base::image::Report;
 use am_base::name::Name;
 use am_base::names::Names;
-use am_core::state::Core;
 use am_core::log::Log;
+use am_core::state::Core;
 use std::marker::Model;
 
 /// Nothing is reported.
@@ -266,6 +266,7 @@ impl Fronts {
         ensures again { StaysAt refresh (led core.old self.old) (led core.new self.new) }
         ensures order { IsInOrder core.new }
         ensures own { (reports_of self.new core.new.who).taken ≡ core.new.taken }
+        ensures leads { MayLead core.new }
     {
         self.go_up(core);
         let names = core.since_accepted();

@@ -2,7 +2,8 @@ use Rattle.std.proofs.Common.{◌≡◌, Some, None, ap, sym, ◌∙◌, arith}
 use Rattle.am_core.specs.Cores.{since_accepted}
 use Rattle.am_fronts.specs.Reports.{reports_of, least_taken}
 use Rattle.am_fronts.specs.Refresh.{led}
-use Rattle.am_fronts.proofs.Refreshes.{leads_some, leads_none, leads_again, trims_within, own_stays_taken, trimmed_own}
+use Rattle.am_fronts.proofs.Refreshes.{leads_some, leads_none, leads_again, trims_within, own_stays_taken, trimmed_own, leads_up}
+use Rattle.am_fronts.proofs.Leaders.{leads_trimmed}
 use Rattle.am_fronts.proofs.fronts.Fronts.refresh.Goals as goal
 
 pub trim_to-requires : goal.trim_to-requires
@@ -40,3 +41,14 @@ returns-in-None-clause-again g c =
 
 pub returns-in-None-clause-own : goal.returns-in-None-clause-own
 returns-in-None-clause-own g c = own_stays_taken (led c.args.core.now c.args.self.now) (led c.go_up.new.core c.go_up.new.self) c.go_up.ensures.value c.requires.own
+
+pub returns-in-Some-clause-leads : goal.returns-in-Some-clause-leads
+returns-in-Some-clause-leads g c =
+    let least : least_taken (reports_of c.go_up.new.self) (since_accepted c.go_up.new.core) ≡ Some c.in-Some.taken = ap (least_taken (reports_of c.go_up.new.self)) (sym c.since_accepted-names.ensures.value) ∙ sym c.least_taken.ensures ∙ c.in-Some.is in
+    let order = c.go_up.ensures.order in
+    let leads = leads_up (led c.args.core.now c.args.self.now) (led c.go_up.new.core c.go_up.new.self) c.go_up.ensures.value c.requires.leads in
+    let within = trims_within (led c.args.core.now c.args.self.now) (led c.go_up.new.core c.go_up.new.self) _ c.in-Some.taken c.go_up.ensures.value c.requires.leads c.requires.own c.go_up.ensures.kept (omega arith) (omega arith) least in
+    rw c.trim_to.ensures.value (leads_trimmed (reports_of c.go_up.new.self) c.go_up.new.core c.in-Some.taken order.kept order.accepted (omega arith) least leads)
+
+pub returns-in-None-clause-leads : goal.returns-in-None-clause-leads
+returns-in-None-clause-leads g c = leads_up (led c.args.core.now c.args.self.now) (led c.go_up.new.core c.go_up.new.self) c.go_up.ensures.value c.requires.leads
