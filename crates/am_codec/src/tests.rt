@@ -1,4 +1,5 @@
 use super::*;
+use crate::faults::FAULTS;
 use am_base::body::PacketBytes;
 use std::alloc::Global;
 use std::test::*;
@@ -8,77 +9,72 @@ struct Vector {
     text: &'static str,
 }
 
-struct Fault {
-    bytes: &'static [u8],
-    at: usize,
-    byte: u8,
-    refused: u32,
-}
-
-const REQUEST: &[u8] =
+pub const REQUEST: &[u8] =
     b"AG\x03\x01\x01\x00\x00\x00\x02\x00\x00\x1a\x00\x00\x00\x05\x00\x00\x00\x04\x00\x00\x00\x03ab";
 
-const SPREAD: &[u8] =
+pub const SPREAD: &[u8] =
     b"AG\x03\x02\x01\x00\x00\x00\x02\x00\x00\x18\x00\x00\x00\x05\x00\x00\x00\x04w5\x94\x00";
 
-const BCAST_DATA: &[u8] =
+pub const BCAST_DATA: &[u8] =
     b"AG\x03\x03\x01\x00\x00\x00\x02\x00\x00\x1f\x00\x00\x00\x06\x00\x00\x00\x07\x00\x00\x00\x08\x01\x11\x00\x00\x00\x09\xff";
 
-const BCAST_JOIN: &[u8] =
+pub const BCAST_JOIN: &[u8] =
     b"AG\x03\x03\x01\x00\x00\x00\x02\x00\x00\x1a\x00\x00\x00\x06\x00\x00\x00\x07\x00\x00\x00\x08\x02\x12";
 
-const BCAST_LEAVE: &[u8] =
+pub const BCAST_LEAVE: &[u8] =
     b"AG\x03\x03\x01\x00\x00\x00\x02\x00\x00\x1a\x00\x00\x00\x06\x00\x00\x00\x07\x00\x00\x00\x08\x03\x13";
 
-const BCAST_VIEW: &[u8] =
+pub const BCAST_VIEW: &[u8] =
     b"AG\x03\x03\x01\x00\x00\x00\x02\x00\x00\x29\x00\x00\x00\x06\x00\x00\x00\x07\x00\x00\x00\x08\x04\x00\x00\x00\x0a\x01\x80\x03\xf0\x00\x00\x00\x00\x00\x00\x10\x0f";
 
-const ORDER: &[u8] =
+pub const ORDER: &[u8] =
     b"AG\x03\x04\x01\x00\x00\x00\x02\x00\x00\x1d\x00\x00\x00\x06\x00\x00\x00\x07\x00\x00\x00\x08\x14\x00\x00\x00\x0b";
 
-const ACCEPT: &[u8] =
+pub const ACCEPT: &[u8] =
     b"AG\x03\x05\x01\x00\x00\x00\x02\x00\x00\x19\x00\x00\x00\x06\x00\x00\x00\x07\x00\x00\x00\x08\x01";
 
-const ACK: &[u8] = b"AG\x03\x06\x01\x00\x00\x00\x02\x00\x00\x14\x00\x00\x00\x05\x00\x00\x00\x04";
+pub const ACK: &[u8] =
+    b"AG\x03\x06\x01\x00\x00\x00\x02\x00\x00\x14\x00\x00\x00\x05\x00\x00\x00\x04";
 
-const NACK: &[u8] = b"AG\x03\x07\x01\x00\x00\x00\x02\x00\x00\x14\x00\x00\x00\x05\x00\x00\x00\x04";
+pub const NACK: &[u8] =
+    b"AG\x03\x07\x01\x00\x00\x00\x02\x00\x00\x14\x00\x00\x00\x05\x00\x00\x00\x04";
 
-const HOLD: &[u8] =
+pub const HOLD: &[u8] =
     b"AG\x03\x08\x01\x00\x00\x00\x02\x00\x00\x18\x00\x00\x00\x06\x00\x00\x00\x07\x00\x00\x00\x08";
 
-const JOIN_ASK: &[u8] = b"AG\x03\x09\x01\x00\x00\x00\x02\x00\x00\x0c";
+pub const JOIN_ASK: &[u8] = b"AG\x03\x09\x01\x00\x00\x00\x02\x00\x00\x0c";
 
-const WELCOME: &[u8] =
+pub const WELCOME: &[u8] =
     b"AG\x03\x0a\x01\x00\x00\x00\x02\x00\x00\xee\x00\x00\x00\x06\x00\x00\x00\x07\x00\x00\x00\x02\x00\x00\x00\x00\x05\x03\x01\x00\x00\x00\x01\x00\x00\x00\x00\x00\x00\x00\x0c\x02\x00\x00\x00\x0d\x00\x00\x00\x0e\x00\x00\x00\x0f\x00\x00\x00\x00\x00\x00\x00\x00\x00\x00\x00\x00\x00\x00\x00\x00\x00\x00\x00\x00\x00\x00\x00\x00\x00\x00\x00\x00\x00\x00\x00\x00\x00\x00\x00\x00\x00\x00\x00\x00\x00\x00\x00\x00\x00\x00\x00\x00\x00\x00\x00\x00\x00\x00\x00\x00\x00\x00\x00\x00\x00\x00\x00\x00\x00\x00\x00\x00\x00\x00\x00\x00\x00\x00\x00\x00\x00\x00\x00\x00\x00\x00\x00\x00\x00\x00\x00\x00\x00\x00\x00\x00\x00\x00\x00\x00\x00\x00\x00\x00\x00\x00\x00\x00\x00\x00\x00\x00\x00\x00\x00\x00\x00\x00\x00\x00\x00\x00\x00\x00\x00\x00\x00\x00\x00\x00\x00\x00\x00\x00\x00\x00\x00\x00\x00\x00\x00\x00\x00\x00\x00\x00\x00\x00\x00\x00\x00\x00\x00\x00\x00\x00\x00\x00\x00\x00\x00\x00\x00\x00\x00\x00\x00\x00\x00\x00\x00\x00\x00\x10\x00\x00\x00\x10\x00\x00\x00\x00\x00\x00\x00\x11";
 
-const LEAVE_ASK: &[u8] =
+pub const LEAVE_ASK: &[u8] =
     b"AG\x03\x0b\x01\x00\x00\x00\x02\x00\x00\x14\x00\x00\x00\x05\x00\x00\x00\x04";
 
-const GONE: &[u8] = b"AG\x03\x0c\x01\x00\x00\x00\x02\x00\x00\x10\x00\x00\x00\x08";
+pub const GONE: &[u8] = b"AG\x03\x0c\x01\x00\x00\x00\x02\x00\x00\x10\x00\x00\x00\x08";
 
-const INVITE: &[u8] = b"AG\x03\x0d\x01\x00\x00\x00\x02\x00\x00\x0c";
+pub const INVITE: &[u8] = b"AG\x03\x0d\x01\x00\x00\x00\x02\x00\x00\x0c";
 
-const VOTE: &[u8] =
+pub const VOTE: &[u8] =
     b"AG\x03\x0e\x01\x00\x00\x00\x02\x00\x00\x23\x00\x00\x00\x02\x00\x00\x00\x00\x07\x00\x00\x00\x06\x80\x03\xf0\x00\x00\x00\x00\x00\x00\x10";
 
-const FETCH: &[u8] = b"AG\x03\x0f\x01\x00\x00\x00\x02\x00\x00\x10\x00\x00\x00\x08";
+pub const FETCH: &[u8] = b"AG\x03\x0f\x01\x00\x00\x00\x02\x00\x00\x10\x00\x00\x00\x08";
 
-const PIECE_DATA: &[u8] =
+pub const PIECE_DATA: &[u8] =
     b"AG\x03\x10\x01\x00\x00\x00\x02\x00\x00\x1a\x00\x00\x00\x06\x00\x00\x00\x08\x01\x11\x00\x00\x00\x09";
 
-const PIECE_JOIN: &[u8] =
+pub const PIECE_JOIN: &[u8] =
     b"AG\x03\x10\x01\x00\x00\x00\x02\x00\x00\x16\x00\x00\x00\x06\x00\x00\x00\x08\x02\x12";
 
-const PIECE_LEAVE: &[u8] =
+pub const PIECE_LEAVE: &[u8] =
     b"AG\x03\x10\x01\x00\x00\x00\x02\x00\x00\x16\x00\x00\x00\x06\x00\x00\x00\x08\x03\x13";
 
-const PIECE_VIEW: &[u8] =
+pub const PIECE_VIEW: &[u8] =
     b"AG\x03\x10\x01\x00\x00\x00\x02\x00\x00\x25\x00\x00\x00\x06\x00\x00\x00\x08\x04\x00\x00\x00\x0a\x01\x80\x03\xf0\x00\x00\x00\x00\x00\x00\x10\x0f";
 
-const RESULT: &[u8] =
+pub const RESULT: &[u8] =
     b"AG\x03\x11\x01\x00\x00\x00\x02\x00\x00\x1f\x00\x00\x00\x06\x00\x00\x00\x08\x80\x03\xf0\x00\x00\x00\x00\x00\x00\x10\x0f";
 
-const HAND_OVER: &[u8] = b"AG\x03\x12\x01\x00\x00\x00\x02\x00\x00\x0c";
+pub const HAND_OVER: &[u8] = b"AG\x03\x12\x01\x00\x00\x00\x02\x00\x00\x0c";
 
 /// Each kind and each tag, with what its packet prints.
 const VECTORS: [Vector; 24] = [
@@ -177,628 +173,6 @@ const VECTORS: [Vector; 24] = [
     Vector {
         bytes: HAND_OVER,
         text: "HandOver { sender: Name(1), stamp: Stamp { round: 2, by: Name(0) } }",
-    },
-];
-
-/// Each field with a value that it can't have: the byte at an offset, and the offset that is refused.
-const FAULTS: [Fault; 103] = [
-    Fault {
-        bytes: REQUEST,
-        at: 5,
-        byte: 128,
-        refused: 5,
-    },
-    Fault {
-        bytes: SPREAD,
-        at: 5,
-        byte: 128,
-        refused: 5,
-    },
-    Fault {
-        bytes: BCAST_DATA,
-        at: 5,
-        byte: 128,
-        refused: 5,
-    },
-    Fault {
-        bytes: BCAST_JOIN,
-        at: 5,
-        byte: 128,
-        refused: 5,
-    },
-    Fault {
-        bytes: BCAST_LEAVE,
-        at: 5,
-        byte: 128,
-        refused: 5,
-    },
-    Fault {
-        bytes: BCAST_VIEW,
-        at: 5,
-        byte: 128,
-        refused: 5,
-    },
-    Fault {
-        bytes: ORDER,
-        at: 5,
-        byte: 128,
-        refused: 5,
-    },
-    Fault {
-        bytes: ACCEPT,
-        at: 5,
-        byte: 128,
-        refused: 5,
-    },
-    Fault {
-        bytes: ACK,
-        at: 5,
-        byte: 128,
-        refused: 5,
-    },
-    Fault {
-        bytes: NACK,
-        at: 5,
-        byte: 128,
-        refused: 5,
-    },
-    Fault {
-        bytes: HOLD,
-        at: 5,
-        byte: 128,
-        refused: 5,
-    },
-    Fault {
-        bytes: JOIN_ASK,
-        at: 5,
-        byte: 128,
-        refused: 5,
-    },
-    Fault {
-        bytes: WELCOME,
-        at: 5,
-        byte: 128,
-        refused: 5,
-    },
-    Fault {
-        bytes: LEAVE_ASK,
-        at: 5,
-        byte: 128,
-        refused: 5,
-    },
-    Fault {
-        bytes: GONE,
-        at: 5,
-        byte: 128,
-        refused: 5,
-    },
-    Fault {
-        bytes: INVITE,
-        at: 5,
-        byte: 128,
-        refused: 5,
-    },
-    Fault {
-        bytes: VOTE,
-        at: 5,
-        byte: 128,
-        refused: 5,
-    },
-    Fault {
-        bytes: FETCH,
-        at: 5,
-        byte: 128,
-        refused: 5,
-    },
-    Fault {
-        bytes: PIECE_DATA,
-        at: 5,
-        byte: 128,
-        refused: 5,
-    },
-    Fault {
-        bytes: PIECE_JOIN,
-        at: 5,
-        byte: 128,
-        refused: 5,
-    },
-    Fault {
-        bytes: PIECE_LEAVE,
-        at: 5,
-        byte: 128,
-        refused: 5,
-    },
-    Fault {
-        bytes: PIECE_VIEW,
-        at: 5,
-        byte: 128,
-        refused: 5,
-    },
-    Fault {
-        bytes: RESULT,
-        at: 5,
-        byte: 128,
-        refused: 5,
-    },
-    Fault {
-        bytes: HAND_OVER,
-        at: 5,
-        byte: 128,
-        refused: 5,
-    },
-    Fault {
-        bytes: REQUEST,
-        at: 12,
-        byte: 128,
-        refused: 12,
-    },
-    Fault {
-        bytes: REQUEST,
-        at: 16,
-        byte: 128,
-        refused: 16,
-    },
-    Fault {
-        bytes: REQUEST,
-        at: 20,
-        byte: 128,
-        refused: 20,
-    },
-    Fault {
-        bytes: SPREAD,
-        at: 12,
-        byte: 128,
-        refused: 12,
-    },
-    Fault {
-        bytes: SPREAD,
-        at: 16,
-        byte: 128,
-        refused: 16,
-    },
-    Fault {
-        bytes: SPREAD,
-        at: 20,
-        byte: 128,
-        refused: 20,
-    },
-    Fault {
-        bytes: BCAST_DATA,
-        at: 12,
-        byte: 128,
-        refused: 12,
-    },
-    Fault {
-        bytes: BCAST_DATA,
-        at: 16,
-        byte: 128,
-        refused: 16,
-    },
-    Fault {
-        bytes: BCAST_DATA,
-        at: 20,
-        byte: 128,
-        refused: 20,
-    },
-    Fault {
-        bytes: ORDER,
-        at: 12,
-        byte: 128,
-        refused: 12,
-    },
-    Fault {
-        bytes: ORDER,
-        at: 16,
-        byte: 128,
-        refused: 16,
-    },
-    Fault {
-        bytes: ORDER,
-        at: 20,
-        byte: 128,
-        refused: 20,
-    },
-    Fault {
-        bytes: ACCEPT,
-        at: 12,
-        byte: 128,
-        refused: 12,
-    },
-    Fault {
-        bytes: ACCEPT,
-        at: 16,
-        byte: 128,
-        refused: 16,
-    },
-    Fault {
-        bytes: ACCEPT,
-        at: 20,
-        byte: 128,
-        refused: 20,
-    },
-    Fault {
-        bytes: HOLD,
-        at: 12,
-        byte: 128,
-        refused: 12,
-    },
-    Fault {
-        bytes: HOLD,
-        at: 16,
-        byte: 128,
-        refused: 16,
-    },
-    Fault {
-        bytes: HOLD,
-        at: 20,
-        byte: 128,
-        refused: 20,
-    },
-    Fault {
-        bytes: ACK,
-        at: 12,
-        byte: 128,
-        refused: 12,
-    },
-    Fault {
-        bytes: ACK,
-        at: 16,
-        byte: 128,
-        refused: 16,
-    },
-    Fault {
-        bytes: NACK,
-        at: 12,
-        byte: 128,
-        refused: 12,
-    },
-    Fault {
-        bytes: NACK,
-        at: 16,
-        byte: 128,
-        refused: 16,
-    },
-    Fault {
-        bytes: LEAVE_ASK,
-        at: 12,
-        byte: 128,
-        refused: 12,
-    },
-    Fault {
-        bytes: LEAVE_ASK,
-        at: 16,
-        byte: 128,
-        refused: 16,
-    },
-    Fault {
-        bytes: PIECE_DATA,
-        at: 12,
-        byte: 128,
-        refused: 12,
-    },
-    Fault {
-        bytes: PIECE_DATA,
-        at: 16,
-        byte: 128,
-        refused: 16,
-    },
-    Fault {
-        bytes: RESULT,
-        at: 12,
-        byte: 128,
-        refused: 12,
-    },
-    Fault {
-        bytes: RESULT,
-        at: 16,
-        byte: 128,
-        refused: 16,
-    },
-    Fault {
-        bytes: WELCOME,
-        at: 12,
-        byte: 128,
-        refused: 12,
-    },
-    Fault {
-        bytes: WELCOME,
-        at: 16,
-        byte: 128,
-        refused: 16,
-    },
-    Fault {
-        bytes: GONE,
-        at: 12,
-        byte: 128,
-        refused: 12,
-    },
-    Fault {
-        bytes: FETCH,
-        at: 12,
-        byte: 128,
-        refused: 12,
-    },
-    Fault {
-        bytes: VOTE,
-        at: 12,
-        byte: 128,
-        refused: 12,
-    },
-    Fault {
-        bytes: ORDER,
-        at: 25,
-        byte: 128,
-        refused: 25,
-    },
-    Fault {
-        bytes: ACCEPT,
-        at: 24,
-        byte: 2,
-        refused: 24,
-    },
-    Fault {
-        bytes: BCAST_DATA,
-        at: 24,
-        byte: 0,
-        refused: 24,
-    },
-    Fault {
-        bytes: BCAST_DATA,
-        at: 24,
-        byte: 5,
-        refused: 24,
-    },
-    Fault {
-        bytes: BCAST_DATA,
-        at: 24,
-        byte: 2,
-        refused: 10,
-    },
-    Fault {
-        bytes: BCAST_DATA,
-        at: 24,
-        byte: 3,
-        refused: 10,
-    },
-    Fault {
-        bytes: BCAST_DATA,
-        at: 24,
-        byte: 4,
-        refused: 10,
-    },
-    Fault {
-        bytes: BCAST_DATA,
-        at: 26,
-        byte: 128,
-        refused: 26,
-    },
-    Fault {
-        bytes: BCAST_JOIN,
-        at: 24,
-        byte: 1,
-        refused: 10,
-    },
-    Fault {
-        bytes: BCAST_JOIN,
-        at: 24,
-        byte: 4,
-        refused: 10,
-    },
-    Fault {
-        bytes: BCAST_LEAVE,
-        at: 24,
-        byte: 1,
-        refused: 10,
-    },
-    Fault {
-        bytes: BCAST_VIEW,
-        at: 24,
-        byte: 3,
-        refused: 10,
-    },
-    Fault {
-        bytes: BCAST_VIEW,
-        at: 25,
-        byte: 128,
-        refused: 25,
-    },
-    Fault {
-        bytes: BCAST_VIEW,
-        at: 30,
-        byte: 0,
-        refused: 32,
-    },
-    Fault {
-        bytes: BCAST_VIEW,
-        at: 32,
-        byte: 241,
-        refused: 32,
-    },
-    Fault {
-        bytes: BCAST_VIEW,
-        at: 40,
-        byte: 16,
-        refused: 40,
-    },
-    Fault {
-        bytes: PIECE_DATA,
-        at: 20,
-        byte: 0,
-        refused: 20,
-    },
-    Fault {
-        bytes: PIECE_DATA,
-        at: 20,
-        byte: 5,
-        refused: 20,
-    },
-    Fault {
-        bytes: PIECE_DATA,
-        at: 20,
-        byte: 3,
-        refused: 10,
-    },
-    Fault {
-        bytes: PIECE_DATA,
-        at: 22,
-        byte: 128,
-        refused: 22,
-    },
-    Fault {
-        bytes: PIECE_JOIN,
-        at: 20,
-        byte: 1,
-        refused: 10,
-    },
-    Fault {
-        bytes: PIECE_LEAVE,
-        at: 20,
-        byte: 4,
-        refused: 10,
-    },
-    Fault {
-        bytes: PIECE_VIEW,
-        at: 20,
-        byte: 2,
-        refused: 10,
-    },
-    Fault {
-        bytes: PIECE_VIEW,
-        at: 21,
-        byte: 128,
-        refused: 21,
-    },
-    Fault {
-        bytes: PIECE_VIEW,
-        at: 26,
-        byte: 0,
-        refused: 28,
-    },
-    Fault {
-        bytes: PIECE_VIEW,
-        at: 36,
-        byte: 16,
-        refused: 36,
-    },
-    Fault {
-        bytes: WELCOME,
-        at: 20,
-        byte: 128,
-        refused: 20,
-    },
-    Fault {
-        bytes: WELCOME,
-        at: 25,
-        byte: 128,
-        refused: 25,
-    },
-    Fault {
-        bytes: WELCOME,
-        at: 29,
-        byte: 16,
-        refused: 29,
-    },
-    Fault {
-        bytes: WELCOME,
-        at: 30,
-        byte: 0,
-        refused: 30,
-    },
-    Fault {
-        bytes: WELCOME,
-        at: 30,
-        byte: 17,
-        refused: 30,
-    },
-    Fault {
-        bytes: WELCOME,
-        at: 31,
-        byte: 128,
-        refused: 31,
-    },
-    Fault {
-        bytes: WELCOME,
-        at: 34,
-        byte: 0,
-        refused: 30,
-    },
-    Fault {
-        bytes: WELCOME,
-        at: 35,
-        byte: 128,
-        refused: 35,
-    },
-    Fault {
-        bytes: WELCOME,
-        at: 39,
-        byte: 128,
-        refused: 39,
-    },
-    Fault {
-        bytes: WELCOME,
-        at: 56,
-        byte: 1,
-        refused: 56,
-    },
-    Fault {
-        bytes: WELCOME,
-        at: 225,
-        byte: 17,
-        refused: 225,
-    },
-    Fault {
-        bytes: WELCOME,
-        at: 226,
-        byte: 128,
-        refused: 226,
-    },
-    Fault {
-        bytes: WELCOME,
-        at: 230,
-        byte: 128,
-        refused: 230,
-    },
-    Fault {
-        bytes: WELCOME,
-        at: 234,
-        byte: 128,
-        refused: 234,
-    },
-    Fault {
-        bytes: VOTE,
-        at: 17,
-        byte: 128,
-        refused: 17,
-    },
-    Fault {
-        bytes: VOTE,
-        at: 21,
-        byte: 128,
-        refused: 21,
-    },
-    Fault {
-        bytes: VOTE,
-        at: 25,
-        byte: 0,
-        refused: 27,
-    },
-    Fault {
-        bytes: VOTE,
-        at: 28,
-        byte: 1,
-        refused: 27,
-    },
-    Fault {
-        bytes: RESULT,
-        at: 20,
-        byte: 0,
-        refused: 22,
-    },
-    Fault {
-        bytes: RESULT,
-        at: 30,
-        byte: 16,
-        refused: 30,
     },
 ];
 

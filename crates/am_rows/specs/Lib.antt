@@ -1,5 +1,6 @@
 pub mod Scripts
 pub mod Worked
+pub mod WorkedResets
 pub mod StopTable
 pub mod ScenariosFirst
 pub mod ScenariosWindow

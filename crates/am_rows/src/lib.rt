@@ -9,3 +9,4 @@ pub mod scenarios_resets;
 pub mod scenarios_window;
 pub mod stop_table;
 pub mod worked;
+pub mod worked_resets;

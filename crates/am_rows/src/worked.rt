@@ -1,12 +1,10 @@
 //! Worked runs, one for each part of the protocol. Written by tools/rows.py.
 
-ghost use Rattle.am_rows.specs.Worked.{Busy, CoordinatorStopSurvived, CoordinatorStopsToo, Crowded, CrowdedGivenUp, CrowdedTaken, CutPackets, EveryLife, JoinAsked, JoinWithLostWelcome, LeaveAsked, LongBody, NoEvents, OnlyFounderLeaves, RaisedResilience, RaisedResilienceStays, Reordering, Repeat, ReturnAfterLeave, ReturnAfterStop, ReturnedLeaverStops, RunningMember, SequencerLeaves, SequencerStops, Settled, ShortBody, SmallestPath, SpreadLost, Tentative, TooFew, TwoCoordinators, WindowOfOne};
+ghost use Rattle.am_rows.specs.Worked.{Busy, Crowded, CrowdedGivenUp, CrowdedTaken, CutPackets, EveryLife, JoinAsked, JoinWithLostWelcome, LeaveAsked, LongBody, NoEvents, OnlyFounderLeaves, Reordering, Repeat, ReturnAfterLeave, ReturnAfterStop, ReturnedLeaverStops, RunningMember, Settled, ShortBody, SmallestPath, SpreadLost, WindowOfOne};
 
 /// The definitions give these texts for these scripts.
 pub fn texts()
     ensures busy { Busy }
-    ensures coordinator_stop_survived { CoordinatorStopSurvived }
-    ensures coordinator_stops_too { CoordinatorStopsToo }
     ensures crowded { Crowded }
     ensures crowded_given_up { CrowdedGivenUp }
     ensures crowded_taken { CrowdedTaken }
@@ -18,22 +16,15 @@ pub fn texts()
     ensures long_body { LongBody }
     ensures no_events { NoEvents }
     ensures only_founder_leaves { OnlyFounderLeaves }
-    ensures raised_resilience { RaisedResilience }
-    ensures raised_resilience_stays { RaisedResilienceStays }
     ensures reordering { Reordering }
     ensures repeat { Repeat }
     ensures return_after_leave { ReturnAfterLeave }
     ensures return_after_stop { ReturnAfterStop }
     ensures returned_leaver_stops { ReturnedLeaverStops }
     ensures running_member { RunningMember }
-    ensures sequencer_leaves { SequencerLeaves }
-    ensures sequencer_stops { SequencerStops }
     ensures settled { Settled }
     ensures short_body { ShortBody }
     ensures smallest_path { SmallestPath }
     ensures spread_lost { SpreadLost }
-    ensures tentative { Tentative }
-    ensures too_few { TooFew }
-    ensures two_coordinators { TwoCoordinators }
     ensures window_of_one { WindowOfOne }
 {}

@@ -28,14 +28,6 @@ pub returns-clause-busy : goal.returns-clause-busy
 unfolding by_place after fits fold greatest best_from those unions least_of advanced lead refresh settle refresh_at_end put_all finish best_of decide begin keep_vote give_up everywhere_else send_row done_row take_row join_row state_row leave_row reset_row ask_row give_up_row tick_row request_row ack_row nack_row spread_row bcast_row order_row accept_row hold_row join_ask_row welcome_row leave_ask_row gone_row invite_row vote_row fetch_row piece_row result_row hand_over_row hear_row row step refused unchanged stepped happens happen is_complete is_lawful greatest_complete watch watch_all running hearings_from waves rounds settle_events name_text stamp_text names_text body_text resilience_text entry_text outcome_word outcome_parts outcome_text act_word act_parts event_text kind_word addressees_text letter_text record_line records_text group_line group_text log_line empty_log_line log_text logs_text mark_line play_text digits set_of
 returns-clause-busy c = refl
 
-pub returns-clause-coordinator_stop_survived : goal.returns-clause-coordinator_stop_survived
-unfolding by_place after fits fold greatest best_from those unions least_of advanced lead refresh settle refresh_at_end put_all finish best_of decide begin keep_vote give_up everywhere_else send_row done_row take_row join_row state_row leave_row reset_row ask_row give_up_row tick_row request_row ack_row nack_row spread_row bcast_row order_row accept_row hold_row join_ask_row welcome_row leave_ask_row gone_row invite_row vote_row fetch_row piece_row result_row hand_over_row hear_row row step refused unchanged stepped happens happen is_complete is_lawful greatest_complete watch watch_all running hearings_from waves rounds settle_events name_text stamp_text names_text body_text resilience_text entry_text outcome_word outcome_parts outcome_text act_word act_parts event_text kind_word addressees_text letter_text record_line records_text group_line group_text log_line empty_log_line log_text logs_text mark_line play_text digits set_of
-returns-clause-coordinator_stop_survived c = refl
-
-pub returns-clause-coordinator_stops_too : goal.returns-clause-coordinator_stops_too
-unfolding by_place after fits fold greatest best_from those unions least_of advanced lead refresh settle refresh_at_end put_all finish best_of decide begin keep_vote give_up everywhere_else send_row done_row take_row join_row state_row leave_row reset_row ask_row give_up_row tick_row request_row ack_row nack_row spread_row bcast_row order_row accept_row hold_row join_ask_row welcome_row leave_ask_row gone_row invite_row vote_row fetch_row piece_row result_row hand_over_row hear_row row step refused unchanged stepped happens happen is_complete is_lawful greatest_complete watch watch_all running hearings_from waves rounds settle_events name_text stamp_text names_text body_text resilience_text entry_text outcome_word outcome_parts outcome_text act_word act_parts event_text kind_word addressees_text letter_text record_line records_text group_line group_text log_line empty_log_line log_text logs_text mark_line play_text digits set_of
-returns-clause-coordinator_stops_too c = refl
-
 pub returns-clause-crowded : goal.returns-clause-crowded
 unfolding by_place after fits fold greatest best_from those unions least_of advanced lead refresh settle refresh_at_end put_all finish best_of decide begin keep_vote give_up everywhere_else send_row done_row take_row join_row state_row leave_row reset_row ask_row give_up_row tick_row request_row ack_row nack_row spread_row bcast_row order_row accept_row hold_row join_ask_row welcome_row leave_ask_row gone_row invite_row vote_row fetch_row piece_row result_row hand_over_row hear_row row step refused unchanged stepped happens happen is_complete is_lawful greatest_complete watch watch_all running hearings_from waves rounds settle_events name_text stamp_text names_text body_text resilience_text entry_text outcome_word outcome_parts outcome_text act_word act_parts event_text kind_word addressees_text letter_text record_line records_text group_line group_text log_line empty_log_line log_text logs_text mark_line play_text digits set_of
 returns-clause-crowded c = refl
@@ -80,14 +72,6 @@ pub returns-clause-only_founder_leaves : goal.returns-clause-only_founder_leaves
 unfolding by_place after fits fold greatest best_from those unions least_of advanced lead refresh settle refresh_at_end put_all finish best_of decide begin keep_vote give_up everywhere_else send_row done_row take_row join_row state_row leave_row reset_row ask_row give_up_row tick_row request_row ack_row nack_row spread_row bcast_row order_row accept_row hold_row join_ask_row welcome_row leave_ask_row gone_row invite_row vote_row fetch_row piece_row result_row hand_over_row hear_row row step refused unchanged stepped happens happen is_complete is_lawful greatest_complete watch watch_all running hearings_from waves rounds settle_events name_text stamp_text names_text body_text resilience_text entry_text outcome_word outcome_parts outcome_text act_word act_parts event_text kind_word addressees_text letter_text record_line records_text group_line group_text log_line empty_log_line log_text logs_text mark_line play_text digits set_of
 returns-clause-only_founder_leaves c = refl
 
-pub returns-clause-raised_resilience : goal.returns-clause-raised_resilience
-unfolding by_place after fits fold greatest best_from those unions least_of advanced lead refresh settle refresh_at_end put_all finish best_of decide begin keep_vote give_up everywhere_else send_row done_row take_row join_row state_row leave_row reset_row ask_row give_up_row tick_row request_row ack_row nack_row spread_row bcast_row order_row accept_row hold_row join_ask_row welcome_row leave_ask_row gone_row invite_row vote_row fetch_row piece_row result_row hand_over_row hear_row row step refused unchanged stepped happens happen is_complete is_lawful greatest_complete watch watch_all running hearings_from waves rounds settle_events name_text stamp_text names_text body_text resilience_text entry_text outcome_word outcome_parts outcome_text act_word act_parts event_text kind_word addressees_text letter_text record_line records_text group_line group_text log_line empty_log_line log_text logs_text mark_line play_text digits set_of
-returns-clause-raised_resilience c = refl
-
-pub returns-clause-raised_resilience_stays : goal.returns-clause-raised_resilience_stays
-unfolding by_place after fits fold greatest best_from those unions least_of advanced lead refresh settle refresh_at_end put_all finish best_of decide begin keep_vote give_up everywhere_else send_row done_row take_row join_row state_row leave_row reset_row ask_row give_up_row tick_row request_row ack_row nack_row spread_row bcast_row order_row accept_row hold_row join_ask_row welcome_row leave_ask_row gone_row invite_row vote_row fetch_row piece_row result_row hand_over_row hear_row row step refused unchanged stepped happens happen is_complete is_lawful greatest_complete watch watch_all running hearings_from waves rounds settle_events name_text stamp_text names_text body_text resilience_text entry_text outcome_word outcome_parts outcome_text act_word act_parts event_text kind_word addressees_text letter_text record_line records_text group_line group_text log_line empty_log_line log_text logs_text mark_line play_text digits set_of
-returns-clause-raised_resilience_stays c = refl
-
 pub returns-clause-reordering : goal.returns-clause-reordering
 unfolding by_place after fits fold greatest best_from those unions least_of advanced lead refresh settle refresh_at_end put_all finish best_of decide begin keep_vote give_up everywhere_else send_row done_row take_row join_row state_row leave_row reset_row ask_row give_up_row tick_row request_row ack_row nack_row spread_row bcast_row order_row accept_row hold_row join_ask_row welcome_row leave_ask_row gone_row invite_row vote_row fetch_row piece_row result_row hand_over_row hear_row row step refused unchanged stepped happens happen is_complete is_lawful greatest_complete watch watch_all running hearings_from waves rounds settle_events name_text stamp_text names_text body_text resilience_text entry_text outcome_word outcome_parts outcome_text act_word act_parts event_text kind_word addressees_text letter_text record_line records_text group_line group_text log_line empty_log_line log_text logs_text mark_line play_text digits set_of
 returns-clause-reordering c = refl
@@ -112,14 +96,6 @@ pub returns-clause-running_member : goal.returns-clause-running_member
 unfolding by_place after fits fold greatest best_from those unions least_of advanced lead refresh settle refresh_at_end put_all finish best_of decide begin keep_vote give_up everywhere_else send_row done_row take_row join_row state_row leave_row reset_row ask_row give_up_row tick_row request_row ack_row nack_row spread_row bcast_row order_row accept_row hold_row join_ask_row welcome_row leave_ask_row gone_row invite_row vote_row fetch_row piece_row result_row hand_over_row hear_row row step refused unchanged stepped happens happen is_complete is_lawful greatest_complete watch watch_all running hearings_from waves rounds settle_events name_text stamp_text names_text body_text resilience_text entry_text outcome_word outcome_parts outcome_text act_word act_parts event_text kind_word addressees_text letter_text record_line records_text group_line group_text log_line empty_log_line log_text logs_text mark_line play_text digits set_of
 returns-clause-running_member c = refl
 
-pub returns-clause-sequencer_leaves : goal.returns-clause-sequencer_leaves
-unfolding by_place after fits fold greatest best_from those unions least_of advanced lead refresh settle refresh_at_end put_all finish best_of decide begin keep_vote give_up everywhere_else send_row done_row take_row join_row state_row leave_row reset_row ask_row give_up_row tick_row request_row ack_row nack_row spread_row bcast_row order_row accept_row hold_row join_ask_row welcome_row leave_ask_row gone_row invite_row vote_row fetch_row piece_row result_row hand_over_row hear_row row step refused unchanged stepped happens happen is_complete is_lawful greatest_complete watch watch_all running hearings_from waves rounds settle_events name_text stamp_text names_text body_text resilience_text entry_text outcome_word outcome_parts outcome_text act_word act_parts event_text kind_word addressees_text letter_text record_line records_text group_line group_text log_line empty_log_line log_text logs_text mark_line play_text digits set_of
-returns-clause-sequencer_leaves c = refl
-
-pub returns-clause-sequencer_stops : goal.returns-clause-sequencer_stops
-unfolding by_place after fits fold greatest best_from those unions least_of advanced lead refresh settle refresh_at_end put_all finish best_of decide begin keep_vote give_up everywhere_else send_row done_row take_row join_row state_row leave_row reset_row ask_row give_up_row tick_row request_row ack_row nack_row spread_row bcast_row order_row accept_row hold_row join_ask_row welcome_row leave_ask_row gone_row invite_row vote_row fetch_row piece_row result_row hand_over_row hear_row row step refused unchanged stepped happens happen is_complete is_lawful greatest_complete watch watch_all running hearings_from waves rounds settle_events name_text stamp_text names_text body_text resilience_text entry_text outcome_word outcome_parts outcome_text act_word act_parts event_text kind_word addressees_text letter_text record_line records_text group_line group_text log_line empty_log_line log_text logs_text mark_line play_text digits set_of
-returns-clause-sequencer_stops c = refl
-
 pub returns-clause-settled : goal.returns-clause-settled
 unfolding by_place after fits fold greatest best_from those unions least_of advanced lead refresh settle refresh_at_end put_all finish best_of decide begin keep_vote give_up everywhere_else send_row done_row take_row join_row state_row leave_row reset_row ask_row give_up_row tick_row request_row ack_row nack_row spread_row bcast_row order_row accept_row hold_row join_ask_row welcome_row leave_ask_row gone_row invite_row vote_row fetch_row piece_row result_row hand_over_row hear_row row step refused unchanged stepped happens happen is_complete is_lawful greatest_complete watch watch_all running hearings_from waves rounds settle_events name_text stamp_text names_text body_text resilience_text entry_text outcome_word outcome_parts outcome_text act_word act_parts event_text kind_word addressees_text letter_text record_line records_text group_line group_text log_line empty_log_line log_text logs_text mark_line play_text digits set_of
 returns-clause-settled c = refl
@@ -135,18 +111,6 @@ returns-clause-smallest_path c = refl
 pub returns-clause-spread_lost : goal.returns-clause-spread_lost
 unfolding by_place after fits fold greatest best_from those unions least_of advanced lead refresh settle refresh_at_end put_all finish best_of decide begin keep_vote give_up everywhere_else send_row done_row take_row join_row state_row leave_row reset_row ask_row give_up_row tick_row request_row ack_row nack_row spread_row bcast_row order_row accept_row hold_row join_ask_row welcome_row leave_ask_row gone_row invite_row vote_row fetch_row piece_row result_row hand_over_row hear_row row step refused unchanged stepped happens happen is_complete is_lawful greatest_complete watch watch_all running hearings_from waves rounds settle_events name_text stamp_text names_text body_text resilience_text entry_text outcome_word outcome_parts outcome_text act_word act_parts event_text kind_word addressees_text letter_text record_line records_text group_line group_text log_line empty_log_line log_text logs_text mark_line play_text digits set_of
 returns-clause-spread_lost c = refl
-
-pub returns-clause-tentative : goal.returns-clause-tentative
-unfolding by_place after fits fold greatest best_from those unions least_of advanced lead refresh settle refresh_at_end put_all finish best_of decide begin keep_vote give_up everywhere_else send_row done_row take_row join_row state_row leave_row reset_row ask_row give_up_row tick_row request_row ack_row nack_row spread_row bcast_row order_row accept_row hold_row join_ask_row welcome_row leave_ask_row gone_row invite_row vote_row fetch_row piece_row result_row hand_over_row hear_row row step refused unchanged stepped happens happen is_complete is_lawful greatest_complete watch watch_all running hearings_from waves rounds settle_events name_text stamp_text names_text body_text resilience_text entry_text outcome_word outcome_parts outcome_text act_word act_parts event_text kind_word addressees_text letter_text record_line records_text group_line group_text log_line empty_log_line log_text logs_text mark_line play_text digits set_of
-returns-clause-tentative c = refl
-
-pub returns-clause-too_few : goal.returns-clause-too_few
-unfolding by_place after fits fold greatest best_from those unions least_of advanced lead refresh settle refresh_at_end put_all finish best_of decide begin keep_vote give_up everywhere_else send_row done_row take_row join_row state_row leave_row reset_row ask_row give_up_row tick_row request_row ack_row nack_row spread_row bcast_row order_row accept_row hold_row join_ask_row welcome_row leave_ask_row gone_row invite_row vote_row fetch_row piece_row result_row hand_over_row hear_row row step refused unchanged stepped happens happen is_complete is_lawful greatest_complete watch watch_all running hearings_from waves rounds settle_events name_text stamp_text names_text body_text resilience_text entry_text outcome_word outcome_parts outcome_text act_word act_parts event_text kind_word addressees_text letter_text record_line records_text group_line group_text log_line empty_log_line log_text logs_text mark_line play_text digits set_of
-returns-clause-too_few c = refl
-
-pub returns-clause-two_coordinators : goal.returns-clause-two_coordinators
-unfolding by_place after fits fold greatest best_from those unions least_of advanced lead refresh settle refresh_at_end put_all finish best_of decide begin keep_vote give_up everywhere_else send_row done_row take_row join_row state_row leave_row reset_row ask_row give_up_row tick_row request_row ack_row nack_row spread_row bcast_row order_row accept_row hold_row join_ask_row welcome_row leave_ask_row gone_row invite_row vote_row fetch_row piece_row result_row hand_over_row hear_row row step refused unchanged stepped happens happen is_complete is_lawful greatest_complete watch watch_all running hearings_from waves rounds settle_events name_text stamp_text names_text body_text resilience_text entry_text outcome_word outcome_parts outcome_text act_word act_parts event_text kind_word addressees_text letter_text record_line records_text group_line group_text log_line empty_log_line log_text logs_text mark_line play_text digits set_of
-returns-clause-two_coordinators c = refl
 
 pub returns-clause-window_of_one : goal.returns-clause-window_of_one
 unfolding by_place after fits fold greatest best_from those unions least_of advanced lead refresh settle refresh_at_end put_all finish best_of decide begin keep_vote give_up everywhere_else send_row done_row take_row join_row state_row leave_row reset_row ask_row give_up_row tick_row request_row ack_row nack_row spread_row bcast_row order_row accept_row hold_row join_ask_row welcome_row leave_ask_row gone_row invite_row vote_row fetch_row piece_row result_row hand_over_row hear_row row step refused unchanged stepped happens happen is_complete is_lawful greatest_complete watch watch_all running hearings_from waves rounds settle_events name_text stamp_text names_text body_text resilience_text entry_text outcome_word outcome_parts outcome_text act_word act_parts event_text kind_word addressees_text letter_text record_line records_text group_line group_text log_line empty_log_line log_text logs_text mark_line play_text digits set_of
