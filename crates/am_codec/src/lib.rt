@@ -12,6 +12,6 @@ pub use refusal::PacketRefusal;
 pub use writer::encode;
 
 #[cfg(test)]
-mod faults;
-#[cfg(test)]
 mod tests;
+#[cfg(test)]
+mod wrong_fields;

@@ -1,5 +1,5 @@
 use super::*;
-use crate::faults::FAULTS;
+use crate::wrong_fields::FAULTS;
 use am_base::body::PacketBytes;
 use std::alloc::Global;
 use std::test::*;

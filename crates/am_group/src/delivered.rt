@@ -1,5 +1,5 @@
-ghost use Rattle.std.specs.Prelude.{◌≡◌, ◌==◌, ◌++◌, IfOk, OnOk};
-ghost use Rattle.am_group.specs.Deliveries.{name_of, given_to, deliveries};
+ghost use Rattle.std.specs.Prelude.{◌≡◌, ◌&&◌, ◌==◌, ◌++◌, IfOk, OnOk};
+ghost use Rattle.am_group.specs.Deliveries.{is_of, given_to, deliveries};
 
 use crate::event::Record;
 use am_base::NoMemory;
@@ -8,13 +8,10 @@ use am_base::name::Name;
 use am_base::outcome::Outcome;
 use std::alloc::Global;
 
-/// Whether this name did it.
 fn is_of(item: &Record, node: Name) -> bool
-    ensures { result ≡ (name_of item.now == node) }
+    ensures { result ≡ is_of item.now node }
 {
-    let place = u32::from(item.event.node.place());
-    let lives_before = u32::from(item.life.saturating_sub(1));
-    place + 16 * lives_before == u32::from(node.get())
+    item.event.node.place() == node.place() && item.life == node.life()
 }
 
 fn put_given(item: &Record, node: Name, given: &mut Vec<(u32, Entry)>) -> Result<(), NoMemory>

@@ -11,7 +11,7 @@ pub struct ThreadPlan {
 }
 
 /// A race: how its group begins, the number from which its chooser starts, how many of a hundred choices lose a packet
-/// and how many repeat the last one, how many turns a call has, and its threads.
+/// and how many repeat the last one, how many turns a call has, and its threads (docs/PROTOCOL.md, "Races").
 #[derive(Drop)]
 pub struct RacePlan {
     pub founding: Founding,
