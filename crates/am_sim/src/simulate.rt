@@ -186,17 +186,33 @@ mod tests {
 
     const TEXT: &str = "group 1 view 1.0 0,1\nlog 0 empty\nlog 1 empty\nlawful\n";
 
-    /// The words, the input, the reads and the writes that fail, the sink's size, the status, and how many bytes of the text
-    /// are written, where a read gives 16 bytes at most and a write takes 20.
-    const CALLS: [(&[&str], &str, &[u64], &[u64], usize, Status, usize); 9] = [
-        (&["play"], SCRIPT, &[], &[], 52, Status::Done, 52),
-        (&["play"], SCRIPT, &[2], &[], 52, Status::ReadFault, 0),
-        (&["play"], SCRIPT, &[4], &[], 52, Status::ReadFault, 0),
-        (&["play"], SCRIPT, &[], &[1], 52, Status::WriteFault, 0),
-        (&["play"], SCRIPT, &[], &[2], 52, Status::WriteFault, 20),
-        (&["play"], SCRIPT, &[], &[], 51, Status::WriteFault, 40),
-        (&[], SCRIPT, &[], &[], 52, Status::Usage, 0),
-        (&["play", "play"], SCRIPT, &[], &[], 52, Status::Usage, 0),
+    /// The words, the input, the reads and the writes that fail, the sink's size, the status and what is written, where a
+    /// read gives 16 bytes at most and a write takes 20.
+    const CALLS: [(&[&str], &str, &[u64], &[u64], usize, Status, &str); 9] = [
+        (&["play"], SCRIPT, &[], &[], 52, Status::Done, TEXT),
+        (&["play"], SCRIPT, &[2], &[], 52, Status::ReadFault, ""),
+        (&["play"], SCRIPT, &[4], &[], 52, Status::ReadFault, ""),
+        (&["play"], SCRIPT, &[], &[1], 52, Status::WriteFault, ""),
+        (
+            &["play"],
+            SCRIPT,
+            &[],
+            &[2],
+            52,
+            Status::WriteFault,
+            "group 1 view 1.0 0,1",
+        ),
+        (
+            &["play"],
+            SCRIPT,
+            &[],
+            &[],
+            51,
+            Status::WriteFault,
+            "group 1 view 1.0 0,1\nlog 0 empty\nlog 1 e",
+        ),
+        (&[], SCRIPT, &[], &[], 52, Status::Usage, ""),
+        (&["play", "play"], SCRIPT, &[], &[], 52, Status::Usage, ""),
         (
             &["play"],
             "{",
@@ -204,7 +220,7 @@ mod tests {
             &[],
             52,
             Status::BadScript(ScriptRefusal::NotJson),
-            0,
+            "",
         ),
     ];
 
@@ -214,7 +230,7 @@ mod tests {
             let mut source = MemSource::new(input.as_bytes(), reads, 16);
             let mut sink = MemSink::new(rt.alloc(), writes, 20, size)?;
             assert!(rt; simulate(rt.alloc(), words, &mut source, &mut sink) == status);
-            assert!(rt; sink.bytes() == &TEXT.as_bytes()[..written]);
+            assert!(rt; sink.bytes() == written.as_bytes());
         }
         Ok(())
     }
