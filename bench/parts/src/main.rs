@@ -5,6 +5,7 @@ use std::hint::black_box;
 use std::time::Instant;
 
 #[derive(Clone, Copy)]
+#[allow(dead_code)]
 struct Body {
     len: u16,
     bytes: [u8; 1024],
