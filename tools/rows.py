@@ -33,7 +33,7 @@ use Rattle.am_model.specs.Receiving.{spread_row, bcast_row, order_row, accept_ro
 use Rattle.am_model.specs.Joining.{join_ask_row, welcome_row, leave_ask_row, gone_row}
 use Rattle.am_model.specs.Resets.{invite_row, vote_row, fetch_row, piece_row, result_row, hand_over_row}
 use Rattle.am_model.specs.Hearing.{hear_row}
-use Rattle.am_model.specs.Step.{row, step, refused}
+use Rattle.am_model.specs.Step.{row, step, hear, refused}
 use Rattle.am_model.specs.World.{unchanged, stepped, happens, happen}
 use Rattle.am_model.specs.Lawful.{is_complete, is_lawful, greatest_complete, watch, watch_all}
 use Rattle.am_model.specs.Settle.{running, hearings_from, waves, rounds, settle_events}

@@ -3,6 +3,7 @@
 
 pub mod body;
 pub mod entry;
+pub mod event;
 pub mod founding;
 pub mod image;
 pub mod items;

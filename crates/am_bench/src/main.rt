@@ -6,13 +6,13 @@ ghost use Rattle.am_codec.specs.Limits.{IsWithin};
 use am_base::body::PacketBytes;
 use am_base::founding::Founding;
 use am_base::items::Items;
-use am_base::name::Name;
+use am_base::name::{Name, Stamp};
 use am_base::names::Names;
 use am_base::outcome::Outcome;
 use am_codec::{decode, encode};
 use am_group::event::{Act, By, Event, Part, Record};
 use am_group::journal::Journal;
-use am_packet::letter::Letter;
+use am_letter::letter::Letter;
 use am_packet::packet::Packet;
 use std::alloc::{AllocError, Global};
 use std::time::Instant;
@@ -59,16 +59,25 @@ fn encode_many(first: &Packet, second: &Packet, count: u32) -> u64
     sum
 }
 
+/// A letter for these names.
+#[tactic(auto, unfolding(am_codec::specs::Limits::IsWithin))]
+fn letter_to(to: Names) -> Letter {
+    let invite = Packet::Invite {
+        sender: Name::of_byte(0),
+        stamp: Stamp {
+            round: 1,
+            by: Name::of_byte(0),
+        },
+    };
+    Letter::of(to, &invite)
+}
+
 /// A journal of so many records with one letter each.
 fn journal_of(alloc: Global, founding: &Founding, records: u32) -> Result<Journal, AllocError> {
     let mut journal = Journal::new(alloc, founding);
     for _ in 0..records {
         let mut packets = Items::new(alloc);
-        packets.push(Letter {
-            to: founding.founders(),
-            any: false,
-            packet: Packet::default(),
-        })?;
+        packets.push(letter_to(founding.founders()))?;
         journal.reserve()?;
         let item = Record {
             event: Event {
@@ -97,7 +106,7 @@ fn look_up_many(journal: &Journal, count: u32) -> u64 {
     let first = journal.packets().saturating_sub(100);
     for i in 0..count {
         if let Some(letter) = journal.packet(first.wrapping_add(i % 100 + 1)) {
-            sum = sum.wrapping_add(u64::from(letter.packet.kind()));
+            sum = sum.wrapping_add(u64::from(letter.kind()));
         }
     }
     sum

@@ -1,7 +1,7 @@
 -- For whom a letter is.
 use Rattle.std.specs.Prelude.{ℕ, ◌+◌, List, [], ◌∷◌, drop, Option, Some, None, Bool, nat_lt, if◌then◌else◌, slice_index}
 use Rattle.am_base.specs.Names.{place_of, has}
-use Rattle.am_packet.specs.declared.letter.Letter.{Letter}
+use Rattle.am_packet.specs.Boxes.{Letter}
 
 -- a letter is for the names in its set, or for every life of their places
 abbrev pub is_for : Letter → ℕ → Bool

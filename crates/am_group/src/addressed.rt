@@ -4,16 +4,16 @@ ghost use Rattle.am_group.specs.Addressed.{is_for, next_for};
 
 use crate::journal::Journal;
 use am_base::name::Name;
-use am_packet::letter::Letter;
+use am_letter::letter::Letter;
 
 /// Whether a letter is for a name: for exactly this name, or for any life of its place.
 pub fn is_for(letter: &Letter, name: Name) -> bool
     ensures { result ≡ is_for letter.now name }
 {
-    if letter.any {
-        return 0 < letter.to.life_at(name.place());
+    if letter.is_for_any() {
+        return 0 < letter.to().life_at(name.place());
     }
-    letter.to.has(name)
+    letter.to().has(name)
 }
 
 impl Journal {

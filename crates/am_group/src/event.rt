@@ -4,7 +4,7 @@ use am_base::body::Body;
 use am_base::items::Items;
 use am_base::name::Name;
 use am_base::outcome::Outcome;
-use am_packet::letter::Letter;
+use am_letter::letter::Letter;
 
 /// What is done at a node (docs/PROTOCOL.md, "Events").
 #[derive(Drop, Clone, Debug)]

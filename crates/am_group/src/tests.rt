@@ -10,7 +10,7 @@ use am_base::items::Items;
 use am_base::name::{Name, Stamp};
 use am_base::names::Names;
 use am_base::outcome::Outcome;
-use am_packet::letter::Letter;
+use am_letter::letter::Letter;
 use am_packet::packet::Packet;
 use std::alloc::Global;
 use std::test::*;
@@ -19,14 +19,22 @@ fn founding_of(founders: u16) -> Result<Founding, Fail> {
     Ok(Founding::new(Names::of_mask(founders), 0, 64, 256).ok_or("a founding")?)
 }
 
+#[tactic(auto, unfolding(am_codec::specs::Limits::IsWithin))]
+fn invite_to(to: Names) -> Letter {
+    let invite = Packet::Invite {
+        sender: Name::of_byte(0),
+        stamp: Stamp {
+            round: 2,
+            by: Name::of_byte(0),
+        },
+    };
+    Letter::of(to, &invite)
+}
+
 fn record_of(alloc: Global, node: u8, outcome: Outcome, to: &[u16]) -> Result<Record, Fail> {
     let mut packets = Items::new(alloc);
     for mask in to {
-        packets.push(Letter {
-            to: Names::of_mask(*mask),
-            any: false,
-            packet: Packet::default(),
-        })?;
+        packets.push(invite_to(Names::of_mask(*mask)))?;
     }
     Ok(Record {
         event: Event {
@@ -60,7 +68,7 @@ fn letters_have_their_numbers(rt: HostRuntime) -> Result<(), Fail> {
     assert!(rt; journal.packet(6).is_none());
     for (number, mask) in [(1, 2), (2, 4), (3, 2), (4, 6), (5, 1)] {
         let letter = journal.packet(number).ok_or("a letter")?;
-        assert_eq!(rt; letter.to.mask(), mask, "of {number}");
+        assert_eq!(rt; letter.to().mask(), mask, "of {number}");
     }
     let second = Name::of_byte(1);
     for (after, next) in [
@@ -77,12 +85,16 @@ fn letters_have_their_numbers(rt: HostRuntime) -> Result<(), Fail> {
 }
 
 #[test]
+#[tactic(auto, unfolding(am_codec::specs::Limits::IsWithin))]
 fn a_letter_with_any_is_for_each_life(rt: HostRuntime) {
-    let letter = Letter {
-        to: Names::of_mask(2),
-        any: true,
-        packet: Packet::default(),
+    let ask = Packet::JoinAsk {
+        sender: Name::of_byte(0),
+        stamp: Stamp {
+            round: 0,
+            by: Name::of_byte(0),
+        },
     };
+    let letter = Letter::of(Names::of_mask(2), &ask);
     for (name, wanted) in [(1, true), (17, true), (241, true), (0, false), (2, false)] {
         assert_eq!(rt; is_for(&letter, Name::of_byte(name)), wanted, "of {name}");
     }

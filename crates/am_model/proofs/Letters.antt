@@ -11,7 +11,7 @@ use Rattle.am_base.specs.Lists.{entry_at}
 use Rattle.am_model.specs.declared.status.Status.{Status}
 use Rattle.am_model.specs.declared.status.Status.TheVariants as status
 use Rattle.am_packet.specs.declared.packet.Packet.{Packet}
-use Rattle.am_packet.specs.declared.letter.Letter.{Letter}
+use Rattle.am_packet.specs.Boxes.{Letter}
 use Rattle.am_packet.specs.Kinds.{kind_of}
 use Rattle.am_packet.specs.Boxes.{letter_to, place_for, with_letter}
 use Rattle.am_model.specs.Node.{Node, Send, Ballot, told, others, only_name, lowest_or_first, waiting, is_sequencer, has_room}

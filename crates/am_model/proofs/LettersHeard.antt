@@ -1,5 +1,5 @@
 -- How many letters a hearing sends, and a whole step.
-use Rattle.std.proofs.Common.{ℕ, ◌+◌, ◌≤◌, Bool, true, false, nat_le, List, [], length, Option, Some, None, arith}
+use Rattle.std.proofs.Common.{ℕ, ◌+◌, ◌≤◌, Bool, true, false, nat_le, List, [], length, Option, Some, None, Ok, Err, arith}
 use Rattle.std.proofs.lemmas.List.{length-take}
 use Rattle.am_base.specs.declared.name.Stamp.{Stamp}
 use Rattle.am_base.specs.declared.image.Report.{Report}
@@ -13,9 +13,10 @@ use Rattle.am_base.specs.declared.outcome.Outcome.{Outcome}
 use Rattle.am_base.specs.declared.outcome.Outcome.TheVariants as said
 use Rattle.am_packet.specs.declared.packet.Packet.{Packet}
 use Rattle.am_packet.specs.declared.packet.Packet.TheVariants as packet
-use Rattle.am_packet.specs.declared.letter.Letter.{Letter}
-use Rattle.am_packet.specs.declared.event.NodeEvent.{NodeEvent}
-use Rattle.am_packet.specs.declared.event.NodeEvent.TheVariants as does
+use Rattle.am_packet.specs.Boxes.{Letter}
+use Rattle.am_base.specs.declared.event.NodeEvent.{NodeEvent}
+use Rattle.am_base.specs.declared.event.NodeEvent.TheVariants as does
+use Rattle.am_codec.specs.Reading.{Read, reading}
 use Rattle.am_model.specs.Node.{Node, Send, Ballot, top, told, others, only_name, pushed, trimmed, waiting}
 use Rattle.am_model.specs.Refresh.{refresh_at_end}
 use Rattle.am_model.specs.Emit.{Plan, quiet, polling, numbering, tells_accepted, accept_of, ack_of, bcast_of, hold_of, piece_of, welcome_of, gone_of, served, put_all, with_accept, finish}
@@ -25,7 +26,7 @@ use Rattle.am_model.specs.Joining.{admitted, number_join, asks_to_join, join_ask
 use Rattle.am_model.specs.Ballots.{decide}
 use Rattle.am_model.specs.Resets.{invite_row, voted_for, vote_row, fetch_row, fetched, caught_up, fetched_for, piece_promised, piece_for, piece_row, hears_result, result_row, hand_over_row}
 use Rattle.am_model.specs.Hearing.{hear_row}
-use Rattle.am_model.specs.Step.{row, step}
+use Rattle.am_model.specs.Step.{row, step, read_row}
 use Rattle.am_model.specs.Laws.{FewLetters}
 use Rattle.am_model.proofs.Greatest.{split}
 use Rattle.am_model.proofs.Letters.{one_more, all_more, Few, few_quiet, few_numbering, few_polling, few_and, few_where, few, few_answered, few_keep_vote, few_reset, few_send, few_done, few_take, few_join, few_state, few_leave, few_ask, few_give_up_row, few_tick}
@@ -215,6 +216,10 @@ few_hear m (packet.Piece s v base number e) = search (few, few_piece)
 few_hear m (packet.Result s v base number names resilience) = search (few, few_result_row)
 few_hear m (packet.HandOver s v) = search (few, few_hand_over)
 
+few_read : (m : Node) (read : Read Packet) → Few 8 (read_row m read)
+few_read m (Ok p) = few_hear m p
+few_read m (Err refusal) = search few
+
 few_row : (m : Node) (event : NodeEvent) → Few 8 (row m event)
 unfolding row
 few_row m (does.Send body) = few_send m body
@@ -227,7 +232,7 @@ few_row m (does.Reset least resilience) = few_reset m least resilience
 few_row m (does.Ask round) = few_ask m round
 few_row m (does.GiveUp name) = few_give_up_row m name
 few_row m does.Tick = few_tick m
-few_row m (does.Hear p) = few_hear m p
+few_row m (does.Hear bytes) = few_read m (reading bytes)
 
 -- the Accept is one more
 with_accept_more : (m : Node) (p : Plan) (n : Node) (letters : List Letter) → length (with_accept m p n letters) ≤ length letters + 1

@@ -8,3 +8,4 @@ pub mod BestVotes
 pub mod Rows
 pub mod Runs
 pub mod Held
+pub mod Bytes

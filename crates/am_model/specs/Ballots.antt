@@ -10,7 +10,7 @@ use Rattle.am_base.specs.Stamps.{stamp_lt}
 use Rattle.am_base.specs.Votes.{Shown, best_vote}
 use Rattle.am_packet.specs.declared.packet.Packet.{Packet}
 use Rattle.am_packet.specs.declared.packet.Packet.TheVariants as packet
-use Rattle.am_packet.specs.declared.letter.Letter.{Letter}
+use Rattle.am_packet.specs.Boxes.{Letter}
 use Rattle.am_packet.specs.Boxes.{with_letter}
 use Rattle.am_model.specs.Node.{Node, Ballot, top, told, members, view, others, only_name, those, set_at, pushed, trimmed, no_report}
 use Rattle.am_model.specs.Refresh.{least_of}

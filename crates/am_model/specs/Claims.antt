@@ -11,7 +11,7 @@ use Rattle.am_base.specs.Lists.{members_at}
 use Rattle.am_base.specs.Stamps.{stamp_lt}
 use Rattle.am_base.specs.Founding.{Rules, MayFound}
 use Rattle.am_packet.specs.Kinds.{kind_of}
-use Rattle.am_packet.specs.declared.letter.Letter.{Letter}
+use Rattle.am_packet.specs.Boxes.{Letter}
 use Rattle.am_group.specs.declared.event.Act.{Act}
 use Rattle.am_group.specs.declared.event.Act.TheVariants as act
 use Rattle.am_group.specs.declared.event.Event.{Event}

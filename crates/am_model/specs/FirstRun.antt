@@ -5,9 +5,9 @@ use Rattle.am_base.specs.declared.outcome.Outcome.{Outcome}
 use Rattle.am_base.specs.declared.outcome.Outcome.TheVariants as said
 use Rattle.am_base.specs.Founding.{Rules}
 use Rattle.am_base.specs.Names.{place_of, has}
-use Rattle.am_packet.specs.declared.letter.Letter.{Letter}
-use Rattle.am_packet.specs.declared.event.NodeEvent.{NodeEvent}
-use Rattle.am_packet.specs.declared.event.NodeEvent.TheVariants as does
+use Rattle.am_packet.specs.Boxes.{Letter}
+use Rattle.am_base.specs.declared.event.NodeEvent.{NodeEvent}
+use Rattle.am_base.specs.declared.event.NodeEvent.TheVariants as does
 use Rattle.am_group.specs.declared.event.Act.{Act}
 use Rattle.am_group.specs.declared.event.Act.TheVariants as act
 use Rattle.am_group.specs.declared.event.Event.{Event}
@@ -15,7 +15,7 @@ use Rattle.am_group.specs.declared.event.Record.{Record}
 use Rattle.am_group.specs.declared.event.By.{By}
 use Rattle.am_group.specs.declared.event.Part.TheVariants.{Call}
 use Rattle.am_model.specs.FirstNode.{Node, is_sequencer, first_view, founder, stranger}
-use Rattle.am_model.specs.FirstTable.{Step, step}
+use Rattle.am_model.specs.FirstTable.{Step, hear_step, step}
 
 pub record World : Type 0 where
   pub nodes : ℕ → Node
@@ -60,7 +60,7 @@ is_for letter place = if letter.any then nat_lt 0 (slice_index letter.to place) 
 
 abbrev pub hears : World → Event → Option Letter → World
 hears w event None = refused w event said.NoPacket
-hears w event (Some letter) = if is_for letter (place_of event.node) then does_step w event (does.Hear letter.packet) else refused w event said.NotAddressed
+hears w event (Some letter) = if is_for letter (place_of event.node) then recorded w event (hear_step (w.nodes (place_of event.node)) letter.packet) else refused w event said.NotAddressed
 
 -- a letter by its number, from 1
 abbrev pub letter_at : List Letter → ℕ → Option Letter

@@ -1,5 +1,5 @@
 -- The table of steps of the first path: the calls Send, Done and Take, and hearing Request, Bcast and Nack.
-use Rattle.std.specs.Prelude.{ℕ, ◌+◌, ◌-◌, max, List, [], ◌∷◌, ◌++◌, length, drop, take, filter, find, Option, Some, None, Bool, true, false, not, is_some, if◌then◌else◌, ◌==◌, ◌&&◌, nat_lt, nat_le, slice_get}
+use Rattle.std.specs.Prelude.{ℕ, ◌+◌, ◌-◌, max, List, [], ◌∷◌, ◌++◌, length, drop, take, filter, find, Option, Some, None, Ok, Err, Bool, true, false, not, is_some, if◌then◌else◌, ◌==◌, ◌&&◌, nat_lt, nat_le, slice_get}
 use Rattle.std.specs.List.{list_all}
 use Rattle.am_base.specs.declared.name.Stamp.{Stamp}
 use Rattle.am_base.specs.declared.image.Report.{Report}
@@ -11,10 +11,10 @@ use Rattle.am_base.specs.Names.{has, with_name, nobody}
 use Rattle.am_base.specs.Stamps.{stamp_eq}
 use Rattle.am_packet.specs.declared.packet.Packet.{Packet}
 use Rattle.am_packet.specs.declared.packet.Packet.TheVariants.{Request, Bcast, Accept, Nack, Hold}
-use Rattle.am_packet.specs.declared.letter.Letter.{Letter}
-use Rattle.am_packet.specs.declared.event.NodeEvent.{NodeEvent}
-use Rattle.am_packet.specs.declared.event.NodeEvent.TheVariants as does
-use Rattle.am_packet.specs.Boxes.{with_letter}
+use Rattle.am_base.specs.declared.event.NodeEvent.{NodeEvent}
+use Rattle.am_base.specs.declared.event.NodeEvent.TheVariants as does
+use Rattle.am_packet.specs.Boxes.{Letter, with_letter}
+use Rattle.am_codec.specs.Reading.{Read, reading, cause_of}
 use Rattle.am_model.specs.declared.send.QueuedSend.{QueuedSend}
 use Rattle.am_model.specs.FirstNode.{Node, top, last_of, others, is_member, is_sequencer, sequencer_of, first_stamp, with_report, fronts, refresh}
 
@@ -190,10 +190,15 @@ hear_step m (Nack sender stamp report) = if for_sequencer m sender stamp then na
 hear_step m (Bcast sender stamp base acc number entry) = if from_sequencer m sender stamp then stored_step (note m base acc) base number entry else only m said.Elsewhere
 hear_step m packet = only m said.Elsewhere
 
--- one step of a node; what isn't built answers Elsewhere
+-- bytes, by what was read of them
+abbrev pub read_step : Node → Read Packet → Step
+read_step m (Ok packet) = hear_step m packet
+read_step m (Err refusal) = only m (said.Refused (cause_of refusal))
+
+-- one step of a node; what isn't built answers Elsewhere, and bytes that spell no packet are refused
 unfoldable pub step : Node → NodeEvent → Step
 step m (does.Send body) = send_step m body
 step m (does.Done req) = done_step m req
 step m does.Take = take_step m
-step m (does.Hear packet) = hear_step m packet
+step m (does.Hear bytes) = read_step m (reading bytes)
 step m event = only m said.Elsewhere

@@ -1,5 +1,5 @@
 -- That the definitions mean what they say.
-use Rattle.std.specs.Prelude.{◌≡◌, ◌≢◌, ◌⊎◌, ℕ, zero, suc, ◌+◌, ◌-◌, ◌<◌, ◌≤◌, max, List, ◌++◌, length, Option, Some, None, Bool, true, false, nat_le, if◌then◌else◌, ◌↔◌}
+use Rattle.std.specs.Prelude.{◌≡◌, ◌≢◌, ◌⊎◌, ℕ, zero, suc, ◌+◌, ◌-◌, ◌<◌, ◌≤◌, max, List, ◌++◌, length, take, Option, Some, None, Bool, true, false, nat_le, if◌then◌else◌, ◌↔◌}
 use Rattle.am_base.specs.declared.image.Image.{Image}
 use Rattle.am_base.specs.declared.image.Report.{Report}
 use Rattle.am_base.specs.declared.image.Vote.{Vote}
@@ -10,17 +10,21 @@ use Rattle.am_base.specs.Names.{name_lt}
 use Rattle.am_base.specs.Votes.{Shown, vote_lt, best_vote}
 use Rattle.am_base.specs.Lists.{Log, at_place, row_of, after, fits, fold, AllFit, top_of, told_by}
 use Rattle.am_base.specs.Fronts.{is_held, is_satisfied, accept_front}
-use Rattle.am_packet.specs.declared.event.NodeEvent.{NodeEvent}
+use Rattle.am_base.specs.declared.event.NodeEvent.{NodeEvent}
+use Rattle.am_base.specs.declared.event.NodeEvent.TheVariants.{Hear}
+use Rattle.am_packet.specs.declared.packet.Packet.{Packet}
+use Rattle.am_codec.specs.Limits.{IsPacket}
+use Rattle.am_codec.specs.Spelling.{spelling}
 use Rattle.am_model.specs.Node.{Node, told, report_fits, has_room}
 use Rattle.am_model.specs.Sequencing.{reported, request_row}
 use Rattle.am_base.specs.declared.outcome.Outcome.{Outcome}
 use Rattle.am_base.specs.declared.outcome.Outcome.TheVariants as said
-use Rattle.am_model.specs.World.{World, happen, run}
+use Rattle.am_model.specs.World.{World, hear_cut, happen, run}
 use Rattle.am_model.specs.Lawful.{watched, broken_at, lawful_front}
 use Rattle.am_base.specs.Founding.{Rules}
 use Rattle.am_group.specs.declared.event.Event.{Event}
 use Rattle.am_model.specs.Refresh.{refresh}
-use Rattle.am_model.specs.Step.{step}
+use Rattle.am_model.specs.Step.{step, hear}
 
 -- a list that goes on tells what its beginning tells, and then the rest
 abbrev pub FoldGoesOn : Type 0
@@ -29,6 +33,16 @@ FoldGoesOn = (image : Image) (number : ℕ) (xs ys : List Entry) → fold image 
 -- a second refresh in a row changes nothing
 abbrev pub RefreshOnce : Type 0
 RefreshOnce = (m : Node) → refresh (refresh m) ≡ refresh m
+
+-- ---- bytes
+
+-- a packet's spelling is heard as that packet
+abbrev pub SpellingIsHeard : Type 0
+SpellingIsHeard = (m : Node) (packet : Packet) → IsPacket packet → step m (Hear (spelling packet)) ≡ hear m packet
+
+-- the first bytes of a spelling are heard as a cut packet: whole where all are there, and refused else
+abbrev pub CutIsHeard : Type 0
+CutIsHeard = (m : Node) (packet : Packet) (keep : ℕ) → IsPacket packet → step m (Hear (take keep (spelling packet))) ≡ hear_cut m keep packet
 
 -- ---- the accept front
 

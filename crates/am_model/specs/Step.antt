@@ -1,13 +1,25 @@
--- One step of a node: the row of an event, and the end of the step.
-use Rattle.std.specs.Prelude.{ℕ}
+-- One step of a node: the row of an event, and the end of the step. Bytes come in here: what they spell is heard, and what
+-- spells no packet is refused.
+use Rattle.std.specs.Prelude.{ℕ, Ok, Err}
 use Rattle.am_base.specs.declared.outcome.Outcome.TheVariants as said
-use Rattle.am_packet.specs.declared.event.NodeEvent.{NodeEvent}
-use Rattle.am_packet.specs.declared.event.NodeEvent.TheVariants.{Send, Done, Take, Join, State, Leave, Reset, Ask, GiveUp, Tick, Hear}
+use Rattle.am_base.specs.declared.event.NodeEvent.{NodeEvent}
+use Rattle.am_base.specs.declared.event.NodeEvent.TheVariants.{Send, Done, Take, Join, State, Leave, Reset, Ask, GiveUp, Tick, Hear}
+use Rattle.am_packet.specs.declared.packet.Packet.{Packet}
+use Rattle.am_codec.specs.Reading.{Read, reading, cause_of}
 use Rattle.am_model.specs.Node.{Node}
 use Rattle.am_model.specs.Emit.{Plan, Step, quiet, finish}
 use Rattle.am_model.specs.Calls.{send_row, done_row, take_row, join_row, state_row, leave_row, reset_row, ask_row, give_up_row}
 use Rattle.am_model.specs.Ticks.{tick_row}
 use Rattle.am_model.specs.Hearing.{hear_row}
+
+-- bytes that are no packet, by the number of this cause
+abbrev pub refuse : Node → ℕ → Plan
+refuse m cause = quiet m (said.Refused cause)
+
+-- the row of bytes, by what was read of them
+abbrev pub read_row : Node → Read Packet → Plan
+read_row m (Ok packet) = hear_row m packet
+read_row m (Err refusal) = refuse m (cause_of refusal)
 
 -- the row of an event
 unfoldable pub row : Node → NodeEvent → Plan
@@ -21,12 +33,16 @@ row m (Reset least resilience) = reset_row m least resilience
 row m (Ask round) = ask_row m round
 row m (GiveUp name) = give_up_row m name
 row m Tick = tick_row m
-row m (Hear packet) = hear_row m packet
+row m (Hear bytes) = read_row m (reading bytes)
 
 -- what a node makes of an event
 unfoldable pub step : Node → NodeEvent → Step
 step m event = finish m (row m event)
 
--- bytes that are no packet, by this cause
+-- what it makes of a packet
+unfoldable pub hear : Node → Packet → Step
+hear m packet = finish m (hear_row m packet)
+
+-- what it makes of bytes that are no packet
 unfoldable pub refused : Node → ℕ → Step
-refused m cause = finish m (quiet m (said.Refused cause))
+refused m cause = finish m (refuse m cause)

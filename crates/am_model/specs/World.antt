@@ -8,9 +8,9 @@ use Rattle.am_base.specs.declared.outcome.Outcome.TheVariants as said
 use Rattle.am_base.specs.Names.{place_of, name_at, has}
 use Rattle.am_base.specs.Founding.{Rules}
 use Rattle.am_packet.specs.declared.packet.Packet.{Packet}
-use Rattle.am_packet.specs.declared.letter.Letter.{Letter}
-use Rattle.am_packet.specs.declared.event.NodeEvent.{NodeEvent}
-use Rattle.am_packet.specs.declared.event.NodeEvent.TheVariants as does
+use Rattle.am_packet.specs.Boxes.{Letter}
+use Rattle.am_base.specs.declared.event.NodeEvent.{NodeEvent}
+use Rattle.am_base.specs.declared.event.NodeEvent.TheVariants as does
 use Rattle.am_group.specs.declared.event.Act.{Act}
 use Rattle.am_group.specs.declared.event.Act.TheVariants as act
 use Rattle.am_group.specs.declared.event.Event.{Event}
@@ -21,7 +21,7 @@ use Rattle.am_model.specs.declared.status.Status.{Status}
 use Rattle.am_model.specs.declared.status.Status.TheVariants.{Stranger, Asking, Member, Departed}
 use Rattle.am_model.specs.Node.{Core, Node, told, view, members, set_at, founder, stranger, founding_stamp, founders_view}
 use Rattle.am_model.specs.Emit.{Step}
-use Rattle.am_model.specs.Step.{step, refused}
+use Rattle.am_model.specs.Step.{step, hear, refused}
 use Rattle.am_model.specs.Lengths.{packet_length}
 
 -- a view that was decided: its number, and what its View says
@@ -158,7 +158,7 @@ heard w e name hearing (Some letter) =
 -- the first bytes of a packet: too few for a header, or fewer than its length says, are refused
 abbrev pub hear_cut : Node → ℕ → Packet → Step
 hear_cut m keep packet =
-    if nat_le (packet_length packet) keep then step m (does.Hear packet)
+    if nat_le (packet_length packet) keep then hear m packet
     else if nat_lt keep 12 then refused m 1
     else refused m 5
 
@@ -189,7 +189,7 @@ acts_as w e name (act.Ask round) = does_event w e name (does.Ask round)
 acts_as w e name (act.GiveUp other) = gives_up w e name other
 acts_as w e name act.Stop = stops w e name
 acts_as w e name act.Tick = does_event w e name does.Tick
-acts_as w e name (act.Hear number) = heard w e name (λ packet. step (w.nodes name) (does.Hear packet)) (letter_at w.letters number)
+acts_as w e name (act.Hear number) = heard w e name (hear (w.nodes name)) (letter_at w.letters number)
 acts_as w e name (act.Cut number keep) = heard w e name (hear_cut (w.nodes name) keep) (letter_at w.letters number)
 acts_as w e name act.Return = returned w e (place_of name)
 

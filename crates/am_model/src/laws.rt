@@ -1,4 +1,4 @@
-ghost use Rattle.am_model.specs.Laws.{FoldGoesOn, RefreshOnce, FewLetters, HeldExactly, AcceptFrontIsGreatest, AcceptFrontByWalking, BestVoteIsGreatest, RowsGoOn, DataGoesOn, MembershipsGoOn, RunsGoOn, WatchedIsRun, OneRecordEach, FrontIsLawful};
+ghost use Rattle.am_model.specs.Laws.{FoldGoesOn, RefreshOnce, FewLetters, HeldExactly, SpellingIsHeard, CutIsHeard, AcceptFrontIsGreatest, AcceptFrontByWalking, BestVoteIsGreatest, RowsGoOn, DataGoesOn, MembershipsGoOn, RunsGoOn, WatchedIsRun, OneRecordEach, FrontIsLawful};
 
 /// A list that goes on tells what its beginning tells, and then the rest.
 #[tactic(auto, using(crate::proofs::Folds::fold_append))]
@@ -20,6 +20,14 @@ pub fn steps()
     ensures refresh_once { RefreshOnce }
     ensures few_letters { FewLetters }
     ensures held { HeldExactly }
+{}
+
+/// The bytes of a packet are heard as the packet, and the first of them as a packet that was cut: whole where all are there,
+/// and refused else.
+#[tactic(auto, using(crate::proofs::Bytes::spelling_is_heard, crate::proofs::Bytes::cut_is_heard))]
+pub fn bytes()
+    ensures whole { SpellingIsHeard }
+    ensures cut { CutIsHeard }
 {}
 
 /// The best vote is the greatest; its holder is the coordinator where it is among those that showed it, else the lowest name.

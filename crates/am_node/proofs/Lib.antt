@@ -1,3 +1,4 @@
+pub mod Within
 pub mod Least
 pub mod Settles
 pub mod Lasts

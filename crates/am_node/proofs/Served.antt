@@ -4,7 +4,7 @@ use Rattle.std.proofs.lemmas.List.{length-take, take_more}
 use Rattle.std.proofs.lemmas.Bool.Decides.{nat_tests}
 use Rattle.am_packet.specs.declared.packet.Packet.{Packet}
 use Rattle.am_base.specs.declared.entry.Entry.{Entry}
-use Rattle.am_packet.specs.declared.letter.Letter.{Letter}
+use Rattle.am_packet.specs.Boxes.{Letter}
 use Rattle.am_packet.specs.Boxes.{with_letter}
 use Rattle.am_model.specs.FirstNode.{Node}
 use Rattle.am_model.specs.FirstTable.{bcasts, bcast, just}

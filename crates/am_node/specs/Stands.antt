@@ -2,7 +2,7 @@
 use Rattle.std.specs.Prelude.{◌≡◌, ℕ, ◌<◌, ◌==◌, min, List, if◌then◌else◌, slice_index_or, vec_len, vec_capacity}
 use Rattle.am_base.specs.declared.image.Report.{Report}
 use Rattle.am_base.specs.declared.outcome.Outcome.{Outcome}
-use Rattle.am_packet.specs.declared.letter.Letter.{Letter}
+use Rattle.am_packet.specs.Boxes.{Letter}
 use Rattle.am_model.specs.FirstNode as model
 use Rattle.am_model.specs.FirstTable.{Step}
 use Rattle.am_node.specs.declared.node.Node.{Node}

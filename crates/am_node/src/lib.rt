@@ -1,4 +1,5 @@
 //! One node of a group.
 #![tactic(auto)]
 
+mod entries;
 pub mod node;

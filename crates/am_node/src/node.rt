@@ -1,21 +1,26 @@
 ghost use Rattle.std.specs.Prelude.{◌≡◌, ℕ, ◌<◌, ◌≤◌, ◌+◌, ◌-◌, ◌==◌, ◌++◌, ◌∷◌, List, [], length, drop, vec_len, vec_capacity, OnOk, OnErr, IfOk, IsTrue, true, find, position, slice_index, slice_index_or, IfSome, not, is_some, option_map, take, max};
 ghost use Rattle.arrayvec.specs.ArrayVec.{array_vec_len};
 ghost use Rattle.am_base.specs.Founding.{Rules};
-ghost use Rattle.am_model.specs.FirstNode.{is_data, last_from, last_after};
+ghost use Rattle.am_model.specs.FirstNode.{is_data};
 ghost use Rattle.am_model.specs.FirstTable.{just};
 ghost use Rattle.am_base.specs.Names.{has, place_of, names_of};
+ghost use Rattle.am_codec.specs.Limits.{IsEntry, IsWithin};
+ghost use Rattle.am_codec.specs.Reading.{reading};
+ghost use Rattle.am_node.specs.Entries.{AreWithin};
 
+use crate::entries::{last_in, position_of};
 use am_base::NoMemory;
 use am_base::body::Body;
 use am_base::entry::Entry;
+use am_base::event::NodeEvent;
 use am_base::founding::Founding;
 use am_base::image::Report;
 use am_base::name::{Name, Stamp};
 use am_base::names::Names;
 use am_base::outcome::Outcome;
+use am_codec::decode;
+use am_letter::out_box::OutBox;
 use am_model::send::QueuedSend;
-use am_packet::event::NodeEvent;
-use am_packet::letter::OutBox;
 use am_packet::packet::Packet;
 use arrayvec::ArrayVec;
 use std::alloc::Global;
@@ -37,12 +42,13 @@ pub struct Node {
     ghost given: { taken ≤ acc },
     ghost stored: { acc ≤ length log.items },
     ghost few: { length log.items ≤ 2000000000 },
+    ghost within: { AreWithin log.items },
 }
 
 impl Node {
     ghost use Rattle.am_model.specs.FirstNode.{sequencer_of, first_stamp, first_view, is_member, is_sequencer, others, top, last_of, last_from, report_of, with_report, own_report, tell, advance, least_taken, trim, fronts, accepted_number, settled_sends, settle, refresh, founder, stranger, is_data, no_report};
     ghost use Rattle.am_model.specs.declared.send.QueuedSend.{QueuedSend};
-    ghost use Rattle.am_model.specs.FirstTable.{own_state, pushed, has_room, is_idle, queued, bcast, nack, request, number, emit, send_step, send_of, without_send, done_step, take_step, is_fit, held, request_taken, request_step, above, bcasts, nack_taken, nack_step, note, is_next, stored_step, is_of_view, for_sequencer, from_sequencer, only, hear_step, step};
+    ghost use Rattle.am_model.specs.FirstTable.{own_state, pushed, has_room, is_idle, queued, bcast, nack, request, number, emit, send_step, send_of, without_send, done_step, take_step, is_fit, held, request_taken, request_step, above, bcasts, nack_taken, nack_step, note, is_next, stored_step, is_of_view, for_sequencer, from_sequencer, only, hear_step, read_step, step};
     ghost use Rattle.am_base.specs.declared.outcome.Outcome.{Outcome};
     ghost use Rattle.am_node.specs.Stands.{state_of, HasSpare, Makes, Becomes, lower};
 
@@ -238,9 +244,11 @@ impl Node {
         }
     }
 
+    #[tactic(auto, using(crate::proofs::Within::pushed_within))]
     fn push(&mut self, entry: Entry)
         requires room { HasSpare self.old }
         requires few { length self.old.log.items < 1999999990 }
+        requires within { IsEntry entry }
         ensures { state_of self.new ≡ pushed (state_of self.old) entry }
     {
         self.log.push_reserved(entry);
@@ -280,8 +288,12 @@ impl Node {
         self.asked
     }
 
+    #[tactic(auto, unfolding(am_codec::specs::Limits::IsWithin))]
     fn bcast(&self, number: u32, entry: &Entry) -> Packet
-        ensures { result ≡ bcast number entry.now (state_of self.now) }
+        requires number { number ≤ 2000000000 }
+        requires entry { IsEntry entry.now }
+        ensures value { result ≡ bcast number entry.now (state_of self.now) }
+        ensures within { IsWithin result }
     {
         Packet::Bcast {
             sender: self.who,
@@ -293,6 +305,7 @@ impl Node {
         }
     }
 
+    #[tactic(auto, unfolding(am_codec::specs::Limits::IsWithin))]
     fn send_nack(&self, out: &mut OutBox)
         requires { out.old ≡ [] }
         ensures { out.new ≡ nack (state_of self.now) }
@@ -305,8 +318,10 @@ impl Node {
         out.put(just(self.sequencer()), &packet);
     }
 
+    #[tactic(auto, unfolding(am_codec::specs::Limits::IsWithin))]
     fn send_request(&self, req: u32, body: &Body, out: &mut OutBox)
-        requires { out.old ≡ [] }
+        requires empty { out.old ≡ [] }
+        requires req { req ≤ 2000000000 }
         ensures { out.new ≡ request req body.now (state_of self.now) }
     {
         let packet = Packet::Request {
@@ -322,6 +337,7 @@ impl Node {
     fn number(&mut self, entry: &Entry, out: &mut OutBox)
         requires room { HasSpare self.old }
         requires few { length self.old.log.items < 1999999990 }
+        requires entry { IsEntry entry.now }
         requires empty { out.old ≡ [] }
         ensures { (outcome : Outcome) → Makes (λ m. number m entry.now outcome) self.old outcome out.new self.new }
     {
@@ -334,6 +350,7 @@ impl Node {
     fn emit(&mut self, req: u32, body: &Body, out: &mut OutBox)
         requires room { HasSpare self.old }
         requires few { length self.old.log.items < 1999999990 }
+        requires req { req ≤ 2000000000 }
         requires empty { out.old ≡ [] }
         ensures { (outcome : Outcome) → Makes (λ m. emit m req body.now outcome) self.old outcome out.new self.new }
     {
@@ -446,8 +463,10 @@ impl Node {
         report.taken <= report.stored && report.stored <= self.top()
     }
 
+    #[tactic(auto, unfolding(am_codec::specs::Limits::IsWithin))]
     fn hold(&self, sender: Name, req: u32, out: &mut OutBox)
-        requires { out.old ≡ [] }
+        requires empty { out.old ≡ [] }
+        requires req { req ≤ 2000000000 }
         ensures { out.new ≡ held sender req (state_of self.now) }
     {
         let accept = Packet::Accept {
@@ -473,6 +492,7 @@ impl Node {
     fn request_taken(&mut self, sender: Name, req: u32, body: &Body, out: &mut OutBox) -> Outcome
         requires room { HasSpare self.old }
         requires few { length self.old.log.items < 1999999990 }
+        requires req { req ≤ 2000000000 }
         requires empty { out.old ≡ [] }
         ensures { Makes (λ m. request_taken m sender req body.now) self.old result out.new self.new }
     {
@@ -512,6 +532,7 @@ impl Node {
     ) -> Outcome
         requires room { HasSpare self.old }
         requires few { length self.old.log.items < 1999999990 }
+        requires req { req ≤ 2000000000 }
         requires empty { out.old ≡ [] }
         ensures { Makes (λ m. request_step m sender report req body.now) self.old result out.new self.new }
     {
@@ -528,9 +549,11 @@ impl Node {
         self.request_taken(sender, req, body, out)
     }
 
+    #[tactic(auto, using(crate::proofs::Within::served_within))]
     fn above(&self, stored: u32) -> &[Entry]
         requires { stored ≤ length self.now.log.items }
         ensures value { result.now ≡ above (state_of self.now) stored }
+        ensures entries { AreWithin result.now }
         ensures few { length result.now ≤ 8 }
         ensures within { stored + length result.now ≤ 2000000000 }
     {
@@ -613,6 +636,7 @@ impl Node {
     fn store(&mut self, base: u32, number: u32, entry: &Entry, out: &mut OutBox) -> Outcome
         requires room { HasSpare self.old }
         requires few { length self.old.log.items < 1999999990 }
+        requires entry { IsEntry entry.now }
         requires empty { out.old ≡ [] }
         ensures { Makes (λ m. stored_step m base number entry.now) self.old result out.new self.new }
     {
@@ -671,10 +695,11 @@ impl Node {
         outcome
     }
 
-    #[tactic(auto, unfolding(am_model::specs::FirstTable::hear_step))]
+    #[tactic(auto, unfolding(am_model::specs::FirstTable::hear_step, am_codec::specs::Limits::IsWithin))]
     fn hear(&mut self, packet: &Packet, out: &mut OutBox) -> Outcome
         requires room { HasSpare self.old }
         requires few { length self.old.log.items < 1999999990 }
+        requires within { IsWithin packet.now }
         requires empty { out.old ≡ [] }
         ensures { Makes (λ m. hear_step m packet.now) self.old result out.new self.new }
     {
@@ -719,8 +744,22 @@ impl Node {
         }
     }
 
+    fn read(&mut self, bytes: &[u8], out: &mut OutBox) -> Outcome
+        requires room { HasSpare self.old }
+        requires few { length self.old.log.items < 1999999990 }
+        requires empty { out.old ≡ [] }
+        ensures { Makes (λ m. read_step m (reading bytes.now)) self.old result out.new self.new }
+    {
+        match decode(bytes) {
+            Ok(packet) => self.hear(&packet, out),
+            Err(refusal) => self.only(Outcome::Refused {
+                cause: refusal.cause(),
+            }),
+        }
+    }
+
     /// Does one step: the outcome, the letters and the next state are those of the table of steps
-    /// (docs/PROTOCOL.md, "Steps of a node"). It takes no memory.
+    /// (docs/PROTOCOL.md, "Steps of a node"). Bytes that spell no packet are refused by their cause. It takes no memory.
     #[tactic(auto, unfolding(am_model::specs::FirstTable::step))]
     pub fn step(&mut self, event: &NodeEvent, out: &mut OutBox) -> Outcome
         requires room { HasSpare self.old }
@@ -733,7 +772,7 @@ impl Node {
             NodeEvent::Send(body) => self.send(body, out),
             NodeEvent::Done(req) => self.done(*req),
             NodeEvent::Take => self.take(),
-            NodeEvent::Hear(packet) => self.hear(packet, out),
+            NodeEvent::Hear(bytes) => self.read(bytes.bytes(), out),
             _ => self.only(Outcome::Elsewhere),
         }
     }
@@ -825,40 +864,4 @@ fn just(name: Name) -> Names
     ensures { result ≡ just name }
 {
     Names::empty().with(name)
-}
-
-fn last_after(name: Name, last: u32, entry: &Entry) -> u32
-    ensures { result ≡ last_after name last entry.now }
-{
-    match entry {
-        Entry::Data { from, req, .. } => { if *from == name { *req } else { last } }
-        _ => last,
-    }
-}
-
-#[tactic(auto, using(crate::proofs::Lasts::lasts))]
-fn last_in(entries: &[Entry], name: Name) -> u32
-    ensures { result ≡ last_from name 0 entries.now }
-{
-    let mut last = 0;
-    for entry in entries {
-        last = last_after(name, last, entry);
-    }
-    last
-}
-
-fn position_of(entries: &[Entry], who: Name, req: u32) -> Option<usize>
-    ensures value { result ≡ position (is_data who req) entries.now }
-    ensures within { IfSome result (λ k. k < length entries.now) }
-{
-    entries.iter().position(|e| is_send(e, who, req))
-}
-
-fn is_send(entry: &Entry, who: Name, request: u32) -> bool
-    ensures { result ≡ is_data who request entry.now }
-{
-    match entry {
-        Entry::Data { from, req, .. } => *from == who && *req == request,
-        _ => false,
-    }
 }

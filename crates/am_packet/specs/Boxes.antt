@@ -1,9 +1,14 @@
--- What a step sends, in order.
-use Rattle.std.specs.Prelude.{ℕ, List, nat_le, ◌==◌, if◌then◌else◌, length, take_while, insert}
+-- Letters, and what a step sends, in order.
+use Rattle.std.specs.Prelude.{ℕ, List, Bool, nat_le, ◌==◌, if◌then◌else◌, length, take_while, insert}
 use Rattle.am_base.specs.Names.{size}
 use Rattle.am_packet.specs.declared.packet.Packet.{Packet}
-use Rattle.am_packet.specs.declared.letter.Letter.{Letter}
 use Rattle.am_packet.specs.Kinds.{kind_of, goes_to_any}
+
+-- a packet with its addressees: the names in a set, or every life of their places
+pub record Letter : Type 0 where
+  pub to : List ℕ
+  pub any : Bool
+  pub packet : Packet
 
 abbrev pub letter_to : List ℕ → Packet → Letter
 letter_to to packet = record { to = to; any = goes_to_any packet; packet = packet }

@@ -141,15 +141,6 @@ pub enum Packet {
     },
 }
 
-impl Default for Packet {
-    fn default() -> Packet {
-        Packet::Invite {
-            sender: Name::default(),
-            stamp: Stamp::default(),
-        }
-    }
-}
-
 impl Packet {
     /// The number of its kind, 1 to 18.
     pub fn kind(&self) -> u8

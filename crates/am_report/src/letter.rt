@@ -3,7 +3,7 @@ ghost use Rattle.am_model.specs.Text.{kind_word, addressees_text, letter_text, l
 
 use crate::name::{is_everybody_else, push_names};
 use am_base::NoMemory;
-use am_packet::letter::Letter;
+use am_letter::letter::Letter;
 use am_packet::packet::Packet;
 
 /// The name of a packet's kind.
@@ -39,10 +39,10 @@ fn push_addressees(out: &mut String, place: u8, letter: &Letter) -> Result<(), N
     requires { place < 16 }
     ensures { OnOk result (string_bytes out.new ≡ string_bytes out.old ++ addressees_text place letter.now) }
 {
-    if letter.any || is_everybody_else(letter.to, place) {
+    if letter.is_for_any() || is_everybody_else(letter.to(), place) {
         return out.push_str("all");
     }
-    push_names(out, letter.to)
+    push_names(out, letter.to())
 }
 
 // Adds a letter of a node at this place: its number, its kind and for whom it is.
@@ -51,7 +51,7 @@ fn push_letter(out: &mut String, place: u8, number: u64, letter: &Letter) -> Res
     requires { place < 16 }
     ensures { OnOk result (string_bytes out.new ≡ string_bytes out.old ++ letter_text place number letter.now) }
 {
-    let word = kind_word(&letter.packet);
+    let word = kind_word(&letter.packet());
     write!(out, " | {number} {word} to ")?;
     push_addressees(out, place, letter)
 }

@@ -7,7 +7,7 @@ use am_base::name::{Name, Stamp};
 use am_base::names::Names;
 use am_base::outcome::Outcome;
 use am_group::event::{Act, By, Event, Part, Record};
-use am_packet::letter::Letter;
+use am_letter::letter::Letter;
 use am_packet::packet::Packet;
 use std::test::Fail;
 
@@ -28,6 +28,18 @@ fn stamp(round: u32, by: u8) -> Stamp {
         round,
         by: Name::of_byte(by),
     }
+}
+
+#[tactic(auto, unfolding(am_codec::specs::Limits::IsWithin))]
+fn invite_to(to: Names) -> Letter {
+    let invite = Packet::Invite {
+        sender: Name::of_byte(0),
+        stamp: Stamp {
+            round: 2,
+            by: Name::of_byte(0),
+        },
+    };
+    Letter::of(to, &invite)
 }
 
 fn happened(place: u8, act: Act, outcome: Outcome, packets: Items<Letter>) -> Record {
@@ -126,18 +138,18 @@ fn events_without_letters(rt: HostRuntime) -> Result<(), Fail> {
 }
 
 #[test]
+#[tactic(auto, unfolding(am_codec::specs::Limits::IsWithin))]
 fn events_with_letters(rt: HostRuntime) -> Result<(), Fail> {
     let founding = founding().ok_or("founding")?;
     let asked = Packet::JoinAsk {
         sender: Name::of_byte(17),
-        stamp: stamp(0, 0),
-    };
-    let invite = Packet::Invite {
-        sender: Name::of_byte(0),
-        stamp: stamp(2, 0),
+        stamp: Stamp {
+            round: 0,
+            by: Name::of_byte(0),
+        },
     };
     let others = set(&[1, 2, 3, 4, 5, 6, 7, 8, 9, 10, 11, 12, 13, 14, 15]);
-    for (act, outcome, to, any, packet, want) in [
+    for (act, outcome, letter, want) in [
         (
             Act::Reset {
                 least: 1,
@@ -146,47 +158,31 @@ fn events_with_letters(rt: HostRuntime) -> Result<(), Fail> {
             Outcome::Waiting {
                 names: set(&[1, 2]),
             },
-            set(&[1, 2]),
-            false,
-            &invite,
+            invite_to(set(&[1, 2])),
             "1 reset 0 1 r1 : waiting 1,2 | 4 Invite to 1,2 | 5 Invite to 1,2\n",
         ),
         (
             Act::Tick,
             Outcome::Ticked,
-            others,
-            false,
-            &invite,
+            invite_to(others),
             "1 tick 0 : ticked | 4 Invite to all | 5 Invite to all\n",
         ),
         (
             Act::Tick,
             Outcome::Ticked,
-            others.with(Name::of_byte(17)),
-            false,
-            &invite,
+            invite_to(others.with(Name::of_byte(17))),
             "1 tick 0 : ticked | 4 Invite to 1/2,2,3,4,5,6,7,8,9,10,11,12,13,14,15 | 5 Invite to 1/2,2,3,4,5,6,7,8,9,10,11,12,13,14,15\n",
         ),
         (
             Act::Join,
             Outcome::Asked,
-            set(&[4]),
-            true,
-            &asked,
+            Letter::of(set(&[4]), &asked),
             "1 join 0 : asked | 4 JoinAsk to all | 5 JoinAsk to all\n",
         ),
     ] {
         let mut packets = Items::new(rt.alloc());
-        packets.push(Letter {
-            to,
-            any,
-            packet: packet.copied(),
-        })?;
-        packets.push(Letter {
-            to,
-            any,
-            packet: packet.copied(),
-        })?;
+        packets.push(letter.copied())?;
+        packets.push(letter)?;
         let item = happened(0, act, outcome, packets);
         let mut out = String::new(rt.alloc());
         push_record(&mut out, &founding, 1, 3, &item)?;

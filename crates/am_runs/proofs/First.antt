@@ -12,9 +12,9 @@ use Rattle.am_base.specs.Founding.{Rules}
 use Rattle.am_base.specs.Names.{has}
 use Rattle.am_packet.specs.declared.packet.Packet.{Packet}
 use Rattle.am_packet.specs.declared.packet.Packet.TheVariants.{Request, Bcast, Accept, Nack, Hold}
-use Rattle.am_packet.specs.declared.letter.Letter.{Letter}
-use Rattle.am_packet.specs.declared.event.NodeEvent.{NodeEvent}
-use Rattle.am_packet.specs.declared.event.NodeEvent.TheVariants as does
+use Rattle.am_packet.specs.Boxes.{Letter}
+use Rattle.am_base.specs.declared.event.NodeEvent.{NodeEvent}
+use Rattle.am_base.specs.declared.event.NodeEvent.TheVariants as does
 use Rattle.am_packet.specs.Boxes.{with_letter}
 use Rattle.am_group.specs.declared.event.Record.{Record}
 use Rattle.am_model.specs.declared.send.QueuedSend.{QueuedSend}
@@ -265,23 +265,24 @@ module _ (rules : Rules) (records : List Record) where
   elsewhere : (m : Node) → FirstOk rules records m → FirstStep rules records m (only m said.Elsewhere)
   elsewhere m h = still m said.Elsewhere h (refl, λ l a w. tt)
 
-  hears : (m : Node) (p : Packet) → FirstOk rules records m → PacketOk records m.log m.acc p → FirstStep rules records m (hear_step m p)
+  pub hears_first : (m : Node) (p : Packet) → FirstOk rules records m → PacketOk records m.log m.acc p → FirstStep rules records m (hear_step m p)
   unfolding hear_step
-  hears m (Request sender stamp report req body) h p = split (for_sequencer m sender stamp)
+  hears_first m (Request sender stamp report req body) h p = split (for_sequencer m sender stamp)
       (λ t. rw t (requests m sender report req body h p))
       (λ f. rw f (elsewhere m h))
-  hears m (Nack sender stamp report) h p = split (for_sequencer m sender stamp)
+  hears_first m (Nack sender stamp report) h p = split (for_sequencer m sender stamp)
       (λ t. rw t (nacks m sender report h))
       (λ f. rw f (elsewhere m h))
-  hears m (Bcast sender stamp base a number e) h p =
+  hears_first m (Bcast sender stamp base a number e) h p =
       let same : m.who ≡ sequencer_of m.rules = h.node.who ∙ ap sequencer_of (sym h.node.founding) in
       rw (never_both (is_member m) (sender == m.who) (is_of_view m stamp) (sender == sequencer_of m.rules) (ap (λ w. sender == w) (sym same))) (elsewhere m h)
-  hears m packet h p = elsewhere m h
+  hears_first m packet h p = elsewhere m h
 
-  pub steps_first : (m : Node) (a : NodeEvent) → FirstOk rules records m → ((p : Packet) → a ≡ does.Hear p → PacketOk records m.log m.acc p) → ((body : List ℕ) (req : ℕ) → a ≡ does.Send body → (step m a).outcome ≡ said.Queued req → WasSent records (sequencer_of rules) req body) → FirstStep rules records m (step m a)
+  -- what an application asks for
+  pub steps_first : (m : Node) (a : NodeEvent) → FirstOk rules records m → ((bytes : List ℕ) → a ≡ does.Hear bytes → ⊥) → ((body : List ℕ) (req : ℕ) → a ≡ does.Send body → (step m a).outcome ≡ said.Queued req → WasSent records (sequencer_of rules) req body) → FirstStep rules records m (step m a)
   unfolding step
-  steps_first m (does.Send body) h fine asks = sends m body h (λ req e. asks body req refl e)
-  steps_first m (does.Done req) h fine asks = dones m req h
-  steps_first m does.Take h fine asks = takes m h
-  steps_first m (does.Hear p) h fine asks = hears m p h (fine p refl)
-  steps_first m event h fine asks = elsewhere m h
+  steps_first m (does.Send body) h unheard asks = sends m body h (λ req e. asks body req refl e)
+  steps_first m (does.Done req) h unheard asks = dones m req h
+  steps_first m does.Take h unheard asks = takes m h
+  steps_first m (does.Hear bytes) h unheard asks = absurd (unheard bytes refl)
+  steps_first m event h unheard asks = elsewhere m h

@@ -7,7 +7,7 @@ use Rattle.am_base.specs.declared.outcome.Outcome.{Outcome}
 use Rattle.am_base.specs.declared.outcome.Outcome.TheVariants as said
 use Rattle.am_base.specs.Names.{size}
 use Rattle.am_packet.specs.declared.packet.Packet.{Packet}
-use Rattle.am_packet.specs.declared.letter.Letter.{Letter}
+use Rattle.am_packet.specs.Boxes.{Letter}
 use Rattle.am_packet.specs.Kinds.{kind_of}
 use Rattle.am_packet.specs.Boxes.{with_letter, letter_to, place_for}
 use Rattle.am_group.specs.declared.event.Record.{Record}

@@ -9,9 +9,9 @@ use Rattle.am_base.specs.declared.outcome.Outcome.TheVariants as said
 use Rattle.am_base.specs.Founding.{Rules}
 use Rattle.am_packet.specs.declared.packet.Packet.{Packet}
 use Rattle.am_packet.specs.declared.packet.Packet.TheVariants.{Request, Bcast, Nack}
-use Rattle.am_packet.specs.declared.letter.Letter.{Letter}
-use Rattle.am_packet.specs.declared.event.NodeEvent.{NodeEvent}
-use Rattle.am_packet.specs.declared.event.NodeEvent.TheVariants as does
+use Rattle.am_packet.specs.Boxes.{Letter}
+use Rattle.am_base.specs.declared.event.NodeEvent.{NodeEvent}
+use Rattle.am_base.specs.declared.event.NodeEvent.TheVariants as does
 use Rattle.am_packet.specs.Boxes.{with_letter}
 use Rattle.am_group.specs.declared.event.Record.{Record}
 use Rattle.am_model.specs.declared.send.QueuedSend.{QueuedSend}
@@ -138,7 +138,7 @@ module _ (rules : Rules) (records : List Record) (list : List Entry) (acc i : �
   elsewhere : (m : Node) → NodeOk rules records list acc i m → StepOk rules records list acc i m (only m said.Elsewhere)
   elsewhere m h = nothing m m said.Elsewhere refl h (refl, λ l a w. tt)
 
-  hears : (m : Node) (p : Packet) → NodeOk rules records list acc i m → PacketOk records list acc p → StepOk rules records list acc i m (hear_step m p)
+  pub hears : (m : Node) (p : Packet) → NodeOk rules records list acc i m → PacketOk records list acc p → StepOk rules records list acc i m (hear_step m p)
   unfolding hear_step
   hears m (Request sender stamp report req body) h p = rw (last_false (is_member m) (not (sender == m.who)) (is_of_view m stamp) (is_sequencer m) (is_other rules i m other h.who h.founding)) (elsewhere m h)
   hears m (Nack sender stamp report) h p = rw (last_false (is_member m) (not (sender == m.who)) (is_of_view m stamp) (is_sequencer m) (is_other rules i m other h.who h.founding)) (elsewhere m h)
@@ -147,10 +147,11 @@ module _ (rules : Rules) (records : List Record) (list : List Entry) (acc i : �
       (λ f. rw f (elsewhere m h))
   hears m packet h p = elsewhere m h
 
-  pub steps : (m : Node) (a : NodeEvent) → NodeOk rules records list acc i m → ((p : Packet) → a ≡ does.Hear p → PacketOk records list acc p) → ((body : List ℕ) (req : ℕ) → a ≡ does.Send body → (step m a).outcome ≡ said.Queued req → WasSent records i req body) → StepOk rules records list acc i m (step m a)
+  -- what an application asks for
+  pub steps : (m : Node) (a : NodeEvent) → NodeOk rules records list acc i m → ((bytes : List ℕ) → a ≡ does.Hear bytes → ⊥) → ((body : List ℕ) (req : ℕ) → a ≡ does.Send body → (step m a).outcome ≡ said.Queued req → WasSent records i req body) → StepOk rules records list acc i m (step m a)
   unfolding step
-  steps m (does.Send body) h fine asks = sends m body h (λ req e. asks body req refl e)
-  steps m (does.Done req) h fine asks = dones m req h
-  steps m does.Take h fine asks = takes m h
-  steps m (does.Hear p) h fine asks = hears m p h (fine p refl)
-  steps m event h fine asks = elsewhere m h
+  steps m (does.Send body) h unheard asks = sends m body h (λ req e. asks body req refl e)
+  steps m (does.Done req) h unheard asks = dones m req h
+  steps m does.Take h unheard asks = takes m h
+  steps m (does.Hear bytes) h unheard asks = absurd (unheard bytes refl)
+  steps m event h unheard asks = elsewhere m h

@@ -13,23 +13,24 @@ use Rattle.am_base.specs.Founding.{Rules}
 use Rattle.am_base.specs.Names.{place_of, has}
 use Rattle.am_packet.specs.declared.packet.Packet.{Packet}
 use Rattle.am_packet.specs.declared.packet.Packet.TheVariants.{Request, Bcast}
-use Rattle.am_packet.specs.declared.letter.Letter.{Letter}
-use Rattle.am_packet.specs.declared.event.NodeEvent.{NodeEvent}
-use Rattle.am_packet.specs.declared.event.NodeEvent.TheVariants as does
+use Rattle.am_packet.specs.Boxes.{Letter}
+use Rattle.am_base.specs.declared.event.NodeEvent.{NodeEvent}
+use Rattle.am_base.specs.declared.event.NodeEvent.TheVariants as does
 use Rattle.am_group.specs.declared.event.Act.{Act}
 use Rattle.am_group.specs.declared.event.Act.TheVariants as act
 use Rattle.am_group.specs.declared.event.Event.{Event}
 use Rattle.am_group.specs.declared.event.Record.{Record}
 use Rattle.am_model.specs.FirstNode.{Node, is_sequencer, sequencer_of, first_view, founder, stranger, last_from}
-use Rattle.am_model.specs.FirstTable.{Step, step}
-use Rattle.am_model.specs.FirstRun.{World, with_node, grown, record_of, recorded, refused, does_step, is_for, hears, letter_at, happens_by, happens, run_on, start, given, deliveries}
+use Rattle.am_model.specs.FirstTable.{Step, hear_step, step}
+use Rattle.am_model.specs.FirstRun.{World, with_node, grown, record_of, recorded, refused, does_step, is_for, letter_at, happens_by, happens, run_on, start, given, deliveries}
+use Rattle.am_model.specs.FirstRun as model
 use Rattle.am_runs.specs.FirstClaims.{WasSent, numbered}
 use Rattle.am_runs.specs.FirstKept.{IsPrefixOf, SendOk, NodeOk, EntryOk, PacketOk, LetterOk, InOrder, FirstOk, Gave, SentOk, StepOk, FirstStep, AskedBefore, WorldOk}
 use Rattle.am_runs.proofs.Lists.{split, prefix_refl, prefix_trans, prefix_more, prefix_length, prefix_get, take_same, take_get, get_last, get_push, All-get}
 use Rattle.am_runs.proofs.Sends.{was_more, stands_more, send_more}
 use Rattle.am_runs.proofs.Refreshes.{is_first, is_other}
-use Rattle.am_runs.proofs.Others.{steps}
-use Rattle.am_runs.proofs.First.{steps_first}
+use Rattle.am_runs.proofs.Others.{hears, steps}
+use Rattle.am_runs.proofs.First.{hears_first, steps_first}
 
 -- What is said of records and a list is said of longer ones.
 
@@ -167,25 +168,23 @@ module _ (rules : Rules) (w : World) (m n : Node) (e : Event) (s : Step) (ok : W
         before = before_push w.records r ok.before (λ number from req body took. gave_asked w.records (w.nodes i).log m.log (w.nodes i).taken s.node.taken number from req body s.outcome (ok.each i).log ok.first.entries mine.gave took);
       }
 
-step_ok : (rules : Rules) (w : World) (m : Node) (e : Event) (a : NodeEvent) → WorldOk rules w m → ((p : Packet) → a ≡ does.Hear p → PacketOk w.records m.log m.acc p) → ((body : List ℕ) → a ≡ does.Send body → e.act ≡ act.Send body) → (n : Node) × WorldOk rules (does_step w e a) n
-step_ok rules w m e a ok fine asks =
+-- a step of the event's place, which keeps what is known of the sequencer's node, or of another one
+step_ok : (rules : Rules) (w : World) (m : Node) (e : Event) (s : Step) → WorldOk rules w m
+    → (place_of e.node ≡ sequencer_of rules → FirstOk rules (w.records ++ record_of e s.outcome s.letters ∷ []) (w.nodes (place_of e.node)) → FirstStep rules (w.records ++ record_of e s.outcome s.letters ∷ []) (w.nodes (place_of e.node)) s)
+    → (place_of e.node ≢ sequencer_of rules → NodeOk rules (w.records ++ record_of e s.outcome s.letters ∷ []) m.log m.acc (place_of e.node) (w.nodes (place_of e.node)) → StepOk rules (w.records ++ record_of e s.outcome s.letters ∷ []) m.log m.acc (place_of e.node) (w.nodes (place_of e.node)) s)
+    → (n : Node) × WorldOk rules (recorded w e s) n
+step_ok rules w m e s ok leads follows =
     let i = place_of e.node in
     let q = sequencer_of rules in
-    let s = step (w.nodes i) a in
     let r = record_of e s.outcome s.letters in
     let all = w.records ++ r ∷ [] in
     let longer = prefix_more w.records (r ∷ []) in
     let le : m.acc ≤ m.acc = omega arith in
-    let heard : (p : Packet) → a ≡ does.Hear p → PacketOk all m.log m.acc p = λ p h. packet_more w.records all m.log m.log m.acc m.acc p longer (prefix_refl m.log) le (fine p h) in
-    let asked : (body : List ℕ) (req : ℕ) → a ≡ does.Send body → s.outcome ≡ said.Queued req → WasSent all i req body =
-    λ body req is answer. record { index = length w.records; asked = r; there = get_last w.records r; by = refl; call = asks body is; answer = answer } in
     split (i == q)
     (λ t.
     let z : i ≡ q = grind (arith, nat_tests) in
     let is : w.nodes i ≡ m = ap w.nodes z ∙ ok.is in
-    let f : FirstStep rules all (w.nodes i) s = steps_first rules all (w.nodes i) a (subst (FirstOk rules all) (sym is) (first_more rules w.records all m longer ok.first))
-    (λ p h. subst (λ (x : Node). PacketOk all x.log x.acc p) (sym is) (heard p h))
-    (λ body req is answer. subst (λ k. WasSent all k req body) z (asked body req is answer)) in
+    let f : FirstStep rules all (w.nodes i) s = leads z (subst (FirstOk rules all) (sym is) (first_more rules w.records all m longer ok.first)) in
     let grows = subst (λ (x : Node). IsPrefixOf x.log s.node.log) is f.grows in
     let up = subst (λ (x : Node). x.acc ≤ s.node.acc) is f.accepted in
     let first_is : (q == i) ≡ true = grind (arith, nat_tests) in
@@ -196,12 +195,39 @@ step_ok rules w m e a ok fine asks =
     ))
     (λ t.
     let z : i ≢ q = grind (arith, nat_tests) in
-    let o = steps rules all m.log m.acc i z (w.nodes i) a (node_more rules w.records all m.log m.log m.acc m.acc i (w.nodes i) longer (prefix_refl m.log) le (ok.each i)) heard asked in
+    let o = follows z (node_more rules w.records all m.log m.log m.acc m.acc i (w.nodes i) longer (prefix_refl m.log) le (ok.each i)) in
     let first_is : (q == i) ≡ false = grind (arith, nat_tests) in (
       m,
       made rules w m m e s ok (prefix_refl m.log) le (rw first_is ok.is) (first_more rules w.records all m longer ok.first) o
           (grown_other w.group s.node (is_other rules i s.node z o.node.who o.node.founding) ∙ ok.group),
     ))
+
+-- what an application asks for
+asks_ok : (rules : Rules) (w : World) (m : Node) (e : Event) (a : NodeEvent) → WorldOk rules w m → ((bytes : List ℕ) → a ≡ does.Hear bytes → ⊥) → ((body : List ℕ) → a ≡ does.Send body → e.act ≡ act.Send body) → (n : Node) × WorldOk rules (does_step w e a) n
+asks_ok rules w m e a ok unheard asks =
+    let i = place_of e.node in
+    let s = step (w.nodes i) a in
+    let r = record_of e s.outcome s.letters in
+    let all = w.records ++ r ∷ [] in
+    let asked : (body : List ℕ) (req : ℕ) → a ≡ does.Send body → s.outcome ≡ said.Queued req → WasSent all i req body =
+    λ body req is answer. record { index = length w.records; asked = r; there = get_last w.records r; by = refl; call = asks body is; answer = answer } in
+    step_ok rules w m e s ok
+    (λ z h. steps_first rules all (w.nodes i) a h unheard (λ body req is answer. subst (λ k. WasSent all k req body) z (asked body req is answer)))
+    (λ z h. steps rules all m.log m.acc i z (w.nodes i) a h unheard asked)
+
+-- a packet that is as it should be
+packet_ok : (rules : Rules) (w : World) (m : Node) (e : Event) (p : Packet) → WorldOk rules w m → PacketOk w.records m.log m.acc p → (n : Node) × WorldOk rules (recorded w e (hear_step (w.nodes (place_of e.node)) p)) n
+packet_ok rules w m e p ok fine =
+    let i = place_of e.node in
+    let s = hear_step (w.nodes i) p in
+    let r = record_of e s.outcome s.letters in
+    let all = w.records ++ r ∷ [] in
+    let longer = prefix_more w.records (r ∷ []) in
+    let le : m.acc ≤ m.acc = omega arith in
+    let heard : PacketOk all m.log m.acc p = packet_more w.records all m.log m.log m.acc m.acc p longer (prefix_refl m.log) le fine in
+    step_ok rules w m e s ok
+    (λ z h. hears_first rules all (w.nodes i) p h (subst (λ (x : Node). PacketOk all x.log x.acc p) (sym (ap w.nodes z ∙ ok.is)) heard))
+    (λ z h. hears rules all m.log m.acc i z (w.nodes i) p h heard)
 
 refused_ok : (rules : Rules) (w : World) (m : Node) (e : Event) (o : Outcome) → WorldOk rules w m → given o ≡ [] → ((who : ℕ) → SentOk m.log m.acc who o) → WorldOk rules (refused w e o) m
 unfolding refused
@@ -231,19 +257,17 @@ letter_ok : (P : Letter → Type 0) (letters : List Letter) (k : ℕ) (l : Lette
 letter_ok P letters zero l h e = absurd (cc)
 letter_ok P letters (suc before) l h e = All-get P letters before l h e
 
-hears_ok : (rules : Rules) (w : World) (m : Node) (e : Event) (k : ℕ) (o : Option Letter) → WorldOk rules w m → letter_at w.letters k ≡ o → (n : Node) × WorldOk rules (hears w e o) n
-hears_ok rules w m e k None ok at = (m, refused_ok rules w m e said.NoPacket ok refl (λ _. tt))
-hears_ok rules w m e k (Some l) ok at = split (is_for l (place_of e.node))
-    (λ t. rw t (step_ok rules w m e (does.Hear l.packet) ok
-    (λ p h. let same : l.packet ≡ p = cc in subst (PacketOk w.records m.log m.acc) same (letter_ok (LetterOk w.records m.log m.acc) w.letters k l ok.letters at))
-    (λ body h. absurd (cc))))
+letters_ok : (rules : Rules) (w : World) (m : Node) (e : Event) (k : ℕ) (o : Option Letter) → WorldOk rules w m → letter_at w.letters k ≡ o → (n : Node) × WorldOk rules (model.hears w e o) n
+letters_ok rules w m e k None ok at = (m, refused_ok rules w m e said.NoPacket ok refl (λ _. tt))
+letters_ok rules w m e k (Some l) ok at = split (is_for l (place_of e.node))
+    (λ t. rw t (packet_ok rules w m e l.packet ok (letter_ok (LetterOk w.records m.log m.acc) w.letters k l ok.letters at)))
     (λ f. rw f (m, refused_ok rules w m e said.NotAddressed ok refl (λ _. tt)))
 
 happens_by_ok : (rules : Rules) (w : World) (m : Node) (e : Event) (a : Act) → WorldOk rules w m → e.act ≡ a → (n : Node) × WorldOk rules (happens_by w e a) n
-happens_by_ok rules w m e (act.Send body) ok is = step_ok rules w m e (does.Send body) ok (λ p h. absurd (cc)) (λ b h. let same : body ≡ b = cc in is ∙ ap act.Send same)
-happens_by_ok rules w m e (act.Done req) ok is = step_ok rules w m e (does.Done req) ok (λ p h. absurd (cc)) (λ b h. absurd (cc))
-happens_by_ok rules w m e act.Take ok is = step_ok rules w m e does.Take ok (λ p h. absurd (cc)) (λ b h. absurd (cc))
-happens_by_ok rules w m e (act.Hear packet) ok is = hears_ok rules w m e packet (letter_at w.letters packet) ok refl
+happens_by_ok rules w m e (act.Send body) ok is = asks_ok rules w m e (does.Send body) ok (λ p h. absurd (cc)) (λ b h. let same : body ≡ b = cc in is ∙ ap act.Send same)
+happens_by_ok rules w m e (act.Done req) ok is = asks_ok rules w m e (does.Done req) ok (λ p h. absurd (cc)) (λ b h. absurd (cc))
+happens_by_ok rules w m e act.Take ok is = asks_ok rules w m e does.Take ok (λ p h. absurd (cc)) (λ b h. absurd (cc))
+happens_by_ok rules w m e (act.Hear packet) ok is = letters_ok rules w m e packet (letter_at w.letters packet) ok refl
 happens_by_ok rules w m e other ok is = (m, refused_ok rules w m e said.Elsewhere ok refl (λ _. tt))
 
 happens_ok : (rules : Rules) (w : World) (m : Node) (e : Event) → WorldOk rules w m → (n : Node) × WorldOk rules (happens w e) n

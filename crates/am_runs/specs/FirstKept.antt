@@ -8,7 +8,7 @@ use Rattle.am_base.specs.Founding.{Rules}
 use Rattle.am_base.specs.Names.{place_of}
 use Rattle.am_packet.specs.declared.packet.Packet.{Packet}
 use Rattle.am_packet.specs.declared.packet.Packet.TheVariants.{Request, Bcast}
-use Rattle.am_packet.specs.declared.letter.Letter.{Letter}
+use Rattle.am_packet.specs.Boxes.{Letter}
 use Rattle.am_group.specs.declared.event.Record.{Record}
 use Rattle.am_model.specs.declared.send.QueuedSend.{QueuedSend}
 use Rattle.am_model.specs.FirstNode.{Node, sequencer_of, last_after, last_from}

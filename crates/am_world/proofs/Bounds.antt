@@ -1,5 +1,5 @@
 -- How fast the numbers of a node grow: a step adds at most one entry and at most one send.
-use Rattle.std.proofs.Common.{◌≡◌, ℕ, ◌+◌, ◌≤◌, List, [], length, Option, Some, None, Bool, true, false, not, if◌then◌else◌, refl, ap, ◌∙◌, arith, length-append}
+use Rattle.std.proofs.Common.{◌≡◌, ℕ, ◌+◌, ◌≤◌, List, [], length, Option, Some, None, Ok, Err, Bool, true, false, not, if◌then◌else◌, refl, ap, ◌∙◌, arith, length-append}
 use Rattle.std.proofs.lemmas.Bool.Decides.{nat_tests}
 use Rattle.am_base.specs.declared.entry.Entry.{Entry}
 use Rattle.am_base.specs.declared.image.Report.{Report}
@@ -8,11 +8,15 @@ use Rattle.am_base.specs.declared.outcome.Outcome.TheVariants as said
 use Rattle.am_base.specs.Names.{has}
 use Rattle.am_packet.specs.declared.packet.Packet.{Packet}
 use Rattle.am_packet.specs.declared.packet.Packet.TheVariants.{Request, Bcast, Nack}
-use Rattle.am_packet.specs.declared.event.NodeEvent.{NodeEvent}
-use Rattle.am_packet.specs.declared.event.NodeEvent.TheVariants as does
+use Rattle.am_base.specs.declared.event.NodeEvent.{NodeEvent}
+use Rattle.am_base.specs.declared.event.NodeEvent.TheVariants as does
+use Rattle.am_codec.specs.Reading.{Read, reading, cause_of}
 use Rattle.am_model.specs.declared.send.QueuedSend.{QueuedSend}
 use Rattle.am_model.specs.FirstNode.{Node, refresh, fronts, settle, trim, advance, tell, own_report, with_report}
-use Rattle.am_model.specs.FirstTable.{Step, step, emit, queued, send_step, done_step, done_of, collected, send_of, take_step, taken_of, request_step, request_taken, nack_step, nack_taken, stored_step, note, hear_step, only, is_fit, for_sequencer, from_sequencer}
+use Rattle.am_model.specs.FirstTable.{Step, step, emit, queued, send_step, done_step, done_of, collected, send_of, take_step, taken_of, request_step, request_taken, nack_step, nack_taken, stored_step, note, hear_step, read_step, only, is_fit, for_sequencer, from_sequencer}
+use Rattle.am_world.specs.declared.plan.Deed.{Deed}
+use Rattle.am_world.specs.declared.plan.Deed.TheVariants.{Asked, Heard}
+use Rattle.am_world.specs.Plans.{deed_step}
 
 abbrev pub Slow : Node → Step → Type 0
 Slow m s = (length s.node.log ≤ length m.log + 1) × (s.node.asked ≤ m.asked + 1)
@@ -136,10 +140,18 @@ hear_slow m (Nack sender stamp r) = slow_if m (for_sequencer m sender stamp) (na
 hear_slow m (Bcast sender stamp base acc num e) = slow_if m (from_sequencer m sender stamp) (stored_step (note m base acc) base num e) (only m said.Elsewhere) (noted m base acc num e) (only_slow m said.Elsewhere)
 hear_slow m _ = only_slow m said.Elsewhere
 
-pub step_slow : (m : Node) (what : NodeEvent) → Slow m (step m what)
+read_slow : (m : Node) (read : Read Packet) → Slow m (read_step m read)
+read_slow m (Ok p) = hear_slow m p
+read_slow m (Err refusal) = only_slow m (said.Refused (cause_of refusal))
+
+step_slow : (m : Node) (what : NodeEvent) → Slow m (step m what)
 unfolding step done_step
 step_slow m (does.Send body) = send_slow m body
 step_slow m (does.Done req) = done_slow m req (send_of m.sends req)
 step_slow m does.Take = take_slow m
-step_slow m (does.Hear p) = hear_slow m p
+step_slow m (does.Hear bytes) = read_slow m (reading bytes)
 step_slow m _ = only_slow m said.Elsewhere
+
+pub deed_slow : (m : Node) (deed : Deed) → Slow m (deed_step m deed)
+deed_slow m (Asked what) = step_slow m what
+deed_slow m (Heard letter) = hear_slow m letter.packet

@@ -6,22 +6,21 @@ use Rattle.am_base.specs.declared.entry.Entry.{Entry}
 use Rattle.am_base.specs.declared.outcome.Outcome.{Outcome}
 use Rattle.am_base.specs.Founding.{Rules}
 use Rattle.am_base.specs.Names.{place_of}
-use Rattle.am_packet.specs.declared.letter.Letter.{Letter}
-use Rattle.am_packet.specs.declared.event.NodeEvent.{NodeEvent}
+use Rattle.am_packet.specs.Boxes.{Letter}
 use Rattle.am_group.specs.declared.event.Event.{Event}
 use Rattle.am_group.specs.declared.event.Record.{Record}
 use Rattle.am_group.specs.Journals.{letters_of}
 use Rattle.am_group.proofs.Places.{letters_more}
 use Rattle.am_model.specs.FirstNode as protocol
 use Rattle.am_model.specs.FirstNode.{first_view}
-use Rattle.am_model.specs.FirstTable.{step}
 use Rattle.am_model.specs.FirstRun as model
 use Rattle.am_model.specs.FirstRun.{happens, recorded, refused, does_step, record_of, grown, run, run_on, start}
 use Rattle.am_node.specs.declared.node.Node.{Node}
 use Rattle.am_node.specs.Stands.{state_of, HasSpare}
+use Rattle.am_world.specs.declared.plan.Deed.{Deed}
 use Rattle.am_world.specs.declared.plan.Plan.{Plan}
 use Rattle.am_world.specs.declared.plan.Plan.TheVariants.{Does, Refuses}
-use Rattle.am_world.specs.Plans.{planned, plan_for}
+use Rattle.am_world.specs.Plans.{deed_step, planned, plan_for}
 use Rattle.am_world.specs.Runs.{Play, replay, after, AreNodes, AreFirst, IsRun, play_of, Answers}
 use Rattle.am_world.specs.Moves.{StepsAt, SameNodes, IsReadyAt, HasGroupRoom}
 use Rattle.am_world.proofs.PlanLaws.{happens_is}
@@ -95,9 +94,9 @@ next_refuses rules nodes records group event outcome ok few is =
     )
 
 -- an event in which a node does a step
-pub next_does : (rules : Rules) (nodes more : List Node) (records : List Record) (group longer : List Entry) (event : Event) (what : NodeEvent) (outcome : Outcome) (letters : List Letter) → IsRun (play_of rules records) nodes records group → length records < 100000 → plan_for (letters_of records) (place_of event.node) event.act ≡ Does what → StepsAt nodes more group longer (place_of event.node) what outcome letters → IsRun (play_of rules (records ++ record_of event outcome letters ∷ [])) more (records ++ record_of event outcome letters ∷ []) longer × Answers (play_of rules records) event outcome
+pub next_does : (rules : Rules) (nodes more : List Node) (records : List Record) (group longer : List Entry) (event : Event) (deed : Deed) (outcome : Outcome) (letters : List Letter) → IsRun (play_of rules records) nodes records group → length records < 100000 → plan_for (letters_of records) (place_of event.node) event.act ≡ Does deed → StepsAt nodes more group longer (place_of event.node) deed outcome letters → IsRun (play_of rules (records ++ record_of event outcome letters ∷ [])) more (records ++ record_of event outcome letters ∷ []) longer × Answers (play_of rules records) event outcome
 unfolding recorded
-next_does rules nodes more records group longer event what outcome letters ok few is steps =
+next_does rules nodes more records group longer event deed outcome letters ok few is steps =
     let p = play_of rules records in
     let r = record_of event outcome letters in
     let w = replay p in
@@ -105,8 +104,8 @@ next_does rules nodes more records group longer event what outcome letters ok fe
     let n = steps.0 in
     let m = steps.1 in
     let standing = ok.standing in
-    let made : step (w.nodes place) what ≡ record { node = state_of m; outcome = outcome; letters = letters } = ap (λ k. step k what) (sym (standing.each place n steps.2)) ∙ steps.4 in
-    let next : replay (after p event) ≡ recorded w event (record { node = state_of m; outcome = outcome; letters = letters }) = replay-planned p nodes records group event (Does what) ok is ∙ ap (recorded w event) made in
+    let made : deed_step (w.nodes place) deed ≡ record { node = state_of m; outcome = outcome; letters = letters } = ap (λ k. deed_step k deed) (sym (standing.each place n steps.2)) ∙ steps.4 in
+    let next : replay (after p event) ≡ recorded w event (record { node = state_of m; outcome = outcome; letters = letters }) = replay-planned p nodes records group event (Does deed) ok is ∙ ap (recorded w event) made in
     let now : replay (play_of rules (records ++ r ∷ [])) ≡ recorded w event (record { node = state_of m; outcome = outcome; letters = letters }) = ap replay (play_more rules records r) ∙ next in (
       record {
         few = few_more records r few;
@@ -143,11 +142,11 @@ refuses_step rules founding nodes records reserved pushed group event outcome r 
     let all : pushed ≡ records ++ record_of event outcome [] ∷ [] = added ∙ ap (λ rs. rs ++ r ∷ []) kept ∙ ap (λ x. records ++ x ∷ []) (made ∙ ap (record_of event outcome) none) in
     (subst (λ f. IsRun (play_of f pushed) nodes pushed group) (sym same) (subst (λ rs. IsRun (play_of rules rs) nodes rs group) (sym all) next.0), next.1)
 
-pub does_step_at : (rules founding : Rules) (nodes ready more : List Node) (records reserved pushed : List Record) (group longer : List Entry) (event : Event) (what : NodeEvent) (outcome : Outcome) (r : Record) (letters : List Letter) (plan : Plan) (place : ℕ) → IsRun (play_of rules records) nodes records group → (length records ≡ 100000 → ⊥) → SameNodes nodes ready → founding ≡ rules → reserved ≡ records → plan ≡ plan_for (letters_of reserved) (place_of event.node) event.act → plan ≡ Does what → place ≡ place_of event.node → StepsAt ready more group longer place what outcome letters → r ≡ record_of event outcome letters → pushed ≡ reserved ++ r ∷ [] → IsRun (play_of founding pushed) more pushed longer × Answers (play_of rules records) event outcome
-does_step_at rules founding nodes ready more records reserved pushed group longer event what outcome r letters plan place ok not_full stand same kept planned_is does here steps made added =
-    let is : plan_for (letters_of records) (place_of event.node) event.act ≡ Does what = ap (λ rs. plan_for (letters_of rs) (place_of event.node) event.act) (sym kept) ∙ sym planned_is ∙ does in
-    let at = subst (λ k. StepsAt ready more group longer k what outcome letters) here steps in
-    let next = next_does rules ready more records group longer event what outcome letters (run_same (play_of rules records) nodes ready records group ok stand) (few_records rules nodes records group ok not_full) is at in
+pub does_step_at : (rules founding : Rules) (nodes ready more : List Node) (records reserved pushed : List Record) (group longer : List Entry) (event : Event) (deed : Deed) (outcome : Outcome) (r : Record) (letters : List Letter) (plan : Plan) (place : ℕ) → IsRun (play_of rules records) nodes records group → (length records ≡ 100000 → ⊥) → SameNodes nodes ready → founding ≡ rules → reserved ≡ records → plan ≡ plan_for (letters_of reserved) (place_of event.node) event.act → plan ≡ Does deed → place ≡ place_of event.node → StepsAt ready more group longer place deed outcome letters → r ≡ record_of event outcome letters → pushed ≡ reserved ++ r ∷ [] → IsRun (play_of founding pushed) more pushed longer × Answers (play_of rules records) event outcome
+does_step_at rules founding nodes ready more records reserved pushed group longer event deed outcome r letters plan place ok not_full stand same kept planned_is does here steps made added =
+    let is : plan_for (letters_of records) (place_of event.node) event.act ≡ Does deed = ap (λ rs. plan_for (letters_of rs) (place_of event.node) event.act) (sym kept) ∙ sym planned_is ∙ does in
+    let at = subst (λ k. StepsAt ready more group longer k deed outcome letters) here steps in
+    let next = next_does rules ready more records group longer event deed outcome letters (run_same (play_of rules records) nodes ready records group ok stand) (few_records rules nodes records group ok not_full) is at in
     let all : pushed ≡ records ++ record_of event outcome letters ∷ [] = added ∙ ap (λ rs. rs ++ r ∷ []) kept ∙ ap (λ x. records ++ x ∷ []) made in
     (subst (λ f. IsRun (play_of f pushed) more pushed longer) (sym same) (subst (λ rs. IsRun (play_of rules rs) more rs longer) (sym all) next.0), next.1)
 

@@ -1,3 +1,4 @@
+pub mod Hears
 pub mod PlanLaws
 pub mod Grown
 pub mod Bounds

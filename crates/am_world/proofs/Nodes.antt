@@ -4,14 +4,15 @@ use Rattle.std.proofs.lemmas.Bool.Decides.{nat_tests}
 use Rattle.std.proofs.lemmas.List.{length-set}
 use Rattle.std.proofs.lemmas.Option.{slice_get_read}
 use Rattle.am_base.specs.declared.outcome.Outcome.{Outcome}
-use Rattle.am_packet.specs.declared.letter.Letter.{Letter}
-use Rattle.am_packet.specs.declared.event.NodeEvent.{NodeEvent}
+use Rattle.am_packet.specs.Boxes.{Letter}
 use Rattle.am_model.specs.FirstNode.{top}
-use Rattle.am_model.specs.FirstTable.{Step, step}
+use Rattle.am_model.specs.FirstTable.{Step}
 use Rattle.am_node.specs.declared.node.Node.{Node}
 use Rattle.am_node.specs.Stands.{state_of, Makes}
+use Rattle.am_world.specs.declared.plan.Deed.{Deed}
+use Rattle.am_world.specs.Plans.{deed_step}
 use Rattle.am_world.specs.Moves.{SameNodes, HasGroupRoom}
-use Rattle.am_world.proofs.Bounds.{step_slow}
+use Rattle.am_world.proofs.Bounds.{deed_slow}
 
 pub get_set_same : {A : Type 0} (xs : List A) (i : ℕ) (x y z : A) → slice_get xs i ≡ Some x → slice_get (slice_set xs i y) i ≡ Some z → y ≡ z
 get_set_same [] i x y z h g = absurd (cc)
@@ -45,9 +46,9 @@ pub same_refl : (nodes : List Node) → SameNodes nodes nodes
 same_refl nodes = record { count = refl; each = λ i n h. (n, h, refl) }
 
 -- a step needs room for one entry more at most
-pub room_after : (n m : Node) (what : NodeEvent) (outcome : Outcome) (letters : List Letter) (stored room : ℕ) → HasGroupRoom stored room n → Makes (λ k. step k what) n outcome letters m → max (top (state_of m)) stored ≤ room
-room_after n m what outcome letters stored room has made =
-    let slow = step_slow (state_of n) what in
+pub room_after : (n m : Node) (deed : Deed) (outcome : Outcome) (letters : List Letter) (stored room : ℕ) → HasGroupRoom stored room n → Makes (λ k. deed_step k deed) n outcome letters m → max (top (state_of m)) stored ≤ room
+room_after n m deed outcome letters stored room has made =
+    let slow = deed_slow (state_of n) deed in
     let long = slow.0 in
     let is = ap (λ (s : Step). length s.node.log) made in
     omega arith

@@ -2,13 +2,13 @@
 use Rattle.std.proofs.Common.{◌≡◌, ℕ, zero, suc, List, Option, Some, None, Bool, true, false, if◌then◌else◌, refl, sym, ap, ◌∙◌}
 use Rattle.am_base.specs.declared.outcome.Outcome.TheVariants as said
 use Rattle.am_base.specs.Names.{place_of}
-use Rattle.am_packet.specs.declared.letter.Letter.{Letter}
-use Rattle.am_packet.specs.declared.event.NodeEvent.TheVariants as does
+use Rattle.am_packet.specs.Boxes.{Letter}
 use Rattle.am_group.specs.declared.event.Event.{Event}
 use Rattle.am_group.specs.declared.event.Act.{Act}
 use Rattle.am_group.specs.declared.event.Act.TheVariants as act
 use Rattle.am_group.specs.Journals as journal
 use Rattle.am_model.specs.FirstRun.{World, happens, happens_by, hears, is_for, letter_at}
+use Rattle.am_world.specs.declared.plan.Deed.TheVariants.{Heard}
 use Rattle.am_world.specs.declared.plan.Plan.{Plan}
 use Rattle.am_world.specs.declared.plan.Plan.TheVariants.{Does, Refuses}
 use Rattle.am_world.specs.Plans.{planned, heard_of, plan_for}
@@ -19,7 +19,7 @@ chosen w event false first other = refl
 
 hears_is : (w : World) (event : Event) (o : Option Letter) → hears w event o ≡ planned w event (heard_of o (place_of event.node))
 hears_is w event None = refl
-hears_is w event (Some letter) = sym (chosen w event (is_for letter (place_of event.node)) (Does (does.Hear letter.packet)) (Refuses said.NotAddressed))
+hears_is w event (Some letter) = sym (chosen w event (is_for letter (place_of event.node)) (Does (Heard letter)) (Refuses said.NotAddressed))
 
 letter_same : (letters : List Letter) (number : ℕ) → letter_at letters number ≡ journal.letter_at letters number
 letter_same letters zero = refl

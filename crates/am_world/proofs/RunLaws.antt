@@ -7,13 +7,13 @@ use Rattle.am_base.specs.Founding.{Rules}
 use Rattle.am_base.specs.Names.{place_of, has}
 use Rattle.am_group.specs.declared.event.Event.{Event}
 use Rattle.am_model.specs.FirstNode.{Node, founder, stranger, is_sequencer}
-use Rattle.am_model.specs.FirstTable.{Step, step}
+use Rattle.am_model.specs.FirstTable.{Step}
 use Rattle.am_model.specs.FirstRun.{World, recorded, refused, happens, run_on, run, start, grown}
 use Rattle.am_world.specs.declared.plan.Plan.{Plan}
 use Rattle.am_world.specs.declared.plan.Plan.TheVariants.{Does, Refuses}
-use Rattle.am_world.specs.Plans.{planned, plan_for}
+use Rattle.am_world.specs.Plans.{deed_step, planned, plan_for}
 use Rattle.am_world.proofs.PlanLaws.{happens_is}
-use Rattle.am_world.proofs.Bounds.{Slow, step_slow}
+use Rattle.am_world.proofs.Bounds.{Slow, deed_slow}
 
 -- one event more
 pub run_push : (w : World) (events : List Event) (event : Event) → run_on w (events ++ event ∷ []) ≡ happens (run_on w events) event
@@ -34,7 +34,7 @@ recorded_slow w event s slow j = go (j == place_of event.node) refl
 
 planned_slow : (w : World) (event : Event) (p : Plan) → (j : ℕ) → (length ((planned w event p).nodes j).log ≤ length (w.nodes j).log + 1) × (((planned w event p).nodes j).asked ≤ (w.nodes j).asked + 1)
 unfolding refused
-planned_slow w event (Does what) j = recorded_slow w event (step (w.nodes (place_of event.node)) what) (step_slow (w.nodes (place_of event.node)) what) j
+planned_slow w event (Does deed) j = recorded_slow w event (deed_step (w.nodes (place_of event.node)) deed) (deed_slow (w.nodes (place_of event.node)) deed) j
 planned_slow w event (Refuses outcome) j = still (w.nodes j)
 
 happens_slow : (w : World) (event : Event) (j : ℕ) → (length ((happens w event).nodes j).log ≤ length (w.nodes j).log + 1) × (((happens w event).nodes j).asked ≤ (w.nodes j).asked + 1)
@@ -78,13 +78,13 @@ grown_short n group m g l = go (is_sequencer m)
 
 planned_short : (n : ℕ) (w : World) (event : Event) (p : Plan) → IsShort n w → length (planned w event p).group ≤ n + 1
 unfolding recorded refused
-planned_short n w event (Does what) short =
+planned_short n w event (Does deed) short =
     let place = place_of event.node in
-    let slow = step_slow (w.nodes place) what in
+    let slow = deed_slow (w.nodes place) deed in
     let long = slow.0 in
     let g = short.0 in
     let l = short.1 place in
-    grown_short n w.group (step (w.nodes place) what).node (omega arith) (omega arith)
+    grown_short n w.group (deed_step (w.nodes place) deed).node (omega arith) (omega arith)
 planned_short n w event (Refuses outcome) short = let g = short.0 in omega arith
 
 happens_short : (n : ℕ) (w : World) (event : Event) → IsShort n w → IsShort (n + 1) (happens w event)

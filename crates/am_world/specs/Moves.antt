@@ -2,13 +2,13 @@
 use Rattle.std.specs.Prelude.{◌≡◌, ℕ, ◌+◌, ◌<◌, ◌≤◌, max, length, List, Some, slice_get, slice_set}
 use Rattle.am_base.specs.declared.entry.Entry.{Entry}
 use Rattle.am_base.specs.declared.outcome.Outcome.{Outcome}
-use Rattle.am_packet.specs.declared.letter.Letter.{Letter}
-use Rattle.am_packet.specs.declared.event.NodeEvent.{NodeEvent}
+use Rattle.am_packet.specs.Boxes.{Letter}
 use Rattle.am_model.specs.FirstNode.{top}
-use Rattle.am_model.specs.FirstTable.{step}
 use Rattle.am_model.specs.FirstRun.{grown}
 use Rattle.am_node.specs.declared.node.Node.{Node}
 use Rattle.am_node.specs.Stands.{state_of, HasSpare, Makes}
+use Rattle.am_world.specs.declared.plan.Deed.{Deed}
+use Rattle.am_world.specs.Plans.{deed_step}
 
 -- the node has memory for a step, and its numbers are far from their end
 pub record IsReady (n : Node) : Type 0 where
@@ -21,9 +21,9 @@ abbrev pub HasGroupRoom : ℕ → ℕ → Node → Type 0
 HasGroupRoom stored room n = max (top (state_of n) + 1) stored ≤ room
 
 -- the node of this place does a step of the table, the others stay, and the group list grows by it
-abbrev pub StepsAt : List Node → List Node → List Entry → List Entry → ℕ → NodeEvent → Outcome → List Letter → Type 0
-StepsAt old new group longer place what outcome letters =
-    (n m : Node) × (slice_get old place ≡ Some n) × (new ≡ slice_set old place m) × Makes (λ k. step k what) n outcome letters m × (longer ≡ grown group (state_of m))
+abbrev pub StepsAt : List Node → List Node → List Entry → List Entry → ℕ → Deed → Outcome → List Letter → Type 0
+StepsAt old new group longer place deed outcome letters =
+    (n m : Node) × (slice_get old place ≡ Some n) × (new ≡ slice_set old place m) × Makes (λ k. deed_step k deed) n outcome letters m × (longer ≡ grown group (state_of m))
 
 -- the nodes stand as before
 pub record SameNodes (old new : List Node) : Type 0 where

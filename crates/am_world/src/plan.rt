@@ -4,17 +4,24 @@ ghost use Rattle.am_group.specs.Journals.{letters_of};
 ghost use Rattle.am_model.specs.FirstRun.{is_for};
 ghost use Rattle.am_world.specs.Plans.{heard, plan_for};
 
+use am_base::event::NodeEvent;
 use am_base::name::Name;
 use am_base::outcome::Outcome;
 use am_group::event::{Act, Event};
 use am_group::journal::Journal;
-use am_packet::event::NodeEvent;
-use am_packet::letter::Letter;
+use am_letter::letter::Letter;
 
-/// What an event comes to: a step of the place's node, or an outcome that changes no node.
+/// What a node does: what its application asks for, or hearing a letter.
+#[derive(Drop)]
+pub enum Deed {
+    Asked(NodeEvent),
+    Heard(Letter),
+}
+
+/// What an event comes to: a deed of the place's node, or an outcome that changes no node.
 #[derive(Drop)]
 pub enum Plan {
-    Does(NodeEvent),
+    Does(Deed),
     Refuses(Outcome),
 }
 
@@ -23,9 +30,9 @@ pub fn plan_of(journal: &Journal, event: &Event) -> Plan
     ensures { result ≡ plan_for (letters_of journal.now.records) (place_of event.now.node) event.now.act }
 {
     match &event.act {
-        Act::Send(body) => Plan::Does(NodeEvent::Send(body.copied())),
-        Act::Done(req) => Plan::Does(NodeEvent::Done(*req)),
-        Act::Take => Plan::Does(NodeEvent::Take),
+        Act::Send(body) => asks(NodeEvent::Send(body.copied())),
+        Act::Done(req) => asks(NodeEvent::Done(*req)),
+        Act::Take => asks(NodeEvent::Take),
         Act::Hear(packet) => match journal.packet(*packet) {
             Some(letter) => heard(letter, place_name(event.node)),
             None => Plan::Refuses(Outcome::NoPacket),
@@ -34,12 +41,18 @@ pub fn plan_of(journal: &Journal, event: &Event) -> Plan
     }
 }
 
+fn asks(what: NodeEvent) -> Plan
+    ensures { result ≡ Plan.Does (Deed.Asked what) }
+{
+    Plan::Does(Deed::Asked(what))
+}
+
 fn heard(letter: &Letter, place: Name) -> Plan
     requires { place < 16 }
     ensures { result ≡ heard letter.now place }
 {
     if is_for(letter, place) {
-        return Plan::Does(NodeEvent::Hear(letter.packet.copied()));
+        return Plan::Does(Deed::Heard(letter.copied()));
     }
     Plan::Refuses(Outcome::NotAddressed)
 }
@@ -56,8 +69,8 @@ pub fn is_for(letter: &Letter, place: Name) -> bool
     requires { place < 16 }
     ensures { result ≡ is_for letter.now place }
 {
-    if letter.any {
-        return 0 < letter.to.life_at(place.place());
+    if letter.is_for_any() {
+        return 0 < letter.to().life_at(place.place());
     }
-    letter.to.has(place)
+    letter.to().has(place)
 }

@@ -1,26 +1,27 @@
 ghost use Rattle.std.specs.Prelude.{◌≡◌, ℕ, ◌+◌, ◌-◌, ◌<◌, ◌≤◌, ◌++◌, ◌∷◌, ◌↔◌, List, [], length, map, take, drop, max, Some, slice_get, slice_set, vec_len, vec_capacity, OnOk, OnErr, IfOk, IsTrue};
 ghost use Rattle.am_base.specs.declared.outcome.Outcome.{Outcome};
 ghost use Rattle.am_base.specs.Names.{place_of};
-ghost use Rattle.am_model.specs.FirstTable.{step};
 ghost use Rattle.am_model.specs.FirstNode.{top, first_view};
 ghost use Rattle.am_model.specs.FirstRun.{grown, record_of, start};
 ghost use Rattle.am_node.specs.declared.node.Node.{Node};
 ghost use Rattle.am_node.specs.Stands.{state_of, Makes, HasSpare};
+ghost use Rattle.am_world.specs.Plans.{deed_step};
 ghost use Rattle.am_world.specs.Runs.{AreNodes};
 ghost use Rattle.am_world.specs.Moves.{StepsAt, IsReady, IsReadyAt, SameNodes, HasGroupRoom};
 
-use crate::plan::{Plan, place_name, plan_of};
+use crate::plan::{Deed, Plan, place_name, plan_of};
 use am_base::NoMemory;
 use am_base::entry::Entry;
+use am_base::event::NodeEvent;
 use am_base::founding::Founding;
 use am_base::items::Items;
 use am_base::name::{Name, Stamp};
 use am_base::outcome::Outcome;
 use am_group::event::{By, Event, Part, Record};
 use am_group::journal::Journal;
+use am_letter::letter::Letter;
+use am_letter::out_box::OutBox;
 use am_node::node::Node;
-use am_packet::event::NodeEvent;
-use am_packet::letter::{Letter, OutBox};
 use std::alloc::Global;
 use std::marker::Model;
 
@@ -53,15 +54,27 @@ fn grow(group: &mut Vec<Entry>, node: &Node)
     }
 }
 
+/// A node does a step.
+fn do_deed(node: &mut Node, deed: &Deed, out: &mut OutBox) -> Outcome
+    requires ready { IsReady node.old }
+    requires empty { out.old ≡ [] }
+    ensures { Makes (λ k. deed_step k deed.now) node.old result out.new node.new }
+{
+    match deed {
+        Deed::Asked(what) => node.step(what, out),
+        Deed::Heard(letter) => node.step(&NodeEvent::Hear(letter.bytes().copied()), out),
+    }
+}
+
 /// A node does a step, and the group list grows by it.
-fn step_node(node: &mut Node, what: &NodeEvent, group: &mut Vec<Entry>, out: &mut OutBox) -> Outcome
+fn step_node(node: &mut Node, deed: &Deed, group: &mut Vec<Entry>, out: &mut OutBox) -> Outcome
     requires ready { IsReady node.old }
     requires room { HasGroupRoom (vec_len group.old) (vec_capacity group.old) node.old }
     requires empty { out.old ≡ [] }
-    ensures step { Makes (λ k. step k what.now) node.old result out.new node.new }
+    ensures step { Makes (λ k. deed_step k deed.now) node.old result out.new node.new }
     ensures group { group.new.items ≡ grown group.old.items (state_of node.new) }
 {
-    let outcome = node.step(what, out);
+    let outcome = do_deed(node, deed, out);
     grow(group, node);
     outcome
 }
@@ -70,16 +83,16 @@ fn step_node(node: &mut Node, what: &NodeEvent, group: &mut Vec<Entry>, out: &mu
 fn step_at(
     nodes: &mut [Node],
     place: Name,
-    what: &NodeEvent,
+    deed: &Deed,
     group: &mut Vec<Entry>,
     out: &mut OutBox,
 ) -> Outcome
     requires place { place < length nodes.old }
     requires ready { IsReadyAt nodes.old place (vec_len group.old) (vec_capacity group.old) }
     requires empty { out.old ≡ [] }
-    ensures { StepsAt nodes.old nodes.new group.old.items group.new.items place what.now result out.new }
+    ensures { StepsAt nodes.old nodes.new group.old.items group.new.items place deed.now result out.new }
 {
-    step_node(&mut nodes[usize::from(place.get())], what, group, out)
+    step_node(&mut nodes[usize::from(place.get())], deed, group, out)
 }
 
 /// Makes room for a step of a node; how long the group list may be after it.
@@ -263,13 +276,13 @@ impl World {
                     .push(new_record(event, &outcome, Vec::new(self.alloc)));
                 Ok(outcome)
             }
-            Plan::Does(what) => {
+            Plan::Does(deed) => {
                 make_room(&mut self.nodes, place, &mut self.group)?;
                 self.out.clear();
                 let outcome = step_at(
                     &mut self.nodes,
                     place,
-                    &what,
+                    &deed,
                     &mut self.group,
                     &mut self.out,
                 );

@@ -1,7 +1,7 @@
 use Rattle.std.proofs.Common.{slice_set, vec_len, vec_capacity, ap, ◌∙◌, subst}
-use Rattle.am_model.specs.FirstTable.{step}
 use Rattle.am_node.specs.declared.node.Node.{Node}
 use Rattle.am_node.specs.Stands.{state_of}
+use Rattle.am_world.specs.Plans.{deed_step}
 use Rattle.am_world.specs.Moves.{IsReady, HasGroupRoom}
 use Rattle.am_world.proofs.Nodes.{read_here}
 use Rattle.am_world.proofs.world.step_at.Goals as goal
@@ -26,6 +26,6 @@ returns c =
       c.step_node.new.node,
       read_here c.args.nodes.now c.from.result c.args.place n place c.requires.place c.index-nodes-from.is,
       ap (λ i. slice_set c.args.nodes.now i c.step_node.new.node) place,
-      ap (λ (k : Node). step (state_of k) c.args.what.now) c.index-nodes-from.is ∙ c.step_node.ensures.step,
+      ap (λ (k : Node). deed_step (state_of k) c.args.deed.now) c.index-nodes-from.is ∙ c.step_node.ensures.step,
       c.step_node.ensures.group,
     )

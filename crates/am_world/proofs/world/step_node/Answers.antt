@@ -3,4 +3,4 @@ use Rattle.am_world.proofs.Nodes.{room_after}
 use Rattle.am_world.proofs.world.step_node.Goals as goal
 
 pub grow-requires : goal.grow-requires
-grow-requires c = room_after c.args.node.now c.step-outcome.new.self c.args.what.now c.step-outcome.result c.step-outcome.new.out (vec_len c.args.group.now) (vec_capacity c.args.group.now) c.requires.room c.step-outcome.ensures
+grow-requires c = room_after c.args.node.now c.do_deed-outcome.new.node c.args.deed.now c.do_deed-outcome.result c.do_deed-outcome.new.out (vec_len c.args.group.now) (vec_capacity c.args.group.now) c.requires.room c.do_deed-outcome.ensures

@@ -37,7 +37,7 @@ made c =
     let now : c.deref_mut-in-Does.result.now ≡ c.make_room.new.nodes = c.deref_mut-in-Does.ensures.value ∙ back in
     let letters : c.shrink_to_fit.new.self.items ≡ c.step_at-outcome.new.out = c.shrink_to_fit.ensures.items ∙ c.copy_letters.ensures ∙ ap (λ ls. ls ++ c.letters.result.now) c.in_ok-packets.ensures.items ∙ c.letters.ensures.value in
     let steps = c.step_at-outcome.ensures in
-    does_step_at w.journal.founding c.push-in-Does.new.self.founding w.nodes.items c.make_room.new.nodes c.step_at-outcome.new.nodes w.journal.records c.reserve.new.self.records c.push-in-Does.new.self.records w.group.items c.step_at-outcome.new.group.items c.args.event.now c.in-Does.what c.step_at-outcome.result c.new_record-in-Does.result c.step_at-outcome.new.out c.plan_of.result c.place_name-place.result
+    does_step_at w.journal.founding c.push-in-Does.new.self.founding w.nodes.items c.make_room.new.nodes c.step_at-outcome.new.nodes w.journal.records c.reserve.new.self.records c.push-in-Does.new.self.records w.group.items c.step_at-outcome.new.group.items c.args.event.now c.in-Does.deed c.step_at-outcome.result c.new_record-in-Does.result c.step_at-outcome.new.out c.plan_of.result c.place_name-place.result
     c.self.invariant (λ e. c.if-records-eq100000.false (ap length c.records.ensures.value ∙ e)) (subst (λ ns. SameNodes ns c.make_room.new.nodes) c.deref_mut.ensures.value stand) (c.push-in-Does.ensures.founding ∙ c.reserve.ensures.founding) c.reserve.ensures.records c.plan_of.ensures c.in-Does.is c.place_name-place.ensures
     (rw (now, c.make_room.ensures.group) at steps) (c.new_record-in-Does.ensures ∙ ap (record_of c.args.event.now c.step_at-outcome.result) letters) c.push-in-Does.ensures.records
 

@@ -1,43 +1,12 @@
 ghost use Rattle.std.specs.Prelude.{◌≡◌, ◌<◌, ◌≤◌, [], length};
-ghost use Rattle.am_base.specs.Names.{size};
 ghost use Rattle.am_packet.specs.Boxes.{with_letter, place_for};
+ghost use Rattle.am_codec.specs.Limits.{IsWithin};
 
-use crate::packet::Packet;
-use am_base::entry::Entry;
+use crate::letter::Letter;
 use am_base::names::Names;
+use am_packet::packet::Packet;
 use arrayvec::ArrayVec;
 use std::marker::Model;
-
-/// A packet with its addressees: the names in `to`, or with `any` every life of their places.
-#[derive(Drop, Clone, Debug)]
-pub struct Letter {
-    pub to: Names,
-    pub any: bool,
-    pub packet: Packet,
-}
-
-impl Default for Letter {
-    fn default() -> Letter {
-        Letter {
-            to: Names::empty(),
-            any: false,
-            packet: Packet::default(),
-        }
-    }
-}
-
-impl Letter {
-    /// The same letter. It takes no memory.
-    pub fn copied(&self) -> Letter
-        ensures { result ≡ self.now }
-    {
-        Letter {
-            to: self.to,
-            any: self.any,
-            packet: self.packet.copied(),
-        }
-    }
-}
 
 /// The letters of one step, at most 24. Contracts see it as their list.
 #[derive(Drop)]
@@ -47,9 +16,9 @@ pub struct OutBox {
 
 impl Model for OutBox {
     ghost use Rattle.std.specs.Prelude.{List};
-    ghost use Rattle.am_packet.specs.declared.letter.Letter.{Letter};
+    ghost use Rattle.am_packet.specs.Boxes as boxes;
 
-    ghost Value = { List Letter };
+    ghost Value = { List boxes.Letter };
 
     ghost view = { λ b. b.letters.items };
 }
@@ -86,25 +55,20 @@ impl OutBox {
         self.letters
             .as_slice()
             .iter()
-            .take_while(|letter| letter.packet.kind() <= kind)
+            .take_while(|letter| letter.kind() <= kind)
             .count()
     }
 
     /// Adds a letter behind those of its own kind and of lower ones; nothing where it is for nobody.
     pub fn put(&mut self, to: Names, packet: &Packet)
-        requires { length self.old < 24 }
+        requires room { length self.old < 24 }
+        requires within { IsWithin packet.now }
         ensures { self.new ≡ with_letter to packet.now self.old }
     {
         if to.len() == 0 {
             return;
         }
-        let kind = packet.kind();
-        let at = self.place_for(kind);
-        let letter = Letter {
-            to,
-            any: kind == 9,
-            packet: packet.copied(),
-        };
-        self.letters.insert(at, letter);
+        let at = self.place_for(packet.kind());
+        self.letters.insert(at, Letter::of(to, packet));
     }
 }

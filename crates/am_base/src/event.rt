@@ -1,6 +1,5 @@
-use crate::packet::Packet;
-use am_base::body::Body;
-use am_base::name::Name;
+use crate::body::{Body, PacketBytes};
+use crate::name::Name;
 
 /// What a node is asked to do, or hears (docs/PROTOCOL.md, "Steps of a node").
 #[derive(Drop, Clone, Debug)]
@@ -25,6 +24,6 @@ pub enum NodeEvent {
     GiveUp(Name),
     /// Time passed.
     Tick,
-    /// A packet came.
-    Hear(Packet),
+    /// These bytes came. What spells no packet is refused.
+    Hear(PacketBytes),
 }
