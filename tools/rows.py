@@ -45,7 +45,7 @@ use Rattle.am_rows.specs.Scripts.{set_of}
 FIRST_OPENED = """
 use Rattle.am_model.specs.FirstNode.{last_from, with_report, own_report, tell, advance, least_taken, trim, settled_sends, settle}
 use Rattle.am_model.specs.FirstTable.{queued, send_step, done_step, take_step, request_taken, request_step, bcasts, nack_taken, nack_step, note, stored_step, hear_step, step}
-use Rattle.am_model.specs.FirstRun.{grown, recorded, refused, happens, run_on, deliveries}
+use Rattle.am_model.specs.FirstRun.{grown, recorded, refused, happens, run_on}
 """ + "".join(line + "\n" for line in OPENED.splitlines() if any(part in line for part in (".Text.", ".Fmt.", ".Scripts.")))
 
 

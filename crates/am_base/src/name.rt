@@ -22,6 +22,10 @@ impl Model for Name {
 }
 
 impl Default for Name {
+    ghost use Rattle.std.specs.Prelude.{◌≡◌};
+
+    ghost is_default = { λ name. name ≡ 0 };
+
     fn default() -> Name {
         Name(0)
     }
@@ -147,6 +151,10 @@ impl Stamp {
 }
 
 impl Default for Stamp {
+    ghost use Rattle.std.specs.Prelude.{◌≡◌};
+
+    ghost is_default = { λ stamp. stamp ≡ record { round = 0; by = 0 } };
+
     fn default() -> Stamp {
         Stamp {
             round: 0,

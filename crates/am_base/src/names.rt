@@ -89,11 +89,12 @@ impl Names {
         Names { lives: [0; 16] }
     }
 
-    /// Does nothing: it says what is known of every set.
-    pub fn known(self)
-        ensures { IsSet self }
+    /// The lives of its sixteen places, place 0 first; 0 where a place isn't there.
+    pub fn by_place(&self) -> &[u8]
+        ensures value { result.now ≡ self.now }
+        ensures set { IsSet self.now }
     {
-        let _ = &self.lives;
+        &self.lives
     }
 
     #[tactic(auto, using(crate::proofs::Masks::is_set))]

@@ -1,5 +1,5 @@
-ghost use Rattle.std.specs.Prelude.{◌≡◌, ◌&&◌, ◌==◌, ◌++◌, IfOk, OnOk};
-ghost use Rattle.am_group.specs.Deliveries.{is_of, given_to, deliveries};
+ghost use Rattle.std.specs.Prelude.{◌≡◌, ◌==◌, ◌++◌, IfOk, OnOk};
+ghost use Rattle.am_group.specs.Deliveries.{name_of, given_to, deliveries};
 
 use crate::event::Record;
 use am_base::NoMemory;
@@ -9,9 +9,10 @@ use am_base::outcome::Outcome;
 use std::alloc::Global;
 
 fn is_of(item: &Record, node: Name) -> bool
-    ensures { result ≡ is_of item.now node }
+    ensures { result ≡ (name_of item.now == node) }
 {
-    item.event.node.place() == node.place() && item.life == node.life()
+    let life = u32::from(item.life);
+    u32::from(item.event.node.place()) + 16 * life.saturating_sub(1) == u32::from(node.get())
 }
 
 fn put_given(item: &Record, node: Name, given: &mut Vec<(u32, Entry)>) -> Result<(), NoMemory>

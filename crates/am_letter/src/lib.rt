@@ -3,3 +3,5 @@
 
 pub mod letter;
 pub mod out_box;
+#[cfg(test)]
+mod tests;

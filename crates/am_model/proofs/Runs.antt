@@ -9,8 +9,9 @@ use Rattle.am_packet.specs.Boxes.{Letter}
 use Rattle.am_group.specs.declared.event.Act.{Act}
 use Rattle.am_group.specs.declared.event.Act.TheVariants as act
 use Rattle.am_group.specs.declared.event.Event.{Event}
+use Rattle.am_group.specs.Journals.{letter_at}
 use Rattle.am_model.specs.Emit.{Step}
-use Rattle.am_model.specs.World.{World, start, current, unchanged, stepped, heard, hear_cut, lives_on, acts_as, happens, happen, letter_at}
+use Rattle.am_model.specs.World.{World, start, current, unchanged, stepped, heard, hear_cut, lives_on, acts_as, happens, happen}
 use Rattle.am_model.specs.Lawful.{Watch, watch_start, watch, watch_all, greatest_complete, is_lawful, broken_now, broken_at, before_break}
 use Rattle.am_model.specs.Laws.{RunsGoOn, WatchedIsRun, OneRecordEach, FrontIsLawful}
 use Rattle.am_model.proofs.Greatest.{split}

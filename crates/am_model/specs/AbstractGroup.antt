@@ -3,7 +3,8 @@ use Rattle.std.specs.Prelude.{◌≡◌, ℕ, ◌+◌, ◌-◌, ◌<◌, ◌≤�
 use Rattle.am_base.specs.declared.entry.Entry.{Entry}
 use Rattle.am_model.specs.Node.{Node, set_at}
 use Rattle.am_model.specs.World.{World}
-use Rattle.am_model.specs.Group.{entry_of, has_log}
+use Rattle.am_group.specs.Journals.{item_at}
+use Rattle.am_model.specs.Group.{has_log}
 
 pub record Group : Type 0 where
   pub entries : List Entry
@@ -24,7 +25,7 @@ taken g name front = record g { fronts = set_at g.fronts name (Some (front + 1))
 -- what a name takes next: the entry above its front, where there is one
 abbrev pub next_above : List Entry → Option ℕ → Option Entry
 next_above entries None = None
-next_above entries (Some front) = entry_of entries (front + 1)
+next_above entries (Some front) = item_at entries (front + 1)
 
 abbrev pub next_of : Group → ℕ → Option Entry
 next_of g name = next_above g.entries (g.fronts name)

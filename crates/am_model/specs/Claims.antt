@@ -18,8 +18,10 @@ use Rattle.am_group.specs.declared.event.Event.{Event}
 use Rattle.am_group.specs.declared.event.Record.{Record}
 use Rattle.am_model.specs.Node.{Node, top, view, members, acts, is_sequencer}
 use Rattle.am_model.specs.Settle.{settle_events}
-use Rattle.am_model.specs.World.{Decided, World, current, is_stopped, has_departed, letter_at, happens, happen, run}
-use Rattle.am_model.specs.Group.{Accepted, name_of, entry_of, deliveries, accepted_sends}
+use Rattle.am_model.specs.World.{Decided, World, current, is_stopped, has_departed, happens, happen, run}
+use Rattle.am_group.specs.Journals.{letter_at, item_at}
+use Rattle.am_group.specs.Deliveries.{name_of, deliveries}
+use Rattle.am_model.specs.Group.{Accepted, accepted_sends}
 use Rattle.am_model.specs.AbstractGroup.{Moves, group_of}
 use Rattle.am_model.specs.Lawful.{whole, is_view_of, is_complete, lawful_front}
 use Rattle.am_model.specs.Receiving.{is_view}
@@ -47,11 +49,11 @@ welcomes w name = flat_map (λ r. if (name_of r == name) && is_welcome (letter_a
 -- a founder begins at 1; a joiner where it was welcomed, once, which is its Join
 pub record BeginsAt (rules : Rules) (w : World) (name s : ℕ) : Type 0 where
   pub founder : has rules.founders name ≡ true → s ≡ 1
-  pub joiner : has rules.founders name ≡ false → (welcomes w name ≡ s ∷ []) × (entry_of w.group s ≡ Some (Join name))
+  pub joiner : has rules.founders name ≡ false → (welcomes w name ≡ s ∷ []) × (item_at w.group s ≡ Some (Join name))
 
 -- the deliveries are the list's entries from a number on, without a gap
 abbrev pub IsSegment : List (ℕ × Entry) → ℕ → List Entry → Type 0
-IsSegment given s list = (k number : ℕ) (e : Entry) → slice_get given k ≡ Some (number, e) → (number ≡ s + k) × (entry_of list (s + k) ≡ Some e)
+IsSegment given s list = (k number : ℕ) (e : Entry) → slice_get given k ≡ Some (number, e) → (number ≡ s + k) × (item_at list (s + k) ≡ Some e)
 
 pub record Segment (rules : Rules) (w : World) : Type 0 where
   pub each : (name : ℕ) → deliveries w.records name ≢ [] → (s : ℕ) × BeginsAt rules w name s × IsSegment (deliveries w.records name) s w.group
@@ -60,8 +62,8 @@ pub record Segment (rules : Rules) (w : World) : Type 0 where
 
 -- the send stands at this number, and nowhere else
 pub record StandsOnce (list : List Entry) (name req number : ℕ) : Type 0 where
-  pub there : (body : List ℕ) × (entry_of list number ≡ Some (Data name req body))
-  pub only : (k : ℕ) (body : List ℕ) → entry_of list k ≡ Some (Data name req body) → k ≡ number
+  pub there : (body : List ℕ) × (item_at list number ≡ Some (Data name req body))
+  pub only : (k : ℕ) (body : List ℕ) → item_at list k ≡ Some (Data name req body) → k ≡ number
 
 pub record Once (w : World) : Type 0 where
   pub each : (k : ℕ) (s : Accepted) → slice_get (accepted_sends w.records) k ≡ Some s → StandsOnce w.group s.name s.req s.number
@@ -90,10 +92,10 @@ pub record KeepsView (rules : Rules) (events : List Event) (v : Decided) : Type 
   -- an entry that a node took while its view was below v stands in the line of v, below its View
   pub taken : (k number : ℕ) (e : Entry) (r : Record) → slice_get (run rules events).records k ≡ Some r → r.outcome ≡ said.Took number e
       → stamp_lt (view ((run rules (take k events)).nodes (name_of r))) v.stamp ≡ true
-      → (number < v.number) × (entry_of (line_of (run rules events) v.stamp) number ≡ Some e)
+      → (number < v.number) × (item_at (line_of (run rules events) v.stamp) number ≡ Some e)
   -- up to its View the group list is the line of v
-  pub group : (number : ℕ) (e : Entry) → number ≤ v.number → entry_of (run rules events).group number ≡ Some e
-      → entry_of (line_of (run rules events) v.stamp) number ≡ Some e
+  pub group : (number : ℕ) (e : Entry) → number ≤ v.number → item_at (run rules events).group number ≡ Some e
+      → item_at (line_of (run rules events) v.stamp) number ≡ Some e
 
 pub record Kept (rules : Rules) (events : List Event) : Type 0 where
   pub each : (v : Decided) → BecameComplete rules events v → KeepsView rules events v
@@ -106,7 +108,7 @@ pub record IsSend (r : Record) (name req : ℕ) (body : List ℕ) : Type 0 where
   pub answered : r.outcome ≡ said.Queued req
 
 pub record Sent (w : World) : Type 0 where
-  pub each : (number name req : ℕ) (body : List ℕ) → entry_of w.group number ≡ Some (Data name req body)
+  pub each : (number name req : ℕ) (body : List ℕ) → item_at w.group number ≡ Some (Data name req body)
       → (k : ℕ) × (r : Record) × (slice_get w.records k ≡ Some r) × IsSend r name req body
 
 -- ---- sender's order: a sender's requests are numbered in turn

@@ -5,12 +5,13 @@ use Rattle.am_base.specs.Founding.{Rules}
 use Rattle.am_base.specs.Names.{names_of}
 use Rattle.am_group.specs.declared.event.Event.{Event}
 use Rattle.am_group.specs.declared.event.Record.{Record}
-use Rattle.am_model.specs.FirstRun.{World, run, deliveries}
+use Rattle.am_group.specs.Deliveries.{deliveries}
+use Rattle.am_model.specs.FirstRun.{World, run}
 use Rattle.am_model.specs.Text.{play_text}
 
 -- the founders' deliveries, by ascending name
 abbrev pub logs_of : Rules → List Record → List (ℕ × List (ℕ × Entry))
-logs_of rules records = map (λ name. (name, deliveries name records)) (names_of rules.founders)
+logs_of rules records = map (λ name. (name, deliveries records name)) (names_of rules.founders)
 
 -- the text of a run: nobody stops on the first path, so it is lawful
 abbrev pub text_of : Rules → World → List ℕ

@@ -14,6 +14,8 @@ use Rattle.am_group.specs.declared.event.Event.{Event}
 use Rattle.am_group.specs.declared.event.Record.{Record}
 use Rattle.am_group.specs.declared.event.By.{By}
 use Rattle.am_group.specs.declared.event.Part.TheVariants.{Call}
+use Rattle.am_group.specs.Journals.{letter_at}
+use Rattle.am_group.specs.Addressed.{is_for}
 use Rattle.am_model.specs.FirstNode.{Node, is_sequencer, first_view, founder, stranger}
 use Rattle.am_model.specs.FirstTable.{Step, hear_step, step}
 
@@ -54,18 +56,9 @@ refused w event outcome = record w { records = w.records ++ record_of event outc
 abbrev pub does_step : World → Event → NodeEvent → World
 does_step w event what = recorded w event (step (w.nodes (place_of event.node)) what)
 
--- a letter is for a place: for its name, or for any life of it
-abbrev pub is_for : Letter → ℕ → Bool
-is_for letter place = if letter.any then nat_lt 0 (slice_index letter.to place) else has letter.to place
-
 abbrev pub hears : World → Event → Option Letter → World
 hears w event None = refused w event said.NoPacket
 hears w event (Some letter) = if is_for letter (place_of event.node) then recorded w event (hear_step (w.nodes (place_of event.node)) letter.packet) else refused w event said.NotAddressed
-
--- a letter by its number, from 1
-abbrev pub letter_at : List Letter → ℕ → Option Letter
-letter_at letters zero = None
-letter_at letters (suc before) = slice_get letters before
 
 abbrev pub happens_by : World → Event → Act → World
 happens_by w event (act.Send body) = does_step w event (does.Send body)
@@ -93,13 +86,3 @@ start rules = record {
 -- the run of a founding and a list of events
 abbrev pub run : Rules → List Event → World
 run rules events = run_on (start rules) events
-
--- what an outcome gives out
-abbrev pub given : Outcome → List (ℕ × Entry)
-given (said.Took number entry) = (number, entry) ∷ []
-given other = []
-
--- what a place's node gave out, in order
-unfoldable pub deliveries : ℕ → List Record → List (ℕ × Entry)
-deliveries place [] = []
-deliveries place (r ∷ records) = (if place_of r.event.node == place then given r.outcome else []) ++ deliveries place records

@@ -1,39 +1,20 @@
 -- What a run gave to its applications.
-use Rattle.std.specs.Prelude.{ℕ, zero, suc, slice_get, List, [], ◌∷◌, Option, None, Bool, true, false, ◌==◌, if◌then◌else◌}
+use Rattle.std.specs.Prelude.{ℕ, List, [], ◌∷◌, Bool, true, false, if◌then◌else◌}
 use Rattle.std.specs.List.{flat_map}
 use Rattle.am_group.specs.declared.event.Record.{Record}
 use Rattle.am_group.specs.declared.event.By.{By}
 use Rattle.am_base.specs.declared.entry.Entry.{Entry}
 use Rattle.am_base.specs.declared.outcome.Outcome.{Outcome}
 use Rattle.am_base.specs.declared.outcome.Outcome.TheVariants as said
-use Rattle.am_base.specs.Names.{place_of, name_at}
 use Rattle.am_base.specs.Votes.{all_names}
+use Rattle.am_group.specs.Deliveries.{name_of, deliveries}
 use Rattle.am_model.specs.declared.status.Status.{Status}
 use Rattle.am_model.specs.declared.status.Status.TheVariants.{Stranger, Asking, Member, Departed}
 use Rattle.am_model.specs.World.{World}
 
--- the entry of a number, from 1
-abbrev pub entry_of : List Entry → ℕ → Option Entry
-entry_of entries zero = None
-entry_of entries (suc before) = slice_get entries before
-
--- the name that did it
-abbrev pub name_of : Record → ℕ
-name_of r = name_at (place_of r.event.node) r.life
-
 -- the same record with a caller's tag
 abbrev pub tagged : By → Record → Record
 tagged by r = record r { by = by }
-
--- ---- deliveries
-
-abbrev pub taken_in : Outcome → List (ℕ × Entry)
-taken_in (said.Took number e) = (number, e) ∷ []
-taken_in _ = []
-
--- what a name's application was given, in order
-abbrev pub deliveries : List Record → ℕ → List (ℕ × Entry)
-deliveries records name = flat_map (λ r. if name_of r == name then taken_in r.outcome else []) records
 
 -- ---- accepted sends
 

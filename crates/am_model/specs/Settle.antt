@@ -6,7 +6,8 @@ use Rattle.am_packet.specs.Boxes.{Letter}
 use Rattle.am_group.specs.declared.event.Act.{Act}
 use Rattle.am_group.specs.declared.event.Act.TheVariants as act
 use Rattle.am_group.specs.declared.event.Event.{Event}
-use Rattle.am_model.specs.World.{World, current, is_stopped, is_addressed, happen}
+use Rattle.am_group.specs.Addressed.{is_for}
+use Rattle.am_model.specs.World.{World, current, is_stopped, happen}
 
 -- the events so far, and the world after them
 pub record Settling : Type 0 where
@@ -28,7 +29,7 @@ ticks w = map (λ place. event_at place act.Tick) (running w)
 
 -- a letter is heard at the places that it is for
 abbrev pub hearings_of : World → ℕ → Letter → List Event
-hearings_of w number letter = map (λ place. event_at place (act.Hear number)) (filter (λ place. is_addressed letter (current w place)) (running w))
+hearings_of w number letter = map (λ place. event_at place (act.Hear number)) (filter (λ place. is_for letter (current w place)) (running w))
 
 unfoldable pub hearings_from : World → ℕ → List Letter → List Event
 hearings_from w number [] = []

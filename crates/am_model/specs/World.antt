@@ -17,6 +17,8 @@ use Rattle.am_group.specs.declared.event.Event.{Event}
 use Rattle.am_group.specs.declared.event.Record.{Record}
 use Rattle.am_group.specs.declared.event.By.{By}
 use Rattle.am_group.specs.declared.event.Part.TheVariants.{Call}
+use Rattle.am_group.specs.Journals.{letter_at}
+use Rattle.am_group.specs.Addressed.{is_for}
 use Rattle.am_model.specs.declared.status.Status.{Status}
 use Rattle.am_model.specs.declared.status.Status.TheVariants.{Stranger, Asking, Member, Departed}
 use Rattle.am_model.specs.Node.{Core, Node, told, view, members, set_at, founder, stranger, founding_stamp, founders_view}
@@ -77,15 +79,6 @@ has_departed Stranger = false
 has_departed Asking = false
 has_departed Member = false
 has_departed Departed = true
-
--- a letter by its number, from 1
-abbrev pub letter_at : List Letter → ℕ → Option Letter
-letter_at letters zero = None
-letter_at letters (suc before) = slice_get letters before
-
--- a letter for any life of a place, or for this very name
-abbrev pub is_addressed : Letter → ℕ → Bool
-is_addressed letter name = if letter.any then nat_lt 0 (slice_index letter.to (place_of name)) else has letter.to name
 
 -- ---- the group list
 
@@ -151,7 +144,7 @@ stops w e name =
 abbrev pub heard : World → Event → ℕ → (Packet → Step) → Option Letter → World
 heard w e name hearing None = unchanged w e said.NoPacket
 heard w e name hearing (Some letter) =
-    if not (is_addressed letter name) then unchanged w e said.NotAddressed
+    if not (is_for letter name) then unchanged w e said.NotAddressed
     else if is_stopped w name then unchanged w e said.IsStopped
     else stepped w e name (hearing letter.packet)
 

@@ -7,7 +7,8 @@ use Rattle.am_base.specs.Founding.{Rules, MayFound}
 use Rattle.am_base.specs.Names.{place_of}
 use Rattle.am_group.specs.declared.event.Event.{Event}
 use Rattle.am_model.specs.FirstNode.{Node, sequencer_of, founder}
-use Rattle.am_model.specs.FirstRun.{World, run, start, deliveries}
+use Rattle.am_group.specs.Deliveries.{deliveries}
+use Rattle.am_model.specs.FirstRun.{World, run, start}
 use Rattle.am_runs.specs.FirstClaims.{IsSegment, StandsOnce, numbered, requests_of, FirstHolds, FirstRunsHold}
 use Rattle.am_runs.specs.FirstKept.{StandsAt, EntryOk, SentOk, WorldOk}
 use Rattle.am_runs.proofs.Lists.{get_take, get_take_within, All-get}
@@ -16,7 +17,7 @@ use Rattle.am_runs.proofs.Worlds.{run_ok, start_ok}
 use Rattle.am_runs.proofs.Founders.{sequencer_founds}
 
 module _ (rules : Rules) (w : World) (m : Node) (ok : WorldOk rules w m) where
-  segment : (place : ℕ) → IsSegment (deliveries place w.records) (take m.acc m.log)
+  segment : (place : ℕ) → IsSegment (deliveries w.records place) (take m.acc m.log)
   segment place =
       let a = (ok.each place).accepted in
       let t = (ok.each place).taken in
@@ -39,7 +40,7 @@ module _ (rules : Rules) (w : World) (m : Node) (ok : WorldOk rules w m) where
 
   holds : FirstHolds w
   holds = record {
-    segments = λ place. subst (IsSegment (deliveries place w.records)) (sym ok.group) (segment place);
+    segments = λ place. subst (IsSegment (deliveries w.records place)) (sym ok.group) (segment place);
     order = λ name. subst (λ l. requests_of name l ≡ range_with_len 1 (length (requests_of name l))) (sym ok.group) (counted name);
     once = λ k r req n at is. subst (λ l. StandsOnce l (place_of r.event.node) req n) (sym ok.group)
         (stands (place_of r.event.node) req n (subst (SentOk m.log m.acc (place_of r.event.node)) is (ok.sent k r at)));

@@ -13,7 +13,7 @@ use Rattle.am_packet.specs.Boxes.{with_letter, letter_to, place_for}
 use Rattle.am_group.specs.declared.event.Record.{Record}
 use Rattle.am_model.specs.FirstNode.{Node, last_of, is_member, is_sequencer}
 use Rattle.am_model.specs.FirstTable.{emit, has_room, is_idle, send_step, bcasts, bcast, just}
-use Rattle.am_model.specs.FirstRun.{given}
+use Rattle.am_group.specs.Deliveries.{taken_in}
 use Rattle.am_runs.specs.FirstKept.{LetterOk, SentOk}
 use Rattle.am_runs.proofs.Lists.{if_either, split}
 
@@ -36,7 +36,7 @@ bcasts_ok records list acc to number (x ∷ es) m letters above le there h =
 
 -- an outcome that gives nothing out, and isn't the number of a send
 abbrev pub Quiet : Outcome → Type 0
-Quiet o = (given o ≡ []) × ((list : List Entry) (acc who : ℕ) → SentOk list acc who o)
+Quiet o = (taken_in o ≡ []) × ((list : List Entry) (acc who : ℕ) → SentOk list acc who o)
 
 -- what a send is answered with
 emit_says : (m : Node) (req : ℕ) (body : List ℕ) (o : Outcome) → (emit m req body o).outcome ≡ o

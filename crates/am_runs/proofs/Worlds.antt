@@ -4,6 +4,7 @@ use Rattle.std.specs.Prelude.{All}
 use Rattle.std.proofs.lemmas.Bool.Decides.{nat_tests}
 use Rattle.std.proofs.lemmas.List.{take-append-le, take-take, take-append-drop, take_at, length-take, length-take-le}
 use Rattle.std.proofs.lemmas.List.Elements.{All-nil, All-cons, All-append}
+use Rattle.std.proofs.lemmas.List.Concat.{flat_map-append}
 use Rattle.std.proofs.lemmas.Option.{slice_get_within}
 use Rattle.am_base.specs.declared.entry.Entry.{Entry}
 use Rattle.am_base.specs.declared.entry.Entry.TheVariants.{Data, Join, Leave, View}
@@ -22,7 +23,10 @@ use Rattle.am_group.specs.declared.event.Event.{Event}
 use Rattle.am_group.specs.declared.event.Record.{Record}
 use Rattle.am_model.specs.FirstNode.{Node, is_sequencer, sequencer_of, first_view, founder, stranger, last_from}
 use Rattle.am_model.specs.FirstTable.{Step, hear_step, step}
-use Rattle.am_model.specs.FirstRun.{World, with_node, grown, record_of, recorded, refused, does_step, is_for, letter_at, happens_by, happens, run_on, start, given, deliveries}
+use Rattle.am_group.specs.Journals.{letter_at}
+use Rattle.am_group.specs.Addressed.{is_for}
+use Rattle.am_group.specs.Deliveries.{name_of, taken_in, given_to, deliveries}
+use Rattle.am_model.specs.FirstRun.{World, with_node, grown, record_of, recorded, refused, does_step, happens_by, happens, run_on, start}
 use Rattle.am_model.specs.FirstRun as model
 use Rattle.am_runs.specs.FirstClaims.{WasSent, numbered}
 use Rattle.am_runs.specs.FirstKept.{IsPrefixOf, SendOk, NodeOk, EntryOk, PacketOk, LetterOk, InOrder, FirstOk, Gave, SentOk, StepOk, FirstStep, AskedBefore, WorldOk}
@@ -74,10 +78,12 @@ sent_more list more acc all who _ p le h = tt
 
 -- What is given out.
 
-deliveries_push : (i : ℕ) (rs : List Record) (r : Record) → deliveries i (rs ++ r ∷ []) ≡ deliveries i rs ++ (if place_of r.event.node == i then given r.outcome else [])
-unfolding deliveries
-deliveries_push i [] r = append-nil _
-deliveries_push i (x ∷ rs) r = ap (λ l. (if place_of x.event.node == i then given x.outcome else []) ++ l) (deliveries_push i rs r) ∙ sym (append_assoc (if place_of x.event.node == i then given x.outcome else []) (deliveries i rs) (if place_of r.event.node == i then given r.outcome else []))
+deliveries_push : (i : ℕ) (rs : List Record) (r : Record) → deliveries (rs ++ r ∷ []) i ≡ deliveries rs i ++ given_to i r
+deliveries_push i rs r = flat_map-append (given_to i) rs (r ∷ []) ∙ ap (λ l. deliveries rs i ++ l) (append-nil (given_to i r))
+
+-- the first path's records are of first lives
+named : (e : Event) (o : Outcome) (ls : List Letter) → name_of (record_of e o ls) ≡ place_of e.node
+named e o ls = omega arith
 
 numbered_push : (n : ℕ) (es : List Entry) (e : Entry) → numbered n (es ++ e ∷ []) ≡ numbered n es ++ (n + length es, e) ∷ []
 unfolding numbered
@@ -85,15 +91,15 @@ numbered_push n [] e = let z : n ≡ n + 0 = omega arith in ap (λ k. (k, e) ∷
 numbered_push n (x ∷ es) e = let z : (n + 1) + length es ≡ n + length (x ∷ es) = omega arith in ap (λ l. (n, x) ∷ l) (numbered_push (n + 1) es e ∙ ap (λ k. numbered (n + 1) es ++ (k, e) ∷ []) z)
 
 -- one node's deliveries, after its step
-gave_next : (log list more : List Entry) (before after : ℕ) (o : Outcome) (out : List (ℕ × Entry)) → IsPrefixOf log list → IsPrefixOf list more → before ≤ length list → out ≡ numbered 1 (take before list) → Gave log before after o → out ++ given o ≡ numbered 1 (take after more)
+gave_next : (log list more : List Entry) (before after : ℕ) (o : Outcome) (out : List (ℕ × Entry)) → IsPrefixOf log list → IsPrefixOf list more → before ≤ length list → out ≡ numbered 1 (take before list) → Gave log before after o → out ++ taken_in o ≡ numbered 1 (take after more)
 gave_next log list more before after o out own p within was g = ⊎_elim
-    (λ (h : (given o ≡ []) × (after ≡ before)).
+    (λ (h : (taken_in o ≡ []) × (after ≡ before)).
     ap (λ l. out ++ l) h.0 ∙ append-nil out ∙ was ∙ ap (numbered 1) (take_same list more before p within) ∙ ap (λ n. numbered 1 (take n more)) (sym h.1))
     (λ (h : (e : Entry) × (o ≡ said.Took (before + 1) e) × (after ≡ before + 1) × (slice_get log before ≡ Some e)).
     let long : length (take before more) ≡ before = let l = prefix_length list more p in simp length-take (omega arith) in
     let z : 1 + length (take before more) ≡ before + 1 = omega arith in
     let there = prefix_get list more before h.0 p (prefix_get log list before h.0 own h.3) in
-    ap (λ o. out ++ given o) h.1 ∙ ap (λ l. l ++ (before + 1, h.0) ∷ []) (was ∙ ap (numbered 1) (take_same list more before p within))
+    ap (λ o. out ++ taken_in o) h.1 ∙ ap (λ l. l ++ (before + 1, h.0) ∷ []) (was ∙ ap (numbered 1) (take_same list more before p within))
     ∙ ap (λ k. numbered 1 (take before more) ++ (k, h.0) ∷ []) (sym z) ∙ sym (numbered_push 1 (take before more) h.0)
     ∙ ap (numbered 1) (sym (take_get more before h.0 there)) ∙ ap (λ n. numbered 1 (take n more)) (sym h.2))
     g
@@ -101,7 +107,7 @@ gave_next log list more before after o out own p within was g = ⊎_elim
 -- what is given out next had been asked for
 gave_asked : (records : List Record) (log list : List Entry) (before after number from req : ℕ) (body : List ℕ) (o : Outcome) → IsPrefixOf log list → All (EntryOk records) list → Gave log before after o → o ≡ said.Took number (Data from req body) → WasSent records from req body
 gave_asked records log list before after number from req body o p all g took = ⊎_elim
-    (λ (h : (given o ≡ []) × (after ≡ before)). let some = ap given took in absurd (cc))
+    (λ (h : (taken_in o ≡ []) × (after ≡ before)). let some = ap taken_in took in absurd (cc))
     (λ (h : (e : Entry) × (o ≡ said.Took (before + 1) e) × (after ≡ before + 1) × (slice_get log before ≡ Some e)).
     let same : h.0 ≡ Data from req body = let e = h.1 in cc in
     subst (EntryOk records) same (All-get (EntryOk records) list before h.0 all (prefix_get log list before h.0 p h.3)))
@@ -156,11 +162,12 @@ module _ (rules : Rules) (w : World) (m n : Node) (e : Event) (s : Step) (ok : W
         group = group;
         gave = λ j. deliveries_push j w.records r ∙ split (j == i)
             (λ t. let same : j ≡ i = grind (arith, nat_tests) in
-            let b : (i == j) ≡ true = grind (arith, nat_tests) in
-            rw (t, b) (subst (λ k. deliveries k w.records ++ given s.outcome ≡ numbered 1 (take s.node.taken n.log)) (sym same)
-            (gave_next (w.nodes i).log m.log n.log (w.nodes i).taken s.node.taken s.outcome (deliveries i w.records) (ok.each i).log grows (taken_within i) (ok.gave i) mine.gave)))
-            (λ f. let b : (i == j) ≡ false = grind (arith, nat_tests) in
-            rw (f, b) (append-nil (deliveries j w.records) ∙ ok.gave j ∙ ap (numbered 1) (take_same m.log n.log (w.nodes j).taken grows (taken_within j))));
+            let who = named e s.outcome s.letters in
+            let b : (name_of r == j) ≡ true = grind (arith, nat_tests) in
+            rw (t, b) (subst (λ k. deliveries w.records k ++ taken_in s.outcome ≡ numbered 1 (take s.node.taken n.log)) (sym same)
+            (gave_next (w.nodes i).log m.log n.log (w.nodes i).taken s.node.taken s.outcome (deliveries w.records i) (ok.each i).log grows (taken_within i) (ok.gave i) mine.gave)))
+            (λ f. let who = named e s.outcome s.letters in let b : (name_of r == j) ≡ false = grind (arith, nat_tests) in
+            rw (f, b) (append-nil (deliveries w.records j) ∙ ok.gave j ∙ ap (numbered 1) (take_same m.log n.log (w.nodes j).taken grows (taken_within j))));
         sent = λ k q h. ⊎_elim
             (λ (old : slice_get w.records k ≡ Some q). sent_more m.log n.log m.acc n.acc (place_of q.event.node) q.outcome grows up (ok.sent k q old))
             (λ (new : (k ≡ length w.records) × (r ≡ q)). subst (λ (x : Record). SentOk n.log n.acc (place_of x.event.node) x.outcome) new.1 mine.sent)
@@ -229,7 +236,7 @@ packet_ok rules w m e p ok fine =
     (λ z h. hears_first rules all (w.nodes i) p h (subst (λ (x : Node). PacketOk all x.log x.acc p) (sym (ap w.nodes z ∙ ok.is)) heard))
     (λ z h. hears rules all m.log m.acc i z (w.nodes i) p h heard)
 
-refused_ok : (rules : Rules) (w : World) (m : Node) (e : Event) (o : Outcome) → WorldOk rules w m → given o ≡ [] → ((who : ℕ) → SentOk m.log m.acc who o) → WorldOk rules (refused w e o) m
+refused_ok : (rules : Rules) (w : World) (m : Node) (e : Event) (o : Outcome) → WorldOk rules w m → taken_in o ≡ [] → ((who : ℕ) → SentOk m.log m.acc who o) → WorldOk rules (refused w e o) m
 unfolding refused
 refused_ok rules w m e o ok none quiet =
     let r = record_of e o [] in
@@ -243,14 +250,14 @@ refused_ok rules w m e o ok none quiet =
       each = λ j. node_more rules w.records all m.log m.log m.acc m.acc j (w.nodes j) longer same le (ok.each j);
       letters = letters_more w.records all m.log m.log m.acc m.acc w.letters longer same le ok.letters;
       group = ok.group;
-      gave = λ j. deliveries_push j w.records r ∙ split (place_of e.node == j)
-          (λ t. rw (t, none) (append-nil (deliveries j w.records) ∙ ok.gave j))
-          (λ f. rw f (append-nil (deliveries j w.records) ∙ ok.gave j));
+      gave = λ j. deliveries_push j w.records r ∙ split (name_of r == j)
+          (λ t. rw (t, none) (append-nil (deliveries w.records j) ∙ ok.gave j))
+          (λ f. rw f (append-nil (deliveries w.records j) ∙ ok.gave j));
       sent = λ k q h. ⊎_elim
           (λ (old : slice_get w.records k ≡ Some q). ok.sent k q old)
           (λ (new : (k ≡ length w.records) × (r ≡ q)). subst (λ (x : Record). SentOk m.log m.acc (place_of x.event.node) x.outcome) new.1 (quiet (place_of e.node)))
           (get_push w.records r k q h);
-      before = before_push w.records r ok.before (λ number from req body took. let some = ap given took in absurd (cc));
+      before = before_push w.records r ok.before (λ number from req body took. let some = ap taken_in took in absurd (cc));
     }
 
 letter_ok : (P : Letter → Type 0) (letters : List Letter) (k : ℕ) (l : Letter) → All P letters → letter_at letters k ≡ Some l → P l
@@ -281,7 +288,7 @@ run_ok rules (e ∷ es) w m ok = let h = happens_ok rules w m e ok in run_ok rul
 
 -- where the lowest founder is one
 pub start_ok : (rules : Rules) → has rules.founders (sequencer_of rules) ≡ true → WorldOk rules (start rules) (founder rules (sequencer_of rules))
-unfolding last_from InOrder deliveries numbered
+unfolding last_from InOrder numbered
 start_ok rules is =
     let list = first_view rules ∷ [] in
     let le : 1 ≤ 1 = omega arith in

@@ -9,7 +9,8 @@ use Rattle.am_base.specs.Names.{place_of}
 use Rattle.am_group.specs.declared.event.Act.TheVariants as act
 use Rattle.am_group.specs.declared.event.Event.{Event}
 use Rattle.am_group.specs.declared.event.Record.{Record}
-use Rattle.am_model.specs.FirstRun.{World, run, deliveries}
+use Rattle.am_group.specs.Deliveries.{deliveries}
+use Rattle.am_model.specs.FirstRun.{World, run}
 
 -- entries with their numbers, from one on
 unfoldable pub numbered : ℕ → List Entry → List (ℕ × Entry)
@@ -52,7 +53,7 @@ pub record WasSent (records : List Record) (place req : ℕ) (body : List ℕ) :
 -- What holds of a run, whatever is lost, repeated or comes in another order.
 pub record FirstHolds (w : World) : Type 0 where
   -- each place's node gave out the beginning of the group's list
-  pub segments : (place : ℕ) → IsSegment (deliveries place w.records) w.group
+  pub segments : (place : ℕ) → IsSegment (deliveries w.records place) w.group
   -- the sends of a name stand there in the order of their requests: 1, 2, 3 and so on
   pub order : (name : ℕ) → requests_of name w.group ≡ range_with_len 1 (length (requests_of name w.group))
   -- a send that was answered with its number stands there, once

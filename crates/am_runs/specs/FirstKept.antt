@@ -13,7 +13,8 @@ use Rattle.am_group.specs.declared.event.Record.{Record}
 use Rattle.am_model.specs.declared.send.QueuedSend.{QueuedSend}
 use Rattle.am_model.specs.FirstNode.{Node, sequencer_of, last_after, last_from}
 use Rattle.am_model.specs.FirstTable.{Step}
-use Rattle.am_model.specs.FirstRun.{World, given, deliveries}
+use Rattle.am_group.specs.Deliveries.{taken_in, deliveries}
+use Rattle.am_model.specs.FirstRun.{World}
 use Rattle.am_runs.specs.FirstClaims.{WasSent, numbered}
 
 abbrev pub IsPrefixOf : {A : Type 0} → List A → List A → Type 0
@@ -92,7 +93,7 @@ pub record FirstOk (rules : Rules) (records : List Record) (m : Node) : Type 0 w
 -- an outcome gives out the next entry of a node's list, or nothing
 abbrev pub Gave : List Entry → ℕ → ℕ → Outcome → Type 0
 Gave log before after outcome =
-    ((given outcome ≡ []) × (after ≡ before)) ⊎ ((e : Entry) × (outcome ≡ said.Took (before + 1) e) × (after ≡ before + 1) × (slice_get log before ≡ Some e))
+    ((taken_in outcome ≡ []) × (after ≡ before)) ⊎ ((e : Entry) × (outcome ≡ said.Took (before + 1) e) × (after ≡ before + 1) × (slice_get log before ≡ Some e))
 
 -- a send that is answered with its number stands there
 abbrev pub SentOk : List Entry → ℕ → ℕ → Outcome → Type 0
@@ -124,6 +125,6 @@ pub record WorldOk (rules : Rules) (w : World) (m : Node) : Type 0 where
   pub each : (i : ℕ) → NodeOk rules w.records m.log m.acc i (w.nodes i)
   pub letters : All (LetterOk w.records m.log m.acc) w.letters
   pub group : w.group ≡ take m.acc m.log
-  pub gave : (i : ℕ) → deliveries i w.records ≡ numbered 1 (take (w.nodes i).taken m.log)
+  pub gave : (i : ℕ) → deliveries w.records i ≡ numbered 1 (take (w.nodes i).taken m.log)
   pub sent : (k : ℕ) (r : Record) → slice_get w.records k ≡ Some r → SentOk m.log m.acc (place_of r.event.node) r.outcome
   pub before : AskedBefore w.records

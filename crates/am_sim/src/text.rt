@@ -2,16 +2,15 @@ ghost use Rattle.std.specs.Prelude.{◌≡◌, ◌+◌, ◌<◌, ◌≤◌, ◌+
 ghost use Rattle.std.specs.List.{flat_map};
 ghost use Rattle.am_base.specs.Names.{names_of};
 ghost use Rattle.am_group.specs.Journals.{letters_of};
-ghost use Rattle.am_model.specs.FirstRun.{deliveries};
 ghost use Rattle.am_model.specs.FirstPlay.{logs_of};
 ghost use Rattle.am_model.specs.Text.{records_text, group_text, log_text, logs_text, log_line, play_text};
-ghost use Rattle.am_sim.specs.Logs.{given_at, given_lines, gave_none, place_text};
+ghost use Rattle.am_sim.specs.Logs.{given_lines, place_text};
 
 use am_base::NoMemory;
 use am_base::entry::Entry;
 use am_base::founding::Founding;
 use am_base::name::Name;
-use am_base::outcome::Outcome;
+use am_group::delivered::deliveries;
 use am_group::event::Record;
 use am_report::lines::{push_empty_log, push_group_line, push_log_line, push_mark, push_record};
 use std::alloc::Global;
@@ -47,86 +46,53 @@ pub fn push_group(out: &mut String, founding: &Founding, group: &[Entry]) -> Res
     Ok(())
 }
 
-// Adds the line of what a record gave out at a place, where it did.
-#[tactic(auto, unfolding(crate::specs::Logs::given_at, crate::specs::Logs::given_lines))]
+// Adds the line of an entry that a name was given, with its number.
+fn push_pair(
+    out: &mut String,
+    founding: &Founding,
+    name: Name,
+    given: &(u32, Entry),
+) -> Result<(), NoMemory>
+    ensures { OnOk result (string_bytes out.new ≡ string_bytes out.old ++ log_line founding.now name given.now.0 given.now.1) }
+{
+    push_log_line(out, founding, name, given.0, &given.1)
+}
+
+// Adds the lines of what a name was given.
+#[tactic(auto, using(crate::proofs::Logged::logged))]
 fn push_given(
     out: &mut String,
     founding: &Founding,
     name: Name,
-    happened: &Record,
+    given: &[(u32, Entry)],
 ) -> Result<(), NoMemory>
-    requires { name < 16 }
-    ensures { OnOk result (string_bytes out.new ≡ string_bytes out.old ++ given_lines founding.now name (given_at name happened.now)) }
+    ensures { OnOk result (string_bytes out.new ≡ string_bytes out.old ++ given_lines founding.now name given.now) }
 {
-    if happened.event.node.place() != name.place() {
-        return Ok(());
-    }
-    match &happened.outcome {
-        Outcome::Took { number, entry } => push_log_line(out, founding, name, *number, entry),
-        _ => Ok(()),
-    }
-}
-
-#[tactic(auto, unfolding(crate::specs::Logs::given_at))]
-fn gives(happened: &Record, name: Name) -> bool
-    requires { name < 16 }
-    ensures { result ≡ not (gave_none (given_at name happened.now)) }
-{
-    if happened.event.node.place() != name.place() {
-        return false;
-    }
-    matches!(happened.outcome, Outcome::Took { .. })
-}
-
-#[tactic(auto, using(crate::proofs::Logged::gives))]
-fn gives_any(records: &[Record], name: Name) -> bool
-    requires { name < 16 }
-    ensures { result ≡ not (gave_none (deliveries name records.now)) }
-{
-    for at in 0..records.len() {
-        if gives(&records[at], name) {
-            return true;
-        }
-    }
-    false
-}
-
-// Adds the lines of what the records gave out at a place.
-#[tactic(auto, using(crate::proofs::Logged::logged))]
-fn push_lines(
-    out: &mut String,
-    founding: &Founding,
-    name: Name,
-    records: &[Record],
-) -> Result<(), NoMemory>
-    requires { name < 16 }
-    ensures { OnOk result (string_bytes out.new ≡ string_bytes out.old ++ given_lines founding.now name (deliveries name records.now)) }
-{
-    for at in 0..records.len() {
-        push_given(out, founding, name, &records[at])?;
+    for at in 0..given.len() {
+        push_pair(out, founding, name, &given[at])?;
     }
     Ok(())
 }
 
-// Adds the lines of a founder's deliveries.
+// Adds the lines of a name's deliveries, or the line that there is none.
 #[tactic(auto, using(crate::proofs::Logged::log_texts))]
 fn push_log(
     out: &mut String,
     founding: &Founding,
     name: Name,
-    records: &[Record],
+    given: &[(u32, Entry)],
 ) -> Result<(), NoMemory>
-    requires { name < 16 }
-    ensures { OnOk result (string_bytes out.new ≡ string_bytes out.old ++ log_text founding.now name (deliveries name records.now)) }
+    ensures { OnOk result (string_bytes out.new ≡ string_bytes out.old ++ log_text founding.now name given.now) }
 {
-    if gives_any(records, name) {
-        return push_lines(out, founding, name, records);
+    if given.is_empty() {
+        return push_empty_log(out, name);
     }
-    push_empty_log(out, name)
+    push_given(out, founding, name, given)
 }
 
 // Adds the lines of a place, where a founder has it.
 fn push_place(
+    alloc: Global,
     out: &mut String,
     founding: &Founding,
     place: u8,
@@ -139,17 +105,31 @@ fn push_place(
     if life == 0 {
         return Ok(());
     }
-    push_log(out, founding, Name::of_byte(place), records)
+    let name = Name::of_byte(place);
+    let given = deliveries(alloc, records, name)?;
+    push_log(out, founding, name, given.as_slice())
 }
 
 // Adds the lines of all founders' deliveries.
 #[tactic(auto, using(crate::proofs::Logged::places))]
-fn push_logs(out: &mut String, founding: &Founding, records: &[Record]) -> Result<(), NoMemory>
+fn push_logs(
+    alloc: Global,
+    out: &mut String,
+    founding: &Founding,
+    records: &[Record],
+) -> Result<(), NoMemory>
     ensures { OnOk result (string_bytes out.new ≡ string_bytes out.old ++ logs_text founding.now (logs_of founding.now records.now)) }
 {
     let founders = founding.founders();
     for place in 0..16u8 {
-        push_place(out, founding, place, founders.life_at(place), records)?;
+        push_place(
+            alloc,
+            out,
+            founding,
+            place,
+            founders.life_at(place),
+            records,
+        )?;
     }
     Ok(())
 }
@@ -170,7 +150,7 @@ pub fn play_text(
     let mut out = String::new(alloc);
     push_records(&mut out, founding, records)?;
     push_group(&mut out, founding, group)?;
-    push_logs(&mut out, founding, records)?;
+    push_logs(alloc, &mut out, founding, records)?;
     push_mark(&mut out, None)?;
     Ok(out)
 }

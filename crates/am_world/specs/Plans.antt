@@ -8,9 +8,10 @@ use Rattle.am_group.specs.declared.event.Event.{Event}
 use Rattle.am_group.specs.declared.event.Act.{Act}
 use Rattle.am_group.specs.declared.event.Act.TheVariants as act
 use Rattle.am_group.specs.Journals.{letter_at}
+use Rattle.am_group.specs.Addressed.{is_for}
 use Rattle.am_model.specs.FirstNode.{Node}
 use Rattle.am_model.specs.FirstTable.{Step, hear_step, step}
-use Rattle.am_model.specs.FirstRun.{World, is_for, refused, recorded}
+use Rattle.am_model.specs.FirstRun.{World, refused, recorded}
 use Rattle.am_world.specs.declared.plan.Deed.{Deed}
 use Rattle.am_world.specs.declared.plan.Deed.TheVariants.{Asked, Heard}
 use Rattle.am_world.specs.declared.plan.Plan.{Plan}

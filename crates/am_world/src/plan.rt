@@ -1,12 +1,12 @@
-ghost use Rattle.std.specs.Prelude.{◌≡◌, ◌<◌};
+ghost use Rattle.std.specs.Prelude.{◌≡◌};
 ghost use Rattle.am_base.specs.Names.{place_of};
 ghost use Rattle.am_group.specs.Journals.{letters_of};
-ghost use Rattle.am_model.specs.FirstRun.{is_for};
 ghost use Rattle.am_world.specs.Plans.{heard, plan_for};
 
 use am_base::event::NodeEvent;
 use am_base::name::Name;
 use am_base::outcome::Outcome;
+use am_group::addressed::is_for;
 use am_group::event::{Act, Event};
 use am_group::journal::Journal;
 use am_letter::letter::Letter;
@@ -48,7 +48,6 @@ fn asks(what: NodeEvent) -> Plan
 }
 
 fn heard(letter: &Letter, place: Name) -> Plan
-    requires { place < 16 }
     ensures { result ≡ heard letter.now place }
 {
     if is_for(letter, place) {
@@ -62,15 +61,4 @@ pub fn place_name(name: Name) -> Name
     ensures { result ≡ place_of name }
 {
     Name::of_byte(name.place())
-}
-
-/// Whether a letter is for a place: for life 1 of it, or for any life.
-pub fn is_for(letter: &Letter, place: Name) -> bool
-    requires { place < 16 }
-    ensures { result ≡ is_for letter.now place }
-{
-    if letter.is_for_any() {
-        return 0 < letter.to().life_at(place.place());
-    }
-    letter.to().has(place)
 }
