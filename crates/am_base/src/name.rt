@@ -93,7 +93,6 @@ impl Name {
 }
 
 impl Ord for Name {
-    ghost use Rattle.std.specs.Prelude.{false};
     ghost use Rattle.std.proofs.Common.{rules};
     ghost use Rattle.std.specs.Cmp.Rules.{comparing};
     ghost use Rattle.am_base.specs.Names.{name_cmp};

@@ -1,4 +1,4 @@
-ghost use Rattle.std.specs.Prelude.{◌≡◌, ◌==◌, if◌then◌else◌, ℕ, ◌+◌, ◌-◌, ◌*◌, ◌%◌, ◌^◌, ◌<◌, ◌≤◌, ◌↔◌, List, IsTrue, IsSome, IfSome, Some, EachIndex, max, slice_index};
+ghost use Rattle.std.specs.Prelude.{◌≡◌, ◌==◌, if◌then◌else◌, ℕ, ◌+◌, ◌-◌, ◌*◌, ◌%◌, ◌<◌, ◌≤◌, ◌↔◌, List, IsTrue, IsSome, IfSome, Some, EachIndex, max, slice_index};
 ghost use Rattle.am_base.specs.Names.{IsSet, nobody, has, with_name, without_name, union_of, minus, size, lowest_of, of_mask, of_parts, are_parts, mask_of, lives_of};
 
 use crate::name::Name;

@@ -1,7 +1,6 @@
-ghost use Rattle.std.specs.Prelude.{◌≡◌, ℕ, ◌+◌, ◌≤◌, ◌<◌, ◌++◌, ◌∷◌, [], length};
+ghost use Rattle.std.specs.Prelude.{◌≡◌, ◌+◌, ◌≤◌, ◌<◌, ◌++◌, ◌∷◌, [], length};
 ghost use Rattle.byteorder.specs.Endian.{big_bytes};
 ghost use Rattle.am_base.specs.Names.{IsSet};
-ghost use Rattle.am_packet.specs.Kinds.{kind_of};
 ghost use Rattle.am_codec.specs.Limits.{IsWithin, IsPacket, HasParts, HasEntryParts};
 ghost use Rattle.am_codec.specs.Spelling.{spelling, header, fields_of, entry_bytes, image_bytes, vote_bytes, rows_bytes, row_bytes, set_bytes, report_bytes, stamp_bytes, flag_byte, sender_of, stamp_of};
 

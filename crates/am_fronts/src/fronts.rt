@@ -1,4 +1,4 @@
-ghost use Rattle.std.specs.Prelude.{◌≡◌, ℕ, ◌+◌, ◌-◌, ◌≤◌, ◌<◌, nat_le, count_by, Some, None, true, false, option_map, nat_lt, ◌&&◌, if◌then◌else◌};
+ghost use Rattle.std.specs.Prelude.{◌≡◌, ℕ, ◌+◌, ◌-◌, ◌≤◌, ◌<◌, nat_le, count_by, Some, None, true, false, nat_lt, ◌&&◌, if◌then◌else◌};
 ghost use Rattle.am_base.specs.Names.{names_of, name_at};
 ghost use Rattle.am_base.specs.Lists.{top_of, told_by};
 ghost use Rattle.am_base.specs.Fronts.{accept_front, is_held, counted_at};

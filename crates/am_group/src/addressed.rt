@@ -1,4 +1,4 @@
-ghost use Rattle.std.specs.Prelude.{◌≡◌, ◌<◌, nat_lt, if◌then◌else◌};
+ghost use Rattle.std.specs.Prelude.{◌≡◌, ◌<◌};
 ghost use Rattle.am_group.specs.Journals.{letters_of};
 ghost use Rattle.am_group.specs.Addressed.{is_for, next_for};
 

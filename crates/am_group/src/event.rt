@@ -44,28 +44,7 @@ impl Act {
     pub fn copied(&self) -> Act
         ensures { result ≡ self.now }
     {
-        match self {
-            Act::Send(body) => Act::Send(body.copied()),
-            Act::Done(req) => Act::Done(*req),
-            Act::Take => Act::Take,
-            Act::Join => Act::Join,
-            Act::State => Act::State,
-            Act::Leave => Act::Leave,
-            Act::Reset { least, resilience } => Act::Reset {
-                least: *least,
-                resilience: *resilience,
-            },
-            Act::Ask(round) => Act::Ask(*round),
-            Act::GiveUp(name) => Act::GiveUp(*name),
-            Act::Stop => Act::Stop,
-            Act::Tick => Act::Tick,
-            Act::Hear(packet) => Act::Hear(*packet),
-            Act::Cut { packet, keep } => Act::Cut {
-                packet: *packet,
-                keep: *keep,
-            },
-            Act::Return => Act::Return,
-        }
+        self.clone().unwrap()
     }
 }
 
@@ -81,10 +60,7 @@ impl Event {
     pub fn copied(&self) -> Event
         ensures { result ≡ self.now }
     {
-        Event {
-            node: self.node,
-            act: self.act.copied(),
-        }
+        self.clone().unwrap()
     }
 }
 

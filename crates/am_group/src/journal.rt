@@ -1,4 +1,4 @@
-ghost use Rattle.std.specs.Prelude.{◌≡◌, ◌+◌, ◌*◌, ◌<◌, ◌≤◌, ◌++◌, ◌∷◌, ◌↔◌, [], length, OnOk, OnErr, IsSome, IfSome, option_map, true, vec_len, vec_capacity, slice_get};
+ghost use Rattle.std.specs.Prelude.{◌≡◌, ◌+◌, ◌*◌, ◌<◌, ◌≤◌, ◌++◌, ◌∷◌, [], length, OnOk, true, vec_len, vec_capacity, slice_get};
 ghost use Rattle.std.specs.Option.{option_copied};
 ghost use Rattle.am_group.specs.Journals.{letters_of, letter_at, letter_of, item_at, places_of};
 

@@ -1,4 +1,4 @@
-ghost use Rattle.std.specs.Prelude.{◌≡◌, ℕ, ◌+◌, ◌≤◌, ◌<◌, [], IfOk};
+ghost use Rattle.std.specs.Prelude.{◌≡◌, ◌+◌, ◌≤◌, ◌<◌, [], IfOk};
 ghost use Rattle.am_base.specs.Lists.{blank};
 
 use am_base::entry::Entry;
@@ -89,8 +89,6 @@ impl History {
 }
 
 impl Log for History {
-    ghost use Rattle.std.specs.Prelude.{ℕ};
-
     ghost list = { λ h. h.list };
 
     ghost capacity = { λ h. h.capacity };

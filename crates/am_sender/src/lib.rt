@@ -1,7 +1,7 @@
 //! A node's own sends until they are collected.
 #![tactic(auto)]
 
-ghost use Rattle.std.specs.Prelude.{ℕ, List, find, ◌≡◌, ◌≢◌, ◌<◌, ◌≤◌, ◌+◌, length, OnOk, OnErr, IfOk, IfErr, IsOk, ◌↔◌, Some, option_map};
+ghost use Rattle.std.specs.Prelude.{ℕ, List, find, ◌≡◌, ◌<◌, ◌≤◌, ◌+◌, length, OnOk, OnErr, IfOk, IfErr, IsOk, ◌↔◌, Some, option_map};
 ghost use Rattle.std.specs.Option.{option_copied};
 ghost use Rattle.am_sender.specs.Sends.{no_sends, without_request, is_request, waiting_send, collected_of, unsettled, is_settled, submit, settle, collect, collect_outcome};
 

@@ -1,6 +1,4 @@
-ghost use Rattle.std.specs.Prelude.{◌≡◌, ◌+◌, ◌<◌, ◌≤◌, ◌++◌, ◌==◌, ◌∷◌, [], length, map, not, OnOk, IfOk, None, string_bytes};
-ghost use Rattle.std.specs.List.{flat_map};
-ghost use Rattle.am_base.specs.Names.{names_of};
+ghost use Rattle.std.specs.Prelude.{◌≡◌, ◌+◌, ◌<◌, ◌≤◌, ◌++◌, ◌==◌, length, OnOk, IfOk, None, string_bytes};
 ghost use Rattle.am_group.specs.Journals.{letters_of};
 ghost use Rattle.am_model.specs.FirstPlay.{logs_of};
 ghost use Rattle.am_model.specs.Text.{records_text, group_text, log_text, logs_text, log_line, play_text};

@@ -1,6 +1,6 @@
-ghost use Rattle.std.specs.Prelude.{map, ◌≡◌, ◌≤◌, ◌<◌, ℕ, List, slice_index_or, slice_index, slice_set, if◌then◌else◌, ◌==◌};
+ghost use Rattle.std.specs.Prelude.{map, ◌≡◌, ◌≤◌, ◌<◌, ℕ, slice_index_or, slice_set, ◌==◌};
 ghost use Rattle.std.specs.List.{list_all};
-ghost use Rattle.am_base.specs.Names.{place_of, life_of, has, is_within};
+ghost use Rattle.am_base.specs.Names.{place_of, has, is_within};
 ghost use Rattle.am_base.specs.Lists.{blank, blank_row, after, fits, members_of, member_life, at_place, row_of, with_row, viewed, is_blank, is_blank_row};
 ghost use Rattle.am_core.specs.Images.{IsImage, IsRow};
 ghost use Rattle.am_base.specs.declared.entry.Entry.TheVariants.{View};

@@ -1,6 +1,5 @@
-ghost use Rattle.std.specs.Prelude.{◌≡◌, ℕ, ◌+◌, ◌-◌, ◌<◌, ◌≤◌, ◌++◌, ◌∷◌, ◌↔◌, List, [], length, map, take, drop, max, Some, slice_get, slice_set, vec_len, vec_capacity, OnOk, OnErr, IfOk, IsTrue};
+ghost use Rattle.std.specs.Prelude.{◌≡◌, ◌+◌, ◌-◌, ◌<◌, ◌≤◌, ◌++◌, ◌↔◌, [], length, max, Some, slice_get, vec_len, vec_capacity, OnOk, OnErr, IfOk};
 ghost use Rattle.am_base.specs.declared.outcome.Outcome.{Outcome};
-ghost use Rattle.am_base.specs.Names.{place_of};
 ghost use Rattle.am_model.specs.FirstNode.{top, first_view};
 ghost use Rattle.am_model.specs.FirstRun.{grown, record_of, start};
 ghost use Rattle.am_node.specs.declared.node.Node.{Node};
