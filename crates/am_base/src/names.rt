@@ -89,14 +89,6 @@ impl Names {
         Names { lives: [0; 16] }
     }
 
-    /// The lives of its sixteen places, place 0 first; 0 where a place isn't there.
-    pub fn by_place(&self) -> &[u8]
-        ensures value { result.now ≡ self.now }
-        ensures set { IsSet self.now }
-    {
-        &self.lives
-    }
-
     #[tactic(auto, using(crate::proofs::Masks::is_set))]
     /// Life 1 of each place of a mask, whose bit 0 is place 0's.
     pub fn of_mask(mask: u16) -> Names

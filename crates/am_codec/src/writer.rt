@@ -142,7 +142,7 @@ fn set_len(set: Names) -> usize
     ensures value { result ≡ length (set_bytes set) }
     ensures parts { IsSet set }
 {
-    2 + set.by_place().len() / 2
+    2 + set.each_life().len() / 2
 }
 
 #[tactic(auto, unfolding(crate::specs::Spelling::entry_bytes))]

@@ -5,18 +5,20 @@ use Rattle.am_base.specs.declared.image.Report.{Report}
 use Rattle.am_base.specs.declared.outcome.Outcome.TheVariants as said
 use Rattle.am_base.specs.Lists.{row_of, told_by}
 use Rattle.am_model.specs.Node.{Node, top, report_fits, has_room, is_sequencer, with_report}
-use Rattle.am_model.specs.Refresh.{refresh, lead, advanced, advance}
+use Rattle.am_core.specs.Cores.{accept, pass_over}
+use Rattle.am_fronts.specs.Refresh.{own_report, tell, go_on, let_go}
+use Rattle.am_model.specs.Refresh.{refresh, lead, advance}
 use Rattle.am_model.specs.Sequencing.{row_at, is_unknown, reported, requested, request_row}
 use Rattle.am_model.specs.Laws.{IsNextSend, IsHeld, HeldExactly}
 use Rattle.am_model.proofs.Greatest.{split}
 
 -- the refresh leaves the list
 lead_log : (m : Node) → (lead m).core.log ≡ m.core.log
-unfolding lead advanced
+unfolding lead own_report tell go_on let_go accept pass_over
 lead_log m = refl
 
 advance_log : (m : Node) → (advance m).core.log ≡ m.core.log
-unfolding advanced
+unfolding accept pass_over
 advance_log m = refl
 
 refresh_log : (m : Node) → (refresh m).core.log ≡ m.core.log

@@ -14,11 +14,12 @@ use Rattle.am_packet.specs.declared.packet.Packet.{Packet}
 use Rattle.am_packet.specs.Boxes.{Letter}
 use Rattle.am_packet.specs.Kinds.{kind_of}
 use Rattle.am_packet.specs.Boxes.{letter_to, place_for, with_letter}
-use Rattle.am_model.specs.Node.{Node, Send, Ballot, told, others, only_name, lowest_or_first, waiting, is_sequencer, has_room}
+use Rattle.am_sender.specs.declared.OwnSend.{OwnSend}
+use Rattle.am_model.specs.Node.{Node, Ballot, told, others, only_name, lowest_or_first, waiting, is_sequencer, has_room}
 use Rattle.am_model.specs.Emit.{Plan, quiet, telling, and_telling, and_where, numbering, polling, leave_ask_of, hand_over_of, invite_of, fetch_of, result_of, put_all}
 use Rattle.am_model.specs.Ballots.{Verdict, promised, next_stamp, new_ballot, decide, answered, with_result, with_fetch, begin, with_vote, newly_needed, keep_vote, without_voter, give_up}
 use Rattle.am_model.specs.Ticks.{tick_ballot, tick_member, put_off, behind_view, viewed_by, and_result, tick_sequencer, tick_acting, tick_with, tick_by, tick_row}
-use Rattle.am_model.specs.Calls.{emit, sent, collected, given, join_by, state_by, go, leave_now, leave_by, ask_of, give_up_of, send_row, done_row, take_row, join_row, state_row, leave_row, reset_row, ask_row, give_up_row}
+use Rattle.am_model.specs.Calls.{emit, given, join_by, state_by, go, leave_now, leave_by, ask_of, give_up_of, send_row, done_row, take_row, join_row, state_row, leave_row, reset_row, ask_row, give_up_row}
 use Rattle.am_model.proofs.Greatest.{split}
 
 -- one more at most
@@ -64,7 +65,7 @@ pub ruleset few = (few_if, few_quiet, few_telling, few_numbering, few_polling, a
 
 -- ---- the calls
 
-pub few_emit : (most : ℕ) (m : Node) (w : Option Send) (o : Outcome) → 1 ≤ most → Few most (emit m w o)
+pub few_emit : (most : ℕ) (m : Node) (w : Option OwnSend) (o : Outcome) → 1 ≤ most → Few most (emit m w o)
 few_emit most m None o l = few_quiet most m o
 few_emit most m (Some s) o l = search few
 
@@ -72,17 +73,9 @@ pub few_send : (m : Node) (body : List ℕ) → Few 8 (send_row m body)
 unfolding send_row
 few_send m body = search (few, few_emit)
 
-pub few_sent : (m : Node) (req : ℕ) (n : Option ℕ) → Few 8 (sent m req n)
-few_sent m req None = search few
-few_sent m req (Some n) = search few
-
-pub few_collected : (m : Node) (req : ℕ) (s : Option Send) → Few 8 (collected m req s)
-few_collected m req None = search few
-few_collected m req (Some s) = few_sent m req s.number
-
 pub few_done : (m : Node) (req : ℕ) → Few 8 (done_row m req)
 unfolding done_row
-few_done m req = few_collected m req (find (λ s. s.req == req) m.sends.kept)
+few_done m req = search few
 
 pub few_given : (m : Node) (e : Option Entry) → Few 8 (given m e)
 few_given m None = search few

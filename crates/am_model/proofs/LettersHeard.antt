@@ -17,7 +17,8 @@ use Rattle.am_packet.specs.Boxes.{Letter}
 use Rattle.am_base.specs.declared.event.NodeEvent.{NodeEvent}
 use Rattle.am_base.specs.declared.event.NodeEvent.TheVariants as does
 use Rattle.am_codec.specs.Reading.{Read, reading}
-use Rattle.am_model.specs.Node.{Node, Send, Ballot, top, told, others, only_name, pushed, trimmed, waiting}
+use Rattle.am_sender.specs.declared.OwnSend.{OwnSend}
+use Rattle.am_model.specs.Node.{Node, Ballot, top, told, others, only_name, pushed, trimmed, waiting}
 use Rattle.am_model.specs.Refresh.{refresh_at_end}
 use Rattle.am_model.specs.Emit.{Plan, quiet, polling, numbering, tells_accepted, accept_of, ack_of, bcast_of, hold_of, piece_of, welcome_of, gone_of, served, put_all, with_accept, finish}
 use Rattle.am_model.specs.Sequencing.{row_at, number_data, requested, request_row, risen, ack_row, asked_again, nack_row}
@@ -98,7 +99,7 @@ few_accept : (m : Node) (s base acc high : ℕ) (poll : Bool) → Few 8 (accept_
 unfolding accept_row
 few_accept m s base acc high poll = search (few, few_accepted_to)
 
-few_held_up : (m : Node) (base high req : ℕ) (w : Option Send) → Few 8 (held_up m base high req w)
+few_held_up : (m : Node) (base high req : ℕ) (w : Option OwnSend) → Few 8 (held_up m base high req w)
 few_held_up m base high req None = search few
 few_held_up m base high req (Some s) = search few
 

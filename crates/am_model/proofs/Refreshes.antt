@@ -1,15 +1,40 @@
 -- A second refresh in a row changes nothing.
-use Rattle.std.proofs.Common.{◌≡◌, ℕ, ◌-◌, ◌≤◌, max, min, true, ◌==◌, nat_lt, nat_le, Option, Some, None, refl, sym, ap, ◌∙◌, inl, inr, arith}
+use Rattle.std.proofs.Common.{◌≡◌, ℕ, ◌-◌, ◌≤◌, max, min, true, ◌==◌, nat_lt, nat_le, if◌then◌else◌, Option, Some, None, refl, sym, ap, subst, ◌∙◌, inl, inr, arith}
 use Rattle.std.proofs.lemmas.Bool.{cases_lt}
 use Rattle.std.proofs.lemmas.Bool.Decides.{nat_tests}
 use Rattle.am_base.specs.declared.image.Report.{Report}
 use Rattle.am_base.specs.Lists.{Log, top_of, told_by}
 use Rattle.am_base.specs.Fronts.{is_held, is_satisfied, accept_front}
-use Rattle.am_model.specs.Node.{Core, Node, top, is_sequencer, report_of, set_at, raised}
-use Rattle.am_model.specs.Refresh.{concerned, least_taken, base_after, passed_over, known_accepted, advanced, advance, report_self, tell, trim, lead, refresh}
+use Rattle.am_core.specs.Cores as cores
+use Rattle.am_core.specs.Cores.{CoreState, accept, pass_over}
+use Rattle.am_fronts.specs.Reports.{raised, least_taken}
+use Rattle.am_fronts.specs.Refresh.{base_after, own_report, tell, go_on, let_go}
+use Rattle.am_model.specs.Node.{Node, top, is_sequencer, report_of, set_at, with_report}
+use Rattle.am_model.specs.Refresh.{concerned, advance, lead, refresh}
 use Rattle.am_model.specs.Laws.{IsGreatestFront, RefreshOnce}
 use Rattle.am_model.proofs.Greatest.{split, and_both}
 use Rattle.am_model.proofs.AcceptFronts.{above_view, below_view, one_front, accept_front_is}
+
+-- ---- the parts of a refresh
+
+abbrev passed_over : ℕ → ℕ → ℕ → ℕ
+passed_over taken acc start = if nat_lt taken (start - 1) then max taken (min acc (start - 1)) else taken
+
+abbrev known_accepted : CoreState → ℕ
+known_accepted core = max core.acc (min core.told (top_of core.log))
+
+abbrev report_self : Node → Node
+report_self m = with_report m m.core.who (report_of m)
+
+abbrev find_front : Node → Node
+find_front m = record m { core = record (m.core) { told = accept_front m.reports m.core.log m.core.acc } }
+
+abbrev trim : Node → Node
+trim m = record m { core = record (m.core) { base = base_after (least_taken m.reports (concerned m)) m.core.base } }
+
+lead_is : (m : Node) → lead m ≡ trim (report_self (advance (find_front (report_self m))))
+unfolding lead own_report tell go_on let_go
+lead_is m = refl
 
 -- ---- numbers
 
@@ -104,36 +129,36 @@ record IsFresh (m : Node) : Type 0 where
   told : accept_front m.reports m.core.log m.core.acc ≡ m.core.told
   known : known_accepted m.core ≡ m.core.acc
   passed : passed_over m.core.taken m.core.acc m.core.start ≡ m.core.taken
-  base : base_after (least_taken m (concerned m)) m.core.base ≡ m.core.base
+  base : base_after (least_taken m.reports (concerned m)) m.core.base ≡ m.core.base
 
-tell_again : (m : Node) → accept_front m.reports m.core.log m.core.acc ≡ m.core.told → tell m ≡ m
+tell_again : (m : Node) → accept_front m.reports m.core.log m.core.acc ≡ m.core.told → find_front m ≡ m
 tell_again m e = λ i. record m { core = record (m.core) { told = e i } }
 
-advanced_again : (c : Core) → known_accepted c ≡ c.acc → passed_over c.taken c.acc c.start ≡ c.taken → advanced c ≡ c
-unfolding advanced
+advanced_again : (c : CoreState) → known_accepted c ≡ c.acc → passed_over c.taken c.acc c.start ≡ c.taken → cores.advance c ≡ c
+unfolding accept pass_over
 advanced_again c e f = (λ i. record c { acc = e i; taken = passed_over c.taken (e i) c.start }) ∙ (λ i. record c { taken = f i })
 
 advance_again : (m : Node) → known_accepted m.core ≡ m.core.acc → passed_over m.core.taken m.core.acc m.core.start ≡ m.core.taken → advance m ≡ m
 advance_again m e f = λ i. record m { core = advanced_again m.core e f i }
 
-base_again : (m : Node) → base_after (least_taken m (concerned m)) m.core.base ≡ m.core.base → trim m ≡ m
+base_again : (m : Node) → base_after (least_taken m.reports (concerned m)) m.core.base ≡ m.core.base → trim m ≡ m
 base_again m e = λ i. record m { core = record (m.core) { base = e i } }
 
 lead_fresh : (m : Node) → IsFresh m → lead m ≡ m
-unfolding lead
 lead_fresh m h =
     let self = self_again m h.self in
-    ap (λ n. trim (report_self (advance (tell n)))) self
+    lead_is m
+    ∙ ap (λ n. trim (report_self (advance (find_front n)))) self
     ∙ ap (λ n. trim (report_self (advance n))) (tell_again m h.told)
     ∙ ap (λ n. trim (report_self n)) (advance_again m h.known h.passed)
     ∙ ap trim self
     ∙ base_again m h.base
 
-is_fresh : (m : Node) → IsFresh (lead m)
-unfolding lead advanced
-is_fresh m =
+leads_fresh : (m : Node) → IsFresh (trim (report_self (advance (find_front (report_self m)))))
+unfolding accept pass_over
+leads_fresh m =
     let first = set_at m.reports m.core.who (raised (m.reports m.core.who) (report_of m)) in
-    let n = advance (tell (report_self m)) in
+    let n = advance (find_front (report_self m)) in
     let same = set_same m.reports m.core.who (raised (m.reports m.core.who) (report_of m)) in
     let again = set_same first m.core.who (raised (first m.core.who) (report_of n)) in
     let stored : max (max (m.reports m.core.who).stored (top m)) (top m) ≡ max (m.reports m.core.who).stored (top m) = omega arith in
@@ -143,20 +168,23 @@ is_fresh m =
       told = front_again first (set_at first m.core.who (raised (first m.core.who) (report_of n))) m.core.log m.core.acc (set_stored first m.core.who (raised (first m.core.who) (report_of n)) kept);
       known = known_again m.core.acc (accept_front first m.core.log m.core.acc) (top m);
       passed = pass_again m.core.taken (max m.core.acc (min (accept_front first m.core.log m.core.acc) (top m))) m.core.start;
-      base = trim_again (least_taken (report_self n) (concerned (report_self n))) m.core.base;
+      base = trim_again (least_taken (report_self n).reports (concerned (report_self n))) m.core.base;
     }
+
+is_fresh : (m : Node) → IsFresh (lead m)
+is_fresh m = subst IsFresh (sym (lead_is m)) (leads_fresh m)
 
 -- it leads after it as before
 leads : (m : Node) → is_sequencer (lead m) ≡ is_sequencer m
-unfolding lead advanced
-leads m = refl
+unfolding accept pass_over
+leads m = ap is_sequencer (lead_is m)
 
 follows : (m : Node) → is_sequencer (advance m) ≡ is_sequencer m
-unfolding advanced
+unfolding accept pass_over
 follows m = refl
 
 advance_twice : (m : Node) → advance (advance m) ≡ advance m
-unfolding advanced
+unfolding accept pass_over
 advance_twice m = advance_again (advance m) (known_again m.core.acc m.core.told (top m)) (pass_again m.core.taken (known_accepted m.core) m.core.start)
 
 pub refresh_twice : RefreshOnce

@@ -12,8 +12,9 @@ use Rattle.am_packet.specs.declared.packet.Packet.{Packet}
 use Rattle.am_packet.specs.declared.packet.Packet.TheVariants as packet
 use Rattle.am_packet.specs.Boxes.{Letter}
 use Rattle.am_packet.specs.Boxes.{with_letter}
-use Rattle.am_model.specs.Node.{Node, Ballot, top, told, members, view, others, only_name, those, set_at, pushed, trimmed, no_report}
-use Rattle.am_model.specs.Refresh.{least_of}
+use Rattle.am_fronts.specs.Reports as reports
+use Rattle.am_fronts.specs.Reports.{least_of}
+use Rattle.am_model.specs.Node.{Node, Ballot, top, told, members, view, others, only_name, those, set_at, pushed, trimmed}
 use Rattle.am_model.specs.Emit.{Plan, quiet, invite_of, fetch_of, result_of}
 
 -- ---- promises
@@ -74,7 +75,7 @@ ends m b outcome = record { node = record m { ballot = Some (record b { answer =
 
 -- the reports of all names begin anew
 abbrev pub restarted : Node → Node
-restarted m = record m { reports = λ name. if nat_lt name 256 then record { stored = m.core.base; taken = m.core.base } else no_report }
+restarted m = record m { reports = reports.restarted m.core.base }
 
 -- the view is pushed, where there is room for so many members
 abbrev pub decide_view : Node → Ballot → List ℕ → Verdict

@@ -6,9 +6,11 @@ use Rattle.am_base.specs.declared.outcome.Outcome.{Outcome}
 use Rattle.am_base.specs.declared.outcome.Outcome.TheVariants as said
 use Rattle.am_base.specs.Names.{place_of, by_place, has, size}
 use Rattle.am_base.specs.Lists.{entry_at}
+use Rattle.am_sender.specs.declared.OwnSend.{OwnSend}
+use Rattle.am_sender.specs.Sends as own
 use Rattle.am_model.specs.declared.status.Status.{Status}
 use Rattle.am_model.specs.declared.status.Status.TheVariants as status
-use Rattle.am_model.specs.Node.{Node, Send, Ballot, top, view, members, own_row, others, only_name, lowest_or_first, acts, is_sequencer, is_member, has_room, waiting, unsettled, pushed}
+use Rattle.am_model.specs.Node.{Node, Ballot, top, view, members, own_row, others, only_name, lowest_or_first, acts, is_sequencer, is_member, has_room, waiting, unsettled, pushed}
 use Rattle.am_model.specs.Emit.{Plan, quiet, telling, and_telling, numbering, request_of, spread_of, bcast_of, join_ask_of, leave_ask_of, hand_over_of}
 use Rattle.am_model.specs.Ballots.{begin, give_up}
 
@@ -19,23 +21,23 @@ unfoldable pub everywhere_else : Node → List ℕ
 everywhere_else m = by_place (λ place. if place == place_of m.core.who then 0 else 1)
 
 -- the waiting send would go out: the node acts, and the send isn't numbered yet
-abbrev pub would_emit : Node → Option Send → Bool
+abbrev pub would_emit : Node → Option OwnSend → Bool
 would_emit m None = false
 would_emit m (Some s) = acts m && nat_lt (own_row m).last s.req
 
 -- a member's send: by the sequencer where it is short, else to everybody
-abbrev pub hand_in : Node → Send → Outcome → Plan
+abbrev pub hand_in : Node → OwnSend → Outcome → Plan
 hand_in m s outcome =
     if nat_le (length s.body) m.core.rules.pb_up_to
     then telling m outcome (only_name (view m).by) (λ n. request_of n s.req s.body)
     else telling m outcome (others m) (λ n. spread_of n s.req s.body)
 
 -- the sequencer's own send
-abbrev pub number_send : Node → Send → Outcome → Plan
+abbrev pub number_send : Node → OwnSend → Outcome → Plan
 number_send m s outcome = numbering m (Data m.core.who s.req s.body) outcome (λ n. bcast_of n (top m + 1) (Data m.core.who s.req s.body))
 
 -- emits the waiting send
-abbrev pub emit : Node → Option Send → Outcome → Plan
+abbrev pub emit : Node → Option OwnSend → Outcome → Plan
 emit m None outcome = quiet m outcome
 emit m (Some s) outcome =
     if not (would_emit m (Some s)) then quiet m outcome
@@ -45,7 +47,7 @@ emit m (Some s) outcome =
 
 -- the next send is queued; where none waits before it, it goes out
 abbrev pub queued : Node → List ℕ → Node
-queued m body = record m { sends = record { last = m.sends.last + 1; kept = m.sends.kept ++ record { req = m.sends.last + 1; body = body; number = None } ∷ [] } }
+queued m body = record m { sends = own.submit body m.sends }
 
 abbrev pub queue : Node → List ℕ → Plan
 queue m body =
@@ -56,20 +58,12 @@ unfoldable pub send_row : Node → List ℕ → Plan
 send_row m body =
     if not (is_member m.status) then quiet m said.NotMember
     else if m.leaving then quiet m said.Leaving
-    else if nat_le 4 (length m.sends.kept) then quiet m (said.Busy 4)
+    else if nat_le 4 (length m.sends.queue) then quiet m (said.Busy 4)
     else queue m body
 
--- what came of a send
-abbrev pub sent : Node → ℕ → Option ℕ → Plan
-sent m req None = quiet m (said.Pending req)
-sent m req (Some number) = quiet (record m { sends = record (m.sends) { kept = filter (λ s. not (s.req == req)) m.sends.kept } }) (said.Sent req number)
-
-abbrev pub collected : Node → ℕ → Option Send → Plan
-collected m req None = quiet m said.Unknown
-collected m req (Some s) = sent m req s.number
-
+-- what came of a send, which is removed once that is told
 unfoldable pub done_row : Node → ℕ → Plan
-done_row m req = collected m req (find (λ s. s.req == req) m.sends.kept)
+done_row m req = quiet (record m { sends = own.collect req m.sends }) (own.collect_outcome req m.sends)
 
 -- ---- what is accepted
 

@@ -10,8 +10,9 @@ use Rattle.am_base.specs.declared.outcome.Outcome.TheVariants as said
 use Rattle.am_base.specs.Names.{place_of, life_of, name_at, without_name}
 use Rattle.am_base.specs.Stamps.{stamp_lt, stamp_eq}
 use Rattle.am_base.specs.Lists.{fits, at_place, row_of}
+use Rattle.am_fronts.specs.Reports as reports
 use Rattle.am_model.specs.declared.status.Status.TheVariants as status
-use Rattle.am_model.specs.Node.{Node, top, told, view, only_name, has_room, is_member, is_within_bound, report_fits, set_at}
+use Rattle.am_model.specs.Node.{Node, top, told, view, only_name, has_room, is_member, is_within_bound, report_fits}
 use Rattle.am_model.specs.Refresh.{concerned, least_stored}
 use Rattle.am_model.specs.Emit.{Plan, quiet, telling, polling, and_where, numbering, bcast_of, nack_of, welcome_of, gone_of, fetch_of}
 use Rattle.am_model.specs.Sequencing.{row_at, is_unknown, reported}
@@ -20,7 +21,7 @@ use Rattle.am_model.specs.Sequencing.{row_at, is_unknown, reported}
 
 -- the joiner's reports begin at the base
 abbrev pub admitted : Node → ℕ → Node
-admitted m s = record m { reports = set_at m.reports s (record { stored = m.core.base; taken = m.core.base }) }
+admitted m s = record m { reports = reports.admitted m.reports s m.core.base }
 
 -- the Join is numbered, and the joiner welcomed once that is accepted
 abbrev pub number_join : Node → ℕ → Plan

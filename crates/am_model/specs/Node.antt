@@ -1,5 +1,5 @@
 -- A node of the protocol. Its list is never cut: the base is only a number.
-use Rattle.std.specs.Prelude.{ℕ, ◌+◌, ◌-◌, max, List, [], ◌∷◌, ◌++◌, drop, Option, None, Bool, true, false, ◌&&◌, ◌==◌, nat_lt, nat_le, if◌then◌else◌, unwrap_or, slice_index, find, count_by, is_none, option_map}
+use Rattle.std.specs.Prelude.{ℕ, ◌+◌, ◌-◌, max, List, [], ◌∷◌, ◌++◌, drop, Option, None, Bool, true, false, ◌&&◌, ◌==◌, nat_lt, nat_le, if◌then◌else◌, unwrap_or, slice_index}
 use Rattle.am_base.specs.declared.image.Report.{Report}
 use Rattle.am_base.specs.declared.image.Row.{Row}
 use Rattle.am_base.specs.declared.image.Image.{Image}
@@ -11,40 +11,14 @@ use Rattle.am_base.specs.declared.outcome.Outcome.{Outcome}
 use Rattle.am_base.specs.Names.{nobody, by_place, name_at, has, with_name, without_name, lowest_of}
 use Rattle.am_base.specs.Stamps.{stamp_eq, no_stamp}
 use Rattle.am_base.specs.Founding.{Rules}
-use Rattle.am_base.specs.Lists.{Log, blank, top_of, told_by, members_of, row_of}
+use Rattle.am_base.specs.Lists.{blank, top_of, told_by, members_of, row_of}
+use Rattle.am_core.specs.Cores.{CoreState}
+use Rattle.am_fronts.specs.Reports.{no_report, no_reports, reported}
+use Rattle.am_sender.specs.declared.OwnSend.{OwnSend}
+use Rattle.am_sender.specs.Sends as own
+use Rattle.am_bodies.specs.declared.KeptBody.{KeptBody}
 use Rattle.am_model.specs.declared.status.Status.{Status}
 use Rattle.am_model.specs.declared.status.Status.TheVariants.{Stranger, Asking, Member, Departed}
-
--- what each part of a node knows: its name, the rules, its list and how far that counts as trimmed, the greatest stamp
--- promised, how far the sequencer told that the list is accepted, how far it is known to be accepted, how far it was
--- taken, and the number with which the node joined
-pub record Core : Type 0 where
-  pub who : ℕ
-  pub rules : Rules
-  pub log : Log
-  pub base : ℕ
-  pub promise : Stamp
-  pub told : ℕ
-  pub acc : ℕ
-  pub taken : ℕ
-  pub start : ℕ
-
--- a send that isn't collected, with its number once it is settled
-pub record Send : Type 0 where
-  pub req : ℕ
-  pub body : List ℕ
-  pub number : Option ℕ
-
--- the request of the last send, and the sends that aren't collected, in order
-pub record Sends : Type 0 where
-  pub last : ℕ
-  pub kept : List Send
-
--- a body that was spread and isn't numbered yet
-pub record KeptBody : Type 0 where
-  pub from : ℕ
-  pub req : ℕ
-  pub body : List ℕ
 
 -- the last ballot of a node: the least size and the resilience asked for, who voted what, who was given up, and what was
 -- last decided on it, or how it ended
@@ -57,11 +31,13 @@ pub record Ballot : Type 0 where
   pub answer : Outcome
   pub is_over : Bool
 
+-- what each part of a node knows, its own sends, the bodies that were spread and aren't numbered yet, and what each name
+-- has reported
 pub record Node : Type 0 where
-  pub core : Core
+  pub core : CoreState
   pub status : Status
   pub leaving : Bool
-  pub sends : Sends
+  pub sends : own.Sends
   pub bodies : List KeptBody
   pub reports : ℕ → Report
   pub ballot : Option Ballot
@@ -142,34 +118,21 @@ report_of m = record { stored = top m; taken = m.core.taken }
 abbrev pub report_fits : Node → Report → Bool
 report_fits m report = nat_le report.taken report.stored && nat_le report.stored (top m)
 
--- ---- sends and bodies
+-- ---- sends
 
 -- the waiting send: the first that isn't settled
-abbrev pub is_unsettled : Send → Bool
-is_unsettled s = is_none s.number
-
-abbrev pub waiting : Node → Option Send
-waiting m = find is_unsettled m.sends.kept
+abbrev pub waiting : Node → Option OwnSend
+waiting m = own.waiting m.sends
 
 -- how many aren't settled
 abbrev pub unsettled : Node → ℕ
-unsettled m = count_by is_unsettled m.sends.kept
-
--- a body that is kept for this sender and request
-abbrev pub is_of : ℕ → ℕ → KeptBody → Bool
-is_of from req kept = (kept.from == from) && (kept.req == req)
-
-abbrev pub find_body : ℕ → ℕ → List KeptBody → Option (List ℕ)
-find_body from req bodies = option_map (λ kept. kept.body) (find (is_of from req) bodies)
+unsettled m = own.unsettled m.sends
 
 -- ---- changes
 
 -- the map with another value at one place
 abbrev pub set_at : {A : Type 0} → (ℕ → A) → ℕ → A → ℕ → A
 set_at f k x j = if j == k then x else f j
-
-abbrev pub with_core : Node → Core → Node
-with_core m core = record m { core = core }
 
 abbrev pub pushed : Node → Entry → Node
 pushed m e = record m { core = record (m.core) { log = record (m.core.log) { entries = m.core.log.entries ++ e ∷ [] } } }
@@ -178,11 +141,8 @@ pushed m e = record m { core = record (m.core) { log = record (m.core.log) { ent
 abbrev pub trimmed : Node → ℕ → Node
 trimmed m base = record m { core = record (m.core) { base = max m.core.base base } }
 
-abbrev pub raised : Report → Report → Report
-raised old report = record { stored = max old.stored report.stored; taken = max old.taken report.taken }
-
 abbrev pub with_report : Node → ℕ → Report → Node
-with_report m name report = record m { reports = set_at m.reports name (raised (m.reports name) report) }
+with_report m name report = record m { reports = reported m.reports name report }
 
 -- ---- the first states
 
@@ -196,9 +156,6 @@ founding_stamp rules = record { round = 1; by = lowest_or_first rules.founders }
 -- the first entry of the list
 abbrev pub founders_view : Rules → Entry
 founders_view rules = View (founding_stamp rules) rules.founders rules.resilience
-
-abbrev pub no_report : Report
-no_report = record { stored = 0; taken = 0 }
 
 abbrev pub founder : Rules → ℕ → Node
 founder rules who = record {
@@ -215,7 +172,7 @@ founder rules who = record {
   };
   status = Member;
   leaving = false;
-  sends = record { last = 0; kept = [] };
+  sends = own.no_sends;
   bodies = [];
   reports = λ name. if has rules.founders name then record { stored = 1; taken = 0 } else no_report;
   ballot = None;
@@ -236,8 +193,8 @@ stranger rules who = record {
   };
   status = Stranger;
   leaving = false;
-  sends = record { last = 0; kept = [] };
+  sends = own.no_sends;
   bodies = [];
-  reports = λ name. no_report;
+  reports = no_reports;
   ballot = None;
 }

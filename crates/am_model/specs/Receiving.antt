@@ -7,31 +7,30 @@ use Rattle.am_base.specs.declared.outcome.Outcome.{Outcome}
 use Rattle.am_base.specs.declared.outcome.Outcome.TheVariants as said
 use Rattle.am_base.specs.Names.{without_name, names_of}
 use Rattle.am_base.specs.Lists.{fits}
-use Rattle.am_model.specs.Node.{Node, Send, KeptBody, top, told, members, only_name, has_own_leave, is_within_bound, waiting, is_of, find_body, pushed, trimmed}
+use Rattle.am_sender.specs.declared.OwnSend.{OwnSend}
+use Rattle.am_bodies.specs.declared.KeptBody.{KeptBody}
+use Rattle.am_bodies.specs.Bodies.{is_of, find_body, keep_body, drop_bodies}
+use Rattle.am_model.specs.Node.{Node, top, told, members, only_name, has_own_leave, is_within_bound, waiting, pushed, trimmed}
 use Rattle.am_model.specs.Emit.{Plan, quiet, telling, and_where, ack_of, nack_of}
 use Rattle.am_model.specs.Sequencing.{row_at, risen}
 
 -- ---- bodies
 
--- a full pool of sixteen gives up its oldest body
-abbrev pub kept_with : List KeptBody → KeptBody → List KeptBody
-kept_with bodies body = (if nat_le 16 (length bodies) then drop 1 bodies else bodies) ++ body ∷ []
-
 -- a Spread at a member that isn't the sequencer
 unfoldable pub spread_row : Node → ℕ → ℕ → List ℕ → Plan
 spread_row m s req body =
     if nat_le req (row_at m s).last || list_any (is_of s req) m.bodies then quiet m said.Known
-    else quiet (record m { bodies = kept_with m.bodies (record { from = s; req = req; body = body }) }) said.Kept
+    else quiet (record m { bodies = keep_body s req body m.bodies }) said.Kept
 
 -- the bodies that a stored Data leaves
 abbrev pub bodies_after : List KeptBody → Entry → List KeptBody
-bodies_after bodies (Data from req body) = filter (λ b. not ((b.from == from) && nat_le b.req req)) bodies
+bodies_after bodies (Data from req body) = drop_bodies from req bodies
 bodies_after bodies (Join name) = bodies
 bodies_after bodies (Leave name) = bodies
 bodies_after bodies (View stamp names resilience) = bodies
 
 -- the body of a send that was spread: its own waiting send's, or a kept one's
-abbrev pub own_body : Node → ℕ → ℕ → Option Send → Option (List ℕ)
+abbrev pub own_body : Node → ℕ → ℕ → Option OwnSend → Option (List ℕ)
 own_body m from req None = None
 own_body m from req (Some s) = if (from == m.core.who) && (s.req == req) then Some s.body else None
 
@@ -99,7 +98,7 @@ accept_row m s base acc high poll =
     else accepted_to (noted m base acc) m s poll
 
 -- the waiting send is put off
-abbrev pub held_up : Node → ℕ → ℕ → ℕ → Option Send → Plan
+abbrev pub held_up : Node → ℕ → ℕ → ℕ → Option OwnSend → Plan
 held_up m base high req None = quiet m said.Known
 held_up m base high req (Some s) = if s.req == req then quiet m (said.PutOff req base high) else quiet m said.Known
 

@@ -9,7 +9,8 @@ use Rattle.am_base.specs.Lists.{entry_at}
 use Rattle.am_packet.specs.Boxes.{with_letter}
 use Rattle.am_model.specs.declared.status.Status.{Status}
 use Rattle.am_model.specs.declared.status.Status.TheVariants as status
-use Rattle.am_model.specs.Node.{Node, Send, Ballot, top, told, view, others, only_name, those, acts, is_sequencer, has_room, waiting}
+use Rattle.am_sender.specs.declared.OwnSend.{OwnSend}
+use Rattle.am_model.specs.Node.{Node, Ballot, top, told, view, others, only_name, those, acts, is_sequencer, has_room, waiting}
 use Rattle.am_model.specs.Emit.{Plan, quiet, telling, ack_of, invite_of, fetch_of, result_of}
 use Rattle.am_model.specs.Calls.{would_emit, emit, ask_to_join, go}
 
@@ -33,7 +34,7 @@ tick_member m =
     else telling m said.Ticked (only_name (view m).by) ack_of
 
 -- the sequencer has no room for its own send
-abbrev pub put_off : Node → Option Send → Outcome
+abbrev pub put_off : Node → Option OwnSend → Outcome
 put_off m None = said.Ticked
 put_off m (Some s) = if would_emit m (Some s) && not (has_room m) then said.PutOff s.req m.core.base (top m) else said.Ticked
 

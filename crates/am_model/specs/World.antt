@@ -17,11 +17,12 @@ use Rattle.am_group.specs.declared.event.Event.{Event}
 use Rattle.am_group.specs.declared.event.Record.{Record}
 use Rattle.am_group.specs.declared.event.By.{By}
 use Rattle.am_group.specs.declared.event.Part.TheVariants.{Call}
+use Rattle.am_core.specs.Cores.{CoreState}
 use Rattle.am_group.specs.Journals.{letter_at}
 use Rattle.am_group.specs.Addressed.{is_for}
 use Rattle.am_model.specs.declared.status.Status.{Status}
 use Rattle.am_model.specs.declared.status.Status.TheVariants.{Stranger, Asking, Member, Departed}
-use Rattle.am_model.specs.Node.{Core, Node, told, view, members, set_at, founder, stranger, founding_stamp, founders_view}
+use Rattle.am_model.specs.Node.{Node, told, view, members, set_at, founder, stranger, founding_stamp, founders_view}
 use Rattle.am_model.specs.Emit.{Step}
 use Rattle.am_model.specs.Step.{step, hear, refused}
 use Rattle.am_model.specs.Lengths.{packet_length}
@@ -83,7 +84,7 @@ has_departed Departed = true
 -- ---- the group list
 
 -- the list, with what a node has accepted beyond it
-abbrev pub grown : List Entry → Core → List Entry
+abbrev pub grown : List Entry → CoreState → List Entry
 grown group core = group ++ take (core.acc - length group) (drop (length group - core.log.start) core.log.entries)
 
 -- only a node in a view of its own adds to it
