@@ -1,11 +1,25 @@
 -- What a spelling is read as.
-use Rattle.std.proofs.Common.{◌≡◌, ap}
+use Rattle.std.proofs.Common.{◌≡◌, ℕ, ◌<◌, List, ap, refl, sym, subst, ◌∙◌, length, slice_index, arith}
 use Rattle.am_packet.specs.declared.packet.Packet.{Packet}
+use Rattle.am_packet.specs.Kinds.{kind_of}
 use Rattle.am_codec.specs.Limits.{IsPacket}
 use Rattle.am_codec.specs.Spelling.{spelling}
 use Rattle.am_codec.specs.Reading.{reading}
-use Rattle.am_codec.proofs.Again.{spelling_again}
-use Rattle.am_letter.specs.Letters.{packet_in, read_packet}
+use Rattle.am_codec.proofs.Again.{spelling_again, length-spelling}
+use Rattle.am_letter.specs.Letters.{packet_in, read_packet, IsSpelled}
 
 pub read_spelled : (packet : Packet) → IsPacket packet → packet_in (spelling packet) ≡ packet
 read_spelled packet is = ap read_packet (spelling_again packet is)
+
+-- a packet's kind stands in its header
+spelled_kind : (packet : Packet) → slice_index (spelling packet) 3 ≡ kind_of packet
+unfolding spelling
+spelled_kind packet = refl
+
+pub kind_read : (bytes : List ℕ) → IsSpelled bytes → slice_index bytes 3 ≡ kind_of (packet_in bytes)
+kind_read bytes is = ap (λ l. slice_index l 3) is.spelled ∙ spelled_kind (packet_in bytes)
+
+pub kind_within : (bytes : List ℕ) → IsSpelled bytes → 3 < length bytes
+kind_within bytes is = let long = length-spelling (packet_in bytes) in subst (λ l. 3 < length l) (sym is.spelled) (omega arith)
+
+pub ruleset header = (kind_read, kind_within)

@@ -14,6 +14,9 @@ use std::marker::Model;
 /// The kind of a request to join, which goes to every life of its places.
 const JOIN_ASK: u8 = 9;
 
+/// Where a packet's bytes have its kind.
+const KIND_AT: usize = 3;
+
 /// The bytes of a packet with its addressees: the names in a set, or every life of their places. Contracts see it as the
 /// packet that its bytes spell, with these addressees (docs/PROTOCOL.md, "Letters").
 #[derive(Drop, Clone, Debug)]
@@ -88,10 +91,11 @@ impl Letter {
     }
 
     /// The number of its packet's kind, 1 to 18.
+    #[tactic(auto, using(crate::proofs::Read::header))]
     pub fn kind(&self) -> u8
         ensures { result ≡ kind_of self.now.packet }
     {
-        self.packet().kind()
+        self.bytes.bytes()[KIND_AT]
     }
 
     /// The packet that its bytes spell.
