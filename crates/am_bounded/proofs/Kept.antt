@@ -1,0 +1,127 @@
+-- What each step of a node keeps, and the changes that keep it.
+use Rattle.std.proofs.Common.{◌≡◌, ℕ, ◌+◌, ◌-◌, ◌≤◌, max, Bool, true, false, not, ◌&&◌, ◌||◌, ◌==◌, nat_le, if◌then◌else◌, List, [], ◌∷◌, length, Option, Some, None, refl, ap, ◌∙◌, arith, length-append}
+use Rattle.std.proofs.lemmas.Bool.Decides.{nat_tests}
+use Rattle.am_base.specs.declared.entry.Entry.{Entry}
+use Rattle.am_base.specs.declared.outcome.Outcome.{Outcome}
+use Rattle.am_base.specs.declared.name.Stamp.{Stamp}
+use Rattle.am_base.specs.Stamps.{stamp_lt}
+use Rattle.am_base.specs.Founding.{Rules}
+use Rattle.am_core.specs.Cores.{accept, pass_over}
+use Rattle.am_fronts.specs.Reports.{least_taken}
+use Rattle.am_fronts.specs.Refresh.{base_after, own_report, tell, go_on, let_go}
+use Rattle.am_sender.specs.declared.OwnSend.{OwnSend}
+use Rattle.am_model.specs.Node.{Node, Ballot, top, has_room, is_within_bound, is_sequencer, pushed, trimmed, waiting}
+use Rattle.am_model.specs.Refresh.{advance, lead, refresh, accepted_at, settled_at, settled, settle, refresh_at_end}
+use Rattle.am_model.specs.Emit.{Plan, Step, finish}
+use Rattle.am_model.specs.Ballots.{overtaken, promised}
+use Rattle.am_model.proofs.Greatest.{split}
+
+-- a ballot hasn't given up its own coordinator
+abbrev pub HasItself : ℕ → Option Ballot → Type 0
+HasItself who None = Unit {0}
+HasItself who (Some b) = b.given_up who ≡ false
+
+-- by the parts of a node: its rules, its name, its base and its top, and its last ballot
+pub record IsKept (rules own : Rules) (who base high : ℕ) (ballot : Option Ballot) : Type 0 where
+  pub founding : own ≡ rules
+  pub few : high ≤ base + (rules.window + 15)
+  pub itself : HasItself who ballot
+
+abbrev pub Keeps : Rules → Node → Type 0
+Keeps rules m = IsKept rules m.core.rules m.core.who m.core.base (top m) m.ballot
+
+-- ---- tests
+
+pub not_false : (b : Bool) → not b ≡ false → b ≡ true
+not_false true h = refl
+not_false false h = absurd (cc)
+
+pub neither : (a b : Bool) → (a || b) ≡ false → (a ≡ false) × (b ≡ false)
+neither true b h = absurd (cc)
+neither false b h = (refl, h)
+
+-- ---- entries
+
+-- the next number, where that is within the bound
+pub kept_next : (rules : Rules) (m : Node) (e : Entry) → Keeps rules m → top m + 1 ≤ m.core.base + (rules.window + 15) → Keeps rules (pushed m e)
+kept_next rules m e h low = record { founding = h.founding; few = simp length-append (omega arith); itself = h.itself }
+
+pub kept_pushed : (rules : Rules) (m : Node) (e : Entry) → has_room m ≡ true → Keeps rules m → Keeps rules (pushed m e)
+kept_pushed rules m e room h =
+    let same = ap (λ (r : Rules). r.window) h.founding in
+    let low : top m + 1 - m.core.base ≤ m.core.rules.window = grind (arith, nat_tests) in
+    kept_next rules m e h (omega arith)
+
+pub kept_within : (rules : Rules) (m : Node) (number : ℕ) (e : Entry) → top m + 1 ≤ number → is_within_bound m m.core.base number ≡ true → Keeps rules m → Keeps rules (pushed m e)
+kept_within rules m number e next within h =
+    let same = ap (λ (r : Rules). r.window) h.founding in
+    let low : number - m.core.base ≤ m.core.rules.window + 15 = grind (arith, nat_tests) in
+    kept_next rules m e h (omega arith)
+
+-- a base that goes up
+pub kept_trimmed : (rules : Rules) (m : Node) (base : ℕ) → Keeps rules m → Keeps rules (trimmed m base)
+kept_trimmed rules m base h = let f = h.few in record { founding = h.founding; few = omega arith; itself = h.itself }
+
+-- ---- promises
+
+has_itself_still : (who : ℕ) (by : Stamp) (ballot : Option Ballot) → HasItself who ballot → HasItself who (overtaken by ballot)
+has_itself_still who by None h = tt
+has_itself_still who by (Some b) h = split (not b.is_over && stamp_lt b.stamp by) (λ t. rw t h) (λ f. rw f h)
+
+pub kept_promised : (rules : Rules) (m : Node) (stamp : Stamp) → Keeps rules m → Keeps rules (promised m stamp)
+kept_promised rules m stamp h = record { founding = h.founding; few = h.few; itself = has_itself_still m.core.who stamp m.ballot h.itself }
+
+-- ---- the refresh
+
+kept_after : (rules own : Rules) (who base high : ℕ) (ballot : Option Ballot) (least : Option ℕ) → IsKept rules own who base high ballot → IsKept rules own who (base_after least base) high ballot
+kept_after rules own who base high ballot None h = h
+kept_after rules own who base high ballot (Some to) h = let f = h.few in record { founding = h.founding; few = omega arith; itself = h.itself }
+
+kept_lead : (rules : Rules) (m : Node) → Keeps rules m → Keeps rules (lead m)
+unfolding lead own_report tell go_on let_go accept pass_over
+kept_lead rules m h = kept_after rules m.core.rules m.core.who m.core.base (top m) m.ballot _ h
+
+kept_advance : (rules : Rules) (m : Node) → Keeps rules m → Keeps rules (advance m)
+unfolding accept pass_over
+kept_advance rules m h = h
+
+pub kept_refresh : (rules : Rules) (m : Node) → Keeps rules m → Keeps rules (refresh m)
+unfolding refresh
+kept_refresh rules m h = split (is_sequencer m) (λ t. rw t (kept_lead rules m h)) (λ f. rw f (kept_advance rules m h))
+
+-- ---- the end of a step
+
+kept_settled_at : (rules : Rules) (m : Node) (req : ℕ) (at : Option ℕ) → Keeps rules m → Keeps rules (settled_at m req at)
+kept_settled_at rules m req None h = h
+kept_settled_at rules m req (Some k) h = h
+
+kept_settled : (rules : Rules) (m : Node) (w : Option OwnSend) → Keeps rules m → Keeps rules (settled m w)
+kept_settled rules m None h = h
+kept_settled rules m (Some s) h = kept_settled_at rules m s.req (accepted_at m s.req) h
+
+kept_at_end : (rules : Rules) (m : Node) → Keeps rules m → Keeps rules (refresh_at_end m)
+unfolding refresh_at_end settle
+kept_at_end rules m h = kept_settled rules (refresh m) (waiting (refresh m)) (kept_refresh rules m h)
+
+-- ---- plans
+
+-- a plan whose node keeps this
+pub record Ends (rules : Rules) (p : Plan) : Type 0 where
+  pub node : Keeps rules p.node
+
+-- by what a test says
+pub ends_if : (rules : Rules) (b : Bool) (p q : Plan) → (b ≡ true → Ends rules p) → (b ≡ false → Ends rules q) → Ends rules (if b then p else q)
+ends_if rules true p q f g = f refl
+ends_if rules false p q f g = g refl
+
+pub ends_at : (rules : Rules) (p : Plan) → Keeps rules p.node → Ends rules p
+ends_at rules p h = record { node = h }
+
+pub ruleset ends = (ends_if, ends_at)
+
+-- a plan that is done
+pub kept_finish : (rules : Rules) (m : Node) (p : Plan) → Ends rules p → Keeps rules (finish m p).node
+unfolding finish
+kept_finish rules m p h =
+    let k = kept_at_end rules p.node h.node in
+    split p.departs (λ t. rw t k) (λ f. rw f k)

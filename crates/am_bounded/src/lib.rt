@@ -1,0 +1,10 @@
+//! How much the nodes keep, proved on the definitions alone.
+#![tactic(auto)]
+
+ghost use Rattle.am_bounded.specs.Claim.{BoundedHolds};
+
+/// At every moment of every run of every founding, each node keeps at most the window and fifteen entries more above its base.
+#[tactic(auto, using(crate::proofs::Runs::bounded_holds))]
+pub fn each_node_is_bounded()
+    ensures { BoundedHolds }
+{}
