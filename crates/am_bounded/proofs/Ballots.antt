@@ -1,5 +1,5 @@
 -- What ballots keep: a coordinator that isn't given up is itself a member of the view that it decides.
-use Rattle.std.proofs.Common.{◌≡◌, ℕ, zero, suc, ◌+◌, ◌-◌, ◌<◌, ◌≤◌, ◌%◌, ◌/◌, max, min, Bool, true, false, not, ◌==◌, nat_lt, if◌then◌else◌, List, [], ◌∷◌, length, get_or, slice_index, count_by, Option, Some, None, unwrap_or, refl, sym, ap, ◌∙◌, arith, length-append}
+use Rattle.std.proofs.Common.{◌≡◌, ℕ, zero, suc, ◌+◌, ◌-◌, ◌<◌, ◌≤◌, max, min, Bool, true, false, not, ◌==◌, nat_lt, if◌then◌else◌, List, [], ◌∷◌, length, slice_index, Option, Some, None, unwrap_or, refl, ap, ◌∙◌, arith}
 use Rattle.std.proofs.lemmas.Bool.Decides.{nat_tests}
 use Rattle.am_base.specs.declared.image.Vote.{Vote}
 use Rattle.am_base.specs.declared.entry.Entry.TheVariants.{View}
@@ -11,10 +11,10 @@ use Rattle.am_base.proofs.Places.{slice_index-by_place, length-by_place}
 use Rattle.am_fronts.specs.Reports.{least_of}
 use Rattle.am_fronts.proofs.ReportLaws.{count_cons}
 use Rattle.am_model.specs.Node.{Node, Ballot, top, told, name_where, those}
-use Rattle.am_model.specs.Ballots.{Verdict, promised, best_of, need_of, is_waited_for, left_in, taken_by, goes_on, ends, decide_view, trimmed_for, decide, next_stamp, new_ballot, begin, with_vote, keep_vote, without_voter, give_up}
+use Rattle.am_model.specs.Ballots.{Verdict, promised, need_of, left_in, taken_by, goes_on, ends, decide_view, trimmed_for, decide, next_stamp, new_ballot, begin, with_vote, keep_vote, without_voter, give_up}
 use Rattle.am_model.specs.Calls.{give_up_of, give_up_row, reset_row}
 use Rattle.am_model.proofs.Greatest.{split}
-use Rattle.am_bounded.proofs.Kept.{HasItself, IsKept, Keeps, Ends, ends_at, ends as plans, not_false, kept_next, kept_trimmed, kept_promised}
+use Rattle.am_bounded.proofs.Kept.{HasItself, Keeps, Ends, ends_at, ends as plans, not_false, kept_next, kept_trimmed, kept_promised}
 
 -- ---- a set with a name in it isn't empty
 
@@ -85,7 +85,7 @@ comes_decide rules m b own h =
     let on : (o : Outcome) → Comes rules (goes_on m b o) = λ o. comes_on rules m b o own h in
     let over : (o : Outcome) → Comes rules (ends m b o) = λ o. comes_over rules m b o own h in
     let view : not (has (need_of m b) m.core.who) ≡ false → Comes rules (decide_view (trimmed_for m b names) b names) =
-        λ f. comes_view rules (trimmed_for m b names) b names own (some_left (λ name. not (b.given_up name)) (need_of m b) m.core.who (not_false (has (need_of m b) m.core.who) f) here) k in
+    λ f. comes_view rules (trimmed_for m b names) b names own (some_left (λ name. not (b.given_up name)) (need_of m b) m.core.who (not_false (has (need_of m b) m.core.who) f) here) k in
     search (comes_if, on, over, view)
 
 pub kept_decide : (rules : Rules) (m : Node) (b : Ballot) → b.given_up m.core.who ≡ false → Keeps rules m → Keeps rules (decide m b).node

@@ -1,5 +1,5 @@
 -- What the calls and the tick keep.
-use Rattle.std.proofs.Common.{◌≡◌, ℕ, ◌+◌, Bool, true, false, not, ◌==◌, nat_lt, nat_le, if◌then◌else◌, List, length, Option, Some, None, refl, arith}
+use Rattle.std.proofs.Common.{◌≡◌, ℕ, ◌+◌, true, List, Option, Some, None}
 use Rattle.am_base.specs.declared.entry.Entry.{Entry}
 use Rattle.am_base.specs.declared.entry.Entry.TheVariants.{Data, Leave}
 use Rattle.am_base.specs.declared.outcome.Outcome.{Outcome}
@@ -10,9 +10,9 @@ use Rattle.am_model.specs.declared.status.Status.{Status}
 use Rattle.am_model.specs.declared.status.Status.TheVariants as status
 use Rattle.am_model.specs.Node.{Node, Ballot, has_room, pushed, waiting}
 use Rattle.am_model.specs.Emit.{Plan, quiet}
-use Rattle.am_model.specs.Calls.{number_send, emit, queued, queue, given, join_by, state_by, go, leave_now, leave_by, ask_of, send_row, done_row, take_row, join_row, state_row, leave_row, ask_row}
+use Rattle.am_model.specs.Calls.{number_send, emit, queued, given, join_by, state_by, go, leave_now, leave_by, ask_of, send_row, done_row, take_row, join_row, state_row, leave_row, ask_row}
 use Rattle.am_model.specs.Ticks.{tick_ballot, tick_member, put_off, and_result, tick_sequencer, tick_acting, tick_with, tick_by, tick_row}
-use Rattle.am_bounded.proofs.Kept.{IsKept, Keeps, Ends, ends_if, ends_at, ends, kept_pushed}
+use Rattle.am_bounded.proofs.Kept.{Keeps, Ends, ends_if, ends_at, ends, kept_pushed}
 
 -- ---- sends
 

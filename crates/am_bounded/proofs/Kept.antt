@@ -1,18 +1,16 @@
 -- What each step of a node keeps, and the changes that keep it.
-use Rattle.std.proofs.Common.{◌≡◌, ℕ, ◌+◌, ◌-◌, ◌≤◌, max, Bool, true, false, not, ◌&&◌, ◌||◌, ◌==◌, nat_le, if◌then◌else◌, List, [], ◌∷◌, length, Option, Some, None, refl, ap, ◌∙◌, arith, length-append}
+use Rattle.std.proofs.Common.{◌≡◌, ℕ, ◌+◌, ◌-◌, ◌≤◌, Bool, true, false, not, ◌&&◌, ◌||◌, if◌then◌else◌, Option, Some, None, refl, ap, arith, length-append}
 use Rattle.std.proofs.lemmas.Bool.Decides.{nat_tests}
 use Rattle.am_base.specs.declared.entry.Entry.{Entry}
-use Rattle.am_base.specs.declared.outcome.Outcome.{Outcome}
 use Rattle.am_base.specs.declared.name.Stamp.{Stamp}
 use Rattle.am_base.specs.Stamps.{stamp_lt}
 use Rattle.am_base.specs.Founding.{Rules}
 use Rattle.am_core.specs.Cores.{accept, pass_over}
-use Rattle.am_fronts.specs.Reports.{least_taken}
 use Rattle.am_fronts.specs.Refresh.{base_after, own_report, tell, go_on, let_go}
 use Rattle.am_sender.specs.declared.OwnSend.{OwnSend}
 use Rattle.am_model.specs.Node.{Node, Ballot, top, has_room, is_within_bound, is_sequencer, pushed, trimmed, waiting}
 use Rattle.am_model.specs.Refresh.{advance, lead, refresh, accepted_at, settled_at, settled, settle, refresh_at_end}
-use Rattle.am_model.specs.Emit.{Plan, Step, finish}
+use Rattle.am_model.specs.Emit.{Plan, finish}
 use Rattle.am_model.specs.Ballots.{overtaken, promised}
 use Rattle.am_model.proofs.Greatest.{split}
 
@@ -39,6 +37,10 @@ not_false false h = absurd (cc)
 pub neither : (a b : Bool) → (a || b) ≡ false → (a ≡ false) × (b ≡ false)
 neither true b h = absurd (cc)
 neither false b h = (refl, h)
+
+pub then_other : (a b : Bool) → (a && not b) ≡ false → a ≡ true → b ≡ true
+then_other true b f t = not_false b f
+then_other false b f t = absurd (cc)
 
 -- ---- entries
 
