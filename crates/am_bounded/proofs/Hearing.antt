@@ -27,7 +27,7 @@ use Rattle.am_model.specs.Ballots.{promised}
 use Rattle.am_model.specs.Resets.{invite_row, voted_for, vote_row, fetch_row, is_view_past, fetched, caught_up, fetched_for, piece_promised, piece_for, piece_row, hears_result, result_row, hand_over_row}
 use Rattle.am_model.specs.Hearing.{hear_row}
 use Rattle.am_model.specs.Step.{row, step, hear, refused, refuse, read_row}
-use Rattle.am_bounded.proofs.Kept.{HasItself, Keeps, not_false, neither, then_other, kept_pushed, kept_within, kept_trimmed, kept_promised, kept_refresh, Ends, ends_at, ends, kept_finish}
+use Rattle.am_bounded.proofs.Kept.{HasItself, Keeps, not_false, passes_second, passes_third, then_other, kept_pushed, kept_within, kept_trimmed, kept_promised, kept_refresh, Ends, ends_at, ends, kept_finish}
 use Rattle.am_bounded.proofs.Ballots.{kept_decide, ends_keep_vote, ends_reset, ends_give_up_row}
 use Rattle.am_bounded.proofs.Calls.{ends_send, ends_done, ends_take, ends_join, ends_state, ends_leave, ends_ask, ends_tick}
 
@@ -70,8 +70,9 @@ ends_spread rules m s req body h = search ends
 ends_store : (rules : Rules) (m : Node) (s number : ℕ) (e : Option Entry) (missing : Outcome) → top m + 1 ≤ number → Keeps rules m → Ends rules (store m s number e missing)
 ends_store rules m s number None missing next h = search ends
 ends_store rules m s number (Some e) missing next h =
-    let k : (is_view e || (not (fits (told m) e) || not (is_within_bound m m.core.base number))) ≡ false → Ends rules (stored m s number e) =
-    λ f. ends_at rules _ (kept_within rules m number e next (not_false (is_within_bound m m.core.base number) (neither (not (fits (told m) e)) (not (is_within_bound m m.core.base number)) (neither (is_view e) (not (fits (told m) e) || not (is_within_bound m m.core.base number)) f).1).1) h) in
+    let within = is_within_bound m m.core.base number in
+    let k : (is_view e || (not (fits (told m) e) || not within)) ≡ false → Ends rules (stored m s number e) =
+    λ f. ends_at rules _ (kept_within rules m number e next (passes_third (is_view e) (not (fits (told m) e)) within f) h) in
     search (ends, k)
 
 -- a number that isn't known yet
@@ -177,7 +178,7 @@ ends_fetched : (rules : Rules) (m : Node) (v : Stamp) (base number : ℕ) (e : E
 ends_fetched rules m v base number e in_ballot then_ goes h =
     let within = is_within_bound m (max m.core.base base) number in
     let k : nat_le number (top m) ≡ false → (not (fits (told m) e) || (is_view_past v in_ballot e || not within)) ≡ false → Ends rules (then_ (pushed (trimmed m base) e)) =
-    λ f g. goes (kept_within rules (trimmed m base) number e (above_top m number f) (not_false within (neither (is_view_past v in_ballot e) (not within) (neither (not (fits (told m) e)) (is_view_past v in_ballot e || not within) g).1).1) (kept_trimmed rules m base h)) in
+    λ f g. goes (kept_within rules (trimmed m base) number e (above_top m number f) (passes_third (not (fits (told m) e)) (is_view_past v in_ballot e) within g) (kept_trimmed rules m base h)) in
     search (ends, k) depth 8
 
 ends_piece_promised : (rules : Rules) (m : Node) (s : ℕ) (v : Stamp) (base number : ℕ) (e : Entry) → Keeps rules m → Ends rules (piece_promised m s v base number e)
@@ -203,7 +204,7 @@ ends_hears_result rules m s v base number names resilience h =
     let e = View v names resilience in
     let within = is_within_bound m (max m.core.base base) number in
     let k : nat_le number (top m) ≡ false → (not (fits (told m) e) || not within) ≡ false → Keeps rules (pushed (trimmed m base) e) =
-    λ f g. kept_within rules (trimmed m base) number e (above_top m number f) (not_false within (neither (not (fits (told m) e)) (not within) g).1) (kept_trimmed rules m base h) in
+    λ f g. kept_within rules (trimmed m base) number e (above_top m number f) (passes_second (not (fits (told m) e)) within g) (kept_trimmed rules m base h) in
     search (ends, k) depth 8
 
 ends_result : (rules : Rules) (m : Node) (s : ℕ) (v : Stamp) (base number : ℕ) (names : List ℕ) (resilience : ℕ) → Keeps rules m → Ends rules (result_row m s v base number names resilience)

@@ -34,10 +34,16 @@ pub not_false : (b : Bool) → not b ≡ false → b ≡ true
 not_false true h = refl
 not_false false h = absurd (cc)
 
-pub neither : (a b : Bool) → (a || b) ≡ false → (a ≡ false) × (b ≡ false)
-neither true b h = absurd (cc)
-neither false b h = (refl, h)
+-- what is tested last passes, where no test before it is met
+pub passes_second : (a b : Bool) → (a || not b) ≡ false → b ≡ true
+passes_second true b h = absurd (cc)
+passes_second false b h = not_false b h
 
+pub passes_third : (a b c : Bool) → (a || (b || not c)) ≡ false → c ≡ true
+passes_third true b c h = absurd (cc)
+passes_third false b c h = passes_second b c h
+
+-- the other test passes too
 pub then_other : (a b : Bool) → (a && not b) ≡ false → a ≡ true → b ≡ true
 then_other true b f t = not_false b f
 then_other false b f t = absurd (cc)
