@@ -20,10 +20,9 @@ use Rattle.am_group.specs.declared.event.Record.{Record}
 use Rattle.am_group.specs.Addressed.{is_for}
 use Rattle.am_group.specs.Journals.{letter_at}
 use Rattle.am_model.specs.Node.{Node, view, set_at, founder, stranger, founders_view}
-use Rattle.am_model.specs.Emit.{Step}
 use Rattle.am_model.specs.Step.{row, step, hear, refused}
 use Rattle.am_model.specs.Calls.{send_row}
-use Rattle.am_model.specs.Emit.{finish}
+use Rattle.am_model.specs.Emit.{Step, finish}
 use Rattle.am_model.specs.Refresh.{refresh_at_end}
 use Rattle.am_model.specs.Lengths.{packet_length}
 use Rattle.am_model.specs.World.{World, start, current, is_stopped, record_of, group_after, unchanged, stepped, does_event, gives_up, heard, hear_cut, lives_on, acts_as, happens, happen, run}
@@ -37,21 +36,21 @@ use Rattle.am_sent.proofs.Hearing.{May, step_sent, hear_sent, refused_sent}
 -- ---- a world
 
 -- of these records each name's node keeps this, and so do the letters and the group list
-record IsSent (all : List Record) (nodes : ℕ → Node) (letters : List Letter) (group : List Entry) : Type 0 where
+record IsAllSent (all : List Record) (nodes : ℕ → Node) (letters : List Letter) (group : List Entry) : Type 0 where
   each : (name : ℕ) → Keeps all name (nodes name)
   sent : LettersSent all letters
   list : All (EntrySent all) group
 
 record AllSent (w : World) : Type 0 where
-  all : IsSent w.records w.nodes w.letters w.group
+  all : IsAllSent w.records w.nodes w.letters w.group
 
 sent_if : (b : Bool) (v w : World) → AllSent v → AllSent w → AllSent (if b then v else w)
 sent_if true v w f g = f
 sent_if false v w f g = g
 
 -- more records say no less
-is_sent_more : (all more : List Record) (nodes : ℕ → Node) (letters : List Letter) (group : List Entry) → IsSent all nodes letters group → IsSent (all ++ more) nodes letters group
-is_sent_more all more nodes letters group h = record {
+all_sent_more : (all more : List Record) (nodes : ℕ → Node) (letters : List Letter) (group : List Entry) → IsAllSent all nodes letters group → IsAllSent (all ++ more) nodes letters group
+all_sent_more all more nodes letters group h = record {
   each = λ name. kept_more all more name (nodes name) (h.each name);
   sent = All-weaker (LetterSent all) (LetterSent (all ++ more)) (letter_more all more) letters h.sent;
   list = All-weaker (EntrySent all) (EntrySent (all ++ more)) (entry_more all more) group h.list;
@@ -59,23 +58,23 @@ is_sent_more all more nodes letters group h = record {
 
 sent_unchanged : (w : World) (e : Event) (o : Outcome) → AllSent w → AllSent (unchanged w e o)
 unfolding unchanged
-sent_unchanged w e o h = record { all = is_sent_more w.records _ w.nodes w.letters w.group h.all }
+sent_unchanged w e o h = record { all = all_sent_more w.records _ w.nodes w.letters w.group h.all }
 
 sent_stops : (w : World) (e : Event) (o : Outcome) (stopped : List ℕ) → AllSent w → AllSent (unchanged (record w { stopped = stopped }) e o)
 unfolding unchanged
-sent_stops w e o stopped h = record { all = is_sent_more w.records _ w.nodes w.letters w.group h.all }
+sent_stops w e o stopped h = record { all = all_sent_more w.records _ w.nodes w.letters w.group h.all }
 
 sent_lives : (w : World) (e : Event) (o : Outcome) (place : ℕ) → AllSent w → AllSent (lives_on (unchanged w e o) place)
 unfolding unchanged
-sent_lives w e o place h = record { all = is_sent_more w.records _ w.nodes w.letters w.group h.all }
+sent_lives w e o place h = record { all = all_sent_more w.records _ w.nodes w.letters w.group h.all }
 
-ruleset same = (sent_if, sent_unchanged, sent_stops, sent_lives)
+ruleset worlds = (sent_if, sent_unchanged, sent_stops, sent_lives)
 
 -- ---- a step
 
 set_kept : (all : List Record) (nodes : ℕ → Node) (name : ℕ) (n : Node) → ((other : ℕ) → Keeps all other (nodes other)) → Keeps all name n → (other : ℕ) → Keeps all other (set_at nodes name n other)
 set_kept all nodes name n h k other = split (other == name)
-    (λ t. let same : name ≡ other = grind (arith, nat_tests) in rw t (subst (λ i. Keeps all i n) same k))
+    (λ t. let is : name ≡ other = grind (arith, nat_tests) in rw t (subst (λ i. Keeps all i n) is k))
     (λ f. rw f (h other))
 
 group_sent : (all : List Record) (group : List Entry) (m : Node) → All (EntrySent all) group → All (EntrySent all) m.core.log.entries → All (EntrySent all) (group_after group m)
@@ -91,7 +90,7 @@ sent_stepped : (w : World) (e : Event) (name : ℕ) (s : Step) → AllSent w →
 unfolding stepped
 sent_stepped w e name s h goes =
     let all = after_step w e s in
-    let old = is_sent_more w.records (record_of w e s.outcome s.letters ∷ []) w.nodes w.letters w.group h.all in
+    let old = all_sent_more w.records (record_of w e s.outcome s.letters ∷ []) w.nodes w.letters w.group h.all in
     let k = goes (old.each name) in
     record {
       all = record {
@@ -162,11 +161,11 @@ sent_acts w e name act.Leave by is h = sent_event w e name does.Leave tt h
 sent_acts w e name (act.Reset least resilience) by is h = sent_event w e name (does.Reset least resilience) tt h
 sent_acts w e name (act.Ask round) by is h = sent_event w e name (does.Ask round) tt h
 sent_acts w e name (act.GiveUp other) by is h = sent_gives_up w e name other h
-sent_acts w e name act.Stop by is h = search same
+sent_acts w e name act.Stop by is h = search worlds
 sent_acts w e name act.Tick by is h = sent_event w e name does.Tick tt h
 sent_acts w e name (act.Hear number) by is h = sent_letter w e name (hear (w.nodes name)) number (λ all p. hear_sent all name (w.nodes name) p) h
 sent_acts w e name (act.Cut number keep) by is h = sent_letter w e name (hear_cut (w.nodes name) keep) number (λ all p. cut_sent all name (w.nodes name) keep p) h
-sent_acts w e name act.Return by is h = search same
+sent_acts w e name act.Return by is h = search worlds
 
 sent_happens : (w : World) (e : Event) → AllSent w → AllSent (happens w e)
 unfolding happens
