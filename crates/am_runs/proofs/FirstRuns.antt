@@ -38,7 +38,7 @@ module _ (rules : Rules) (w : World) (m : Node) (ok : WorldOk rules w m) where
         only = λ j b g. request_once who 0 m.log j (n - 1) req b h.body (ok.first.order who) (get_take m.log m.acc j (Data who req b) g) h.there;
       }
 
-  holds : FirstHolds w
+  holds : FirstHolds w.records w.group
   holds = record {
     segments = λ place. subst (IsSegment (deliveries w.records place)) (sym ok.group) (segment place);
     order = λ name. subst (λ l. requests_of name l ≡ range_with_len 1 (length (requests_of name l))) (sym ok.group) (counted name);
@@ -48,7 +48,7 @@ module _ (rules : Rules) (w : World) (m : Node) (ok : WorldOk rules w m) where
     before = ok.before;
   }
 
-pub first_run_holds : (rules : Rules) (events : List Event) → MayFound rules → rules.resilience ≡ 0 → FirstHolds (run rules events)
+pub first_run_holds : (rules : Rules) (events : List Event) → MayFound rules → rules.resilience ≡ 0 → FirstHolds (run rules events).records (run rules events).group
 first_run_holds rules events may none =
     let r = run_ok rules events (start rules) (founder rules (sequencer_of rules)) (start_ok rules (sequencer_founds rules may)) in
     holds rules (run rules events) r.0 r.1

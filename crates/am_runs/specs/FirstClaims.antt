@@ -10,7 +10,7 @@ use Rattle.am_group.specs.declared.event.Act.TheVariants as act
 use Rattle.am_group.specs.declared.event.Event.{Event}
 use Rattle.am_group.specs.declared.event.Record.{Record}
 use Rattle.am_group.specs.Deliveries.{deliveries}
-use Rattle.am_model.specs.FirstRun.{World, run}
+use Rattle.am_model.specs.FirstRun.{run}
 
 -- entries with their numbers, from one on
 unfoldable pub numbered : ℕ → List Entry → List (ℕ × Entry)
@@ -50,19 +50,19 @@ pub record WasSent (records : List Record) (place req : ℕ) (body : List ℕ) :
   pub call : asked.event.act ≡ act.Send body
   pub answer : asked.outcome ≡ said.Queued req
 
--- What holds of a run, whatever is lost, repeated or comes in another order.
-pub record FirstHolds (w : World) : Type 0 where
+-- What holds of a run's records and of its group list, whatever is lost, repeated or comes in another order.
+pub record FirstHolds (records : List Record) (group : List Entry) : Type 0 where
   -- each place's node gave out the beginning of the group's list
-  pub segments : (place : ℕ) → IsSegment (deliveries w.records place) w.group
+  pub segments : (place : ℕ) → IsSegment (deliveries records place) group
   -- the sends of a name stand there in the order of their requests: 1, 2, 3 and so on
-  pub order : (name : ℕ) → requests_of name w.group ≡ range_with_len 1 (length (requests_of name w.group))
+  pub order : (name : ℕ) → requests_of name group ≡ range_with_len 1 (length (requests_of name group))
   -- a send that was answered with its number stands there, once
-  pub once : (k : ℕ) (r : Record) (req number : ℕ) → slice_get w.records k ≡ Some r → r.outcome ≡ said.Sent req number → StandsOnce w.group (place_of r.event.node) req number
+  pub once : (k : ℕ) (r : Record) (req number : ℕ) → slice_get records k ≡ Some r → r.outcome ≡ said.Sent req number → StandsOnce group (place_of r.event.node) req number
   -- each send in the list was asked for by its sender
-  pub sent : (k from req : ℕ) (body : List ℕ) → slice_get w.group k ≡ Some (Data from req body) → WasSent w.records from req body
+  pub sent : (k from req : ℕ) (body : List ℕ) → slice_get group k ≡ Some (Data from req body) → WasSent records from req body
   -- and before it was given out
-  pub before : (k : ℕ) (r : Record) (number from req : ℕ) (body : List ℕ) → slice_get w.records k ≡ Some r → r.outcome ≡ said.Took number (Data from req body) → WasSent (take k w.records) from req body
+  pub before : (k : ℕ) (r : Record) (number from req : ℕ) (body : List ℕ) → slice_get records k ≡ Some r → r.outcome ≡ said.Took number (Data from req body) → WasSent (take k records) from req body
 
 -- Every run of a founding with resilience 0.
 abbrev pub FirstRunsHold : Type 0
-FirstRunsHold = (rules : Rules) (events : List Event) → MayFound rules → rules.resilience ≡ 0 → FirstHolds (run rules events)
+FirstRunsHold = (rules : Rules) (events : List Event) → MayFound rules → rules.resilience ≡ 0 → FirstHolds (run rules events).records (run rules events).group

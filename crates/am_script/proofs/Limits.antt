@@ -165,6 +165,7 @@ play_within d founding events h = if_some (has_only (key.Founders ∷ key.Events
       may_found = founders_within v set named;
       no_resilience = refl;
       window = refl;
+      short = refl;
       few = few.few;
       few_sends = few.few_sends;
       each = few.each;

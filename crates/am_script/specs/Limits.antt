@@ -25,6 +25,7 @@ pub record IsWithin (founding : Rules) (events : List Event) : Type 0 where
   pub may_found : MayFound founding
   pub no_resilience : founding.resilience ≡ 0
   pub window : founding.window ≡ 64
+  pub short : founding.pb_up_to ≡ 256
   pub few : length events ≤ 100000
   pub few_sends : count_by is_send events ≤ 63
   pub each : All EventWithin events
