@@ -1,0 +1,6 @@
+//! What a member that isn't the sequencer does with the sequencer's packets.
+#![tactic(auto)]
+
+pub mod receiver;
+#[cfg(test)]
+mod tests;
