@@ -1,0 +1,14 @@
+pub mod Told
+pub mod Sends
+pub mod Least
+pub mod Nodes
+pub mod Accepted
+pub mod Refreshes
+pub mod Steps
+pub mod Calls
+pub mod Hearing
+pub mod Places
+pub mod Worlds
+pub mod Texts
+pub mod Sent
+pub mod Room
