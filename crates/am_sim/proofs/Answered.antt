@@ -17,7 +17,7 @@ use Rattle.am_script.specs.Limits.{ActWithin, IsWithin, ScriptWithin}
 use Rattle.am_joined.specs.Claims as joined
 use Rattle.am_joined.specs.Claims.{IsOfFirstPath, AllFirst, FewSends}
 use Rattle.am_joined.proofs.Room.{few_sends_are_whole, few_sends_text_is_whole}
-use Rattle.am_bounded.proofs.Runs.{bounded_holds}
+use Rattle.am_scripts.proofs.Scripts.{scripts_hold}
 use Rattle.am_runs.specs.FirstClaims.{FirstHolds}
 use Rattle.am_runs.proofs.FirstRuns.{first_run_holds}
 use Rattle.am_sim.specs.Simulation.{IsPlay, Played, script_text}
@@ -70,7 +70,7 @@ played_by bytes text (Play founding events settle) is within same =
       written = same ∙ sym (few_sends_text_is_whole founding events within.may_found within.no_resilience first few);
       holds = subst (λ rs. FirstHolds rs (whole.run founding events).group) (sym run.records)
           (subst (λ es. FirstHolds (first_run.run founding events).records es) (sym run.group) (first_run_holds founding events within.may_found within.no_resilience));
-      bounded = bounded_holds founding events within.may_found;
+      claims = scripts_hold founding events within.may_found within.no_resilience first few;
     }
 
 first_of : List (List ℕ) → List ℕ

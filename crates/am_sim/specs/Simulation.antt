@@ -6,7 +6,7 @@ use Rattle.am_group.specs.declared.event.Event.{Event}
 use Rattle.am_model.specs.FirstPlay.{first_text}
 use Rattle.am_model.specs.World.{run}
 use Rattle.am_model.specs.Play.{text_of}
-use Rattle.am_model.specs.Claims.{Bounded}
+use Rattle.am_model.specs.Claims.{HoldsUnballoted}
 use Rattle.am_runs.specs.FirstClaims.{FirstHolds}
 use Rattle.am_script.specs.Scripts.{ValidScript}
 use Rattle.am_script.specs.declared.refusal.ScriptRefusal.{ScriptRefusal}
@@ -24,15 +24,16 @@ abbrev pub script_text : Script → List ℕ
 script_text (Play founding events settle) = first_text founding events
 
 -- what was read is a script, what was written is the text of its run by the whole protocol, and that run keeps what is
--- claimed: each node gave out a gapless segment of the one group list, from 1 on; accepted sends stand there once, in their
--- senders' order, and everything there was sent; and no node ever kept more than it may
+-- claimed: each node gave out a gapless segment of the one group list, accepted sends stand there once, in their senders'
+-- order, and everything there was sent; no node ever kept more than it may; and besides each segment is from 1 on, and what
+-- was given out had been asked for before
 pub record Played (bytes text : List ℕ) : Type 0 where
   pub founding : Rules
   pub events : List Event
   pub script : ValidScript bytes founding events
   pub written : text ≡ text_of founding events
   pub holds : FirstHolds (run founding events).records (run founding events).group
-  pub bounded : Bounded founding events
+  pub claims : HoldsUnballoted founding events
 
 -- the statuses that come with writing
 abbrev pub Writes : Status → Type 0

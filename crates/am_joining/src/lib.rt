@@ -1,0 +1,8 @@
+//! What nodes do where somebody joins or leaves.
+#![tactic(auto)]
+
+pub mod joining;
+pub mod leaving;
+mod letters;
+mod numbering;
+pub mod welcomed;
