@@ -1,71 +1,24 @@
 -- What the sequencer does with a row, by what the parts of its step do.
-use Rattle.std.proofs.Common.{◌≡◌, ℕ, zero, suc, Some, nat_le, ◌+◌, ◌<◌, ◌≤◌, ◌≢◌, List, [], Bool, true, false, not, ◌&&◌, ◌||◌, ◌==◌, nat_lt, if◌then◌else◌, refl, sym, ap, ◌∙◌, subst, arith}
-use Rattle.std.proofs.lemmas.Bool.Decides.{nat_tests}
+use Rattle.std.proofs.Common.{◌≡◌, ℕ, ◌+◌, List, [], true, false, not, ◌&&◌, ◌||◌, nat_lt, if◌then◌else◌, refl, sym, ap, ◌∙◌, subst}
 use Rattle.am_base.specs.declared.image.Report.{Report}
 use Rattle.am_base.specs.declared.entry.Entry.{Entry}
 use Rattle.am_base.specs.declared.outcome.Outcome.{Outcome}
-use Rattle.am_base.specs.Lists.{Log, entry_at, with_entry}
+use Rattle.am_base.specs.Lists.{Log, with_entry}
 use Rattle.am_packet.specs.declared.packet.Packet.{Packet}
 use Rattle.am_packet.specs.Boxes.{Letter, with_letter}
-use Rattle.am_core.specs.Cores.{CoreState, Stands, Adds, IsInOrder, accept, pass_over}
-use Rattle.am_core.proofs.Folds.{split}
-use Rattle.am_core.proofs.Ends.{end-top, end-told, end-entry}
-use Rattle.am_core.proofs.CoreLaws.{stands_self}
-use Rattle.am_fronts.specs.Reports.{reported}
-use Rattle.am_fronts.specs.Refresh.{Led, LeadsBy, refresh, own_report, tell, go_on, let_go}
+use Rattle.am_core.specs.Cores.{CoreState, Stands, Adds}
+use Rattle.am_fronts.specs.Refresh.{Led, LeadsBy, refresh}
 use Rattle.am_model.specs.Node.{Node, top, others, pushed, is_sequencer}
 use Rattle.am_model.specs.Refresh as model
 use Rattle.am_model.specs.Refresh.{lead, with_led}
 use Rattle.am_model.specs.Emit.{Plan, quiet, telling, bcast_of, accept_of, tells_accepted, with_accept}
 use Rattle.am_model.specs.Handlers.{Leads, SequencerDoes}
-use Rattle.am_joining.specs.Parts.{Remains, TellsWithin, Tells, with_parts, and_accept, and_risen, bcast_from, Numbers, GoesOn}
+use Rattle.am_joining.specs.Parts.{Tells, with_parts, and_accept, and_risen, bcast_from, Numbers, GoesOn}
+pub use Rattle.am_sequencer.proofs.Steps.{remains, entry_above, still_within, leads_by, still_leads, and_true, and_false, accept_risen, own_kept, refreshed_parts}
 
 -- ---- the refresh
 
-pub remains : (old new : Led) → IsInOrder old.core → LeadsBy refresh old new → Remains old.core new.core
-unfolding own_report tell go_on let_go accept pass_over
-remains old new order by =
-    let is = by old.core.log (stands_self old.core order.kept) in
-    let end = (is.0).kept in
-    record {
-      who = ap (λ (s : Led). s.core.who) is.1;
-      rules = ap (λ (s : Led). s.core.rules) is.1;
-      promise = ap (λ (s : Led). s.core.promise) is.1;
-      told = end-told old.core.log new.core.log end;
-      top = end-top old.core.log new.core.log end;
-      entries = λ number h. end-entry old.core.log new.core.log number end h;
-    }
-
--- an entry stands above the start
-pub entry_above : (log : Log) (number : ℕ) (e : Entry) → entry_at log number ≡ Some e → log.start < number
-entry_above log zero e h = absurd (cc)
-entry_above log (suc before) e h = split (nat_le log.start before)
-    (λ t. let low : log.start ≤ before = grind (arith, nat_tests) in omega arith)
-    (λ f. absurd (let g = rw f at h in cc))
-
-pub still_within : (old new : CoreState) → Remains old new → TellsWithin old.log → TellsWithin new.log
-still_within old new same within = λ number e there. within number e (sym (same.entries number (entry_above new.log number e there)) ∙ there)
-
-pub leads_by : (m : Node) (all : Log) (old new : Led) → LeadsBy refresh old new → Stands all old.core → with_parts m all new ≡ lead (with_parts m all old)
-unfolding lead
-leads_by m all old new by s = ap (with_led m) (by all s).1
-
-pub still_leads : (m : Node) → is_sequencer (lead m) ≡ is_sequencer m
-unfolding lead own_report tell go_on let_go accept pass_over
-still_leads m = refl
-
 -- ---- the Accept
-
-and_true : (a : Bool) → (a && true) ≡ a
-and_true true = refl
-and_true false = refl
-
-pub and_false : (a : Bool) → (a && false) ≡ false
-and_false true = refl
-and_false false = refl
-
-pub accept_risen : (first : Node) (p : Plan) (n : Node) (letters : List Letter) → is_sequencer n ≡ true → p.polls ≡ false → p.numbers ≡ false → with_accept first p n letters ≡ and_risen first.core.acc letters n
-accept_risen first p n letters leads quiet none = rw (leads, quiet, none) (rw (and_true (nat_lt first.core.acc n.core.acc)) refl)
 
 pub accept_polled : (first : Node) (p : Plan) (n : Node) (letters : List Letter) → is_sequencer n ≡ true → p.polls ≡ true → with_accept first p n letters ≡ and_accept true letters n
 accept_polled first p n letters leads polls = rw (leads, polls) refl
@@ -206,19 +159,7 @@ goes_same accepted row rest s outcome letters new plan goes = λ first m all acc
 pub does : (row : Node → Plan) (old : Led) (outcome : Outcome) (letters : List Letter) (new : Led) → GoesOn old.core.acc row old outcome letters new → SequencerDoes row old outcome letters new
 does row old outcome letters new goes = λ m all s leads. goes (with_parts m all old) m all refl s leads
 
--- a report of another name leaves its own
-pub own_kept : (old : Led) (reports : ℕ → Report) (from : ℕ) (report : Report) → reports ≡ reported old.reports from report → from ≢ old.core.who → (old.reports old.core.who).taken ≤ old.core.taken → (reports old.core.who).taken ≤ old.core.taken
-own_kept old reports from report is other own =
-    let test : (old.core.who == from) ≡ false = grind (arith, nat_tests) in
-    let same : reports old.core.who ≡ old.reports old.core.who = ap (λ (r : ℕ → Report). r old.core.who) is ∙ rw test refl in
-    let taken = ap (λ (r : Report). r.taken) same in
-    omega arith
-
 -- ---- a row that goes on once its report is taken and the node is refreshed
-
-pub refreshed_parts : (m : Node) (all : Log) (old new : Led) → LeadsBy refresh old new → Stands all old.core → is_sequencer (with_parts m all old) ≡ true → model.refresh (with_parts m all old) ≡ with_parts m all new
-unfolding model.refresh
-refreshed_parts m all old new by s leads = rw leads (sym (leads_by m all old new by s))
 
 -- ---- an entry is numbered
 

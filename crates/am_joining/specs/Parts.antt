@@ -1,8 +1,7 @@
 -- A node of the protocol by the parts that a handler is lent, and what every such node tells.
-use Rattle.std.specs.Prelude.{◌≡◌, ℕ, ◌+◌, ◌<◌, ◌≤◌, List, [], Bool, true, false, not, ◌-◌, ◌&&◌, ◌||◌, ◌==◌, nat_lt, nat_le, if◌then◌else◌, Option, Some, None, All}
+use Rattle.std.specs.Prelude.{◌≡◌, ℕ, ◌+◌, ◌≤◌, List, [], Bool, true, false, not, ◌-◌, ◌&&◌, ◌||◌, ◌==◌, nat_lt, nat_le, if◌then◌else◌, Option, Some, None, All}
 use Rattle.am_base.specs.declared.entry.Entry.{Entry}
 use Rattle.am_base.specs.declared.entry.Entry.TheVariants.{Leave}
-use Rattle.am_base.specs.declared.image.Report.{Report}
 use Rattle.am_base.specs.declared.image.Row.{Row}
 use Rattle.am_base.specs.declared.image.Image.{Image}
 use Rattle.am_base.specs.declared.outcome.Outcome.{Outcome}
@@ -10,47 +9,24 @@ use Rattle.am_base.specs.declared.outcome.Outcome.TheVariants as said
 use Rattle.am_base.specs.declared.name.Stamp.{Stamp}
 use Rattle.am_base.specs.Stamps.{stamp_lt, stamp_eq}
 use Rattle.am_base.specs.Names.{place_of, life_of, name_at}
-use Rattle.am_base.specs.Lists.{Log, top_of, told_by, entry_at, row_of}
-use Rattle.am_codec.specs.Limits.{IsNumber, IsEntry}
+use Rattle.am_base.specs.Lists.{Log, top_of, told_by, row_of}
+use Rattle.am_codec.specs.Limits.{IsNumber}
 use Rattle.am_packet.specs.declared.packet.Packet.{Packet}
-use Rattle.am_packet.specs.declared.packet.Packet.TheVariants.{Bcast, Nack, Fetch}
+use Rattle.am_packet.specs.declared.packet.Packet.TheVariants.{Nack, Fetch}
 use Rattle.am_packet.specs.Boxes.{Letter, with_letter}
-use Rattle.am_core.specs.Cores.{CoreState, Stands, whole}
-use Rattle.am_fronts.specs.Reports.{reported}
-use Rattle.am_fronts.specs.Refresh.{Led, whole_led, report_of}
+use Rattle.am_core.specs.Cores.{CoreState, Stands}
+use Rattle.am_fronts.specs.Refresh.{Led, report_of}
 use Rattle.am_model.specs.Node.{Node, top, others, only_name, pushed, is_sequencer, is_member}
 use Rattle.am_model.specs.declared.status.Status.TheVariants.{Member}
-use Rattle.am_model.specs.Refresh.{with_led, lead}
-use Rattle.am_model.specs.Emit.{Plan, quiet, telling, polling, numbering, accept_of, bcast_of, welcome_of, gone_of}
+use Rattle.am_model.specs.Refresh.{lead}
+use Rattle.am_model.specs.Emit.{Plan, quiet, telling, polling, numbering, bcast_of, welcome_of, gone_of}
 use Rattle.am_model.specs.Sequencing.{row_at}
 use Rattle.am_model.specs.Joining.{may_go, let_go, and_gone}
 use Rattle.am_model.specs.Handlers.{Leads, Follows}
-
--- the node with this core, or with this core and these reports, and with all of its list
-abbrev pub with_core : Node → Log → CoreState → Node
-with_core m all c = record m { core = whole all c }
-
-abbrev pub with_parts : Node → Log → Led → Node
-with_parts m all s = with_led m (whole_led all s)
-
--- this is what every node with this core tells or sends, or with this core and these reports
-abbrev pub Tells : {A : Type 0} → (Node → A) → CoreState → A → Type 0
-Tells f c told = (m : Node) (all : Log) → Stands all c → told ≡ f (with_core m all c)
+pub use Rattle.am_sequencer.specs.Parts.{with_core, with_parts, Tells, bcast_from, and_accept, and_risen, TellsWithin, with_report, Remains}
 
 abbrev pub TellsLed : {A : Type 0} → (Node → A) → Led → A → Type 0
 TellsLed f s told = (m : Node) (all : Log) → Stands all s.core → told ≡ f (with_parts m all s)
-
--- a numbered entry, with the fronts of a core
-abbrev pub bcast_from : CoreState → ℕ → Entry → Packet
-bcast_from c number e = Bcast c.who c.promise c.base c.acc number e
-
--- the letters with an Accept to the other members
-abbrev pub and_accept : Bool → List Letter → Node → List Letter
-and_accept poll letters n = with_letter (others n) (accept_of n poll) letters
-
--- the same where what is accepted rose above a number
-abbrev pub and_risen : ℕ → List Letter → Node → List Letter
-and_risen accepted letters n = if nat_lt accepted n.core.acc then and_accept false letters n else letters
 
 -- the letters with a Gone, where the leaver may go
 abbrev pub and_let_go : ℕ → List Letter → Node → List Letter
@@ -70,20 +46,12 @@ pub record ImageWithin (image : Image) : Type 0 where
   pub resilience : image.resilience ≤ 15
   pub rows : All RowWithin image.rows
 
--- the numbers of every entry of a list
-abbrev pub TellsWithin : Log → Type 0
-TellsWithin log = (number : ℕ) (e : Entry) → entry_at log number ≡ Some e → IsEntry e
-
 -- what a list tells is within the limits of packets
 pub record LogWithin (log : Log) : Type 0 where
   pub image : ImageWithin log.image
   pub entries : TellsWithin log
 
 -- ---- steps
-
--- once a name has reported
-abbrev pub with_report : Led → ℕ → Report → Led
-with_report s name report = record s { reports = reported s.reports name report }
 
 -- a step in which so much was accepted before does the rest of a row, with the refresh at its end
 abbrev pub GoesOn : ℕ → (Node → Plan) → Led → Outcome → List Letter → Led → Type 0
@@ -102,15 +70,6 @@ pub record IsNumbered (m : Node) (e : Entry) (n : Node) (letters : List Letter) 
 
 abbrev pub Numbers : Entry → Led → List Letter → Led → Type 0
 Numbers e old letters new = (m : Node) (all : Log) → Stands all old.core → (more : Log) × Stands more new.core × IsNumbered (with_parts m all old) e (with_parts m more new) letters
-
--- what a refresh leaves of a core as it was
-pub record Remains (old new : CoreState) : Type 0 where
-  pub who : new.who ≡ old.who
-  pub rules : new.rules ≡ old.rules
-  pub promise : new.promise ≡ old.promise
-  pub told : told_by new.log ≡ told_by old.log
-  pub top : top_of new.log ≡ top_of old.log
-  pub entries : (number : ℕ) → new.log.start < number → entry_at new.log number ≡ entry_at old.log number
 
 -- ---- joining
 

@@ -1,5 +1,5 @@
 ghost use Rattle.std.specs.Prelude.{◌≡◌, ◌==◌, ◌≢◌, ℕ, ◌+◌, ◌<◌, ◌≤◌, [], length, true, false, ◌&&◌, nat_lt, nat_le};
-ghost use Rattle.am_base.specs.Names.{has, without_name};
+ghost use Rattle.am_base.specs.Names.{has};
 ghost use Rattle.am_base.specs.Stamps.{stamp_eq};
 ghost use Rattle.am_base.specs.Lists.{top_of, told_by, members_of, row_of};
 ghost use Rattle.am_core.specs.Cores.{since_accepted};

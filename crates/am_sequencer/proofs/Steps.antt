@@ -56,7 +56,7 @@ still_leads m = refl
 
 -- ---- the Accept
 
-and_true : (a : Bool) → (a && true) ≡ a
+pub and_true : (a : Bool) → (a && true) ≡ a
 and_true true = refl
 and_true false = refl
 

@@ -19,13 +19,13 @@ blank_within image = λ number e there. absurd (none_at number e image there)
         (λ t. let g = rw t at h in cc)
         (λ f. let g = rw f at h in cc)
 
-get_pushed : (xs : List Entry) (e x : Entry) (i : ℕ) → slice_get (xs ++ e ∷ []) i ≡ Some x → (slice_get xs i ≡ Some x) ⊎ (x ≡ e)
+pub get_pushed : (xs : List Entry) (e x : Entry) (i : ℕ) → slice_get (xs ++ e ∷ []) i ≡ Some x → (slice_get xs i ≡ Some x) ⊎ (x ≡ e)
 get_pushed [] e x zero h = inr (cc)
 get_pushed [] e x (suc i) h = absurd (cc)
 get_pushed (y ∷ ys) e x zero h = inl h
 get_pushed (y ∷ ys) e x (suc i) h = get_pushed ys e x i h
 
-pushed_at : (log : Log) (e : Entry) → IsEntry e → TellsWithin log → (number : ℕ) (x : Entry) → entry_at (with_entry log e) number ≡ Some x → IsEntry x
+pub pushed_at : (log : Log) (e : Entry) → IsEntry e → TellsWithin log → (number : ℕ) (x : Entry) → entry_at (with_entry log e) number ≡ Some x → IsEntry x
 pushed_at log e is within zero x there = absurd (cc)
 pushed_at log e is within (suc before) x there = split (nat_le log.start before)
     (λ t. ⊎_elim

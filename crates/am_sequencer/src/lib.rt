@@ -1,7 +1,7 @@
 //! What the sequencer does with sends and reports.
 #![tactic(auto)]
 
-mod letters;
+pub mod letters;
 mod numbering;
 pub mod sequencer;
 mod serving;
