@@ -1,15 +1,13 @@
 """Writes statements that say which text the definitions give for a script, from scripts and their expected texts.
 
     python3 tools/rows.py CASES OUT
-    python3 tools/rows.py CASES OUT LIST
 
 CASES is a folder of folders. Each of those has two cases at least, a case being a file NAME.json, a play script, and a
 file NAME.txt, the text that it must write; and a file about.txt, a line that says what its cases are. OUT is a crate's
 folder. For each folder F of CASES this writes specs/F.antt with a statement for each case, src/F.rt with a function
 whose contract they are, and its answers, by computing.
 
-LIST is a file of CASES with a line FOLDER/NAME for each of some cases. With it the statements are of these cases alone, in one
-file, and of the first path's definitions. A folder without an about.txt is there for LIST only.
+A folder without an about.txt isn't computed: the program alone runs it.
 """
 
 import json
@@ -44,12 +42,6 @@ use Rattle.am_model.specs.Text.{name_text, stamp_text, names_text, body_text, re
 use Rattle.std.specs.Fmt.{digits}
 use Rattle.am_rows.specs.Scripts.{set_of}
 """
-
-FIRST_OPENED = """
-use Rattle.am_model.specs.FirstNode.{last_from, with_report, own_report, tell, advance, least_taken, trim, settled_sends, settle}
-use Rattle.am_model.specs.FirstTable.{queued, send_step, done_step, take_step, request_taken, request_step, bcasts, nack_taken, nack_step, note, stored_step, hear_step, step}
-use Rattle.am_model.specs.FirstRun.{grown, recorded, refused, happens, run_on}
-""" + "".join(line + "\n" for line in OPENED.splitlines() if any(part in line for part in (".Text.", ".Fmt.", ".Scripts.")))
 
 
 def opened_names(opened):
@@ -93,14 +85,14 @@ def act(event, resilience):
                      "return": "Return"}[do]
 
 
-def statement(title, script, text, first=False):
+def statement(title, script, text):
     """The statement of a case: the text of its events is this one."""
     play = script["play"]
     resilience = play.get("resilience", 0)
     events = ["on %d %s" % (e["node"], act(e, resilience)) for e in play["events"]]
     founding = "(founded %s %d %d %d)" % (name_list(play["founders"]), resilience, play.get("window", 64),
                                           play.get("pb_up_to", 256))
-    words = "first_text" if first else "settled_text_of" if play.get("settle") else "text_of"
+    words = "settled_text_of" if play.get("settle") else "text_of"
     run = "%s %s %s" % (words, founding, items(events))
     lines = "".join('    codes "%s" ∷\n' % line for line in text.splitlines())
     return "abbrev pub %s : Type 0\n%s = %s ≡ lines (\n%s    [])\n" % (title, title, run, lines)
@@ -113,12 +105,6 @@ def titled(case):
 SPECS_HEAD = """use Rattle.std.specs.Prelude.{◌≡◌, [], ◌∷◌, codes}
 use Rattle.am_group.specs.declared.event.Act.TheVariants as act
 use Rattle.am_model.specs.Play.{text_of, settled_text_of}
-use Rattle.am_rows.specs.Scripts.{founded, on, lines}
-"""
-
-FIRST_SPECS_HEAD = """use Rattle.std.specs.Prelude.{◌≡◌, [], ◌∷◌, codes}
-use Rattle.am_group.specs.declared.event.Act.TheVariants as act
-use Rattle.am_model.specs.FirstPlay.{first_text}
 use Rattle.am_rows.specs.Scripts.{founded, on, lines}
 """
 
@@ -195,24 +181,8 @@ def write_folder(cases, out, folder):
     write_module(out, folder, SPECS_HEAD, source, answers, head_line, statements)
 
 
-def write_list(cases, out, listed):
-    """The statements of the listed cases, of the first path."""
-    with open(listed) as f:
-        pairs = [line.strip().split("/") for line in f if line.strip()]
-    statements = [statement(titled(case), *read_case(cases, folder, case), first=True) for folder, case in pairs]
-    folder = os.path.splitext(os.path.basename(listed))[0]
-    about = "Scripts of sends, losses and repeats, by the first path's definitions."
-    source, answers = carrier("am_first_rows", FIRST_OPENED, titled(folder), folder, about, [case for _, case in pairs])
-    head_line = "-- Scripts and their texts on the first path. Written by tools/rows.py from %s/%s.\n" % (
-        os.path.basename(cases), os.path.basename(listed))
-    write_module(out, folder, FIRST_SPECS_HEAD, source, answers, head_line, statements)
-
-
 def main():
     cases, out = sys.argv[1:3]
-    if len(sys.argv) == 4:
-        write_list(cases, out, sys.argv[3])
-        return
     for folder in sorted(os.listdir(cases)):
         if os.path.exists(os.path.join(cases, folder, "about.txt")):
             write_folder(cases, out, folder)

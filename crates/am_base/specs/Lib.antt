@@ -4,3 +4,4 @@ pub mod Founding
 pub mod Lists
 pub mod Fronts
 pub mod Votes
+pub mod Limits

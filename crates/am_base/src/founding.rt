@@ -1,6 +1,7 @@
 ghost use Rattle.std.specs.Prelude.{◌≡◌, ◌↔◌, IsSome, IfSome};
 ghost use Rattle.am_base.specs.Founding.{MayFound};
 
+use crate::limits::{MOST_BODY, MOST_RESILIENCE, MOST_WINDOW};
 use crate::names::Names;
 use std::marker::Model;
 
@@ -35,10 +36,10 @@ impl Founding {
     {
         if 0 < founders.len()
             && founders.are_first_lives()
-            && resilience <= 15
+            && resilience <= MOST_RESILIENCE
             && 0 < window
-            && window <= 1008
-            && pb_up_to <= 1024
+            && window <= MOST_WINDOW
+            && pb_up_to <= MOST_BODY
         {
             return Some(Founding {
                 founders,

@@ -2,10 +2,12 @@
 #![tactic(auto)]
 
 ghost use Rattle.std.specs.Prelude.{◌≡◌, ◌+◌, ◌≤◌, IfOk};
+ghost use Rattle.am_base.specs.Limits.{IsEntry};
 
 use am_base::body::Body;
 use am_base::entry::Entry;
 use am_base::image::Report;
+use am_base::limits::MOST_NUMBER;
 use am_base::name::{Name, Stamp};
 use am_base::names::Names;
 use am_core::log::Log;
@@ -42,10 +44,11 @@ fn all_places() -> Names {
 }
 
 fn push(history: &mut History, room: u32, entry: Entry) -> bool
-    requires { history.old.capacity ≡ room }
+    requires capacity { history.old.capacity ≡ room }
+    requires entry { IsEntry entry }
     ensures { history.new.capacity ≡ room }
 {
-    if history.top() - history.base() >= room || history.top() >= 2_000_000_000 {
+    if history.top() - history.base() >= room || history.top() >= MOST_NUMBER {
         return false;
     }
     if !history.fits(&entry) {
@@ -56,7 +59,8 @@ fn push(history: &mut History, room: u32, entry: Entry) -> bool
 }
 
 fn founded(alloc: Global, window: u16, resilience: u8) -> Result<History, AllocError>
-    requires { (1 ≤ window) × (window ≤ 1008) }
+    requires window { (1 ≤ window) × (window ≤ 1008) }
+    requires resilience { resilience ≤ 15 }
     ensures { IfOk result (λ history. history.capacity ≡ window + 15) }
 {
     let mut history = History::new(alloc, window)?;
@@ -78,13 +82,16 @@ fn fill(history: &mut History, room: u32, last: u32, body: &Body) -> u32
 {
     let mut req = last;
     for _ in 0..room {
+        if MOST_NUMBER <= req {
+            return req;
+        }
         let entry = Entry::Data {
             from: Name::of_byte(0),
-            req: req.wrapping_add(1),
+            req: req + 1,
             body: Body::default(),
         };
         if push(history, room, entry) {
-            req = req.wrapping_add(1);
+            req += 1;
         }
     }
     req
@@ -254,6 +261,7 @@ mod tests {
 
     // The view of three founders, and two sends.
     fn list_of_three(alloc: Global, resilience: u8) -> Result<History, AllocError>
+        requires { resilience ≤ 15 }
         ensures { IfOk result (λ history. history.capacity ≡ 79) }
     {
         let mut history = History::new(alloc, 64)?;

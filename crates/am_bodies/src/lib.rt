@@ -69,7 +69,8 @@ impl Pool {
             .map(|kept| &kept.body)
     }
 
-    fn holds(&self, from: Name, req: u32) -> bool
+    /// Whether the body of this name's send with this request is kept.
+    pub fn holds(&self, from: Name, req: u32) -> bool
         ensures { result ≡ list_any (is_of from req) self.now }
     {
         self.bodies

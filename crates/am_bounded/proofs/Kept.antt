@@ -1,5 +1,5 @@
 -- What each step of a node keeps, and the changes that keep it.
-use Rattle.std.proofs.Common.{◌≡◌, ℕ, ◌+◌, ◌-◌, ◌≤◌, Bool, true, false, not, ◌&&◌, ◌||◌, if◌then◌else◌, Option, Some, None, refl, ap, arith, length-append}
+use Rattle.std.proofs.Common.{◌≡◌, ℕ, ◌+◌, ◌-◌, ◌≤◌, true, false, not, ◌&&◌, Option, Some, None, ap, arith, length-append}
 use Rattle.std.proofs.lemmas.Bool.Decides.{nat_tests}
 use Rattle.am_base.specs.declared.entry.Entry.{Entry}
 use Rattle.am_base.specs.declared.name.Stamp.{Stamp}
@@ -10,7 +10,6 @@ use Rattle.am_fronts.specs.Refresh.{base_after, own_report, tell, go_on, let_go}
 use Rattle.am_sender.specs.declared.OwnSend.{OwnSend}
 use Rattle.am_model.specs.Node.{Node, Ballot, top, has_room, is_within_bound, is_sequencer, pushed, trimmed, waiting}
 use Rattle.am_model.specs.Refresh.{advance, lead, refresh, accepted_at, settled_at, settled, settle, refresh_at_end}
-use Rattle.am_model.specs.Emit.{Plan, finish}
 use Rattle.am_model.specs.Ballots.{overtaken, promised}
 use Rattle.am_model.proofs.Greatest.{split}
 
@@ -27,26 +26,6 @@ pub record IsKept (rules own : Rules) (who base high : ℕ) (ballot : Option Bal
 
 abbrev pub Keeps : Rules → Node → Type 0
 Keeps rules m = IsKept rules m.core.rules m.core.who m.core.base (top m) m.ballot
-
--- ---- tests
-
-pub not_false : (b : Bool) → not b ≡ false → b ≡ true
-not_false true h = refl
-not_false false h = absurd (cc)
-
--- what is tested last passes, where no test before it is met
-pub passes_second : (a b : Bool) → (a || not b) ≡ false → b ≡ true
-passes_second true b h = absurd (cc)
-passes_second false b h = not_false b h
-
-pub passes_third : (a b c : Bool) → (a || (b || not c)) ≡ false → c ≡ true
-passes_third true b c h = absurd (cc)
-passes_third false b c h = passes_second b c h
-
--- the other test passes too
-pub then_other : (a b : Bool) → (a && not b) ≡ false → a ≡ true → b ≡ true
-then_other true b f t = not_false b f
-then_other false b f t = absurd (cc)
 
 -- ---- entries
 
@@ -107,29 +86,10 @@ kept_settled : (rules : Rules) (m : Node) (w : Option OwnSend) → Keeps rules m
 kept_settled rules m None h = h
 kept_settled rules m (Some s) h = kept_settled_at rules m s.req (accepted_at m s.req) h
 
-kept_at_end : (rules : Rules) (m : Node) → Keeps rules m → Keeps rules (refresh_at_end m)
-unfolding refresh_at_end settle
-kept_at_end rules m h = kept_settled rules (refresh m) (waiting (refresh m)) (kept_refresh rules m h)
+pub kept_settle : (rules : Rules) (m : Node) → Keeps rules m → Keeps rules (settle m)
+unfolding settle
+kept_settle rules m h = kept_settled rules m (waiting m) h
 
--- ---- plans
-
--- a plan whose node keeps this
-pub record Ends (rules : Rules) (p : Plan) : Type 0 where
-  pub node : Keeps rules p.node
-
--- by what a test says
-pub ends_if : (rules : Rules) (b : Bool) (p q : Plan) → (b ≡ true → Ends rules p) → (b ≡ false → Ends rules q) → Ends rules (if b then p else q)
-ends_if rules true p q f g = f refl
-ends_if rules false p q f g = g refl
-
-pub ends_at : (rules : Rules) (p : Plan) → Keeps rules p.node → Ends rules p
-ends_at rules p h = record { node = h }
-
-pub ruleset ends = (ends_if, ends_at)
-
--- a plan that is done
-pub kept_finish : (rules : Rules) (m : Node) (p : Plan) → Ends rules p → Keeps rules (finish m p).node
-unfolding finish
-kept_finish rules m p h =
-    let k = kept_at_end rules p.node h.node in
-    split p.departs (λ t. rw t k) (λ f. rw f k)
+pub kept_at_end : (rules : Rules) (m : Node) → Keeps rules m → Keeps rules (refresh_at_end m)
+unfolding refresh_at_end
+kept_at_end rules m h = kept_settle rules (refresh m) (kept_refresh rules m h)

@@ -1,5 +1,3 @@
 pub mod Kept
-pub mod Ballots
-pub mod Calls
-pub mod Hearing
+pub mod Changes
 pub mod Runs

@@ -108,7 +108,7 @@ pub data Move : Group → Group → Type 0 where
   begins : {s : Group} (i : ℕ) → i < 256 → IsUp (s.node i) → (s.node i).leaving ≡ false → mem (s.node i).list i ≡ true → Move s (with_node s i (record (s.node i) { promise = own_stamp i (s.node i); ballot = true }))
   -- a node promises a greater stamp, which ends its own ballot: Invite, Vote of a greater stamp, Result
   raises : {s : Group} (i : ℕ) (stamp : Stamp) → IsThere (s.node i) → IsAbove s.node i stamp → Move s (with_node s i (record (s.node i) { promise = stamp; ballot = false }))
-  -- a node shows its list to the ballot that it promised: Invite
+  -- a node shows its list to the ballot that it promised: Invite, also one that is answered Newer
   shows : {s : Group} (i : ℕ) → IsThere (s.node i) → (s.node i).promise.by < 256 → (s.node i).promise.by ≢ i → key (s.node i).promise ≤ key (s.node (s.node i).promise.by).promise → s.shown (key (s.node i).promise) i ≡ None → Move s (record s { shown = put2 s.shown (key (s.node i).promise) i (Some (s.node i).list) })
   -- a node sends of the list that it showed, where each of that list's members but the coordinator has voted or isn't there: Fetch
   serves : {s : Group} (i : ℕ) (list : List Entry) → IsUp (s.node i) → s.shown (key (s.node i).promise) i ≡ Some list → ((j : ℕ) → mem list j ≡ true → IsThere (s.node j) → (j ≡ (s.node i).promise.by) ⊎ ((vote : List Entry) × (s.shown (key (s.node i).promise) j ≡ Some vote))) → Move s (record s { served = put2 s.served (key (s.node i).promise) i true })

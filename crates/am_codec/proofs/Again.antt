@@ -11,7 +11,8 @@ use Rattle.am_packet.specs.Kinds.{kind_of}
 use Rattle.am_codec.specs.declared.kind.Kind.{Kind}
 use Rattle.am_codec.specs.declared.kind.Kind.TheVariants as kinds
 use Rattle.am_codec.specs.Kinds.{kind_at, is_total}
-use Rattle.am_codec.specs.Limits.{IsNumber, IsWithin, HasParts, HasEntryParts, IsPacket}
+use Rattle.am_base.specs.Limits.{IsNumber}
+use Rattle.am_codec.specs.Limits.{IsWithin, HasParts, HasEntryParts, IsPacket}
 use Rattle.am_codec.specs.Spelling.{spelling, fields_of, sender_of, stamp_of, entry_bytes}
 use Rattle.am_codec.specs.Reading.{packet_at, fields_at, of_kind_at, reading, total_in}
 use Rattle.am_codec.proofs.Pieces.{length-rows_bytes}
@@ -195,7 +196,7 @@ packet_again (packets.Welcome sender stamp base join image) bytes h long within 
     rw (
       number_again bytes _ 12 base h within.1,
       number_again bytes _ 16 join (later bytes _ 12 4 h) within.2,
-      image_again bytes 20 image (later bytes _ 12 8 h) within.3 parts,
+      image_again bytes 20 image (later bytes _ 12 8 h) within.3,
     ) refl
 packet_again (packets.LeaveAsk sender stamp report) bytes h long within parts =
     rw (report_again bytes _ 12 report h within.1) refl
@@ -210,7 +211,7 @@ packet_again (packets.Piece sender stamp base number entry) bytes h long within 
     rw (
       number_again bytes _ 12 base h within.1,
       number_again bytes _ 16 number (later bytes _ 12 4 h) within.2,
-      entry_again bytes 20 entry (later bytes _ 12 8 h) (omega (arith, long)) within.3 parts,
+      entry_again bytes 20 entry (later bytes _ 12 8 h) (omega (arith, long)) within.3,
     ) refl
 packet_again (packets.Result sender stamp base number members resilience) bytes h long within parts =
     rw (

@@ -11,7 +11,7 @@ use Rattle.am_base.specs.Names.{IsSet, mask_of, lives_of, of_parts, are_parts}
 use Rattle.am_base.proofs.Masks.{is_set, back, fit, mask-places_of, lives-places_of, mask_of-lt, lives_of-lt}
 use Rattle.am_codec.specs.declared.refusal.PacketRefusal.{PacketRefusal}
 use Rattle.am_codec.specs.declared.refusal.PacketRefusal.TheVariants.{BadField}
-use Rattle.am_codec.specs.Limits.{IsNumber, IsReport}
+use Rattle.am_base.specs.Limits.{IsNumber, IsReport}
 use Rattle.am_codec.specs.Spelling.{report_bytes, stamp_bytes, set_bytes, flag_byte}
 use Rattle.am_codec.specs.Reading.{Read, ◌>>=◌, number_at, report_at, stamp_at, set_at, resilience_at, flag_at}
 use Rattle.am_codec.specs.Laws.{IsBytes}

@@ -9,7 +9,8 @@ use Rattle.am_packet.specs.Kinds.{kind_of}
 use Rattle.am_codec.specs.declared.kind.Kind.{Kind}
 use Rattle.am_codec.specs.declared.kind.Kind.TheVariants as kinds
 use Rattle.am_codec.specs.Kinds.{number_of, least_total, most_total}
-use Rattle.am_codec.specs.Limits.{IsNumber, IsWithin, HasParts}
+use Rattle.am_base.specs.Limits.{IsNumber}
+use Rattle.am_codec.specs.Limits.{IsWithin, HasParts}
 use Rattle.am_codec.specs.Spelling.{fields_of, sender_of, stamp_of, report_bytes, set_bytes, image_bytes, vote_bytes, flag_byte}
 use Rattle.am_codec.specs.Reading.{◌>>=◌, number_at, report_at, set_at, resilience_at, flag_at, image_at, vote_at, entry_at, packet_at}
 use Rattle.am_codec.specs.Laws.{IsBytes}
@@ -209,7 +210,7 @@ welcome_found sender stamp bytes packet fits least most read =
       stamp_is = refl;
       fields_are = to_end bytes 12 238 (big_bytes 4 base-read.0 ++ big_bytes 4 join-read.0 ++ image_bytes image-read.0) to-238 most;
       within = λ h. (h, base-here.1, join-here.1, image-here.within);
-      parts = image-here.count;
+      parts = (image-here.within).places;
     })
 
 leave_ask_found : (sender : ℕ) (stamp : Stamp) (bytes : List ℕ) (packet : Packet) → IsBytes bytes → 20 ≤ length bytes → length bytes ≤ 20 → packet_at kinds.LeaveAsk sender stamp bytes ≡ Ok packet → Spells kinds.LeaveAsk sender stamp bytes packet

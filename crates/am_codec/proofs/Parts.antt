@@ -1,7 +1,8 @@
 -- Rows, images, votes and entries: what was read stands there, and what stands there is read.
 use Rattle.std.proofs.Common.{◌≡◌, ℕ, zero, suc, ◌+◌, ◌*◌, ◌<◌, ◌≤◌, Bool, true, false, cond, eqb, leb, List, [], ◌∷◌, ◌++◌, length, drop, slice_index, Ok, Err, inl, inr, refl, sym, ap, subst, ◌∙◌, append_assoc, arith}
 use Rattle.std.specs.List.{AllByRecursion}
-use Rattle.std.proofs.lemmas.Bool.{and_parts, leb-true, le-leb, eqb-true, eq-eqb}
+use Rattle.std.proofs.lemmas.Bool.{cases_Bool, and_parts, leb-true, le-leb, eqb-true, eq-eqb}
+use Rattle.std.proofs.lemmas.List.Elements.{All-from_recursion, recursion_from_All, All-from_get_or}
 use Rattle.std.proofs.lemmas.List.{length-drop, append-nil}
 use Rattle.byteorder.specs.Endian.{big_bytes}
 use Rattle.am_base.specs.declared.image.Row.{Row}
@@ -12,7 +13,9 @@ use Rattle.am_base.specs.declared.entry.Entry.TheVariants.{Data, Join, Leave, Vi
 use Rattle.am_base.specs.Names.{IsSet}
 use Rattle.am_codec.specs.declared.refusal.PacketRefusal.{PacketRefusal}
 use Rattle.am_codec.specs.declared.refusal.PacketRefusal.TheVariants.{BadField}
-use Rattle.am_codec.specs.Limits.{IsRow, IsImage, IsVote, IsEntry, HasEntryParts}
+use Rattle.am_base.specs.Limits.{IsRow, IsImage, IsVote, IsEntry}
+use Rattle.am_base.specs.Lists.{blank_row}
+use Rattle.am_codec.specs.Limits.{HasEntryParts}
 use Rattle.am_codec.specs.Spelling.{stamp_bytes, set_bytes, row_bytes, rows_bytes, image_bytes, vote_bytes, entry_bytes}
 use Rattle.am_codec.specs.Reading.{◌>>=◌, number_at, stamp_at, set_at, resilience_at, life_at, row_at, rows_at, image_at, vote_at, data_at, join_at, leave_at, view_at, view_fields_at, entry_at}
 use Rattle.am_codec.specs.Laws.{IsBytes}
@@ -34,6 +37,9 @@ life_is bytes at joined n read =
     let same = both_or_none (eqb life 0) (eqb joined 0) life n (BadField at) test.1 in
     (same.0, rw (← same.0) (leb-true life 16 test.0), rw (← same.0) same.1)
 
+unused_of : (life joined : ℕ) → eqb life 0 ≡ eqb joined 0 → joined ≡ 0 → life ≡ 0
+unused_of life joined same none = eqb-true life 0 (same ∙ eq-eqb joined 0 none)
+
 row_takes : (bytes : List ℕ) (at next : ℕ) (row : Row) → next ≡ at + 13 → IsBytes bytes → next ≤ length bytes → row_at bytes at ≡ Ok row → Takes bytes at (row_bytes row) next × IsRow row
 unfolding row_at
 row_takes bytes at next row e fits long read =
@@ -50,7 +56,7 @@ row_takes bytes at next row e fits long read =
     let t02 = and_then bytes at (at + 5) (at + 9) (b.0 ∷ [] ++ big_bytes 4 a.0) (big_bytes 4 c.0) t01 t2.0 in
     let t03 = and_then bytes at (at + 9) next (b.0 ∷ [] ++ big_bytes 4 a.0 ++ big_bytes 4 c.0) (big_bytes 4 d.0) t02 t3.0 in
     let made : Row = record { life = b.0; joined = a.0; left = c.0; last = d.0 } in
-    subst (λ (r : Row). Takes bytes at (row_bytes r) next × IsRow r) (ok_is made row d.2) (t03, record { life = life.1; joined = t1.1; together = life.2; left = t2.1; last = t3.1 })
+    subst (λ (r : Row). Takes bytes at (row_bytes r) next × IsRow r) (ok_is made row d.2) (t03, record { life = life.1; unused = unused_of b.0 a.0 life.2; used = unused_of a.0 b.0 (sym life.2); joined = t1.1; left = t2.1; last = t3.1 })
 
 pub record TakesRows (bytes : List ℕ) (at next n : ℕ) (rows : List Row) : Type 0 where
   pub takes : Takes bytes at (rows_bytes rows) next
@@ -74,7 +80,6 @@ rows_take (suc n) bytes at next rows e fits long read =
 pub record TakesImage (bytes : List ℕ) (at next : ℕ) (image : Image) : Type 0 where
   pub takes : Takes bytes at (image_bytes image) next
   pub within : IsImage image
-  pub count : length image.rows ≡ 16
 
 pub image_takes : (bytes : List ℕ) (at next : ℕ) (image : Image) → next ≡ at + 218 → IsBytes bytes → next ≤ length bytes → image_at bytes at ≡ Ok image → TakesImage bytes at next image
 unfolding image_at
@@ -91,7 +96,7 @@ image_takes bytes at next image e fits long read =
     let t02 = and_then bytes at (at + 9) (at + 10) (stamp_bytes a.0 ++ big_bytes 4 b.0) (c.0 ∷ []) t01 t2.0 in
     let t03 = and_then bytes at (at + 10) next (stamp_bytes a.0 ++ big_bytes 4 b.0 ++ c.0 ∷ []) (rows_bytes d.0) t02 t3.takes in
     let made : Image = record { view = a.0; view_number = b.0; resilience = c.0; rows = d.0 } in
-    subst (λ (i : Image). TakesImage bytes at next i) (ok_is made image d.2) (record { takes = t03; within = record { round = t0.1; view_number = t1.1; resilience = t2.1; rows = t3.each }; count = t3.count })
+    subst (λ (i : Image). TakesImage bytes at next i) (ok_is made image d.2) (record { takes = t03; within = record { places = t3.count; rows = λ place h. All-from_recursion IsRow d.0 t3.each place blank_row (let count = t3.count in omega arith); view = t0.1; view_number = t1.1; resilience = t2.1 } })
 
 pub record TakesVote (bytes : List ℕ) (at next : ℕ) (vote : Vote) : Type 0 where
   pub takes : Takes bytes at (vote_bytes vote) next
@@ -113,7 +118,7 @@ vote_takes bytes at next vote e fits long read =
     let t02 = and_then bytes at (at + 9) (at + 13) (stamp_bytes a.0 ++ big_bytes 4 b.0) (big_bytes 4 c.0) t01 t2.0 in
     let t03 = and_then bytes at (at + 13) next (stamp_bytes a.0 ++ big_bytes 4 b.0 ++ big_bytes 4 c.0) (set_bytes d.0) t02 t3.0 in
     let made : Vote = record { view = a.0; top = b.0; taken = c.0; members = d.0 } in
-    subst (λ (v : Vote). TakesVote bytes at next v) (ok_is made vote d.2) (record { takes = t03; within = record { round = t0.1; top = t1.1; taken = t2.1 }; set = t3.1 })
+    subst (λ (v : Vote). TakesVote bytes at next v) (ok_is made vote d.2) (record { takes = t03; within = record { view = t0.1; top = t1.1; taken = t2.1 }; set = t3.1 })
 
 -- an entry takes all that is left
 pub record EndsWith (bytes : List ℕ) (at : ℕ) (entry : Entry) : Type 0 where
@@ -196,10 +201,20 @@ one_of life d false false e = refl
 one_of life d true false e = absurd cc
 one_of life d false true e = absurd cc
 
+both_of : (life joined : ℕ) → (joined ≡ 0 → life ≡ 0) → (life ≡ 0 → joined ≡ 0) → eqb life 0 ≡ eqb joined 0
+both_of life joined unused used =
+    elim (cases_Bool (eqb life 0)) [
+      | inl none ↦ none ∙ sym (eq-eqb joined 0 (used (eqb-true life 0 none)))
+      | inr some ↦ elim (cases_Bool (eqb joined 0)) [
+        | inl none ↦ eq-eqb life 0 (unused (eqb-true joined 0 none)) ∙ sym none
+        | inr other ↦ some ∙ sym other
+      ]
+    ]
+
 life_again : (bytes : List ℕ) (at : ℕ) (row : Row) → slice_index bytes at ≡ row.life → IsRow row → life_at bytes at row.joined ≡ Ok row.life
 unfolding life_at
 life_again bytes at row h within =
-    rw (h, le-leb row.life 16 within.life) (one_of row.life (BadField at) (eqb row.life 0) (eqb row.joined 0) within.together)
+    rw (h, le-leb row.life 16 within.life) (one_of row.life (BadField at) (eqb row.life 0) (eqb row.joined 0) (both_of row.life row.joined within.unused within.used))
 
 row_again : (bytes rest : List ℕ) (at : ℕ) (row : Row) → drop at bytes ≡ row_bytes row ++ rest → IsRow row → row_at bytes at ≡ Ok row
 unfolding row_at
@@ -218,12 +233,14 @@ rows_again (row ∷ rows) bytes rest at h within =
     let regrouped : drop at bytes ≡ row_bytes row ++ (rows_bytes rows ++ rest) = h ∙ append_assoc (row_bytes row) (rows_bytes rows) rest in
     rw (row_again bytes (rows_bytes rows ++ rest) at row regrouped within.0, rows_again rows bytes rest (at + 13) (later bytes _ at 13 regrouped) within.1) refl
 
-pub image_again : (bytes : List ℕ) (at : ℕ) (image : Image) → drop at bytes ≡ image_bytes image → IsImage image → length image.rows ≡ 16 → image_at bytes at ≡ Ok image
+pub image_again : (bytes : List ℕ) (at : ℕ) (image : Image) → drop at bytes ≡ image_bytes image → IsImage image → image_at bytes at ≡ Ok image
 unfolding image_at
-image_again bytes at image h within count =
-    let rows : rows_at 16 bytes (at + 10) ≡ Ok image.rows = rw (← count) (rows_again image.rows bytes [] (at + 10) (later bytes _ at 10 h ∙ sym (append-nil (rows_bytes image.rows))) within.rows) in
+image_again bytes at image h within =
+    let count = within.places in
+    let each = recursion_from_All IsRow image.rows (All-from_get_or IsRow image.rows blank_row (λ i lt. within.rows i (omega arith))) in
+    let rows : rows_at 16 bytes (at + 10) ≡ Ok image.rows = rw (← count) (rows_again image.rows bytes [] (at + 10) (later bytes _ at 10 h ∙ sym (append-nil (rows_bytes image.rows))) each) in
     rw (
-      stamp_again bytes _ at image.view h within.round,
+      stamp_again bytes _ at image.view h within.view,
       number_again bytes _ (at + 5) image.view_number (later bytes _ at 5 h) within.view_number,
       resilience_again bytes (at + 9) image.resilience (peek bytes _ at 9 h) within.resilience,
       rows,
@@ -233,7 +250,7 @@ pub vote_again : (bytes : List ℕ) (at : ℕ) (vote : Vote) → drop at bytes �
 unfolding vote_at
 vote_again bytes at vote h within set =
     rw (
-      stamp_again bytes _ at vote.view h within.round,
+      stamp_again bytes _ at vote.view h within.view,
       number_again bytes _ (at + 5) vote.top (later bytes _ at 5 h) within.top,
       number_again bytes _ (at + 9) vote.taken (later bytes _ at 9 h) within.taken,
       set_again bytes [] (at + 13) vote.members (later bytes _ at 13 h) set,

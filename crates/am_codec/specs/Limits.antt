@@ -1,49 +1,11 @@
 -- Which packets have a spelling.
-use Rattle.std.specs.Prelude.{◌≡◌, ℕ, ◌≤◌, length, ◌==◌}
-use Rattle.std.specs.List.{AllByRecursion}
-use Rattle.am_base.specs.declared.image.Row.{Row}
-use Rattle.am_base.specs.declared.image.Report.{Report}
-use Rattle.am_base.specs.declared.image.Vote.{Vote}
-use Rattle.am_base.specs.declared.image.Image.{Image}
+use Rattle.std.specs.Prelude.{◌≡◌, ◌≤◌, length}
 use Rattle.am_base.specs.declared.entry.Entry.{Entry}
 use Rattle.am_base.specs.declared.entry.Entry.TheVariants.{Data, Join, Leave, View}
+use Rattle.am_base.specs.Limits.{IsNumber, IsReport, IsImage, IsVote, IsEntry}
 use Rattle.am_base.specs.Names.{IsSet}
 use Rattle.am_packet.specs.declared.packet.Packet.{Packet}
 use Rattle.am_packet.specs.declared.packet.Packet.TheVariants as packets
-
--- numbers of entries, rounds and requests
-abbrev pub IsNumber : ℕ → Type 0
-IsNumber n = n ≤ 2000000000
-
-pub record IsReport (report : Report) : Type 0 where
-  pub stored : IsNumber report.stored
-  pub taken : IsNumber report.taken
-
--- a row has a life where it has a Join
-pub record IsRow (row : Row) : Type 0 where
-  pub life : row.life ≤ 16
-  pub joined : IsNumber row.joined
-  pub together : (row.life == 0) ≡ (row.joined == 0)
-  pub left : IsNumber row.left
-  pub last : IsNumber row.last
-
-pub record IsImage (image : Image) : Type 0 where
-  pub round : IsNumber image.view.round
-  pub view_number : IsNumber image.view_number
-  pub resilience : image.resilience ≤ 15
-  pub rows : AllByRecursion IsRow image.rows
-
-pub record IsVote (vote : Vote) : Type 0 where
-  pub round : IsNumber vote.view.round
-  pub top : IsNumber vote.top
-  pub taken : IsNumber vote.taken
-
--- the numbers of an entry are within their limits
-abbrev pub IsEntry : Entry → Type 0
-IsEntry (Data from req body) = IsNumber req
-IsEntry (Join name) = Unit {0}
-IsEntry (Leave name) = Unit {0}
-IsEntry (View stamp members resilience) = IsNumber stamp.round × (resilience ≤ 15)
 
 -- the numbers of a packet are within their limits
 unfoldable pub IsWithin : Packet → Type 0

@@ -1,13 +1,14 @@
 -- The end of a list tells the same as all of it.
 use Rattle.std.proofs.Common.{◌≡◌, ℕ, zero, suc, ◌+◌, ◌-◌, ◌<◌, ◌≤◌, List, [], ◌∷◌, ◌++◌, length, take, drop, refl, sym, ◌∙◌, ap, subst, arith, length-append, length-drop, slice_get, Some, true, nat_le, add-one}
 use Rattle.std.proofs.lemmas.List.{take-append-le, drop-append-le, length-take-le, take-append-drop, drop-drop, take_more}
+use Rattle.std.proofs.lemmas.List.Elements.{All-push, All-drop}
 use Rattle.std.proofs.lemmas.Option.{slice_get_within, get_or_from_slice_get}
 use Rattle.std.proofs.lemmas.Bool.Decides.{nat_tests}
 use Rattle.std.proofs.Math.Seq.{take-add, take-length}
 use Rattle.std.proofs.Math.Nat.{sub_self}
 use Rattle.am_base.specs.declared.entry.Entry.{Entry}
 use Rattle.am_base.specs.Lists.{fold, after, fits, AllFit, Log, top_of, image_at, entry_at, told_by, with_entry}
-use Rattle.am_core.specs.Images.{IsImage}
+use Rattle.am_base.specs.Limits.{IsImage, IsEntry}
 use Rattle.am_core.specs.Kept.{IsEnd, IsKept, above}
 use Rattle.am_core.specs.Laws.{EndsTellTheSame, EndsStay}
 use Rattle.am_core.proofs.Folds.{fold-append, fold-push, AllFit-push, AllFit-drop, slice_get-drop}
@@ -150,13 +151,14 @@ above-above log a b low le high =
     λ k. record { start = b; image = i k; entries = es k }
 
 -- what a history keeps, with an entry more and with some let go
-pub kept-push : (log : Log) (capacity : ℕ) (e : Entry) → IsKept log capacity → fits (told_by log) e ≡ true → length log.entries < capacity → top_of log < 2000000000 → IsKept (with_entry log e) capacity
-kept-push log capacity e is fit room numbers =
+pub kept-push : (log : Log) (capacity : ℕ) (e : Entry) → IsKept log capacity → fits (told_by log) e ≡ true → length log.entries < capacity → IsEntry e → top_of log < 2000000000 → IsKept (with_entry log e) capacity
+kept-push log capacity e is fit room within numbers =
     let more = length-append log.entries (e ∷ []) in
     record {
       image = is.image;
       fit = AllFit-push log.image (log.start + 1) log.entries e is.fit fit;
       room = omega arith;
+      entries = All-push IsEntry log.entries e is.entries within;
       numbers = omega arith;
     }
 
@@ -170,6 +172,7 @@ kept-above log capacity to is low high rows =
       image = rows;
       fit = subst P at (AllFit-drop log.image (log.start + 1) k log.entries (omega arith) is.fit);
       room = let r = is.room in omega arith;
+      entries = All-drop IsEntry k log.entries is.entries;
       numbers = let n = is.numbers in omega arith;
     }
 

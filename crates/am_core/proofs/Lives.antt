@@ -13,7 +13,7 @@ use Rattle.am_base.specs.Names.{place_of, life_of, has}
 use Rattle.am_base.specs.Stamps.{stamp_eq, no_stamp}
 use Rattle.am_base.specs.Lists.{Log, blank_row, is_blank, is_blank_row, at_place, member_life, members_of, members_at, viewed, with_row, after, fits, fold, AllFit, image_at, told_by, top_of}
 use Rattle.am_base.proofs.Places.{get_or-by_place, slice_index-by_place, length-by_place}
-use Rattle.am_core.specs.Images.{IsImage}
+use Rattle.am_base.specs.Limits.{IsImage}
 use Rattle.am_core.specs.Kept.{IsKept, above}
 use Rattle.am_core.specs.Cores.{unions}
 use Rattle.am_core.proofs.Folds.{split, AllFit-drop}

@@ -3,6 +3,7 @@ use Rattle.std.specs.Prelude.{◌≡◌, ℕ, zero, suc, ◌+◌, ◌-◌, List,
 use Rattle.am_base.specs.declared.name.Stamp.{Stamp}
 use Rattle.am_base.specs.declared.entry.Entry.{Entry}
 use Rattle.am_base.specs.Founding.{Rules}
+use Rattle.am_base.specs.Limits.{IsStamp}
 use Rattle.am_base.specs.Lists.{Log, top_of, members_at, with_entry}
 use Rattle.am_base.specs.Names.{union_of}
 use Rattle.am_core.specs.Kept.{IsEnd, above}
@@ -19,10 +20,11 @@ pub record CoreState : Type 0 where
   pub taken : ℕ
   pub start : ℕ
 
--- what a core of the code always keeps: its log has room for as much as the window asks for, and its numbers stand in
--- their order
-pub record CoreKeeps (log : Log) (capacity : ℕ) (rules : Rules) (acc taken : ℕ) : Type 0 where
+-- what a core of the code always keeps: its log has room for as much as the window asks for, the round of its promise
+-- is within its limit, and its numbers stand in their order
+pub record CoreKeeps (log : Log) (capacity : ℕ) (rules : Rules) (promise : Stamp) (acc taken : ℕ) : Type 0 where
   pub room : capacity ≡ rules.window + 15
+  pub promised : IsStamp promise
   pub let_go : log.start ≤ taken
   pub given : taken ≤ acc
   pub accepted : acc ≤ top_of log

@@ -1,7 +1,7 @@
 -- The end of a list, and what a history keeps.
-use Rattle.std.specs.Prelude.{◌≡◌, ℕ, ◌+◌, ◌-◌, ◌≤◌, length, drop}
+use Rattle.std.specs.Prelude.{◌≡◌, ℕ, ◌+◌, ◌-◌, ◌≤◌, All, length, drop}
 use Rattle.am_base.specs.Lists.{Log, top_of, image_at, AllFit}
-use Rattle.am_core.specs.Images.{IsImage}
+use Rattle.am_base.specs.Limits.{IsNumber, IsImage, IsEntry}
 
 -- the list above a number
 abbrev pub above : Log → ℕ → Log
@@ -14,10 +14,11 @@ pub record IsEnd (all kept : Log) : Type 0 where
   pub image : kept.image ≡ image_at all kept.start
   pub entries : kept.entries ≡ drop (kept.start - all.start) all.entries
 
--- what a history always keeps: rows of sixteen places, entries of which each fits, no more of them than it has room
--- for, and numbers up to two thousand million
+-- what a history always keeps: an image and entries within their limits, entries of which each fits, no more of them
+-- than it has room for, and a last number within its limit
 pub record IsKept (log : Log) (capacity : ℕ) : Type 0 where
   pub image : IsImage log.image
   pub fit : AllFit log.image (log.start + 1) log.entries
   pub room : length log.entries ≤ capacity
-  pub numbers : top_of log ≤ 2000000000
+  pub entries : All IsEntry log.entries
+  pub numbers : IsNumber (top_of log)

@@ -1,8 +1,8 @@
 ghost use Rattle.std.specs.Prelude.{◌≡◌, ℕ, ◌≤◌, ◌<◌, true, [], length};
-ghost use Rattle.std.specs.Option.{option_copied};
+ghost use Rattle.std.specs.Option.{option_copied, IfSome};
 ghost use Rattle.am_base.specs.Lists as lists;
 ghost use Rattle.am_base.specs.Lists.{top_of, entry_at, members_at, told_by, with_entry, fits, at_place, row_of};
-ghost use Rattle.am_core.specs.Images.{IsImage, IsRow};
+ghost use Rattle.am_base.specs.Limits.{IsStamp, IsNumber, IsRow, IsImage, IsEntry};
 ghost use Rattle.am_core.specs.Kept.{IsKept, above};
 
 use am_base::entry::Entry;
@@ -29,7 +29,8 @@ pub trait Log {
 
     /// The entry of a number; None exactly outside `base + 1` to `top`.
     fn entry(&self, number: u32) -> Option<&Entry>
-        ensures { option_copied result ≡ entry_at (list self.now) number };
+        ensures value { option_copied result ≡ entry_at (list self.now) number }
+        ensures within { IfSome result (λ e. IsEntry e.now) };
 
     /// The members after a number.
     fn members_after(&self, number: u32) -> Names
@@ -39,29 +40,33 @@ pub trait Log {
 
     /// The stamp of the last View.
     fn view(&self) -> Stamp
-        ensures { result ≡ (told_by (list self.now)).view };
+        ensures value { result ≡ (told_by (list self.now)).view }
+        ensures within { IsStamp result };
 
     /// The number of the last View.
     fn view_number(&self) -> u32
-        ensures { result ≡ (told_by (list self.now)).view_number };
+        ensures value { result ≡ (told_by (list self.now)).view_number }
+        ensures within { IsNumber result };
 
     /// The resilience of the last View, 0 where there is none.
     fn resilience(&self) -> u8
-        ensures { result ≡ (told_by (list self.now)).resilience };
+        ensures value { result ≡ (told_by (list self.now)).resilience }
+        ensures within { result ≤ 15 };
 
     /// The row of a name's place.
     fn at_place(&self, name: Name) -> Row
         ensures value { result ≡ at_place (told_by (list self.now)) name }
-        ensures row { IsRow result };
+        ensures within { IsRow result };
 
     /// The row of a name's place where its life is the name's, and else all zeros.
     fn row(&self, name: Name) -> Row
-        ensures { result ≡ row_of (told_by (list self.now)) name };
+        ensures value { result ≡ row_of (told_by (list self.now)) name }
+        ensures within { IsRow result };
 
     /// What is told up to the base.
     fn image_at_base(&self) -> Image
         ensures value { result ≡ (list self.now).image }
-        ensures rows { IsImage result };
+        ensures within { IsImage result };
 
     /// Whether an entry fits behind the last one.
     fn fits(&self, entry: &Entry) -> bool
@@ -71,6 +76,7 @@ pub trait Log {
     fn push(&mut self, entry: Entry)
         requires fits { fits (told_by (list self.old)) entry ≡ true }
         requires room { length (list self.old).entries < capacity self.old }
+        requires entry { IsEntry entry }
         requires number { top_of (list self.old) < 2000000000 }
         ensures list { list self.new ≡ with_entry (list self.old) entry }
         ensures capacity { capacity self.new ≡ capacity self.old };
@@ -85,8 +91,8 @@ pub trait Log {
     /// Begins a blank log behind a number, with what is told up to there.
     fn begin(&mut self, base: u32, image: &Image)
         requires blank { top_of (list self.old) ≡ 0 }
-        requires base { base ≤ 2000000000 }
-        requires rows { IsImage image.now }
+        requires base { IsNumber base }
+        requires image { IsImage image.now }
         ensures list { list self.new ≡ record { start = base; image = image.now; entries = [] } }
         ensures capacity { capacity self.new ≡ capacity self.old };
 }

@@ -47,12 +47,13 @@ impl<L: Log> Model for Core<L> {
       start = c.start;
     } };
 
-    ghost invariant = { λ c. CoreKeeps (L.list c.log) (L.capacity c.log) c.rules c.acc c.taken };
+    ghost invariant = { λ c. CoreKeeps (L.list c.log) (L.capacity c.log) c.rules c.promise c.acc c.taken };
 }
 
 impl<L: Log> Core<L> {
     ghost use Rattle.std.specs.Prelude.{◌+◌, ◌<◌, true, length};
     ghost use Rattle.am_base.specs.Names.{has};
+    ghost use Rattle.am_base.specs.Limits.{IsEntry};
     ghost use Rattle.am_base.specs.Lists.{top_of, told_by, members_of, fits, with_entry};
     ghost use Rattle.am_core.specs.Cores.{Keeps, Adds, Sends, advance, since_accepted, trim_to, trimmed, IsInOrder};
 
@@ -89,6 +90,7 @@ impl<L: Log> Core<L> {
     pub fn push(&mut self, entry: Entry)
         requires fits { fits (told_by self.old.log) entry ≡ true }
         requires room { length self.old.log.entries < self.old.rules.window + 15 }
+        requires entry { IsEntry entry }
         requires number { top_of self.old.log < 2000000000 }
         ensures value { self.new ≡ record self.old { log = with_entry self.old.log entry } }
         ensures adds { Adds entry self.old self.new }

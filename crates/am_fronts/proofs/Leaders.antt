@@ -24,7 +24,7 @@ lesser_first a None = (a, refl, omega arith)
 lesser_first a (Some y) = (min a y, refl, omega arith)
 
 -- the least is at most what each name of the set has
-least_in : (f : ℕ → ℕ) (set : List ℕ) (from place : ℕ) → place < length set → 0 < slice_index set place → (x : ℕ) × (least_of f (names_from from set) ≡ Some x) × (x ≤ f (name_at (from + place) (slice_index set place)))
+pub least_in : (f : ℕ → ℕ) (set : List ℕ) (from place : ℕ) → place < length set → 0 < slice_index set place → (x : ℕ) × (least_of f (names_from from set) ≡ Some x) × (x ≤ f (name_at (from + place) (slice_index set place)))
 unfolding least_of
 least_in f [] from place h l = absurd (omega arith)
 least_in f (zero ∷ lives) from zero h l = absurd (omega arith)

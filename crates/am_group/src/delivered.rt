@@ -1,4 +1,5 @@
-ghost use Rattle.std.specs.Prelude.{◌≡◌, ◌==◌, ◌++◌, IfOk, OnOk};
+ghost use Rattle.std.specs.Prelude.{◌≡◌, ◌==◌, ◌++◌, IfOk, OnOk, option_map};
+ghost use Rattle.std.specs.Option.{option_to_list};
 ghost use Rattle.am_group.specs.Deliveries.{name_of, given_to, deliveries};
 
 use crate::event::Record;
@@ -15,19 +16,26 @@ fn is_of(item: &Record, node: Name) -> bool
     u32::from(item.event.node.place()) + 16 * life.saturating_sub(1) == u32::from(node.get())
 }
 
+/// The entry that a record gave to a name's application, with its number; None exactly where it gave it none.
+pub fn given_to(item: &Record, node: Name) -> Option<(u32, &Entry)>
+    ensures { option_to_list (option_map (λ g. (g.0, g.1.now)) result) ≡ given_to node item.now }
+{
+    if !is_of(item, node) {
+        return None;
+    }
+    match &item.outcome {
+        Outcome::Took { number, entry } => Some((*number, entry)),
+        _ => None,
+    }
+}
+
 fn put_given(item: &Record, node: Name, given: &mut Vec<(u32, Entry)>) -> Result<(), NoMemory>
     ensures { OnOk result (given.new.items ≡ given.old.items ++ given_to node item.now) }
 {
-    if !is_of(item, node) {
-        return Ok(());
+    if let Some((number, entry)) = given_to(item, node) {
+        given.push((number, entry.copied()))?;
     }
-    match &item.outcome {
-        Outcome::Took { number, entry } => {
-            given.push((*number, entry.copied()))?;
-            Ok(())
-        }
-        _ => Ok(()),
-    }
+    Ok(())
 }
 
 /// The entries that a name's application was given, in order, each with its number.

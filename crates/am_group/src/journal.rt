@@ -56,10 +56,11 @@ impl Journal {
         &self.founding
     }
 
-    /// The records in order. Each has at most 24 letters.
+    /// The records in order: at most 100,000, each with at most 24 letters.
     pub fn records(&self) -> &[Record]
         ensures value { result.now ≡ self.now.records }
         ensures few { length (letters_of result.now) ≤ 24 * length result.now }
+        ensures short { length result.now ≤ 100000 }
     {
         self.records.as_slice()
     }

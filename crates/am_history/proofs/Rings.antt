@@ -1,13 +1,15 @@
 -- The ring of a history.
 use Rattle.std.proofs.Common.{◌≡◌, ℕ, zero, suc, ◌+◌, ◌-◌, ◌<◌, ◌≤◌, List, [], ◌∷◌, ◌++◌, length, drop, refl, ⊎_elim, sym, ◌∙◌, ap, subst, true, Some, None, slice_get, option_map, nat_le, arith}
 use Rattle.std.proofs.lemmas.List.{length-map, map-append, drop-map, length-append}
-use Rattle.std.proofs.lemmas.Option.{slice_get-map, slice_get_within}
+use Rattle.std.proofs.lemmas.List.Elements.{All-nil}
+use Rattle.std.proofs.lemmas.Option.{slice_get-map, slice_get_within, get_or_from_slice_get}
 use Rattle.std.proofs.lemmas.Bool.Decides.{nat_tests}
 use Rattle.std.proofs.Math.Nat.{eq-or-lt_of_le}
 use Rattle.circular_buffer.proofs.Places.{slice_get-append_left, slice_get-append_right}
+use Rattle.am_base.specs.declared.entry.Entry.{Entry}
 use Rattle.am_base.specs.declared.image.Image.{Image}
 use Rattle.am_base.specs.Lists.{Log, fold, after, fits, AllFit, members_of, members_at, image_at, entry_at, told_by, top_of, with_entry}
-use Rattle.am_core.specs.Images.{IsImage}
+use Rattle.am_base.specs.Limits.{IsImage, IsEntry}
 use Rattle.am_core.specs.Kept.{IsKept, above}
 use Rattle.am_core.proofs.Folds.{slice_get-drop}
 use Rattle.am_core.proofs.Ends.{kept-push, kept-above, end-self, end-above, end-told, end-image, told-push, image-push, image-top, image-start, image-next, above-above}
@@ -20,9 +22,16 @@ unfolding fold AllFit
 ring-begin base capacity below up [] l e h is = record {
   told = e;
   members = record { after = λ place slot e. absurd (cc) };
-  kept = record { image = is; fit = tt; room = omega arith; numbers = omega arith };
+  kept = record { image = is; fit = tt; room = omega arith; entries = All-nil IsEntry; numbers = omega arith };
 }
 ring-begin base capacity below up (s ∷ ss) l e h is = absurd (omega arith)
+
+-- each entry that is kept is within the limits
+pub entry_within : (base capacity : ℕ) (below up : Image) (slots : List Slot) (k : ℕ) (s : Slot) → IsRing base below up slots capacity → slice_get slots k ≡ Some s → IsEntry s.entry
+entry_within base capacity below up slots k s is get =
+    let there : slice_get (entries_of slots) k ≡ Some s.entry = slice_get-map (λ (s : Slot). s.entry) slots k ∙ ap (option_map (λ (s : Slot). s.entry)) get in
+    let P : Entry → Type 0 = IsEntry in
+    subst P (get_or_from_slice_get (entries_of slots) k s.entry s.entry there) (is.kept.entries k s.entry (slice_get_within (entries_of slots) k s.entry there))
 
 pub no_entries : (slots : List Slot) → length slots ≡ 0 → entries_of slots ≡ []
 no_entries [] l = refl
@@ -81,8 +90,8 @@ pushed_members list slots s have long members place slot get =
     (eq-or-lt_of_le low)
 
 -- one slot more
-pub ring-push : (base capacity : ℕ) (below up now : Image) (slots : List Slot) (s : Slot) → IsRing base below up slots capacity → now ≡ after up (base + length slots + 1) s.entry → s.members ≡ members_of now → fits up s.entry ≡ true → length slots < capacity → base + length slots < 2000000000 → IsRing base below now (slots ++ s ∷ []) capacity
-ring-push base capacity below up now slots s is next members fit room numbers =
+pub ring-push : (base capacity : ℕ) (below up now : Image) (slots : List Slot) (s : Slot) → IsRing base below up slots capacity → now ≡ after up (base + length slots + 1) s.entry → s.members ≡ members_of now → fits up s.entry ≡ true → IsEntry s.entry → length slots < capacity → base + length slots < 2000000000 → IsRing base below now (slots ++ s ∷ []) capacity
+ring-push base capacity below up now slots s is next members fit within room numbers =
     let list = list_of base below slots in
     let e = list_push base below slots s in
     let long = length-map slots (λ (s : Slot). s.entry) in
@@ -94,7 +103,7 @@ ring-push base capacity below up now slots s is next members fit room numbers =
     record {
       told = told ∙ ap told_by (sym e);
       members = subst P (sym e) (record { after = pushed_members list slots s is.members long (members ∙ ap members_of told) });
-      kept = subst Q (sym e) (kept-push list capacity s.entry is.kept fit_now (omega arith) (omega arith));
+      kept = subst Q (sym e) (kept-push list capacity s.entry is.kept fit_now (omega arith) within (omega arith));
     }
 
 -- one slot less
@@ -145,4 +154,4 @@ trim_more list now next place e f low high =
 pub keep_all : (n : ℕ) (slots : List Slot) → length slots ≤ n → drop (length slots - n) slots ≡ slots
 keep_all n slots h = let none : length slots - n ≡ 0 = omega arith in ap (λ k. drop k slots) none
 
-pub ruleset ring_laws = (ring-begin, ring-push, ring-pop, no_entries)
+pub ruleset ring_laws = (ring-begin, ring-push, ring-pop, entry_within, no_entries)

@@ -1,4 +1,5 @@
 ghost use Rattle.std.specs.Prelude.{◌≡◌, ◌+◌, ◌≤◌, ◌<◌, [], IfOk};
+ghost use Rattle.am_base.specs.Limits.{IsNumber, IsEntry};
 ghost use Rattle.am_base.specs.Lists.{blank};
 
 use am_base::entry::Entry;
@@ -175,7 +176,8 @@ mod tests {
     use am_base::body::Body;
 
     fn pushed(history: &mut History, entry: Entry) -> bool
-        requires { history.old.capacity ≡ 16 }
+        requires capacity { history.old.capacity ≡ 16 }
+        requires entry { IsEntry entry }
         ensures { history.new.capacity ≡ 16 }
     {
         if history.top() - history.base() >= 16 || history.top() >= 2_000_000_000 {
@@ -188,7 +190,10 @@ mod tests {
         true
     }
 
-    fn data(req: u32) -> Entry {
+    fn data(req: u32) -> Entry
+        requires { IsNumber req }
+        ensures { IsEntry result }
+    {
         Entry::Data {
             from: Name::of_byte(0),
             req,

@@ -23,6 +23,9 @@ gave_more limit n a b c xs into h k le over room = (xs ++ take n into, takes_the
 pub gave_at_most : (limit n : ℕ) (a b c : Option (List ℕ)) (xs into : List ℕ) → Consumes a b xs → Consumes b c (take n into) → n ≤ length into → n ≤ limit - length xs → length xs ≤ limit → GaveAtMost limit a c
 gave_at_most limit n a b c xs into h k le fits room = (xs ++ take n into, takes_then a b c xs (take n into) h k, grind (arith, common_steps))
 
+pub gave_some : (n : ℕ) (a b c : Option (List ℕ)) (xs into : List ℕ) → Consumes a b xs → Consumes b c (take n into) → 0 < n → n ≤ length into → GaveMore 0 a c
+gave_some n a b c xs into h k some le = (xs ++ take n into, takes_then a b c xs (take n into) h k, grind (arith, common_steps))
+
 -- a write of what comes after the first `m`
 pub appends_more : (a b c : Option (List ℕ)) (xs : List ℕ) (m n : ℕ) → Appends a b (take m xs) → Appends b c (take n (take (length xs - m) (drop m xs))) → Appends a c (take (m + n) xs)
 appends_more a b c xs m n h k =

@@ -1,5 +1,5 @@
 -- Sources and sinks in memory.
-use Rattle.std.specs.Prelude.{ℕ, ◌+◌, ◌-◌, ◌^◌, List, min}
+use Rattle.std.specs.Prelude.{ℕ, List}
 
 -- bytes to give, the numbers of the reads that fail, the most that one read gives, the reads and the faults so far
 pub record Supply : Type 0 where
@@ -18,7 +18,3 @@ pub record Store : Type 0 where
   pub size : ℕ
   pub calls : ℕ
   pub faults : ℕ
-
--- one more, up to the greatest count
-abbrev pub next : ℕ → ℕ
-next n = min (n + 1) (2 ^ 64 - 1)

@@ -1,14 +1,25 @@
 -- What reads take and how faults are counted. A source or sink may tell its bytes or not, as std's readers and writers do.
-use Rattle.std.specs.Prelude.{◌≡◌, ◌⊎◌, ℕ, ◌-◌, ◌^◌, ◌<◌, ◌≤◌, [], List, Option, Some, None, length}
+use Rattle.std.specs.Prelude.{◌≡◌, ℕ, ◌+◌, ◌-◌, ◌^◌, ◌<◌, ◌≤◌, [], List, Option, Some, None, length, min}
 use Rattle.std.specs.Io.KnownBytes.{Consumes}
 use Rattle.am_io.specs.declared.outside.Got.{Got}
 use Rattle.am_io.specs.declared.outside.Got.TheVariants.{Took, End, Failed}
 use Rattle.am_io.specs.declared.outside.Put.{Put}
 use Rattle.am_io.specs.declared.outside.Put.TheVariants.{Took as Wrote, Failed as Refused}
 
--- the count of faults rose, or stood where it can't rise
-abbrev pub Rises : ℕ → ℕ → Type 0
-Rises before after = (before < after) ⊎ (before ≡ 2 ^ 64 - 1)
+-- one more, up to the greatest count
+abbrev pub next : ℕ → ℕ
+next n = min (n + 1) (2 ^ 64 - 1)
+
+-- the count of faults behind a read: one more exactly where it failed
+abbrev pub faults_after : Got → ℕ → ℕ
+faults_after (Took n) before = before
+faults_after End before = before
+faults_after Failed before = next before
+
+-- the same behind a write
+abbrev pub refusals_after : Put → ℕ → ℕ
+refusals_after (Wrote n) before = before
+refusals_after Refused before = next before
 
 -- these bytes are all that was left, and nothing is left
 abbrev pub ReadToEnd : Option (List ℕ) → Option (List ℕ) → List ℕ → Type 0
@@ -46,7 +57,7 @@ abbrev pub IfPut : Put → (ℕ → Type 0) → Type 0
 IfPut (Wrote n) claim = claim n
 IfPut Refused claim = Unit {0}
 
--- what holds where a write failed
+-- what holds where a write was refused
 abbrev pub OnRefused : Put → Type 0 → Type 0
 OnRefused (Wrote n) claim = Unit {0}
 OnRefused Refused claim = claim

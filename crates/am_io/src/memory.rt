@@ -1,7 +1,7 @@
 ghost use Rattle.std.specs.Prelude.{◌≡◌, ◌⊎◌, ◌↔◌, ◌+◌, ◌<◌, ◌≤◌, [], length, take, min, Some, IfOk, Contains};
 ghost use Rattle.std.specs.Io.KnownBytes.{Consumes, Appends, Keeps};
-ghost use Rattle.am_io.specs.Outside.{Rises, ReadToEnd, IfTook, OnEnd, OnFailed, IfPut, OnRefused};
-ghost use Rattle.am_io.specs.Memory.{Supply, Store, next};
+ghost use Rattle.am_io.specs.Outside.{ReadToEnd, IfTook, OnEnd, OnFailed, IfPut, OnRefused, next, faults_after, refusals_after};
+ghost use Rattle.am_io.specs.Memory.{Supply, Store};
 
 use crate::outside::{Got, Put, Sink, Source};
 use std::alloc::{AllocError, Global};
@@ -95,9 +95,8 @@ impl Source for MemSource<'_> {
         ensures some { IfTook result (λ n. (0 < n) × (n ≤ length into.new)) }
         ensures took { IfTook result (λ n. Consumes (Some self.old.left) (Some self.new.left) (take n into.new)) }
         ensures end { OnEnd result (ReadToEnd (Some self.old.left) (Some self.new.left) []) }
-        ensures failed { OnFailed result (Rises self.old.faults self.new.faults) }
         ensures untouched { OnFailed result (Keeps (Some self.old.left) (Some self.new.left)) }
-        ensures counts { self.old.faults ≤ self.new.faults }
+        ensures counts { self.new.faults ≡ faults_after result self.old.faults }
         ensures amount { IfTook result (λ n. n ≡ min (min (length self.old.left) (length into.new)) self.old.most) }
         ensures fails { (result ≡ Got.Failed) ↔ Contains self.old.fail (next self.old.calls) }
         ensures plan { self.new ≡ record self.old { left = self.new.left; calls = next self.old.calls; faults = self.new.faults } }
@@ -184,9 +183,8 @@ impl Sink for MemSink<'_> {
         requires { 0 < length piece.now }
         ensures some { IfPut result (λ n. (0 < n) × (n ≤ length piece.now)) }
         ensures took { IfPut result (λ n. Appends (Some self.old.held) (Some self.new.held) (take n piece.now)) }
-        ensures failed { OnRefused result (Rises self.old.faults self.new.faults) }
         ensures untouched { OnRefused result (Keeps (Some self.old.held) (Some self.new.held)) }
-        ensures counts { self.old.faults ≤ self.new.faults }
+        ensures counts { self.new.faults ≡ refusals_after result self.old.faults }
         ensures amount { IfPut result (λ n. n ≡ min (length piece.now) self.old.most) }
         ensures fails { (result ≡ Put.Failed) ↔ (Contains self.old.fail (next self.old.calls) ⊎ (self.old.size < length self.old.held + min (length piece.now) self.old.most)) }
         ensures plan { self.new ≡ record self.old { held = self.new.held; calls = next self.old.calls; faults = self.new.faults } }

@@ -1,6 +1,6 @@
 ghost use Rattle.std.specs.Prelude.{◌≡◌, ℕ, ◌<◌, ◌≤◌, [], List, Option, length, take};
 ghost use Rattle.std.specs.Io.KnownBytes.{Consumes, Appends, Keeps};
-ghost use Rattle.am_io.specs.Outside.{Rises, ReadToEnd, IfTook, OnEnd, OnFailed, IfPut, OnRefused};
+ghost use Rattle.am_io.specs.Outside.{ReadToEnd, IfTook, OnEnd, OnFailed, IfPut, OnRefused, faults_after, refusals_after};
 
 /// What a read gave.
 #[derive(Clone, Copy, PartialEq, Eq, Debug)]
@@ -22,7 +22,7 @@ pub enum Put {
     Failed,
 }
 
-/// What gives bytes. Its count of faults never falls.
+/// What gives bytes, and counts the reads that failed, up to the greatest count.
 pub trait Source {
     // What is left, where it tells that.
     ghost left: { Self → Option (List ℕ) };
@@ -40,12 +40,11 @@ pub trait Source {
         ensures some { IfTook result (λ n. (0 < n) × (n ≤ length into.new)) }
         ensures took { IfTook result (λ n. Consumes (left self.old) (left self.new) (take n into.new)) }
         ensures end { OnEnd result (ReadToEnd (left self.old) (left self.new) []) }
-        ensures failed { OnFailed result (Rises (count self.old) (count self.new)) }
         ensures untouched { OnFailed result (Keeps (left self.old) (left self.new)) }
-        ensures counts { count self.old ≤ count self.new };
+        ensures counts { count self.new ≡ faults_after result (count self.old) };
 }
 
-/// What takes bytes. Its count of faults never falls.
+/// What takes bytes, and counts the writes that failed, up to the greatest count.
 pub trait Sink {
     // What it holds, where it tells that.
     ghost contents: { Self → Option (List ℕ) };
@@ -62,7 +61,6 @@ pub trait Sink {
         requires { 0 < length piece.now }
         ensures some { IfPut result (λ n. (0 < n) × (n ≤ length piece.now)) }
         ensures took { IfPut result (λ n. Appends (contents self.old) (contents self.new) (take n piece.now)) }
-        ensures failed { OnRefused result (Rises (count self.old) (count self.new)) }
         ensures untouched { OnRefused result (Keeps (contents self.old) (contents self.new)) }
-        ensures counts { count self.old ≤ count self.new };
+        ensures counts { count self.new ≡ refusals_after result (count self.old) };
 }

@@ -1,13 +1,13 @@
 ghost use Rattle.std.specs.Prelude.{◌≡◌, ◌≢◌, ◌<◌, ◌≤◌, length, take, OnOk, IfOk, IfErr};
 ghost use Rattle.std.specs.Io.KnownBytes.{Appends};
-ghost use Rattle.am_io.specs.Outside.{Rises, ReadToEnd, GaveMore, GaveAtMost};
-ghost use Rattle.am_io.specs.declared.whole.ReadRefusal.TheVariants.{NoMemory};
+ghost use Rattle.am_io.specs.Outside.{ReadToEnd, GaveMore, GaveAtMost};
+ghost use Rattle.am_io.specs.Faults.{faults_of_reading, faults_of_writing};
 
 use crate::outside::{Got, Put, Sink, Source};
-use std::alloc::{AllocError, Global};
+use std::alloc::Global;
 
 /// The most bytes that are read at once.
-const CHUNK: usize = 65536;
+const CHUNK: usize = 16384;
 
 /// Why a source wasn't read to its end.
 #[derive(Clone, Copy, PartialEq, Eq, Debug)]
@@ -20,14 +20,6 @@ pub enum ReadRefusal {
     NoMemory,
 }
 
-impl From<AllocError> for ReadRefusal {
-    ghost from_gives = { λ _ e. e ≡ NoMemory };
-
-    fn from(_e: AllocError) -> ReadRefusal {
-        ReadRefusal::NoMemory
-    }
-}
-
 /// A write failed.
 #[derive(Clone, Copy, PartialEq, Eq, Debug)]
 pub struct WriteFault {
@@ -35,14 +27,8 @@ pub struct WriteFault {
     pub written: u64,
 }
 
-/// A place for the bytes of one read.
-fn blank_chunk(alloc: Global) -> Result<Vec<u8>, AllocError>
-    ensures { IfOk result (λ chunk. 0 < length chunk.items) }
-{
-    Vec::from_elem(alloc, 0u8, CHUNK)
-}
-
-/// All that a source gives up to its end, at most `limit` bytes. TooLong comes exactly where it gave more.
+/// All that a source gives up to its end, at most `limit` bytes. TooLong comes exactly where it gave more, Fault where a
+/// read failed, and then there is no other read. Memory is taken for what was given alone.
 pub fn read_all<S: Source>(
     alloc: Global,
     source: &mut S,
@@ -50,15 +36,15 @@ pub fn read_all<S: Source>(
 ) -> Result<Vec<u8>, ReadRefusal>
     ensures ok { IfOk result (λ bytes. ReadToEnd (S.left source.old) (S.left source.new) bytes.items) }
     ensures within { IfOk result (λ bytes. length bytes.items ≤ limit) }
-    ensures fault { IfErr result (λ e. e ≡ ReadRefusal.Fault → Rises (S.count source.old) (S.count source.new)) }
     ensures too_long { IfErr result (λ e. e ≡ ReadRefusal.TooLong → GaveMore limit (S.left source.old) (S.left source.new)) }
     ensures else_within { IfErr result (λ e. e ≢ ReadRefusal.TooLong → GaveAtMost limit (S.left source.old) (S.left source.new)) }
-    ensures counts { S.count source.old ≤ S.count source.new }
+    ensures memory { IfErr result (λ e. e ≡ ReadRefusal.NoMemory → GaveMore 0 (S.left source.old) (S.left source.new)) }
+    ensures counts { S.count source.new ≡ faults_of_reading result (S.count source.old) }
 {
     let mut bytes = Vec::new(alloc);
-    let mut chunk = blank_chunk(alloc)?;
+    let mut chunk = [0u8; CHUNK];
     loop {
-        match source.read(chunk.as_mut_slice()) {
+        match source.read(&mut chunk) {
             Got::End => return Ok(bytes),
             Got::Failed => return Err(ReadRefusal::Fault),
             Got::Took(n) => {
@@ -78,8 +64,7 @@ pub fn write_all<K: Sink>(sink: &mut K, bytes: &[u8]) -> Result<(), WriteFault>
     ensures ok { OnOk result (Appends (K.contents sink.old) (K.contents sink.new) bytes.now) }
     ensures part { IfErr result (λ e. Appends (K.contents sink.old) (K.contents sink.new) (take e.written bytes.now)) }
     ensures short { IfErr result (λ e. e.written < length bytes.now) }
-    ensures fault { IfErr result (λ _. Rises (K.count sink.old) (K.count sink.new)) }
-    ensures counts { K.count sink.old ≤ K.count sink.new }
+    ensures counts { K.count sink.new ≡ faults_of_writing result (K.count sink.old) }
 {
     let mut written = 0;
     while written < bytes.len() {
@@ -99,7 +84,6 @@ pub fn write_all<K: Sink>(sink: &mut K, bytes: &[u8]) -> Result<(), WriteFault>
 mod tests {
     use super::*;
     use crate::memory::{MemSink, MemSource, PlainSource};
-    use crate::standard::{StdSink, StdSource};
     use std::test::Fail;
 
     /// Five bytes, at most two a read: reads that fail, the limit, whether all is read, and the faults.
@@ -150,17 +134,6 @@ mod tests {
             assert!(rt; sink.bytes() == &bytes[..taken]);
             assert!(rt; sink.faults() == faults);
         }
-        Ok(())
-    }
-
-    #[test]
-    fn over_std(rt: HostRuntime) -> Result<(), Fail> {
-        let mut source = StdSource::new(b"abc".as_slice());
-        let read = read_all(rt.alloc(), &mut source, 3);
-        assert!(rt; read.is_ok_and(|bytes| bytes.as_slice() == b"abc".as_slice()));
-        let mut sink = StdSink::new(Vec::new(rt.alloc()));
-        assert!(rt; write_all(&mut sink, b"abc").is_ok());
-        assert!(rt; source.faults() == 0 && sink.faults() == 0);
         Ok(())
     }
 }

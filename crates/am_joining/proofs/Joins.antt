@@ -1,23 +1,42 @@
 -- The row of a request to join, by what its tests say.
-use Rattle.std.proofs.Common.{◌≡◌, ℕ, Bool, true, false, not, ◌&&◌, ◌||◌, ◌==◌, nat_lt, nat_le, if◌then◌else◌, Option, Some, None, refl, sym, ap, ◌∙◌}
+use Rattle.std.proofs.Common.{◌≡◌, ◌≢◌, ℕ, ◌+◌, ◌≤◌, List, [], Bool, true, false, not, ◌&&◌, ◌||◌, ◌==◌, nat_lt, nat_le, if◌then◌else◌, Option, Some, None, refl, sym, ap, ◌∙◌, arith}
+use Rattle.std.proofs.lemmas.Bool.Decides.{nat_tests}
 use Rattle.am_base.specs.declared.image.Row.{Row}
+use Rattle.am_base.specs.declared.image.Report.{Report}
 use Rattle.am_base.specs.declared.outcome.Outcome.{Outcome}
 use Rattle.am_base.specs.declared.outcome.Outcome.TheVariants as said
 use Rattle.am_base.specs.declared.entry.Entry.TheVariants.{Join}
 use Rattle.am_base.specs.Names.{life_of}
-use Rattle.am_base.specs.Lists.{Log, at_place, fits}
-use Rattle.am_core.specs.Cores.{Stands}
+use Rattle.am_base.specs.Lists.{at_place, fits}
 use Rattle.am_core.proofs.Folds.{split}
-use Rattle.am_fronts.specs.Refresh.{Led}
-use Rattle.am_model.specs.Node.{Node, told, only_name, has_room}
-use Rattle.am_model.specs.Emit.{Plan, quiet, telling, welcome_of}
+use Rattle.am_fronts.specs.Reports.{admitted}
+use Rattle.am_packet.specs.Boxes.{Letter, with_letter}
+use Rattle.am_packet.specs.declared.packet.Packet.{Packet}
+use Rattle.am_model.specs.Node.{Node, top, told, others, only_name, has_room}
+use Rattle.am_model.specs.Emit.{Plan, quiet, telling, polling, bcast_of, welcome_of}
 use Rattle.am_model.specs.Joining.{asks_to_join, number_join, join_ask_row}
-use Rattle.am_joining.specs.Parts.{Tells, with_parts, holding, turned_down, welcome_again}
+use Rattle.am_model.specs.Ends.{Tells}
+use Rattle.am_handlers.specs.Cores.{CoreTells}
+use Rattle.am_handlers.specs.Keeps.{NodeKeeps}
+use Rattle.am_handlers.proofs.Doing.{core_tells}
+use Rattle.am_handlers.proofs.Keeping.{keeps_steady}
+use Rattle.am_joining.specs.Pieces.{turned_down, needs_none, welcome_again, and_welcome}
+
+-- ---- the reports of a joiner
+
+pub keeps_admitted : (m : Node) (name base : ℕ) → name ≢ m.core.who → NodeKeeps m → NodeKeeps (record m { reports = admitted m.reports name base })
+keeps_admitted m name base other keeps =
+    let test : (m.core.who == name) ≡ false = grind (arith, nat_tests) in
+    let same : admitted m.reports name base m.core.who ≡ m.reports m.core.who = rw test refl in
+    let taken = ap (λ (r : Report). r.taken) same in
+    keeps_steady m (record m { reports = admitted m.reports name base }) (record { who = refl; promise = refl; told = refl; top = refl; status = refl; ballot = refl; leaving = refl; sends = refl }) keeps (let own = keeps.own in omega arith)
+
+-- ---- the row
 
 -- the rest of the row, where the name isn't turned down
 abbrev pub rest : Node → ℕ → Row → Plan
 rest m s q =
-    if fits (told m) (Join s) && not (has_room m) then holding m
+    if fits (told m) (Join s) && not (has_room m) then polling m (said.Held m.core.base (top m))
     else if fits (told m) (Join s) then number_join m s
     else welcome_again m s q.joined
 
@@ -34,31 +53,33 @@ asks_by m s q = split (nat_lt (life_of s) q.life)
     (λ t. rw t refl)
     (λ f. rw f refl)))))
 
-pub join_by : (old : Led) (from : ℕ) (r : Row) (answer : Option Outcome) → Tells (λ m. at_place (told m) from) old.core r → answer ≡ turned_down old.core.acc from r
-    → (m : Node) (all : Log) → Stands all old.core → join_ask_row (with_parts m all old) from ≡ by_answer answer (with_parts m all old) (rest (with_parts m all old) from r)
+pub join_by : (m : Node) (from accepted : ℕ) (r : Row) (answer : Option Outcome) → r ≡ at_place (told m) from → accepted ≡ m.core.acc → answer ≡ turned_down accepted from r → join_ask_row m from ≡ by_answer answer m (rest m from r)
 unfolding join_ask_row
-join_by old from r answer tells is m all s =
-    let n = with_parts m all old in
-    asks_by n from (at_place (told n) from)
-    ∙ ap (λ q. by_answer (turned_down old.core.acc from q) n (rest n from q)) (sym (tells n all s))
-    ∙ ap (λ a. by_answer a n (rest n from r)) (sym is)
+join_by m from accepted r answer row acc is =
+    asks_by m from (at_place (told m) from)
+    ∙ ap (λ q. by_answer (turned_down m.core.acc from q) m (rest m from q)) (sym row)
+    ∙ ap (λ a. by_answer (turned_down a from r) m (rest m from r)) (sym acc)
+    ∙ ap (λ a. by_answer a m (rest m from r)) (sym is)
 
-pub rest_again : (old : Led) (from : ℕ) (r : Row) → Tells (λ m. fits (told m) (Join from)) old.core false → (m : Node) (all : Log) → Stands all old.core → rest (with_parts m all old) from r ≡ welcome_again (with_parts m all old) from r.joined
-rest_again old from r fit m all s = let n = with_parts m all old in rw (sym (fit n all s)) refl
+pub rest_again : (m : Node) (from : ℕ) (r : Row) → fits (told m) (Join from) ≡ false → rest m from r ≡ welcome_again m from r.joined
+rest_again m from r fit = rw fit refl
 
-pub rest_held : (old : Led) (from : ℕ) (r : Row) → Tells (λ m. fits (told m) (Join from)) old.core true → Tells has_room old.core false → (m : Node) (all : Log) → Stands all old.core → rest (with_parts m all old) from r ≡ holding (with_parts m all old)
-rest_held old from r fit room m all s = let n = with_parts m all old in rw (sym (fit n all s), sym (room n all s)) refl
+pub rest_held : (m : Node) (from : ℕ) (r : Row) → fits (told m) (Join from) ≡ true → has_room m ≡ false → rest m from r ≡ polling m (said.Held m.core.base (top m))
+rest_held m from r fit room = rw (fit, room) refl
 
-pub rest_number : (old : Led) (from : ℕ) (r : Row) → Tells (λ m. fits (told m) (Join from)) old.core true → Tells has_room old.core true → (m : Node) (all : Log) → Stands all old.core → rest (with_parts m all old) from r ≡ number_join (with_parts m all old) from
-rest_number old from r fit room m all s = let n = with_parts m all old in rw (sym (fit n all s), sym (room n all s)) refl
+pub rest_number : (m : Node) (from : ℕ) (r : Row) → fits (told m) (Join from) ≡ true → has_room m ≡ true → rest m from r ≡ number_join m from
+rest_number m from r fit room = rw (fit, room) refl
 
--- ---- a name is welcomed again
+pub again_none : (m : Node) (from joined : ℕ) → needs_none m from joined ≡ true → welcome_again m from joined ≡ quiet m said.Again
+again_none m from joined none = rw none refl
 
-abbrev pub needs_none : ℕ → ℕ → ℕ → Bool
-needs_none joined stored accepted = nat_le joined stored || nat_lt accepted joined
+pub again_welcome : (m : Node) (from joined : ℕ) → needs_none m from joined ≡ false → welcome_again m from joined ≡ telling m (said.Welcomed joined) (only_name from) (λ n. welcome_of n from)
+again_welcome m from joined due = rw due refl
 
-pub again_quiet : (old : Led) (from joined : ℕ) → true ≡ needs_none joined (old.reports from).stored old.core.acc → (m : Node) (all : Log) → Stands all old.core → welcome_again (with_parts m all old) from joined ≡ quiet (with_parts m all old) said.Again
-again_quiet old from joined test m all s = rw (sym test) refl
-
-pub again_telling : (old : Led) (from joined : ℕ) → false ≡ needs_none joined (old.reports from).stored old.core.acc → (m : Node) (all : Log) → Stands all old.core → welcome_again (with_parts m all old) from joined ≡ telling (with_parts m all old) (said.Welcomed joined) (only_name from) (λ n. welcome_of n from)
-again_telling old from joined test m all s = rw (sym test) refl
+-- the letters of a Join that is numbered
+pub join_letters : (m new : Node) (from number : ℕ) (packet : Packet) (letters : List Letter) → number ≡ top m + 1 → CoreTells (λ n. bcast_of n number (Join from)) new.core packet
+    → CoreTells (and_welcome number from (with_letter (others m) packet [])) new.core letters → Tells (number_join m from).letters new letters
+join_letters m new from number packet letters is told welcomes = λ n end.
+    core_tells (and_welcome number from (with_letter (others m) packet [])) new letters welcomes n end
+    ∙ ap (λ p. and_welcome number from (with_letter (others m) p []) n) (core_tells (λ x. bcast_of x number (Join from)) new packet told n end)
+    ∙ ap (λ k. and_welcome k from (with_letter (others m) (bcast_of n k (Join from)) []) n) is

@@ -38,15 +38,6 @@ unfolding after
 stays_by_join image number from who fit member =
     ap (λ k. k == life_of who) (other_place image from (place_of who) (record { life = life_of from; joined = number; left = 0; last = 0 }) (joins_elsewhere image from who fit member)) ∙ member
 
--- its own report stays
-pub own_stays : (old reports : ℕ → Report) (image : Image) (from who base taken : ℕ) → reports ≡ admitted old from base → fits image (Join from) ≡ true → has (members_of image) who ≡ true → (old who).taken ≤ taken → (reports who).taken ≤ taken
-own_stays old reports image from who base taken is fit member own =
-    let other = joins_elsewhere image from who fit member in
-    let test : (who == from) ≡ false = split (who == from) (λ t. let e : who ≡ from = grind (arith, nat_tests) in absurd (other (ap (λ n. place_of n) e))) (λ f. f) in
-    let same : reports who ≡ old who = ap (λ (r : ℕ → Report). r who) is ∙ rw test refl in
-    let less = ap (λ (r : Report). r.taken) same in
-    omega arith
-
 -- ---- a Leave
 
 member_life_of : (r : Row) (life : ℕ) → (r.life == life) ≡ true → nat_lt 0 r.joined ≡ true → r.left ≡ 0 → member_life r ≡ life
@@ -73,3 +64,7 @@ unfolding after
 stays_by_leave image number from who other leaver member = split ((at_place image from).life == life_of from)
     (λ t. rw t (ap (λ k. k == life_of who) (other_place image from (place_of who) (record (at_place image from) { left = number }) (leaves_elsewhere (members_of image) from who other leaver member)) ∙ member))
     (λ f. rw f member)
+
+pub fits_leave : (image : Image) (from : ℕ) → has (members_of image) from ≡ true → fits image (Leave from) ≡ true
+unfolding fits
+fits_leave image from member = member

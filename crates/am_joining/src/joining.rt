@@ -1,32 +1,34 @@
-ghost use Rattle.std.specs.Prelude.{◌≡◌, ℕ, ◌+◌, ◌<◌, ◌≤◌, [], length, true, ◌||◌, nat_lt, nat_le};
+ghost use Rattle.std.specs.Prelude.{◌≡◌, ◌≢◌, ◌<◌, ◌≤◌, ◌+◌, [], length, true};
 ghost use Rattle.am_base.specs.declared.entry.Entry.TheVariants.{Join};
-ghost use Rattle.am_base.specs.Names.{has};
-ghost use Rattle.am_base.specs.Lists.{top_of, told_by, members_of, at_place, fits};
-ghost use Rattle.am_core.specs.Images.{IsRow};
-ghost use Rattle.am_fronts.specs.Reports.{reports_of};
-ghost use Rattle.am_fronts.specs.Refresh.{led};
-ghost use Rattle.am_model.specs.Node.{told};
-ghost use Rattle.am_model.specs.Joining.{number_join, join_ask_row};
-ghost use Rattle.am_model.specs.Handlers.{SequencerDoes};
-ghost use Rattle.am_joining.specs.Parts.{Tells, LogWithin, GoesOn, and_welcome, turned_down, welcome_again};
+ghost use Rattle.am_base.specs.Limits.{IsRow};
+ghost use Rattle.am_base.specs.Lists.{at_place, fits};
+ghost use Rattle.am_model.specs.Node.{told, top, is_sequencer, only_name};
+ghost use Rattle.am_model.specs.Emit.{telling, welcome_of};
+ghost use Rattle.am_model.specs.Joining.{admitted, number_join, join_ask_row};
+ghost use Rattle.am_model.specs.Ends.{Does};
+ghost use Rattle.am_handlers.specs.Parts.{node_of};
+ghost use Rattle.am_handlers.specs.Cores.{CoreTells};
+ghost use Rattle.am_handlers.specs.Finishing.{Done};
+ghost use Rattle.am_joining.specs.Pieces.{turned_down, needs_none, welcome_again, and_welcome};
 
-use crate::letters::{accepted, tell_risen, tell_welcome};
-use crate::numbering::{end, has_room, number_entry, put_off, refresh};
 use am_base::entry::Entry;
 use am_base::image::Row;
 use am_base::name::Name;
 use am_base::outcome::Outcome;
 use am_core::log::Log;
 use am_core::state::Core;
-use am_fronts::fronts::Fronts;
+use am_handlers::asking::{has_room, held, next_number};
+use am_handlers::finishing::{finish_polling, finish_quietly};
+use am_handlers::packets::{bcast, only, welcome};
+use am_handlers::parts::Parts;
 use am_letter::out_box::OutBox;
 
 /// The row of a name's place.
-fn at_place<L: Log>(core: &Core<L>, name: Name) -> Row
-    ensures value { Tells (λ m. at_place (told m) name) core.now result }
-    ensures row { IsRow result }
+fn at_place(parts: &Parts, name: Name) -> Row
+    ensures value { result ≡ at_place (told (node_of parts.now)) name }
+    ensures within { IsRow result }
 {
-    core.log.at_place(name)
+    parts.core.log.at_place(name)
 }
 
 /// Why a name may not join, where the row of its place is this and so much is accepted; None where it may.
@@ -48,116 +50,131 @@ fn turned_down(accepted: u32, name: Name, row: Row) -> Option<Outcome>
 }
 
 /// Whether a Join of a name fits behind the last entry.
-fn may_join<L: Log>(core: &Core<L>, name: Name) -> bool
-    ensures value { Tells (λ m. fits (told m) (Join name)) core.now result }
-    ensures kept { result ≡ fits (told_by core.now.log) (Join name) }
+fn may_join(parts: &Parts, name: Name) -> bool
+    ensures { result ≡ fits (told (node_of parts.now)) (Join name) }
 {
-    core.log.fits(&Entry::Join(name))
+    parts.core.log.fits(&Entry::Join(name))
 }
 
 /// Welcomes a name whose Join has a number, where that is accepted.
 fn welcome_accepted<L: Log>(core: &Core<L>, number: u32, name: Name, out: &mut OutBox)
-    requires room { length out.old < 24 }
-    requires round { core.now.promise.round ≤ 2000000000 }
-    requires within { LogWithin core.now.log }
-    ensures { Tells (and_welcome number name out.old) core.now out.new }
+    requires { length out.old < 24 }
+    ensures { CoreTells (and_welcome number name out.old) core.now out.new }
 {
     if number <= core.acc {
-        tell_welcome(core, name, out);
+        out.put(only(name), &welcome(core, name));
     }
 }
 
-/// Numbers the Join of a name, and welcomes it where that is accepted at once.
-fn number_join<L: Log>(
-    fronts: &mut Fronts,
-    core: &mut Core<L>,
-    from: Name,
-    out: &mut OutBox,
-) -> Outcome
-    requires own { (reports_of fronts.old core.old.who).taken ≤ core.old.taken }
-    requires member { has (members_of (told_by core.old.log)) core.old.who ≡ true }
-    requires fits { fits (told_by core.old.log) (Join from) ≡ true }
-    requires within { LogWithin core.old.log }
-    requires room { length core.old.log.entries < core.old.rules.window + 15 }
-    requires number { top_of core.old.log < 2000000000 }
-    requires round { core.old.promise.round ≤ 2000000000 }
-    requires empty { out.old ≡ [] }
-    ensures row { (accepted : ℕ) → GoesOn accepted (λ m. number_join m from) (led core.old fronts.old) result out.new (led core.new fronts.new) }
-    ensures own { (reports_of fronts.new core.new.who).taken ≡ core.new.taken }
-    ensures within { LogWithin core.new.log }
+/// Up to where the list is trimmed.
+fn base_of(parts: &Parts) -> u32
+    ensures { result ≡ parts.now.core.base }
 {
-    fronts.admit(from, core.log.base());
-    let number = number_entry(fronts, core, &Entry::Join(from), out);
-    welcome_accepted(core, number, from, out);
+    parts.core.log.base()
+}
+
+/// A joiner's reports begin at the base.
+fn admit(parts: &mut Parts, name: Name)
+    requires { name ≢ parts.old.core.who }
+    ensures { node_of parts.new ≡ admitted (node_of parts.old) name }
+{
+    let base = base_of(parts);
+    parts.fronts.admit(name, base);
+}
+
+/// Numbers the Join of a name, and welcomes it where that is accepted at once.
+fn number_join(parts: &mut Parts, before: u32, from: Name, out: &mut OutBox) -> Outcome
+    requires leads { is_sequencer (node_of parts.old) ≡ true }
+    requires other { from ≢ parts.old.core.who }
+    requires fits { fits (told (node_of parts.old)) (Join from) ≡ true }
+    requires room { length parts.old.core.log.entries < parts.old.core.rules.window + 15 }
+    requires number { top (node_of parts.old) < 2000000000 }
+    requires empty { out.old ≡ [] }
+    ensures { Done before (number_join (node_of parts.old) from) result out.new (node_of parts.new) }
+{
+    let _before = parts.accepted();
+    let number = next_number(parts);
+    let others = parts.others();
+    let entry = Entry::Join(from);
+    admit(parts, from);
+    parts.push(Entry::Join(from));
+    parts.end();
+    out.put(others, &bcast(&parts.core, number, &entry));
+    welcome_accepted(&parts.core, number, from, out);
     Outcome::Numbered { number }
 }
 
 /// Whether a name whose Join has a number has begun already, or its Join isn't accepted.
-fn needs_no_welcome<L: Log>(fronts: &Fronts, core: &Core<L>, name: Name, joined: u32) -> bool
-    ensures { result ≡ (nat_le joined (reports_of fronts.now name).stored || nat_lt core.now.acc joined) }
+fn needs_none(parts: &Parts, name: Name, joined: u32) -> bool
+    ensures { result ≡ needs_none (node_of parts.now) name joined }
 {
-    joined <= fronts.of(name).stored || core.acc < joined
+    joined <= parts.fronts.of(name).stored || parts.core.acc < joined
+}
+
+/// The end of a step that welcomes a name. It gives the answer back.
+fn finish_welcoming(
+    parts: &mut Parts,
+    before: u32,
+    to: Name,
+    answer: Outcome,
+    out: &mut OutBox,
+) -> Outcome
+    requires { out.old ≡ [] }
+    ensures { Done before (telling (node_of parts.old) answer (only_name to) (λ n. welcome_of n to)) result out.new (node_of parts.new) }
+{
+    let _before = parts.accepted();
+    parts.end();
+    out.put(only(to), &welcome(&parts.core, to));
+    parts.tell_accepted(before, false, false, out);
+    answer
 }
 
 /// Welcomes a name again whose Join has a number.
-fn welcome_again<L: Log>(
-    fronts: &mut Fronts,
-    core: &mut Core<L>,
+fn welcome_again(
+    parts: &mut Parts,
+    before: u32,
     from: Name,
     joined: u32,
     out: &mut OutBox,
 ) -> Outcome
-    requires own { (reports_of fronts.old core.old.who).taken ≤ core.old.taken }
-    requires member { has (members_of (told_by core.old.log)) core.old.who ≡ true }
-    requires within { LogWithin core.old.log }
-    requires round { core.old.promise.round ≤ 2000000000 }
-    requires empty { out.old ≡ [] }
-    ensures row { GoesOn core.old.acc (λ m. welcome_again m from joined) (led core.old fronts.old) result out.new (led core.new fronts.new) }
-    ensures own { (reports_of fronts.new core.new.who).taken ≡ core.new.taken }
-    ensures within { LogWithin core.new.log }
+    requires { out.old ≡ [] }
+    ensures { Done before (welcome_again (node_of parts.old) from joined) result out.new (node_of parts.new) }
 {
-    if needs_no_welcome(fronts, core, from, joined) {
-        end(fronts, core, out);
-        return Outcome::Again;
+    if needs_none(parts, from, joined) {
+        return finish_quietly(parts, before, Outcome::Again, out);
     }
-    let accepted = accepted(core);
-    refresh(fronts, core);
-    tell_welcome(core, from, out);
-    tell_risen(core, accepted, out);
-    Outcome::Welcomed { number: joined }
+    finish_welcoming(
+        parts,
+        before,
+        from,
+        Outcome::Welcomed { number: joined },
+        out,
+    )
 }
 
 /// Takes a request to join. Stranger: the name's life is over. Occupied: another life holds its place. Held: there is no
 /// room, and the members are polled. Numbered: its Join is, and it is welcomed once that is accepted. Again: it has begun
-/// already, or its Join isn't accepted. Else it is Welcomed once more. The out box must be empty, the node a member, and
-/// what its list tells within the limits of packets.
-pub fn on_join_ask<L: Log>(
-    fronts: &mut Fronts,
-    core: &mut Core<L>,
-    from: Name,
-    out: &mut OutBox,
-) -> Outcome
-    requires own { (reports_of fronts.old core.old.who).taken ≤ core.old.taken }
-    requires member { has (members_of (told_by core.old.log)) core.old.who ≡ true }
-    requires within { LogWithin core.old.log }
-    requires number { top_of core.old.log < 2000000000 }
-    requires round { core.old.promise.round ≤ 2000000000 }
+/// already, or its Join isn't accepted. Else it is Welcomed once more. The out box must be empty, the node the sequencer,
+/// and its last number not the greatest.
+pub fn on_join_ask(parts: &mut Parts, from: Name, out: &mut OutBox) -> Outcome
+    requires leads { is_sequencer (node_of parts.old) ≡ true }
+    requires other { from ≢ parts.old.core.who }
+    requires number { top (node_of parts.old) < 2000000000 }
     requires empty { out.old ≡ [] }
-    ensures row { SequencerDoes (λ m. join_ask_row m from) (led core.old fronts.old) result out.new (led core.new fronts.new) }
-    ensures own { (reports_of fronts.new core.new.who).taken ≡ core.new.taken }
-    ensures within { LogWithin core.new.log }
+    ensures { Does (λ m. join_ask_row m from) (node_of parts.old) result out.new (node_of parts.new) }
 {
-    let row = at_place(core, from);
-    let turned = turned_down(accepted(core), from, row);
+    let before = parts.accepted();
+    let row = at_place(parts, from);
+    let turned = turned_down(before, from, row);
     if let Some(answer) = turned {
-        end(fronts, core, out);
-        return answer;
+        return finish_quietly(parts, before, answer, out);
     }
-    if !may_join(core, from) {
-        return welcome_again(fronts, core, from, row.joined, out);
+    if !may_join(parts, from) {
+        return welcome_again(parts, before, from, row.joined, out);
     }
-    if !has_room(core) {
-        return put_off(fronts, core, out);
+    if !has_room(parts) {
+        let answer = held(parts);
+        return finish_polling(parts, before, answer, out);
     }
-    number_join(fronts, core, from, out)
+    number_join(parts, before, from, out)
 }

@@ -3,6 +3,4 @@
 
 pub mod joining;
 pub mod leaving;
-mod letters;
-mod numbering;
 pub mod welcomed;

@@ -1,23 +1,40 @@
-ghost use Rattle.std.specs.Prelude.{◌≡◌, ◌<◌, ◌≤◌, [], nat_lt};
-ghost use Rattle.am_base.specs.Lists.{top_of, row_of};
-ghost use Rattle.am_codec.specs.Limits as limits;
-ghost use Rattle.am_codec.specs.Limits.{IsWithin};
-ghost use Rattle.am_base.specs.Stamps.{stamp_lt};
-ghost use Rattle.am_core.specs.Images.{IsImage};
+ghost use Rattle.std.specs.Prelude.{◌≡◌, ◌≢◌, ◌||◌, [], true, false, nat_lt};
+ghost use Rattle.am_base.specs.Limits.{IsNumber, IsStamp, IsImage};
+ghost use Rattle.am_base.specs.Lists.{row_of, top_of};
+ghost use Rattle.am_base.specs.Stamps.{stamp_eq, stamp_lt};
+ghost use Rattle.am_model.specs.Node.{view, is_member, is_asking, only_name};
+ghost use Rattle.am_model.specs.Emit.{telling, fetch_of};
+ghost use Rattle.am_model.specs.Joining.{begun, welcomed, welcome_row};
+ghost use Rattle.am_model.specs.Ends.{Does};
 ghost use Rattle.am_core.specs.Cores.{IsInOrder};
-ghost use Rattle.am_packet.specs.Boxes.{with_letter};
-ghost use Rattle.am_model.specs.Node.{only_name};
-ghost use Rattle.am_model.specs.Joining.{welcome_row};
-ghost use Rattle.am_joining.specs.Parts.{JoinerDoes, LogWithin, begun_core, is_unfit, ask_of};
+ghost use Rattle.am_handlers.specs.Parts.{node_of};
+ghost use Rattle.am_handlers.specs.Finishing.{Done};
+ghost use Rattle.am_joining.specs.Pieces.{is_unfit, begun_core};
 
-use crate::letters::only;
-use am_base::image::{Image, Report};
+use am_base::image::Image;
 use am_base::name::{Name, Stamp};
 use am_base::outcome::Outcome;
 use am_core::log::Log;
 use am_core::state::Core;
+use am_handlers::finishing::{finish_asking, finish_quietly};
+use am_handlers::packets::{fetch, only};
+use am_handlers::parts::Parts;
 use am_letter::out_box::OutBox;
-use am_packet::packet::Packet;
+use am_model::status::Status;
+
+/// Whether the node is a member.
+fn is_member(parts: &Parts) -> bool
+    ensures { result ≡ is_member (node_of parts.now).status }
+{
+    parts.status == Status::Member
+}
+
+/// Whether the node has promised to a greater stamp.
+fn has_promised_more(parts: &Parts, stamp: Stamp) -> bool
+    ensures { result ≡ stamp_lt stamp parts.now.core.promise }
+{
+    stamp.is_below(parts.core.promise)
+}
 
 /// Whether a name has joined already by what an image tells.
 fn has_joined(image: &Image, name: Name) -> bool
@@ -27,30 +44,22 @@ fn has_joined(image: &Image, name: Name) -> bool
     row.life == name.life() && 0 < row.joined
 }
 
-/// Whether the node has promised to a greater stamp.
-fn has_promised_more<L: Log>(core: &Core<L>, stamp: &Stamp) -> bool
-    ensures value { result ≡ stamp_lt stamp.now core.now.promise }
-    ensures order { IsInOrder core.now }
-{
-    let _base = core.log.base();
-    stamp.is_below(core.promise)
-}
-
 /// Whether a Welcome can't be this node's.
-fn is_unfit<L: Log>(core: &Core<L>, stamp: &Stamp, base: u32, join: u32, image: &Image) -> bool
-    ensures { result ≡ is_unfit core.now stamp.now base join image.now }
+fn is_unfit(parts: &Parts, stamp: &Stamp, base: u32, join: u32, image: &Image) -> bool
+    ensures { result ≡ is_unfit (node_of parts.now) stamp.now base join image.now }
 {
-    if join <= base || u32::from(core.rules.window()) + 15 < join - base {
+    if join <= base || u32::from(parts.core.rules.window()) + 15 < join - base {
         return true;
     }
-    stamp.is_below(image.view) || has_joined(image, core.who)
+    stamp.is_below(image.view) || has_joined(image, parts.core.who)
 }
 
-/// The list begins at the base, with what was told up to there.
-fn begin<L: Log>(core: &mut Core<L>, stamp: Stamp, base: u32, join: u32, image: &Image)
+/// A core's list begins at the base, with what was told up to there.
+fn begin_core<L: Log>(core: &mut Core<L>, stamp: Stamp, base: u32, join: u32, image: &Image)
     requires blank { top_of core.old.log ≡ 0 }
-    requires base { base ≤ 2000000000 }
-    requires rows { IsImage image.now }
+    requires stamp { IsStamp stamp }
+    requires base { IsNumber base }
+    requires image { IsImage image.now }
     ensures { core.new ≡ begun_core core.old stamp base join image.now }
 {
     core.log.begin(base, image);
@@ -61,46 +70,71 @@ fn begin<L: Log>(core: &mut Core<L>, stamp: Stamp, base: u32, join: u32, image: 
     core.start = join;
 }
 
-/// What a joiner asks for next: the entries, or first the view that it begins in.
-#[tactic(auto, unfolding(am_codec::specs::Limits::IsWithin))]
-fn ask<L: Log>(core: &Core<L>) -> Packet
-    requires round { core.now.promise.round ≤ 2000000000 }
-    ensures value { result ≡ ask_of core.now }
-    ensures within { IsWithin result }
+/// The list begins at the base, with what was told up to there, and the node is a member.
+fn begin(parts: &mut Parts, stamp: Stamp, base: u32, join: u32, image: &Image)
+    requires asking { is_asking (node_of parts.old).status ≡ true }
+    requires other { stamp.by ≢ parts.old.core.who }
+    requires fits { is_unfit (node_of parts.old) stamp base join image.now ≡ false }
+    requires stamp { IsStamp stamp }
+    requires base { IsNumber base }
+    requires image { IsImage image.now }
+    ensures { node_of parts.new ≡ begun (node_of parts.old) stamp base join image.now }
 {
-    let view = core.log.view();
-    let top = core.log.top();
-    if view.round == core.promise.round && view.by == core.promise.by {
-        return Packet::Nack {
-            sender: core.who,
-            stamp: core.promise,
-            report: Report {
-                stored: top,
-                taken: core.taken,
-            },
-        };
-    }
-    Packet::Fetch {
-        sender: core.who,
-        stamp: core.promise,
-        stored: top,
-    }
+    let _before = parts.accepted();
+    begin_core(&mut parts.core, stamp, base, join, image);
+    parts.status = Status::Member;
 }
 
-/// Asks a name for what comes next.
-fn ask_on<L: Log>(core: &Core<L>, to: Name, out: &mut OutBox)
-    requires round { core.now.promise.round ≤ 2000000000 }
-    requires empty { out.old ≡ [] }
-    ensures { out.new ≡ with_letter (only_name to) (ask_of core.now) [] }
+/// The end of a step that asks a name for the view that the node begins in. It gives the answer back.
+fn finish_fetching(
+    parts: &mut Parts,
+    before: u32,
+    to: Name,
+    answer: Outcome,
+    out: &mut OutBox,
+) -> Outcome
+    requires { out.old ≡ [] }
+    ensures { Done before (telling (node_of parts.old) answer (only_name to) fetch_of) result out.new (node_of parts.new) }
 {
-    out.put(only(to), &ask(core));
+    let _before = parts.accepted();
+    parts.end();
+    out.put(only(to), &fetch(&parts.core));
+    parts.tell_accepted(before, false, false, out);
+    answer
 }
 
-/// Takes a Welcome to a node that isn't a member and whose log is blank. Elsewhere: the node has promised to more. Unfit: the
-/// Join is out of bounds, the image is of a later view, or the name stands in it. Else the list begins at the base and the
-/// node asks for what comes next: Welcomed. The out box must be empty, and the numbers within the limits of packets.
-pub fn on_welcome<L: Log>(
-    core: &mut Core<L>,
+/// Whether the node's view is this one.
+fn has_view(parts: &Parts, stamp: Stamp) -> bool
+    ensures { result ≡ stamp_eq (view (node_of parts.now)) stamp }
+{
+    let view = parts.core.log.view();
+    view.round == stamp.round && view.by == stamp.by
+}
+
+/// A joiner whose list has begun asks for what comes next.
+fn ask_on(
+    parts: &mut Parts,
+    before: u32,
+    from: Name,
+    stamp: Stamp,
+    join: u32,
+    out: &mut OutBox,
+) -> Outcome
+    requires { out.old ≡ [] }
+    ensures { Done before (welcomed (node_of parts.old) from stamp join) result out.new (node_of parts.new) }
+{
+    let answer = Outcome::Welcomed { number: join };
+    if has_view(parts, stamp) {
+        return finish_asking(parts, before, from, answer, out);
+    }
+    finish_fetching(parts, before, from, answer, out)
+}
+
+/// Takes a Welcome of the sequencer of a view, at a node that has asked to join or is a member. Known: it is a member.
+/// Elsewhere: the node has promised to more. Unfit: the Join is out of bounds, the image is of a later view, or the name
+/// stands in it. Else the list begins at the base and the node asks for what comes next: Welcomed. The out box must be empty.
+pub fn on_welcome(
+    parts: &mut Parts,
     from: Name,
     stamp: Stamp,
     base: u32,
@@ -108,23 +142,24 @@ pub fn on_welcome<L: Log>(
     image: &Image,
     out: &mut OutBox,
 ) -> Outcome
-    requires blank { top_of core.old.log ≡ 0 }
-    requires round { stamp.round ≤ 2000000000 }
-    requires base { base ≤ 2000000000 }
-    requires rows { IsImage image.now }
-    requires numbers { limits.IsImage image.now }
-    requires within { LogWithin core.old.log }
+    requires hears { (is_member (node_of parts.old).status || is_asking (node_of parts.old).status) ≡ true }
+    requires other { stamp.by ≢ parts.old.core.who }
+    requires stamp { IsStamp stamp }
+    requires base { IsNumber base }
+    requires image { IsImage image.now }
     requires empty { out.old ≡ [] }
-    ensures within { LogWithin core.new.log }
-    ensures row { JoinerDoes (λ m. welcome_row m from stamp base join image.now) core.old result out.new core.new }
+    ensures { Does (λ m. welcome_row m from stamp base join image.now) (node_of parts.old) result out.new (node_of parts.new) }
 {
-    if has_promised_more(core, &stamp) {
-        return Outcome::Elsewhere;
+    let before = parts.accepted();
+    if is_member(parts) {
+        return finish_quietly(parts, before, Outcome::Known, out);
     }
-    if is_unfit(core, &stamp, base, join, image) {
-        return Outcome::Unfit;
+    if has_promised_more(parts, stamp) {
+        return finish_quietly(parts, before, Outcome::Elsewhere, out);
     }
-    begin(core, stamp, base, join, image);
-    ask_on(core, from, out);
-    Outcome::Welcomed { number: join }
+    if is_unfit(parts, &stamp, base, join, image) {
+        return finish_quietly(parts, before, Outcome::Unfit, out);
+    }
+    begin(parts, stamp, base, join, image);
+    ask_on(parts, before, from, stamp, join, out)
 }

@@ -38,6 +38,10 @@ impl Model for Letter {
 }
 
 impl Default for Letter {
+    ghost use Rattle.am_letter.specs.Letters.{blank_letter};
+
+    ghost is_default = { λ letter. letter ≡ blank_letter };
+
     #[tactic(auto, unfolding(am_codec::specs::Limits::IsWithin))]
     fn default() -> Letter {
         let nobody = Name::of_byte(0);

@@ -7,5 +7,6 @@ pub mod LettersHeard
 pub mod BestVotes
 pub mod Rows
 pub mod Runs
+pub mod Beginnings
 pub mod Held
 pub mod Bytes

@@ -1,45 +1,45 @@
--- A group as its users see it: one list, and a front for each name that was admitted. It knows of no packet and no ballot.
-use Rattle.std.specs.Prelude.{◌≡◌, ℕ, ◌+◌, ◌-◌, ◌<◌, ◌≤◌, max, List, [], ◌∷◌, ◌++◌, length, Option, Some, None, if◌then◌else◌}
+-- The group of a world as its users see it, and what an event may do to it. The steps themselves are am_group's.
+use Rattle.std.specs.Prelude.{◌≡◌, ℕ, ◌+◌, ◌-◌, ◌<◌, ◌≤◌, List, [], ◌∷◌, length, map, Option, Some, None, max, if◌then◌else◌, slice_get, slice_index_or}
+use Rattle.std.specs.List.{range_with_len}
 use Rattle.am_base.specs.declared.entry.Entry.{Entry}
-use Rattle.am_model.specs.Node.{Node, set_at}
-use Rattle.am_model.specs.World.{World}
-use Rattle.am_group.specs.Journals.{item_at}
+use Rattle.am_group.specs.declared.event.Record.{Record}
+use Rattle.am_group.specs.Deliveries.{name_of, taken_in}
+use Rattle.am_group.specs.Groups.{above, appended, admitted, moved}
+use Rattle.am_model.specs.Node.{Node}
 use Rattle.am_model.specs.Group.{has_log}
+use Rattle.am_model.specs.World.{World}
 
+-- the list, and the front of each of the 256 names that was admitted
 pub record Group : Type 0 where
   pub entries : List Entry
-  pub fronts : ℕ → Option ℕ
+  pub fronts : List (Option ℕ)
 
--- the list has one entry more
-abbrev pub appended : Group → Entry → Group
-appended g e = record g { entries = g.entries ++ e ∷ [] }
+-- what a name takes next, with its number
+abbrev pub next_of : Group → ℕ → Option (ℕ × Entry)
+next_of g name = above g.entries (slice_index_or g.fronts name None)
 
--- a name is admitted at a number: its front is the one before
-abbrev pub admitted : Group → ℕ → ℕ → Group
-admitted g name number = record g { fronts = set_at g.fronts name (Some (number - 1)) }
+-- ---- moves
 
--- a name's front goes on by one
-abbrev pub taken : Group → ℕ → ℕ → Group
-taken g name front = record g { fronts = set_at g.fronts name (Some (front + 1)) }
-
--- what a name takes next: the entry above its front, where there is one
-abbrev pub next_above : List Entry → Option ℕ → Option Entry
-next_above entries None = None
-next_above entries (Some front) = item_at entries (front + 1)
-
-abbrev pub next_of : Group → ℕ → Option Entry
-next_of g name = next_above g.entries (g.fronts name)
-
--- the three steps
+-- the list gets an entry; or a name that has no front yet is admitted at a number
 pub data Move : Group → Group → Type 0 where
-  append : {g : Group} (e : Entry) → Move g (appended g e)
-  admit : {g : Group} (name number : ℕ) → 0 < number → number ≤ length g.entries + 1 → Move g (admitted g name number)
-  take : {g : Group} (name front : ℕ) (e : Entry) → g.fronts name ≡ Some front → next_of g name ≡ Some e → Move g (taken g name front)
+  append : {g : Group} (e : Entry) → Move g (record g { entries = appended g.entries e })
+  admit : {g : Group} (name number : ℕ) → slice_get g.fronts name ≡ Some None → 0 < number → number ≤ length g.entries + 1 → Move g (record g { fronts = admitted g.fronts name number })
 
--- some steps in turn
-pub data Moves : Group → Group → Type 0 where
-  none : {g : Group} → Moves g g
-  more : {f g h : Group} → Move f g → Moves g h → Moves f h
+-- some of these in turn: no front that is there moves
+pub data Grows : Group → Group → Type 0 where
+  none : {g : Group} → Grows g g
+  more : {f g h : Group} → Move f g → Grows g h → Grows f h
+
+-- what is given out to a name was next for it, and its front goes on by as many
+abbrev pub GivesOut : ℕ → List (ℕ × Entry) → Group → Group → Type 0
+GivesOut name [] g h = h ≡ g
+GivesOut name (given ∷ later) g h = (next_of g name ≡ Some given) × GivesOut name later (record g { fronts = moved g.fronts name (Some given) }) h
+
+-- what a record does: its name takes what the record gave out, and nobody takes anything else
+pub record EventMoves (r : Record) (g h : Group) : Type 0 where
+  pub between : Group
+  pub takes : GivesOut (name_of r) (taken_in r.outcome) g between
+  pub grows : Grows between h
 
 -- ---- the group of a world
 
@@ -48,4 +48,4 @@ abbrev pub front_of : Node → Option ℕ
 front_of m = if has_log m.status then Some (max m.core.taken (m.core.start - 1)) else None
 
 abbrev pub group_of : World → Group
-group_of w = record { entries = w.group; fronts = λ name. front_of (w.nodes name) }
+group_of w = record { entries = w.group; fronts = map (λ name. front_of (w.nodes name)) (range_with_len 0 256) }

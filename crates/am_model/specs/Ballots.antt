@@ -45,19 +45,19 @@ abbrev pub need_of : Node → Ballot → List ℕ
 need_of m b = (best_of m b).vote.members
 
 -- the coordinator counts as having voted
-abbrev pub has_voted : Node → Ballot → ℕ → Bool
-has_voted m b name = (name == m.core.who) || is_some (b.votes name)
+abbrev pub has_voted : ℕ → Ballot → ℕ → Bool
+has_voted who b name = (name == who) || is_some (b.votes name)
 
-abbrev pub is_waited_for : Node → Ballot → ℕ → Bool
-is_waited_for m b name = not (has_voted m b name) && not (b.given_up name)
+abbrev pub is_waited_for : ℕ → Ballot → ℕ → Bool
+is_waited_for who b name = not (has_voted who b name) && not (b.given_up name)
 
 -- the need set without the given-up
 abbrev pub left_in : Ballot → List ℕ → List ℕ
 left_in b need = those (λ name. not (b.given_up name)) need
 
--- how far a voter's application has taken the list
-abbrev pub taken_by : Node → Ballot → ℕ → ℕ
-taken_by m b name = if name == m.core.who then m.core.taken else unwrap_or (option_map (λ vote. vote.taken) (b.votes name)) 0
+-- how far a voter's application has taken the list; the coordinator's own as it is now
+abbrev pub taken_by : ℕ → ℕ → Ballot → ℕ → ℕ
+taken_by who taken b name = if name == who then taken else unwrap_or (option_map (λ vote. vote.taken) (b.votes name)) 0
 
 -- ---- deciding
 
@@ -67,11 +67,17 @@ pub record Verdict : Type 0 where
   pub outcome : Outcome
 
 -- the ballot goes on, or has ended, with this answer
+abbrev pub unfinished : Ballot → Outcome → Ballot
+unfinished b outcome = record b { answer = outcome; is_over = false }
+
+abbrev pub finished : Ballot → Outcome → Ballot
+finished b outcome = record b { answer = outcome; is_over = true }
+
 abbrev pub goes_on : Node → Ballot → Outcome → Verdict
-goes_on m b outcome = record { node = record m { ballot = Some (record b { answer = outcome; is_over = false }) }; outcome = outcome }
+goes_on m b outcome = record { node = record m { ballot = Some (unfinished b outcome) }; outcome = outcome }
 
 abbrev pub ends : Node → Ballot → Outcome → Verdict
-ends m b outcome = record { node = record m { ballot = Some (record b { answer = outcome; is_over = true }) }; outcome = outcome }
+ends m b outcome = record { node = record m { ballot = Some (finished b outcome) }; outcome = outcome }
 
 -- the reports of all names begin anew
 abbrev pub restarted : Node → Node
@@ -85,12 +91,12 @@ decide_view m b names =
 
 -- trimmed to what all of these have taken
 abbrev pub trimmed_for : Node → Ballot → List ℕ → Node
-trimmed_for m b names = trimmed m (unwrap_or (least_of (taken_by m b) (names_of names)) 0)
+trimmed_for m b names = trimmed m (unwrap_or (least_of (taken_by m.core.who m.core.taken b) (names_of names)) 0)
 
 unfoldable pub decide : Node → Ballot → Verdict
 decide m b =
     if not (has (need_of m b) m.core.who) then ends m b (said.NotIn (best_of m b).vote.view)
-    else if nat_lt 0 (size (those (is_waited_for m b) (need_of m b))) then goes_on m b (said.Waiting (those (is_waited_for m b) (need_of m b)))
+    else if nat_lt 0 (size (those (is_waited_for m.core.who b) (need_of m b))) then goes_on m b (said.Waiting (those (is_waited_for m.core.who b) (need_of m b)))
     else if not ((best_of m b).by == m.core.who) then goes_on m b (said.Fetching (best_of m b).by (top m + 1))
     else if nat_lt (size (left_in b (need_of m b))) b.least then ends m b (said.TooFew (size (left_in b (need_of m b))) b.least)
     else decide_view (trimmed_for m b (left_in b (need_of m b))) b (left_in b (need_of m b))
@@ -136,7 +142,7 @@ with_vote b name vote = record b { votes = set_at b.votes name (Some vote) }
 
 -- who is needed since this vote, and hasn't voted
 abbrev pub newly_needed : Node → Ballot → Ballot → List ℕ
-newly_needed m old new = those (λ name. not (has_voted m new name)) (minus (need_of m new) (need_of m old))
+newly_needed m old new = those (λ name. not (has_voted m.core.who new name)) (minus (need_of m new) (need_of m old))
 
 -- a vote is kept
 unfoldable pub keep_vote : Node → Ballot → ℕ → Vote → Plan

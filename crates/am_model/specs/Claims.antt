@@ -22,7 +22,7 @@ use Rattle.am_model.specs.World.{Decided, World, current, is_stopped, has_depart
 use Rattle.am_group.specs.Journals.{letter_at, item_at}
 use Rattle.am_group.specs.Deliveries.{name_of, deliveries}
 use Rattle.am_model.specs.Group.{Accepted, accepted_sends}
-use Rattle.am_model.specs.AbstractGroup.{Moves, group_of}
+use Rattle.am_model.specs.AbstractGroup.{EventMoves, group_of}
 use Rattle.am_model.specs.Lawful.{whole, is_view_of, is_complete, lawful_front}
 use Rattle.am_model.specs.Receiving.{is_view}
 
@@ -107,9 +107,10 @@ pub record IsSend (r : Record) (name req : ℕ) (body : List ℕ) : Type 0 where
   pub asked : r.event.act ≡ act.Send body
   pub answered : r.outcome ≡ said.Queued req
 
-pub record Sent (w : World) : Type 0 where
-  pub each : (number name req : ℕ) (body : List ℕ) → item_at w.group number ≡ Some (Data name req body)
-      → (k : ℕ) × (r : Record) × (slice_get w.records k ≡ Some r) × IsSend r name req body
+-- what stands in the list at some moment was sent by then: the Send is one of the events up to there
+pub record Sent (rules : Rules) (events : List Event) : Type 0 where
+  pub each : (moment number name req : ℕ) (body : List ℕ) → item_at (run rules (take moment events)).group number ≡ Some (Data name req body)
+      → (k : ℕ) × (r : Record) × (k < moment) × (slice_get (run rules events).records k ≡ Some r) × IsSend r name req body
 
 -- ---- sender's order: a sender's requests are numbered in turn
 
@@ -138,13 +139,18 @@ pub record Holds (rules : Rules) (events : List Event) : Type 0 where
   pub segment : Segment rules (run rules events)
   pub once : Once (run rules events)
   pub kept : Kept rules events
-  pub sent : Sent (run rules events)
+  pub sent : Sent rules events
   pub senders_order : SendersOrder (run rules events)
+
+-- one world's records, letters and group list begin another's
+pub record Begins (w whole : World) : Type 0 where
+  pub records : (rest : List Record) × (whole.records ≡ w.records ++ rest)
+  pub letters : (rest : List Letter) × (whole.letters ≡ w.letters ++ rest)
+  pub group : (rest : List Entry) × (whole.group ≡ w.group ++ rest)
 
 pub record Headline (rules : Rules) (events : List Event) : Type 0 where
   pub front : Holds rules (lawful_front rules events)
-  -- the list there begins the whole run's
-  pub begins : (rest : List Entry) × ((run rules events).group ≡ (run rules (lawful_front rules events)).group ++ rest)
+  pub begins : Begins (run rules (lawful_front rules events)) (run rules events)
   pub bounded : Bounded rules events
 
 abbrev pub HeadlineHolds : Type 0
@@ -159,16 +165,21 @@ NoBallot w = (name : ℕ) → (w.nodes name).ballot ≡ None
 pub record HoldsUnballoted (rules : Rules) (events : List Event) : Type 0 where
   pub segment : Segment rules (run rules events)
   pub once : Once (run rules events)
-  pub sent : Sent (run rules events)
+  pub sent : Sent rules events
   pub senders_order : SendersOrder (run rules events)
   pub bounded : Bounded rules events
 
 abbrev pub UnballotedHolds : Type 0
 UnballotedHolds = (rules : Rules) (events : List Event) → MayFound rules → NoBallot (run rules events) → HoldsUnballoted rules events
 
--- and each event moves the group by the abstract steps alone
+-- what an event makes of a run: its record, and moves of the group by that record
+pub record MovesOn (w v : World) : Type 0 where
+  pub done : Record
+  pub records : v.records ≡ w.records ++ done ∷ []
+  pub moves : EventMoves done (group_of w) (group_of v)
+
 abbrev pub UnballotedMoves : Type 0
-UnballotedMoves = (rules : Rules) (events : List Event) (e : Event) → MayFound rules → NoBallot (happens (run rules events) e) → Moves (group_of (run rules events)) (group_of (happens (run rules events) e))
+UnballotedMoves = (rules : Rules) (events : List Event) (e : Event) → MayFound rules → NoBallot (happens (run rules events) e) → MovesOn (run rules events) (happens (run rules events) e)
 
 -- ---- up to where a run is lawful a View that leaves somebody out always fits
 

@@ -8,15 +8,19 @@ use Rattle.am_base.specs.declared.entry.Entry.{Entry}
 use Rattle.am_base.specs.declared.entry.Entry.TheVariants.{Data}
 use Rattle.am_base.specs.Names.{name_lt}
 use Rattle.am_base.specs.Votes.{Shown, vote_lt, best_vote}
-use Rattle.am_base.specs.Lists.{Log, at_place, row_of, after, fits, fold, AllFit, top_of, told_by}
+use Rattle.am_base.specs.declared.name.Stamp.{Stamp}
+use Rattle.am_base.specs.Lists.{Log, at_place, row_of, after, fits, fold, AllFit, top_of, told_by, with_entry}
 use Rattle.am_base.specs.Fronts.{is_held, is_satisfied, accept_front}
 use Rattle.am_base.specs.declared.event.NodeEvent.{NodeEvent}
 use Rattle.am_base.specs.declared.event.NodeEvent.TheVariants.{Hear}
 use Rattle.am_packet.specs.declared.packet.Packet.{Packet}
+use Rattle.am_packet.specs.declared.packet.Packet.TheVariants as packet
 use Rattle.am_codec.specs.Limits.{IsPacket}
 use Rattle.am_codec.specs.Spelling.{spelling}
-use Rattle.am_model.specs.Node.{Node, told, report_fits, has_room}
-use Rattle.am_model.specs.Sequencing.{reported, request_row}
+use Rattle.am_model.specs.Node.{Node, top, told, report_fits, has_room, is_sequencer}
+use Rattle.am_model.specs.Emit.{Step}
+use Rattle.am_model.specs.Sequencing.{reported}
+use Rattle.am_model.specs.Hearing.{hears_as_sequencer}
 use Rattle.am_base.specs.declared.outcome.Outcome.{Outcome}
 use Rattle.am_base.specs.declared.outcome.Outcome.TheVariants as said
 use Rattle.am_model.specs.World.{World, hear_cut, happen, run}
@@ -158,6 +162,11 @@ FrontIsLawful = (rules : Rules) (events : List Event) → broken_at rules (lawfu
 
 -- ---- held
 
+-- a send as a sequencer hears it: a Spread, or a Request
+abbrev pub send_packet : Bool → ℕ → Stamp → Report → ℕ → List ℕ → Packet
+send_packet true s v report req body = packet.Spread s v report req body
+send_packet false s v report req body = packet.Request s v report req body
+
 -- a member's next send, with a report that fits
 pub record IsNextSend (m : Node) (s : ℕ) (report : Report) (req : ℕ) : Type 0 where
   pub known : 0 < (row_of (told m) s).joined
@@ -168,7 +177,28 @@ pub record IsNextSend (m : Node) (s : ℕ) (report : Report) (req : ℕ) : Type 
 abbrev pub IsHeld : Outcome → Type 0
 IsHeld outcome = (base : ℕ) × (high : ℕ) × (outcome ≡ said.Held base high)
 
--- a send is held exactly where it is a member's next one, with a report that fits, and there is no room once that is taken
+-- a send that passes its gate is held exactly where it is a member's next one, with a report that fits, and there is no room
+-- once that is taken
 abbrev pub HeldExactly : Type 0
-HeldExactly = (m n : Node) (s : ℕ) (report : Report) (req : ℕ) (body : List ℕ) (by_order : Bool)
-    → IsHeld ((request_row m s report req body by_order).outcome n) ↔ (IsNextSend m s report req × (has_room (reported m s report) ≡ false))
+HeldExactly = (m : Node) (s : ℕ) (v : Stamp) (report : Report) (req : ℕ) (body : List ℕ) (spread : Bool) → hears_as_sequencer m s v ≡ true
+    → IsHeld (hear m (send_packet spread s v report req body)).outcome ↔ (IsNextSend m s report req × (has_room (reported m s report) ≡ false))
+
+-- why a send stays without a number, where it isn't held
+pub data IsTurnedDown : Outcome → Type 0 where
+  elsewhere : IsTurnedDown said.Elsewhere
+  stranger : IsTurnedDown said.Stranger
+  unfit : IsTurnedDown said.Unfit
+  again : IsTurnedDown said.Again
+  early : (last : ℕ) → IsTurnedDown (said.Early last)
+
+-- what a step makes of a send: it has the next number; it is held, with the base and the top of the node after the step; or
+-- it is turned down
+pub data IsAnswered (m : Node) (s req : ℕ) (body : List ℕ) (done : Step) : Type 0 where
+  numbered : done.outcome ≡ said.Numbered (top m + 1) → done.node.core.log ≡ with_entry m.core.log (Data s req body) → IsAnswered m s req body done
+  held : done.outcome ≡ said.Held done.node.core.base (top done.node) → done.node.core.log ≡ m.core.log → IsAnswered m s req body done
+  turned_down : IsTurnedDown done.outcome → done.node.core.log ≡ m.core.log → IsAnswered m s req body done
+
+-- and a sequencer gives no other answer to a send
+abbrev pub SendsAnswered : Type 0
+SendsAnswered = (m : Node) (s : ℕ) (v : Stamp) (report : Report) (req : ℕ) (body : List ℕ) (spread : Bool) → is_sequencer m ≡ true
+    → IsAnswered m s req body (hear m (send_packet spread s v report req body))

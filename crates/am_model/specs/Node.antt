@@ -103,7 +103,7 @@ has_room m = nat_le (top m + 1 - m.core.base) m.core.rules.window
 abbrev pub is_within_bound : Node → ℕ → ℕ → Bool
 is_within_bound m base number = nat_le (number - base) (m.core.rules.window + 15)
 
--- its own Leave stands in its list
+-- its membership has ended in its list: its own Leave stands there, or a View that leaves it out
 abbrev pub has_own_leave : Node → Bool
 has_own_leave m = nat_lt 0 (own_row m).left
 

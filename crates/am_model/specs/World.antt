@@ -1,11 +1,12 @@
 -- Runs of a whole group: sixteen places, each with the node of its current life, and all letters that went out.
-use Rattle.std.specs.Prelude.{ℕ, zero, suc, ◌+◌, ◌-◌, List, [], ◌∷◌, ◌++◌, length, take, drop, Option, Some, None, Bool, true, false, not, ◌||◌, ◌==◌, nat_lt, nat_le, if◌then◌else◌, slice_get, slice_index}
+use Rattle.std.specs.Prelude.{ℕ, zero, suc, ◌+◌, ◌-◌, List, [], ◌∷◌, ◌++◌, length, take, drop, Option, Some, None, Bool, true, false, not, ◌&&◌, ◌||◌, ◌==◌, nat_lt, nat_le, if◌then◌else◌, slice_get, slice_index}
 use Rattle.std.specs.List.{list_any}
 use Rattle.am_base.specs.declared.entry.Entry.{Entry}
 use Rattle.am_base.specs.declared.name.Stamp.{Stamp}
 use Rattle.am_base.specs.declared.outcome.Outcome.{Outcome}
 use Rattle.am_base.specs.declared.outcome.Outcome.TheVariants as said
 use Rattle.am_base.specs.Names.{place_of, name_at, has}
+use Rattle.am_base.specs.Stamps.{stamp_eq}
 use Rattle.am_base.specs.Founding.{Rules}
 use Rattle.am_packet.specs.declared.packet.Packet.{Packet}
 use Rattle.am_packet.specs.Boxes.{Letter}
@@ -22,7 +23,7 @@ use Rattle.am_group.specs.Journals.{letter_at}
 use Rattle.am_group.specs.Addressed.{is_for}
 use Rattle.am_model.specs.declared.status.Status.{Status}
 use Rattle.am_model.specs.declared.status.Status.TheVariants.{Stranger, Asking, Member, Departed}
-use Rattle.am_model.specs.Node.{Node, told, view, members, set_at, founder, stranger, founding_stamp, founders_view}
+use Rattle.am_model.specs.Node.{Node, is_member, told, view, members, set_at, founder, stranger, founding_stamp, founders_view}
 use Rattle.am_model.specs.Emit.{Step}
 use Rattle.am_model.specs.Step.{step, hear, refused}
 use Rattle.am_model.specs.Lengths.{packet_length}
@@ -93,13 +94,16 @@ group_after group m = if (view m).by == m.core.who then grown group m.core else 
 
 -- ---- decided views
 
--- the view of a node that has just decided it
-abbrev pub own_view : Node → Decided
-own_view m = record { number = (told m).view_number; stamp = view m; members = members m; resilience = (told m).resilience }
+-- the view in which a node's list ends, as its View says it
+abbrev pub last_view : Node → Decided
+last_view n = record { number = (told n).view_number; stamp = view n; members = members n; resilience = (told n).resilience }
 
-abbrev pub views_after : List Decided → Node → Outcome → List Decided
-views_after views m (said.Decided number names) = views ++ own_view m ∷ []
-views_after views m _ = views
+-- a member's step decided a view where it brought a View of the member's own stamp; an Ask about it later brings none
+abbrev pub decides : Node → Node → Bool
+decides m n = is_member m.status && (((view n).by == n.core.who) && not (stamp_eq (view m) (view n)))
+
+abbrev pub views_after : List Decided → Node → Node → List Decided
+views_after views m n = if decides m n then views ++ last_view n ∷ [] else views
 
 -- ---- events
 
@@ -122,7 +126,7 @@ stepped w e name s = record w {
   letters = w.letters ++ s.letters;
   records = w.records ++ record_of w e s.outcome s.letters ∷ [];
   group = group_after w.group s.node;
-  views = views_after w.views s.node s.outcome;
+  views = views_after w.views (w.nodes name) s.node;
 }
 
 -- a node's own event, which a stopped one doesn't do

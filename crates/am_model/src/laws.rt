@@ -1,4 +1,4 @@
-ghost use Rattle.am_model.specs.Laws.{FoldGoesOn, RefreshOnce, FewLetters, HeldExactly, SpellingIsHeard, CutIsHeard, AcceptFrontIsGreatest, AcceptFrontByWalking, BestVoteIsGreatest, RowsGoOn, DataGoesOn, MembershipsGoOn, RunsGoOn, WatchedIsRun, OneRecordEach, FrontIsLawful};
+ghost use Rattle.am_model.specs.Laws.{FoldGoesOn, RefreshOnce, FewLetters, HeldExactly, SendsAnswered, SpellingIsHeard, CutIsHeard, AcceptFrontIsGreatest, AcceptFrontByWalking, BestVoteIsGreatest, RowsGoOn, DataGoesOn, MembershipsGoOn, RunsGoOn, WatchedIsRun, OneRecordEach, FrontIsLawful};
 
 /// A list that goes on tells what its beginning tells, and then the rest.
 #[tactic(auto, using(crate::proofs::Folds::fold_append))]
@@ -13,13 +13,14 @@ pub fn accept_fronts()
     ensures by_walking { AcceptFrontByWalking }
 {}
 
-/// A second refresh in a row changes nothing; a step sends at most nine letters; and a send is held exactly where it is a
-/// member's next one, its report fits, and there is no room once that is taken.
+/// A second refresh in a row changes nothing; a step sends at most nine letters; a send is held exactly where it is a member's
+/// next one, its report fits, and there is no room once that is taken; else it is numbered, or turned down for one of five causes.
 #[tactic(auto, using(crate::proofs::Refreshes::refresh_twice, crate::proofs::LettersHeard::few_letters))]
 pub fn steps()
     ensures refresh_once { RefreshOnce }
     ensures few_letters { FewLetters }
     ensures held { HeldExactly }
+    ensures answered { SendsAnswered }
 {}
 
 /// The bytes of a packet are heard as the packet, and the first of them as a packet that was cut: whole where all are there,

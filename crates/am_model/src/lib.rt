@@ -3,5 +3,4 @@
 #![tactic(auto)]
 
 pub mod laws;
-pub mod send;
 pub mod status;

@@ -1,6 +1,3 @@
+pub mod Founders
+pub mod Heard
 pub mod Within
-pub mod Least
-pub mod Settles
-pub mod Lasts
-pub mod Cases
-pub mod Served

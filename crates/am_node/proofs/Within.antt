@@ -1,28 +1,46 @@
--- Entries whose numbers are within the limits of a packet.
-use Rattle.std.proofs.Common.{◌≡◌, ℕ, ◌<◌, ◌≤◌, Bool, true, ◌&&◌, List, [], ◌∷◌, ◌++◌, length, take, drop, Some, slice_get, slice_index_or, refl, arith}
-use Rattle.std.specs.Prelude.{All, IsTrue, nat_le}
-use Rattle.std.proofs.lemmas.Bool.Decides.{nat_tests}
-use Rattle.std.proofs.lemmas.List.Elements.{All-push, All-take, All-drop}
+-- The numbers of a packet that is heard are within their limits, by its kind.
+use Rattle.std.proofs.Common.{ℕ, ◌≤◌, List, Bool}
 use Rattle.am_base.specs.declared.entry.Entry.{Entry}
-use Rattle.am_base.specs.declared.entry.Entry.TheVariants.{Data, Join, Leave, View}
-use Rattle.am_codec.specs.Limits.{IsEntry}
-use Rattle.am_node.specs.Entries.{is_within, AreWithin}
+use Rattle.am_base.specs.declared.image.Image.{Image}
+use Rattle.am_base.specs.declared.image.Report.{Report}
+use Rattle.am_base.specs.declared.image.Vote.{Vote}
+use Rattle.am_base.specs.declared.name.Stamp.{Stamp}
+use Rattle.am_base.specs.Limits.{IsNumber, IsEntry, IsImage}
+use Rattle.am_packet.specs.declared.packet.Packet.TheVariants as packets
+use Rattle.am_codec.specs.Limits.{IsWithin}
 
-pub entry_within : (e : Entry) → IsEntry e → IsTrue (is_within e)
-entry_within (Data from req body) h = grind (arith, nat_tests)
-entry_within (Join name) h = refl
-entry_within (Leave name) h = refl
-entry_within (View stamp members resilience) h = let a = h.0 in let b = h.1 in grind (arith, nat_tests)
+pub request_req : (s : ℕ) (v : Stamp) (report : Report) (req : ℕ) (body : List ℕ) → IsWithin (packets.Request s v report req body) → IsNumber req
+unfolding IsWithin
+request_req s v report req body is = is.2
 
-pub within_entry : (e : Entry) → IsTrue (is_within e) → IsEntry e
-within_entry (Data from req body) h = grind (arith, nat_tests)
-within_entry (Join name) h = tt
-within_entry (Leave name) h = tt
-within_entry (View stamp members resilience) h = grind (arith, nat_tests)
+pub spread_req : (s : ℕ) (v : Stamp) (report : Report) (req : ℕ) (body : List ℕ) → IsWithin (packets.Spread s v report req body) → IsNumber req
+unfolding IsWithin
+spread_req s v report req body is = is.2
 
-pub pushed_within : (entries : List Entry) (e : Entry) → AreWithin entries → IsEntry e → AreWithin (entries ++ e ∷ [])
-pushed_within entries e all h = All-push (λ (x : Entry). IsTrue (is_within x)) entries e all (entry_within e h)
+pub bcast_number : (s : ℕ) (v : Stamp) (base acc number : ℕ) (e : Entry) → IsWithin (packets.Bcast s v base acc number e) → IsNumber number × IsEntry e
+unfolding IsWithin
+bcast_number s v base acc number e is = (is.3, is.4)
 
--- those that are served
-pub served_within : (entries : List Entry) (stored : ℕ) → AreWithin entries → AreWithin (take 8 (drop stored entries))
-served_within entries stored all = All-take (λ (x : Entry). IsTrue (is_within x)) 8 (drop stored entries) (All-drop (λ (x : Entry). IsTrue (is_within x)) stored entries all)
+pub order_number : (s : ℕ) (v : Stamp) (base acc number from req : ℕ) → IsWithin (packets.Order s v base acc number from req) → IsNumber number × IsNumber req
+unfolding IsWithin
+order_number s v base acc number from req is = (is.3, is.4)
+
+pub welcome_numbers : (s : ℕ) (v : Stamp) (base join : ℕ) (image : Image) → IsWithin (packets.Welcome s v base join image) → IsNumber v.round × IsNumber base × IsImage image
+unfolding IsWithin
+welcome_numbers s v base join image is = (is.0, is.1, is.3)
+
+pub invite_round : (s : ℕ) (v : Stamp) → IsWithin (packets.Invite s v) → IsNumber v.round
+unfolding IsWithin
+invite_round s v is = is
+
+pub vote_round : (s : ℕ) (v : Stamp) (vote : Vote) → IsWithin (packets.Vote s v vote) → IsNumber v.round
+unfolding IsWithin
+vote_round s v vote is = is.0
+
+pub piece_entry : (s : ℕ) (v : Stamp) (base number : ℕ) (e : Entry) → IsWithin (packets.Piece s v base number e) → IsEntry e
+unfolding IsWithin
+piece_entry s v base number e is = is.3
+
+pub result_numbers : (s : ℕ) (v : Stamp) (base number : ℕ) (names : List ℕ) (resilience : ℕ) → IsWithin (packets.Result s v base number names resilience) → IsNumber v.round × (resilience ≤ 15)
+unfolding IsWithin
+result_numbers s v base number names resilience is = (is.0, is.3)

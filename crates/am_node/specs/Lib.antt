@@ -1,2 +1,3 @@
-pub mod Entries
+pub mod Nodes
 pub mod Stands
+pub mod Heard

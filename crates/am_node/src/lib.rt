@@ -1,5 +1,8 @@
 //! One node of a group.
 #![tactic(auto)]
 
-mod entries;
+mod acting;
+pub mod founding;
+mod gate;
+mod hearing;
 pub mod node;

@@ -5,7 +5,7 @@ use Rattle.am_base.specs.declared.image.Image.{Image}
 use Rattle.am_base.specs.declared.entry.Entry.{Entry}
 use Rattle.am_base.specs.declared.entry.Entry.TheVariants.{Data, Join, Leave, View}
 use Rattle.am_base.specs.Names.{place_of, life_of}
-use Rattle.am_base.specs.Lists.{blank, after, AllFit}
+use Rattle.am_base.specs.Lists.{blank, after, fold, AllFit}
 use Rattle.am_model.specs.Claims.{request_in, requests_of}
 use Rattle.am_chain_lists.proofs.Rows.{row_at, by_cases, long_after}
 use Rattle.am_orders.specs.Claims.{InTurn, RequestsInTurn, NoSendTwice, SendersInOrder, SendStandsOnce}
@@ -60,6 +60,53 @@ first_is_next name next req body e es h is =
     (λ (x : (request_in name e ≡ []) × InTurn name next es). let none = x.0 in absurd (cc))
     (λ (x : (request_in name e ≡ next ∷ []) × InTurn name (next + 1) es). let one = x.0 in (cc, x.1))
     (rest_of name next e es h)
+
+-- how many more come, so many requests there are
+none_above : (name next req : ℕ) (body : List ℕ) (list : List Entry) (k : ℕ) → InTurn name next list → slice_get list k ≡ Some (Data name req body) → req < next + length (requests_of name list)
+none_above name next req body [] k h is = absurd (cc)
+none_above name next req body (e ∷ es) zero h is =
+    let same : e ≡ Data name req body = cc in
+    let found : request_in name e ≡ req ∷ [] = ap (request_in name) same ∙ own_request name req body in
+    let long : length (requests_of name (e ∷ es)) ≡ suc (length (requests_of name es)) = ap (λ l. length (l ++ requests_of name es)) found in
+    let first = (first_is_next name next req body e es h is).0 in
+    omega arith
+none_above name next req body (e ∷ es) (suc k) h is = ⊎_elim
+    (λ (x : (request_in name e ≡ []) × InTurn name next es).
+    let rest = none_above name next req body es k x.1 is in
+    let long : length (requests_of name (e ∷ es)) ≡ length (requests_of name es) = ap (λ l. length (l ++ requests_of name es)) x.0 in
+    omega arith)
+    (λ (x : (request_in name e ≡ next ∷ []) × InTurn name (next + 1) es).
+    let rest = none_above name (next + 1) req body es k x.1 is in
+    let long : length (requests_of name (e ∷ es)) ≡ suc (length (requests_of name es)) = ap (λ l. length (l ++ requests_of name es)) x.0 in
+    omega arith)
+    (rest_of name next e es h)
+
+-- a request that stands in a whole list is one of so many
+pub request_within : (list : List Entry) (name req : ℕ) (body : List ℕ) (k : ℕ) → AllFit blank 1 list → slice_get list k ≡ Some (Data name req body) → req ≤ length (requests_of name list)
+request_within list name req body k fit is = let low = none_above name 1 req body list k (requests_in_turn list fit name) is in omega arith
+
+-- ---- the row at the end
+
+next_fold : (image : Image) (n : ℕ) (es : List Entry) (name next : ℕ) → length image.rows ≡ 16 → 0 < n → AllFit image n es → IsNext (row_at image (place_of name)) (life_of name) next → IsNext (row_at (fold image n es) (place_of name)) (life_of name) (next + length (requests_of name es))
+unfolding AllFit fold
+next_fold image n [] name next long up fit h = let z : next ≡ next + 0 = omega arith in subst (IsNext (row_at image (place_of name)) (life_of name)) z h
+next_fold image n (e ∷ es) name next long up fit h =
+    let then_long = long_after image n e long in
+    let then_up : 0 < n + 1 = omega arith in
+    let row = row_at (fold (after image n e) (n + 1) es) (place_of name) in
+    ⊎_elim
+    (λ (x : (request_in name e ≡ []) × IsNext (row_at (after image n e) (place_of name)) (life_of name) next).
+    let same : next + length (requests_of name es) ≡ next + length (requests_of name (e ∷ es)) = ap (λ l. next + length (l ++ requests_of name es)) (sym x.0) in
+    subst (IsNext row (life_of name)) same (next_fold (after image n e) (n + 1) es name next then_long then_up fit.1 x.1))
+    (λ (x : (request_in name e ≡ next ∷ []) × IsNext (row_at (after image n e) (place_of name)) (life_of name) (next + 1)).
+    let long_ : suc (length (requests_of name es)) ≡ length (requests_of name (e ∷ es)) = ap (λ l. length (l ++ requests_of name es)) (sym x.0) in
+    let same : (next + 1) + length (requests_of name es) ≡ next + length (requests_of name (e ∷ es)) = omega arith in
+    subst (IsNext row (life_of name)) same (next_fold (after image n e) (n + 1) es name (next + 1) then_long then_up fit.1 x.1))
+    (entry_goes_on image n e name next long up fit.0 h)
+
+-- at the end of a whole list a name's next request is the one after so many
+pub next_in : (list : List Entry) (name : ℕ) → AllFit blank 1 list → IsNext (row_at (fold blank 1 list) (place_of name)) (life_of name) (1 + length (requests_of name list))
+next_in list name fit = let one : 0 < 1 = omega arith in next_fold blank 1 list name 1 refl one fit (next_at_first name)
 
 -- no request below the next
 none_below : (name next req : ℕ) (body : List ℕ) (list : List Entry) (k : ℕ) → InTurn name next list → slice_get list k ≡ Some (Data name req body) → next ≤ req

@@ -1,2 +1,4 @@
-pub mod Does
 pub mod Lowest
+pub mod Notes
+pub mod Rows
+pub mod Kept

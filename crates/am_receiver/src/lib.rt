@@ -2,5 +2,4 @@
 #![tactic(auto)]
 
 pub mod receiver;
-#[cfg(test)]
-mod tests;
+mod storing;

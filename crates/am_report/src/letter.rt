@@ -1,36 +1,43 @@
 ghost use Rattle.std.specs.Prelude.{◌≡◌, ◌+◌, ◌<◌, ◌++◌, OnOk, string_bytes};
+ghost use Rattle.am_report.specs.Kinds.{word_at};
 ghost use Rattle.am_model.specs.Text.{kind_word, addressees_text, letter_text, letters_text};
 
 use crate::name::{is_everybody_else, push_names};
 use am_base::NoMemory;
 use am_letter::letter::Letter;
-use am_packet::packet::Packet;
 
-/// The name of a packet's kind.
-#[tactic(auto, unfolding(am_model::specs::Text::kind_word))]
-pub fn kind_word(packet: &Packet) -> &'static str
-    ensures { result.now ≡ kind_word packet.now }
+/// The name of a kind by its number.
+fn word_at(kind: u8) -> &'static str
+    ensures { result.now ≡ word_at kind }
 {
-    match packet {
-        Packet::Request { .. } => "Request",
-        Packet::Spread { .. } => "Spread",
-        Packet::Bcast { .. } => "Bcast",
-        Packet::Order { .. } => "Order",
-        Packet::Accept { .. } => "Accept",
-        Packet::Ack { .. } => "Ack",
-        Packet::Nack { .. } => "Nack",
-        Packet::Hold { .. } => "Hold",
-        Packet::JoinAsk { .. } => "JoinAsk",
-        Packet::Welcome { .. } => "Welcome",
-        Packet::LeaveAsk { .. } => "LeaveAsk",
-        Packet::Gone { .. } => "Gone",
-        Packet::Invite { .. } => "Invite",
-        Packet::Vote { .. } => "Vote",
-        Packet::Fetch { .. } => "Fetch",
-        Packet::Piece { .. } => "Piece",
-        Packet::Result { .. } => "Result",
-        Packet::HandOver { .. } => "HandOver",
+    match kind {
+        1 => "Request",
+        2 => "Spread",
+        3 => "Bcast",
+        4 => "Order",
+        5 => "Accept",
+        6 => "Ack",
+        7 => "Nack",
+        8 => "Hold",
+        9 => "JoinAsk",
+        10 => "Welcome",
+        11 => "LeaveAsk",
+        12 => "Gone",
+        13 => "Invite",
+        14 => "Vote",
+        15 => "Fetch",
+        16 => "Piece",
+        17 => "Result",
+        _ => "HandOver",
     }
+}
+
+/// The name of a letter's kind. The packet isn't read for it.
+#[tactic(auto, using(crate::proofs::Words::word_of_kind))]
+pub fn kind_word(letter: &Letter) -> &'static str
+    ensures { result.now ≡ kind_word letter.now.packet }
+{
+    word_at(letter.kind())
 }
 
 // Adds for whom a letter of a node at this place is.
@@ -51,7 +58,7 @@ fn push_letter(out: &mut String, place: u8, number: u64, letter: &Letter) -> Res
     requires { place < 16 }
     ensures { OnOk result (string_bytes out.new ≡ string_bytes out.old ++ letter_text place number letter.now) }
 {
-    let word = kind_word(&letter.packet());
+    let word = kind_word(letter);
     write!(out, " | {number} {word} to ")?;
     push_addressees(out, place, letter)
 }

@@ -7,5 +7,7 @@ pub mod letter;
 pub mod lines;
 pub mod name;
 pub mod outcome;
+pub mod play;
+pub mod summary;
 #[cfg(test)]
 mod tests;

@@ -41,7 +41,7 @@ pub fn push_record(
 pub fn push_group_line(
     out: &mut String,
     founding: &Founding,
-    number: u32,
+    number: u64,
     entry: &Entry,
 ) -> Result<(), NoMemory>
     ensures { OnOk result (string_bytes out.new ≡ string_bytes out.old ++ group_line founding.now number entry.now) }

@@ -1,4 +1,8 @@
+ghost use Rattle.std.specs.Prelude.{◌≡◌};
+
 use crate::lines::{push_empty_log, push_group_line, push_log_line, push_mark, push_record};
+use crate::play::play_text;
+use crate::summary::summary_text;
 use am_base::body::Body;
 use am_base::entry::Entry;
 use am_base::founding::Founding;
@@ -7,6 +11,7 @@ use am_base::name::{Name, Stamp};
 use am_base::names::Names;
 use am_base::outcome::Outcome;
 use am_group::event::{Act, By, Event, Part, Record};
+use am_group::journal::Journal;
 use am_letter::letter::Letter;
 use am_packet::packet::Packet;
 use std::test::Fail;
@@ -42,7 +47,9 @@ fn invite_to(to: Names) -> Letter {
     Letter::of(to, &invite)
 }
 
-fn happened(place: u8, act: Act, outcome: Outcome, packets: Items<Letter>) -> Record {
+fn happened(place: u8, act: Act, outcome: Outcome, packets: Items<Letter>) -> Record
+    ensures { result.packets ≡ packets }
+{
     Record {
         event: Event {
             node: Name::of_byte(place),
@@ -209,6 +216,40 @@ fn lines_behind_the_events(rt: HostRuntime) -> Result<(), Fail> {
     assert_eq!(rt;
         out.as_str(),
         "group 3 join 1/2\ngroup 4 leave 2\nlog 0 2 data 1 3 61ff\nlog 1/2 empty\nvoid from 6\nlawful\n"
+    );
+    Ok(())
+}
+
+#[test]
+fn whole_text(rt: HostRuntime) -> Result<(), Fail> {
+    let founding = founding().ok_or("founding")?;
+    let view = Entry::View {
+        stamp: stamp(1, 0),
+        members: set(&[0, 1, 2]),
+        resilience: 0,
+    };
+    let took = Outcome::Took {
+        number: 1,
+        entry: view.copied(),
+    };
+    let mut packets = Items::new(rt.alloc());
+    packets.push(invite_to(set(&[1, 2])))?;
+    let mut journal = Journal::new(rt.alloc(), &founding);
+    journal.reserve()?;
+    journal.push(happened(0, Act::Tick, Outcome::Ticked, packets));
+    journal.reserve()?;
+    journal.push(happened(0, Act::Take, took, Items::new(rt.alloc())));
+    let names = [Name::of_byte(0), Name::of_byte(17)];
+    let group = [view];
+    let text = play_text(rt.alloc(), &journal, &group, &names, Some(2))?;
+    assert_eq!(rt;
+        text.as_str(),
+        "1 tick 0 : ticked | 1 Invite to 1,2\n2 take 0 : took 1 view 1.0 0,1,2\ngroup 1 view 1.0 0,1,2\nlog 0 1 view 1.0 0,1,2\nlog 1/2 empty\nvoid from 2\n"
+    );
+    let summary = summary_text(rt.alloc(), &journal, &group, None)?;
+    assert_eq!(rt;
+        summary.as_str(),
+        "events 2\npackets 1\nentries 1\ntook 1\nsent 0\nheld 0\nlawful\n"
     );
     Ok(())
 }

@@ -2,6 +2,7 @@ pub mod Scripts
 pub mod Worked
 pub mod WorkedResets
 pub mod StopTable
+pub mod Asked
 pub mod ScenariosFirst
 pub mod ScenariosWindow
 pub mod ScenariosMoves

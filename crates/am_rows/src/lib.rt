@@ -1,6 +1,7 @@
 //! Worked runs, computed from the definitions.
 #![tactic(auto)]
 
+pub mod asked;
 pub mod scenarios_all;
 pub mod scenarios_first;
 pub mod scenarios_lives;

@@ -1,3 +1,3 @@
 pub mod Json
-pub mod Apart
+pub mod Documents
 pub mod Limits

@@ -1,94 +1,161 @@
 -- Every script keeps to the limits.
-use Rattle.std.proofs.Common.{◌≡◌, ℕ, suc, ◌+◌, ◌/◌, ◌%◌, ◌<◌, ◌≤◌, List, [], ◌∷◌, length, get_or, set, Option, Some, None, option_map, Bool, true, false, ◌&&◌, nat_le, nat_lt, lit<, lit≤, refl, ap, subst, arith, cond, All, count_by}
+use Rattle.std.proofs.Common.{◌≡◌, ℕ, ◌+◌, ◌*◌, ◌-◌, ◌/◌, ◌%◌, ◌<◌, ◌≤◌, List, [], ◌∷◌, length, get_or, set, Option, Some, None, Result, Ok, Err, Bool, true, false, is_some, ◌&&◌, nat_le, nat_lt, refl, subst, arith, cond, All, IfOk}
+use Rattle.std.specs.Option.{ok_or, option_map_or}
 use Rattle.std.specs.Prelude.{option_and_then}
-use Rattle.std.proofs.lemmas.Option.{option_and_then_some, cond_some, same_Some, none-some}
 use Rattle.std.proofs.lemmas.Bool.{leb-true}
 use Rattle.std.proofs.lemmas.Grind.{common_steps}
 use Rattle.std.proofs.lemmas.List.Sums.{get_or-le-sum_by}
 use Rattle.std.proofs.lemmas.List.Elements.{All-cons}
-use Rattle.std.specs.Result.{result_ok}
-use Rattle.std.specs.List.{list_any}
 use Rattle.hex.specs.Hex.{decode_of}
-use Rattle.am_base.specs.Names.{nobody, has, with_name, size}
+use Rattle.hex.proofs.HexLemmas.{decode_of-ok}
+use Rattle.am_base.specs.Names.{nobody, has, with_name, size, name_at}
 use Rattle.am_base.specs.Founding.{Rules, MayFound}
 use Rattle.am_group.specs.declared.event.Act.{Act}
 use Rattle.am_group.specs.declared.event.Act.TheVariants as act
 use Rattle.am_group.specs.declared.event.Event.{Event}
 use Rattle.serde_json.specs.Data.{Data, Items, no_items, item}
 use Rattle.serde_json.specs.Events.{items_len}
-use Rattle.serde_json.specs.Find.{as_array}
+use Rattle.serde_json.specs.Find.{as_array, as_object, as_number, as_u64}
 use Rattle.am_script.specs.declared.key.Key.{Key}
 use Rattle.am_script.specs.declared.key.Key.TheVariants as key
 use Rattle.am_script.specs.declared.kind.Kind.{Kind}
-use Rattle.am_script.specs.declared.kind.Kind.TheVariants.{Send, Done, Take, Hear}
-use Rattle.am_script.specs.Keys.{has_only, value_at, text_at, number_in, number_at}
-use Rattle.am_script.specs.Limits.{ActWithin, EventWithin, IsWithin}
-use Rattle.am_script.specs.Scripts.{is_send, kind_of, keys_of, is_capital, body_of, act_of, event_as, event_of, events_from, events_of, founders_from, founders_of, rules_of, play_of, script_of, ValidScript}
+use Rattle.am_script.specs.declared.kind.Kind.TheVariants.{Send, Done, Take, Join, State, Leave, Reset, Ask, GiveUp, Stop, Tick, Hear, Cut, Return}
+use Rattle.am_script.specs.declared.script.Script.{Script}
+use Rattle.am_script.specs.declared.script.Script.TheVariants.{Play}
+use Rattle.am_script.specs.declared.refusal.ScriptRefusal.{ScriptRefusal}
+use Rattle.am_script.specs.declared.refusal.ScriptRefusal.TheVariants.{BadValue}
+use Rattle.am_script.specs.Keys.{value_at, has_only}
+use Rattle.am_script.specs.Refusals.{Read, ◌>>=◌, Answers}
+use Rattle.am_script.specs.Values.{value_in, text_in, number_from, number_in, number_or, flag_or, are_pairs, bytes_in, body_from}
+use Rattle.am_script.specs.Events.{keys_of, kind_in, send_in, reset_in, give_up_in, cut_in, act_in, event_as, event_from, each_event, events_from}
+use Rattle.am_script.specs.Founders.{AreFounders}
+use Rattle.am_script.specs.Limits.{IsCount, ActWithin, EventWithin, IsWithin, ScriptWithin}
+use Rattle.am_script.specs.Scripts.{play_keys, each_founder, founders_from, founding_in, parts_of_play, play_from, document_from, document_in, reading}
 
-map_some : {A B P : Type 0} (f : A → B) (o : Option A) (y : B) → option_map f o ≡ Some y → ((x : A) → o ≡ Some x → f x ≡ y → P) → P
-map_some f None y h then = absurd (none-some y h)
-map_some f (Some x) y h then = then x refl (same_Some (f x) y h)
+-- ---- what is read was read step by step
 
--- a choice that isn't none
-if_some : {A P : Type 0} (b : Bool) (o : Option A) (y : A) → cond b o None ≡ Some y → (b ≡ true → o ≡ Some y → P) → P
-if_some true o y h then = then refl h
-if_some false o y h then = absurd (none-some y h)
+same_ok : {A : Type 0} (x y : A) → (let r : Read A = Ok x in r) ≡ Ok y → x ≡ y
+same_ok x y h = cc
 
-none_or : {A P : Type 0} (b : Bool) (o : Option A) (y : A) → cond b None o ≡ Some y → (o ≡ Some y → P) → P
-none_or true o y h then = absurd (none-some y h)
-none_or false o y h then = then h
+ok_then : {A B P : Type 0} (a : Read A) (f : A → Read B) (y : B) → (a >>= f) ≡ Ok y → ((x : A) → a ≡ Ok x → f x ≡ Ok y → P) → P
+ok_then (Ok x) f y h then = then x refl h
+ok_then (Err e) f y h then = cc
+
+if_ok : {A P : Type 0} (b : Bool) (a : Read A) (e : ScriptRefusal) (y : A) → cond b a (Err e) ≡ Ok y → (b ≡ true → a ≡ Ok y → P) → P
+if_ok true a e y h then = then refl h
+if_ok false a e y h then = cc
+
+none_or : {A P : Type 0} (b : Bool) (a : Read A) (e : ScriptRefusal) (y : A) → cond b (Err e) a ≡ Ok y → (a ≡ Ok y → P) → P
+none_or true a e y h then = cc
+none_or false a e y h then = then h
 
 both : (a b : Bool) → (a && b) ≡ true → (a ≡ true) × (b ≡ true)
 both true b h = (refl, h)
 both false b h = cc
 
-number_within : (least most n : ℕ) (d : Data) → number_in least most d ≡ Some n → (least ≤ n) × (n ≤ most)
-number_within least most n d h = option_and_then_some _ _ n h (λ m is told.
-    let found = cond_some _ m n told in
-    let tests = both _ _ found.0 in
-    subst (λ (k : ℕ). (least ≤ k) × (k ≤ most)) found.1 (leb-true least m tests.0, leb-true m most tests.1))
+-- ---- numbers and bodies
 
-number_at_within : (least most n : ℕ) (k : Key) (d : Data) → number_at least most k d ≡ Some n → (least ≤ n) × (n ≤ most)
-number_at_within least most n k d h = option_and_then_some (number_in least most) (value_at k d) n h (λ value there read. number_within least most n value read)
+number_within : (k : Key) (place least most : ℕ) (d : Data) (n : ℕ) → number_from k place least most d ≡ Ok n → (least ≤ n) × (n ≤ most)
+unfolding number_from
+number_within k place least most d n h = ok_then (ok_or (option_and_then as_u64 (as_number d)) (BadValue k place)) _ n h (λ found there told. if_ok (nat_le least found && nat_le found most) _ _ n told (λ fits is.
+    let tests = both _ _ fits in
+    subst (λ (m : ℕ). (least ≤ m) × (m ≤ most)) (same_ok found n is) (leb-true least found tests.0, leb-true found most tests.1)))
 
-abbrev short_of : List ℕ → Option (List ℕ)
-short_of bytes = cond (nat_le (length bytes) 256) (Some bytes) None
+number_in_within : (k : Key) (place least most : ℕ) (d : Data) (n : ℕ) → number_in k place least most d ≡ Ok n → (least ≤ n) × (n ≤ most)
+number_in_within k place least most d n h = ok_then (value_in k place d) _ n h (λ v there told. number_within k place least most v n told)
 
-body_within : (text body : List ℕ) → body_of text ≡ Some body → length body ≤ 256
-unfolding body_of
-body_within text body h = none_or (list_any is_capital text) (option_and_then short_of (result_ok (decode_of text))) body h (λ told. option_and_then_some short_of (result_ok (decode_of text)) body told (λ bytes is last.
-    let short = cond_some _ bytes body last in
-    subst (λ (l : List ℕ). length l ≤ 256) short.1 (leb-true _ _ short.0)))
+number_or_at : (otherwise : ℕ) (k : Key) (place least most : ℕ) (found : Option Data) (n : ℕ) → least ≤ otherwise → otherwise ≤ most → option_map_or (number_from k place least most) found (Ok otherwise) ≡ Ok n → (least ≤ n) × (n ≤ most)
+number_or_at otherwise k place least most None n low high h = subst (λ (m : ℕ). (least ≤ m) × (m ≤ most)) (same_ok otherwise n h) (low, high)
+number_or_at otherwise k place least most (Some v) n low high h = number_within k place least most v n h
 
-act_within : (kind : Kind) (d : Data) (a : Act) → act_of kind d ≡ Some a → ActWithin a
-unfolding act_of
-act_within Send d a h = map_some _ _ a h (λ body told is. option_and_then_some _ _ body told (λ text there read.
-    subst (λ (x : Act). ActWithin x) is (body_within text body read)))
-act_within Done d a h = map_some _ _ a h (λ req told is. subst (λ (x : Act). ActWithin x) is (number_at_within 1 2000000000 req key.Req d told))
-act_within Take d a h = subst (λ (x : Act). ActWithin x) (same_Some act.Take a h) tt
-act_within Hear d a h = map_some _ _ a h (λ packet told is. subst (λ (x : Act). ActWithin x) is (number_at_within 1 2000000000 packet key.Packet d told))
+number_or_within : (otherwise : ℕ) (k : Key) (place least most : ℕ) (d : Data) (n : ℕ) → least ≤ otherwise → otherwise ≤ most → number_or otherwise k place least most d ≡ Ok n → (least ≤ n) × (n ≤ most)
+number_or_within otherwise k place least most d n low high h = number_or_at otherwise k place least most (value_at k d) n low high h
 
-event_as_within : (kind : Kind) (d : Data) (e : Event) → event_as kind d ≡ Some e → EventWithin e
+decoded_within : {E : Type 0} (place : ℕ) (decoded : Result (List ℕ) E) (bytes : List ℕ) → bytes_in place decoded ≡ Ok bytes → decoded ≡ Ok bytes
+decoded_within place (Ok found) bytes h = cc
+decoded_within place (Err e) bytes h = cc
+
+body_within : (place : ℕ) (text bytes : List ℕ) → body_from place text ≡ Ok bytes → length bytes ≤ 1024
+unfolding body_from
+body_within place text bytes h = if_ok (are_pairs text) _ _ bytes h (λ pairs told. if_ok (nat_le (length text / 2) 1024) _ _ bytes told (λ short is.
+    let decoded = decode_of-ok text bytes (decoded_within place (decode_of text) bytes is) in
+    let few = leb-true (length text / 2) 1024 short in
+    omega (arith, few, decoded.2)))
+
+-- ---- events
+
+act_as : (a b : Act) → (let r : Read Act = Ok a in r) ≡ Ok b → ActWithin a → ActWithin b
+act_as a b h within = subst (λ (x : Act). ActWithin x) (same_ok a b h) within
+
+send_within : (place : ℕ) (d : Data) (a : Act) → send_in place d ≡ Ok a → ActWithin a
+unfolding send_in
+send_within place d a h = ok_then (text_in key.Body place d) _ a h (λ text there rest. ok_then (body_from place text) _ a rest (λ body told is.
+    act_as (act.Send body) a is (body_within place text body told)))
+
+reset_within : (founding place : ℕ) (d : Data) (a : Act) → founding ≤ 15 → reset_in founding place d ≡ Ok a → ActWithin a
+unfolding reset_in
+reset_within founding place d a low h = ok_then (number_in key.Least place 1 16 d) _ a h (λ least there rest. ok_then (number_or founding key.Resilience place 0 15 d) _ a rest (λ resilience told is.
+    let size_of = number_in_within key.Least place 1 16 d least there in
+    let kept = number_or_within founding key.Resilience place 0 15 d resilience (omega arith) low told in
+    act_as (act.Reset least resilience) a is (omega (arith, size_of.0), size_of.1, kept.1)))
+
+give_up_within : (place : ℕ) (d : Data) (a : Act) → give_up_in place d ≡ Ok a → ActWithin a
+unfolding give_up_in
+give_up_within place d a h = ok_then (number_in key.Name place 0 15 d) _ a h (λ seat there rest. ok_then (number_or 1 key.Life place 1 16 d) _ a rest (λ life told is.
+    let low = number_in_within key.Name place 0 15 d seat there in
+    let lives = number_or_within 1 key.Life place 1 16 d life (omega arith) (omega arith) told in
+    act_as (act.GiveUp (name_at seat life)) a is (omega (arith, low, lives))))
+
+count_within : (k : Key) (place : ℕ) (d : Data) (n : ℕ) → number_in k place 1 2000000000 d ≡ Ok n → IsCount n
+count_within k place d n h = let fits = number_in_within k place 1 2000000000 d n h in (omega (arith, fits.0), fits.1)
+
+cut_within : (place : ℕ) (d : Data) (a : Act) → cut_in place d ≡ Ok a → ActWithin a
+unfolding cut_in
+cut_within place d a h = ok_then (number_in key.Packet place 1 2000000000 d) _ a h (λ packet there rest. ok_then (number_in key.Keep place 0 1152 d) _ a rest (λ keep told is.
+    act_as (act.Cut packet keep) a is (count_within key.Packet place d packet there, (number_in_within key.Keep place 0 1152 d keep told).1)))
+
+act_within : (kind : Kind) (founding place : ℕ) (d : Data) (a : Act) → founding ≤ 15 → act_in kind founding place d ≡ Ok a → ActWithin a
+unfolding act_in
+act_within Send founding place d a low h = send_within place d a h
+act_within Done founding place d a low h = ok_then (number_in key.Req place 1 2000000000 d) _ a h (λ n told is. act_as (act.Done n) a is (count_within key.Req place d n told))
+act_within Take founding place d a low h = act_as act.Take a h tt
+act_within Join founding place d a low h = act_as act.Join a h tt
+act_within State founding place d a low h = act_as act.State a h tt
+act_within Leave founding place d a low h = act_as act.Leave a h tt
+act_within Reset founding place d a low h = reset_within founding place d a low h
+act_within Ask founding place d a low h = ok_then (number_in key.Round place 1 2000000000 d) _ a h (λ n told is. act_as (act.Ask n) a is (count_within key.Round place d n told))
+act_within GiveUp founding place d a low h = give_up_within place d a h
+act_within Stop founding place d a low h = act_as act.Stop a h tt
+act_within Tick founding place d a low h = act_as act.Tick a h tt
+act_within Hear founding place d a low h = ok_then (number_in key.Packet place 1 2000000000 d) _ a h (λ n told is. act_as (act.Hear n) a is (count_within key.Packet place d n told))
+act_within Cut founding place d a low h = cut_within place d a h
+act_within Return founding place d a low h = act_as act.Return a h tt
+
+event_as_within : (kind : Kind) (founding place : ℕ) (d : Data) (e : Event) → founding ≤ 15 → event_as kind founding place d ≡ Ok e → EventWithin e
 unfolding event_as
-event_as_within kind d e h = if_some (has_only (keys_of kind) d) _ e h (λ only inner.
-    option_and_then_some _ (number_at 0 15 key.Node d) e inner (λ place there outer. map_some _ (act_of kind d) e outer (λ done read is.
-    let fits = number_at_within 0 15 place key.Node d there in
-    let low : place < 16 = omega arith in
-    subst (λ (x : Event). EventWithin x) is (low, act_within kind d done read))))
+event_as_within kind founding place d e low h = if_ok (has_only (keys_of kind) d) _ _ e h (λ only inner. ok_then (number_in key.Node place 0 15 d) _ e inner (λ node there rest. ok_then (act_in kind founding place d) _ e rest (λ done told is.
+    let fits = number_in_within key.Node place 0 15 d node there in
+    let seat : node < 16 = omega (arith, fits.1) in
+    subst (λ (x : Event). EventWithin x) (same_ok _ e is) (seat, act_within kind founding place d done low told))))
 
-event_within : (d : Data) (e : Event) → event_of d ≡ Some e → EventWithin e
-unfolding event_of
-event_within d e h = option_and_then_some (λ kind. event_as kind d) (option_and_then kind_of (text_at key.Do d)) e h (λ kind known told. event_as_within kind d e told)
+event_within : (founding place : ℕ) (d : Data) (e : Event) → founding ≤ 15 → event_from founding place d ≡ Ok e → EventWithin e
+unfolding event_from
+event_within founding place d e low h = if_ok (is_some (as_object d)) _ _ e h (λ there inner. ok_then (kind_in place d) _ e inner (λ kind known told. event_as_within kind founding place d e low told))
 
-events_within : (ds : Items) (es : List Event) → events_from ds ≡ Some es → All EventWithin es × (length es ≡ items_len ds)
-events_within no_items es h = subst (λ (xs : List Event). All EventWithin xs × (length xs ≡ 0)) (same_Some [] es h) ((λ k d lt. absurd (omega arith)), refl)
-events_within (item d ds) es h = option_and_then_some _ _ es h (λ e told rest. map_some _ _ es rest (λ more others is.
-    let later = events_within ds more others in
-    subst (λ (xs : List Event). All EventWithin xs × (length xs ≡ suc (items_len ds))) is (All-cons EventWithin e more (event_within d e told) later.0, ap suc later.1)))
+each_within : (founding place : ℕ) (ds : Items) (es : List Event) → founding ≤ 15 → each_event founding place ds ≡ Ok es → All EventWithin es
+each_within founding place no_items es low h = subst (λ (xs : List Event). All EventWithin xs) (same_ok [] es h) (λ k d lt. absurd (omega arith))
+each_within founding place (item d ds) es low h = ok_then (event_from founding place d) _ es h (λ e told rest. ok_then (each_event founding (place + 1) ds) _ es rest (λ more others is.
+    subst (λ (xs : List Event). All EventWithin xs) (same_ok _ es is) (All-cons EventWithin e more (event_within founding place d e low told) (each_within founding (place + 1) ds more low others))))
 
-record Good (set : List ℕ) : Type 0 where
-  places : length set ≡ 16
-  first_lives : (k : ℕ) → k < 16 → get_or set k 0 ≤ 1
+events_within : (founding : ℕ) (d : Data) (es : List Event) → founding ≤ 15 → events_from founding d ≡ Ok es → All EventWithin es
+unfolding events_from
+events_within founding d es low h = ok_then (ok_or (as_array d) (BadValue key.Events 0)) _ es h (λ ds there told. each_within founding 1 ds es low told)
+
+-- ---- founders
+
+record Good (names : List ℕ) : Type 0 where
+  places : length names ≡ 16
+  first_lives : (k : ℕ) → k < 16 → get_or names k 0 ≤ 1
 
 somebody : (lives : List ℕ) (place life : ℕ) → place < length lives → 0 < life → 0 < size (set lives place life)
 somebody lives place life within above =
@@ -98,83 +165,86 @@ somebody lives place life within above =
     let counts = get_or-le-sum_by (λ x. cond (nat_lt 0 x) 1 0) (set lives place life) place 0 there in
     omega (arith, counts, one)
 
-good_with : (set : List ℕ) (place : ℕ) → place ≤ 15 → Good set → Good (with_name set place) × (0 < size (with_name set place))
-good_with set place le good = (
+good_with : (names : List ℕ) (place : ℕ) → place ≤ 15 → Good names → Good (with_name names place) × (0 < size (with_name names place))
+good_with names place le good = (
   record {
     places = grind (arith, common_steps);
     first_lives = λ k lt. grind (arith, common_steps);
   },
-  somebody set (place % 16) (place / 16 + 1) (omega arith) (omega arith),
+  somebody names (place % 16) (place / 16 + 1) (omega arith) (omega arith),
 )
 
-founders_good : (set : List ℕ) (ds : Items) (out : List ℕ) → founders_from set ds ≡ Some out → Good set → Good out × (0 < size set → 0 < size out)
-founders_good set no_items out h good = subst (λ (xs : List ℕ). Good xs × (0 < size set → 0 < size xs)) (same_Some set out h) (good, λ some. some)
-founders_good set (item d ds) out h good = option_and_then_some _ _ out h (λ place told rest. none_or _ _ out rest (λ later.
-    let fits = number_within 0 15 place d told in
-    let next = good_with set place fits.1 good in
-    let done = founders_good (with_name set place) ds out later next.0 in
+founders_good : (names : List ℕ) (ds : Items) (out : List ℕ) → each_founder names ds ≡ Ok out → Good names → Good out × (0 < size names → 0 < size out)
+founders_good names no_items out h good = subst (λ (xs : List ℕ). Good xs × (0 < size names → 0 < size xs)) (same_ok names out h) (good, λ some. some)
+founders_good names (item d ds) out h good = ok_then (number_from key.Founders 0 0 15 d) _ out h (λ place told rest. none_or (has names place) _ _ out rest (λ later.
+    let fits = number_within key.Founders 0 0 15 d place told in
+    let next = good_with names place fits.1 good in
+    let done = founders_good (with_name names place) ds out later next.0 in
     (done.0, λ _. done.1 next.1)))
 
 nobody_good : Good nobody
 nobody_good = record { places = refl; first_lives = λ k lt. grind (arith, common_steps) }
 
-some_founder : (ds : Items) (set : List ℕ) → (nat_le 1 (items_len ds) && nat_le (items_len ds) 16) ≡ true → founders_from nobody ds ≡ Some set → 0 < size set
-some_founder no_items set count h = cc
-some_founder (item d ds) set count h = option_and_then_some _ (number_in 0 15 d) set h (λ place told rest. none_or (has nobody place) _ set rest (λ later.
-    let fits = number_within 0 15 place d told in
+some_founder : (ds : Items) (names : List ℕ) → nat_le 1 (items_len ds) ≡ true → each_founder nobody ds ≡ Ok names → 0 < size names
+some_founder no_items names some h = cc
+some_founder (item d ds) names some h = ok_then (number_from key.Founders 0 0 15 d) _ names h (λ place told rest. none_or (has nobody place) _ _ names rest (λ later.
+    let fits = number_within key.Founders 0 0 15 d place told in
     let next = good_with nobody place fits.1 nobody_good in
-    (founders_good (with_name nobody place) ds set later next.0).1 next.1))
+    (founders_good (with_name nobody place) ds names later next.0).1 next.1))
 
-founders_within : (v : Data) (set : List ℕ) → founders_of v ≡ Some set → MayFound (rules_of set)
-unfolding founders_of
-founders_within v set h = option_and_then_some _ (as_array v) set h (λ ds there told. if_some (nat_le 1 (items_len ds) && nat_le (items_len ds) 16) (founders_from nobody ds) set told (λ count inner.
-    let good = founders_good nobody ds set inner nobody_good in
+pub founders_are : (d : Data) (names : List ℕ) → founders_from d ≡ Ok names → AreFounders names
+unfolding founders_from
+founders_are d names h = ok_then (ok_or (as_array d) (BadValue key.Founders 0)) _ names h (λ ds there told. if_ok (nat_le 1 (items_len ds) && nat_le (items_len ds) 16) _ _ names told (λ count inner.
+    let good = (founders_good nobody ds names inner nobody_good).0 in
     record {
-      names = record { places = good.0.places; lives = λ k lt. grind (arith, good.0.first_lives k) };
-      somebody = some_founder ds set count inner;
-      first_lives = λ k lt. grind (arith, good.0.first_lives k);
-      resilience_within = lit≤ tt;
-      window_least = lit< tt;
-      window_most = lit≤ tt;
-      pb_up_to_within = lit≤ tt;
+      set = record { places = good.places; lives = λ k lt. grind (arith, good.first_lives k) };
+      somebody = some_founder ds names (both _ _ count).0 inner;
+      first_lives = λ k lt. grind (arith, good.first_lives k);
     }))
 
-record Few (events : List Event) : Type 0 where
-  few : length events ≤ 100000
-  few_sends : count_by is_send events ≤ 63
-  each : All EventWithin events
+-- ---- plays
 
-events_few : (v : Data) (events : List Event) → events_of v ≡ Some events → Few events
-unfolding events_of
-events_few v events h = option_and_then_some _ (as_array v) events h (λ ds there told. if_some (nat_le (items_len ds) 100000) _ events told (λ count inner.
-    option_and_then_some _ (events_from ds) events inner (λ list read last.
-    let sends = cond_some (nat_le (count_by is_send list) 63) list events last in
-    let all = events_within ds list read in
-    let few : length list ≤ 100000 = omega (arith, all.1, leb-true _ _ count) in
-    subst Few sends.1 (record { few = few; few_sends = leb-true _ _ sends.0; each = all.0 }))))
-
-play_within : (d : Data) (founding : Rules) (events : List Event) → play_of d ≡ Some (founding, events) → IsWithin founding events
-unfolding play_of
-play_within d founding events h = if_some (has_only (key.Founders ∷ key.Events ∷ []) d) _ (founding, events) h (λ only told.
-    option_and_then_some _ (option_and_then founders_of (value_at key.Founders d)) (founding, events) told (λ set found outer.
-    map_some _ (option_and_then events_of (value_at key.Events d)) (founding, events) outer (λ list listed is.
-    option_and_then_some founders_of (value_at key.Founders d) set found (λ v at named.
-    option_and_then_some events_of (value_at key.Events d) list listed (λ w under are.
-    let few = events_few w list are in
-    subst (λ (x : Rules × List Event). IsWithin x.0 x.1) is (record {
-      may_found = founders_within v set named;
-      no_resilience = refl;
-      window = refl;
-      short = refl;
-      few = few.few;
-      few_sends = few.few_sends;
-      each = few.each;
+founding_within : (d : Data) (rules : Rules) → founding_in d ≡ Ok rules → MayFound rules
+unfolding founding_in
+founding_within d rules h = ok_then (value_in key.Founders 0 d) _ rules h (λ v there rest. ok_then (founders_from v) _ rules rest (λ names named more.
+    ok_then (number_or 0 key.Resilience 0 0 15 d) _ rules more (λ resilience kept later. ok_then (number_or 64 key.Window 0 1 1008 d) _ rules later (λ window wide last. ok_then (number_or 256 key.PbUpTo 0 0 1024 d) _ rules last (λ pb_up_to short is.
+    let are = founders_are v names named in
+    let low = number_or_within 0 key.Resilience 0 0 15 d resilience (omega arith) (omega arith) kept in
+    let room = number_or_within 64 key.Window 0 1 1008 d window (omega arith) (omega arith) wide in
+    let bytes = number_or_within 256 key.PbUpTo 0 0 1024 d pb_up_to (omega arith) (omega arith) short in
+    subst (λ (x : Rules). MayFound x) (same_ok _ rules is) (record {
+      names = are.set;
+      somebody = are.somebody;
+      first_lives = are.first_lives;
+      resilience_within = low.1;
+      window_least = omega (arith, room.0);
+      window_most = room.1;
+      pb_up_to_within = bytes.1;
     }))))))
 
-pub script_within : (d : Data) (founding : Rules) (events : List Event) → script_of d ≡ Some (founding, events) → IsWithin founding events
-unfolding script_of
-script_within d founding events h = if_some (has_only (key.Play ∷ []) d) (option_and_then play_of (value_at key.Play d)) (founding, events) h (λ only told.
-    option_and_then_some play_of (value_at key.Play d) (founding, events) told (λ p there inner. play_within p founding events inner))
+play_within : (d : Data) (s : Script) → parts_of_play d ≡ Ok s → ScriptWithin s
+unfolding parts_of_play
+play_within d s h = ok_then (founding_in d) _ s h (λ founding founded rest. ok_then (flag_or false key.Settle 0 d) _ s rest (λ settle told more.
+    ok_then (value_in key.Events 0 d) _ s more (λ v there later. ok_then (events_from founding.resilience v) _ s later (λ events listed is.
+    let may = founding_within d founding founded in
+    subst (λ (x : Script). ScriptWithin x) (same_ok _ s is) (record {
+      may_found = may;
+      each = events_within founding.resilience v events may.resilience_within listed;
+    })))))
 
-pub valid_within : (bytes : List ℕ) (founding : Rules) (events : List Event) → ValidScript bytes founding events → IsWithin founding events
-valid_within bytes founding events (utf8, is) = option_and_then_some _ _ _ is (λ d there told. script_within d founding events told)
+document_within : (asked : Key) (d : Data) (s : Script) → document_from asked d ≡ Ok s → ScriptWithin s
+unfolding document_from play_from
+document_within asked d s h = if_ok (is_some (as_object d)) _ _ s h (λ is_one inner. ok_then (value_in asked 0 d) _ s inner (λ v there rest. if_ok (has_only (asked ∷ []) d) _ _ s rest (λ only told.
+    if_ok (is_some (as_object v)) _ _ s told (λ is_play parts. if_ok (has_only play_keys v) _ _ s parts (λ few whole. play_within v s whole)))))
+
+read_within : (asked : Key) (found : Option Data) (e : ScriptRefusal) (s : Script) → option_map_or (document_from asked) found (Err e) ≡ Ok s → ScriptWithin s
+read_within asked None e s h = cc
+read_within asked (Some d) e s h = document_within asked d s h
+
+pub script_within : (asked : Key) (bytes : List ℕ) (s : Script) → reading asked bytes ≡ Ok s → ScriptWithin s
+unfolding reading
+script_within asked bytes s h = read_within asked (document_in bytes) _ s h
+
+pub answer_within : (asked : Key) (d : Data) (r : Result Script ScriptRefusal) → Answers (document_from asked d) r → IfOk r ScriptWithin
+answer_within asked d (Ok s) is = document_within asked d s is
+answer_within asked d (Err e) is = tt

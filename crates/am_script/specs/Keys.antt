@@ -1,9 +1,9 @@
 -- The keys of scripts, and values at them.
-use Rattle.std.specs.Prelude.{ℕ, ◌&&◌, nat_le, List, [], ◌∷◌, Bool, false, if◌then◌else◌, Option, Some, None, option_and_then, codes, bytes_eq}
+use Rattle.std.specs.Prelude.{ℕ, List, [], ◌∷◌, Bool, false, Option, codes, bytes_eq}
 use Rattle.std.specs.List.{list_all, list_any}
 use Rattle.std.specs.Option.{option_map_or}
 use Rattle.serde_json.specs.Data.{Data, Members, no_members, member}
-use Rattle.serde_json.specs.Find.{get, as_object, as_str, as_number, as_u64}
+use Rattle.serde_json.specs.Find.{get, as_object}
 use Rattle.am_script.specs.declared.key.Key.{Key}
 use Rattle.am_script.specs.declared.key.Key.TheVariants.{Top, Play, Race, Founders, Resilience, Window, PbUpTo, Settle, Events, Seed, Loss, Repeat, Turns, Threads, Node, Calls, Do, Body, Req, Least, Round, Name, Life, Packet, Keep}
 
@@ -51,15 +51,3 @@ has_only keys d = option_map_or (λ ms. list_all (is_among keys) (words_of ms)) 
 -- the value at a key
 abbrev pub value_at : Key → Data → Option Data
 value_at key d = get (word_of key) d
-
--- the text at a key
-abbrev pub text_at : Key → Data → Option (List ℕ)
-text_at key d = option_and_then as_str (value_at key d)
-
--- a number within its limits
-abbrev pub number_in : ℕ → ℕ → Data → Option ℕ
-number_in least most d = option_and_then (λ n. if nat_le least n && nat_le n most then Some n else None) (option_and_then as_u64 (as_number d))
-
--- the number at a key, within its limits
-abbrev pub number_at : ℕ → ℕ → Key → Data → Option ℕ
-number_at least most key d = option_and_then (number_in least most) (value_at key d)

@@ -1,10 +1,5 @@
--- What a refusal says.
-use Rattle.std.specs.Prelude.{◌≡◌, ◌≢◌, ℕ, Option, Some, None, Result, MatchResult, if◌then◌else◌, is_some, option_and_then}
-use Rattle.std.specs.Option.{option_map_or}
-use Rattle.serde_json.specs.Data.{Data}
-use Rattle.serde_json.specs.Find.{as_number, as_u64}
-use Rattle.am_script.specs.declared.key.Key.{Key}
-use Rattle.am_script.specs.Keys.{value_at}
+-- What a refusal says, and answers that may be refused.
+use Rattle.std.specs.Prelude.{◌≡◌, ◌≢◌, ℕ, Result, Ok, Err, MatchResult}
 use Rattle.am_script.specs.declared.refusal.ScriptRefusal.{ScriptRefusal}
 use Rattle.am_script.specs.declared.refusal.ScriptRefusal.TheVariants.{NotJson, Missing, Unknown, BadValue, OutOfRange, NoMemory}
 
@@ -25,18 +20,16 @@ place_of (BadValue key place) = place
 place_of (OutOfRange key place found least most) = place
 place_of NoMemory = 0
 
--- why there is no text at a key
-abbrev pub text_refusal : Key → ℕ → Data → ScriptRefusal
-text_refusal key place d = if is_some (value_at key d) then BadValue key place else Missing key place
+-- what is read, or the first cause that it can't be
+abbrev pub Read : Type 0 → Type 0
+Read A = Result A ScriptRefusal
 
--- why a value isn't a number within its limits
-abbrev pub number_refusal : Key → ℕ → ℕ → ℕ → Data → ScriptRefusal
-number_refusal key place least most d = option_map_or (λ found. OutOfRange key place found least most) (option_and_then as_u64 (as_number d)) (BadValue key place)
+-- the next thing is read where the one before was
+infixl 10 ◌>>=◌
+abbrev pub ◌>>=◌ : {A B : Type 0} → Read A → (A → Read B) → Read B
+(Ok x) >>= f = f x
+(Err e) >>= f = Err e
 
--- why there is no such number at a key
-abbrev pub number_at_refusal : Key → ℕ → ℕ → ℕ → Data → ScriptRefusal
-number_at_refusal key place least most d = option_map_or (number_refusal key place least most) (value_at key d) (Missing key place)
-
--- the answer is what is there; a refusal says that there is nothing, but for want of memory
-abbrev pub Answers : {A : Type 0} → Option A → Result A ScriptRefusal → Type 0
-Answers there answer = MatchResult answer (λ x. there ≡ Some x) (λ e. e ≢ NoMemory → there ≡ None)
+-- the answer is what is read, but for want of memory
+abbrev pub Answers : {A : Type 0} → Read A → Result A ScriptRefusal → Type 0
+Answers read answer = MatchResult answer (λ x. read ≡ Ok x) (λ e. e ≢ NoMemory → read ≡ Err e)

@@ -1,33 +1,31 @@
-ghost use Rattle.std.specs.Prelude.{◌≡◌, ◌≢◌, IfErr, option_and_then};
-ghost use Rattle.std.specs.List.{list_any};
-ghost use Rattle.std.specs.Result.{result_ok};
+ghost use Rattle.std.specs.Prelude.{◌≡◌, ◌≤◌, ◌%◌, length};
+ghost use Rattle.std.specs.List.{list_all};
 ghost use Rattle.serde_json.specs.View.{view};
-ghost use Rattle.am_script.specs.Causes.{body_refusal, act_refusal, event_as_refusal, event_refusal};
-ghost use Rattle.am_script.specs.Refusals.{Answers, text_refusal};
-ghost use Rattle.am_script.specs.Scripts.{kind_of, is_capital, body_of, act_of, event_as, event_of};
-ghost use Rattle.am_script.specs.Keys.{text_at};
+ghost use Rattle.am_script.specs.Values.{is_digit, are_pairs, body_from, number_in};
+ghost use Rattle.am_script.specs.Events.{kind_in, send_in, reset_in, give_up_in, cut_in, act_in, event_as, event_from};
 
-use crate::fields::{number_of, only, text_in};
+use crate::fields::{number_in, number_or, only, text_in};
 use crate::key::Key;
 use crate::kind::Kind;
 use crate::refusal::ScriptRefusal;
 use am_base::body::Body;
 use am_base::name::Name;
 use am_group::event::{Act, Event};
-use hex::FromHexError;
 use serde_json::Value;
-use std::alloc::Global;
 
-/// The greatest request or packet number of a script.
-const MOST: u64 = 2_000_000_000;
+/// The greatest number of a request, a round or a packet.
+const MOST_COUNT: u64 = 2_000_000_000;
 
 /// The most bytes of a body.
-const MOST_BYTES: usize = 256;
+const MOST_BYTES: usize = 1024;
+
+/// The most bytes of a packet.
+const MOST_PACKET: u64 = 1152;
 
 /// The kind of an event.
-fn kind(event: &Value, place: u32) -> Result<Kind, ScriptRefusal>
-    ensures answer { result_ok result ≡ option_and_then kind_of (text_at Key.Do (view event.now)) }
-    ensures refused { IfErr result (λ e. e ≡ text_refusal Key.Do place (view event.now)) }
+#[tactic(auto, unfolding(crate::specs::Events::kind_in))]
+fn kind(event: &Value, place: u64) -> Result<Kind, ScriptRefusal>
+    ensures { result ≡ kind_in place (view event.now) }
 {
     let word = text_in(event, Key::Do, place)?;
     match Kind::of(word) {
@@ -39,84 +37,155 @@ fn kind(event: &Value, place: u32) -> Result<Kind, ScriptRefusal>
     }
 }
 
-/// Whether a text has one of the letters A to F.
-fn has_capital(text: &str) -> bool
-    ensures { result ≡ list_any is_capital text.now }
+/// Whether a text has no letters but the digits 0 to 9 and a to f.
+fn are_digits(text: &str) -> bool
+    ensures { result ≡ list_all is_digit text.now }
 {
-    text.bytes().any(|c| 65 <= c && c <= 70)
+    text.bytes()
+        .all(|c| 48 <= c && c <= 57 || 97 <= c && c <= 102)
+}
+
+/// Whether a text is pairs of such digits.
+fn are_pairs(text: &str) -> bool
+    ensures { result ≡ are_pairs text.now }
+{
+    text.len() % 2 == 0 && are_digits(text)
 }
 
 /// The body that a text of digits gives.
-#[tactic(auto, unfolding(crate::specs::Scripts::body_of, crate::specs::Causes::body_refusal))]
-fn body(alloc: Global, text: &str, place: u32) -> Result<Body, ScriptRefusal>
-    ensures answer { Answers (body_of text.now) result }
-    ensures refused { IfErr result (λ e. e ≢ ScriptRefusal.NoMemory → e ≡ body_refusal place text.now) }
+#[tactic(auto, unfolding(crate::specs::Values::body_from))]
+fn body(text: &str, place: u64) -> Result<Body, ScriptRefusal>
+    ensures { result ≡ body_from place text.now }
 {
     let refusal = ScriptRefusal::BadValue {
         key: Key::Body,
         place,
     };
-    if has_capital(text) {
+    if !are_pairs(text) {
         return Err(refusal);
     }
-    let bytes = match hex::decode(alloc, text) {
-        Ok(bytes) => bytes,
-        Err(FromHexError::OutOfMemory) => return Err(ScriptRefusal::NoMemory),
-        Err(_) => return Err(refusal),
-    };
-    if MOST_BYTES < bytes.len() {
+    let pairs = text.len() / 2;
+    if MOST_BYTES < pairs {
         return Err(ScriptRefusal::OutOfRange {
             key: Key::Body,
             place,
-            found: bytes.len() as u64,
+            found: pairs as u64,
             least: 0,
             most: MOST_BYTES as u64,
         });
     }
-    Ok(Body::of(bytes.as_slice()).unwrap())
+    let mut bytes = [0u8; MOST_BYTES];
+    match hex::decode_to_slice(text, &mut bytes[..pairs]) {
+        Ok(()) => Ok(Body::of(&bytes[..pairs]).unwrap()),
+        Err(_) => Err(refusal),
+    }
+}
+
+/// The number of a request, a round or a packet at a key of an event.
+fn count(event: &Value, key: Key, place: u64) -> Result<u32, ScriptRefusal>
+    ensures { result ≡ number_in key place 1 2000000000 (view event.now) }
+{
+    Ok(number_in(event, key, place, 1, MOST_COUNT)? as u32)
+}
+
+/// A send.
+#[tactic(auto, unfolding(crate::specs::Events::send_in))]
+fn send(event: &Value, place: u64) -> Result<Act, ScriptRefusal>
+    ensures { result ≡ send_in place (view event.now) }
+{
+    let text = text_in(event, Key::Body, place)?;
+    Ok(Act::Send(body(text, place)?))
+}
+
+/// A reset, which keeps the founding's resilience where none is said.
+#[tactic(auto, unfolding(crate::specs::Events::reset_in))]
+fn reset(event: &Value, place: u64, founding: u8) -> Result<Act, ScriptRefusal>
+    requires { founding ≤ 15 }
+    ensures { result ≡ reset_in founding place (view event.now) }
+{
+    let least = number_in(event, Key::Least, place, 1, 16)?;
+    let resilience = number_or(u64::from(founding), event, Key::Resilience, place, 0, 15)?;
+    Ok(Act::Reset {
+        least: least as u8,
+        resilience: resilience as u8,
+    })
+}
+
+/// The giving up of a name, of life 1 where none is said.
+#[tactic(auto, unfolding(crate::specs::Events::give_up_in))]
+fn give_up(event: &Value, place: u64) -> Result<Act, ScriptRefusal>
+    ensures { result ≡ give_up_in place (view event.now) }
+{
+    let seat = number_in(event, Key::Name, place, 0, 15)?;
+    let life = number_or(1, event, Key::Life, place, 1, 16)?;
+    Ok(Act::GiveUp(Name::of(seat as u8, life as u8).unwrap()))
+}
+
+/// The hearing of the first bytes of a packet.
+#[tactic(auto, unfolding(crate::specs::Events::cut_in))]
+fn cut(event: &Value, place: u64) -> Result<Act, ScriptRefusal>
+    ensures { result ≡ cut_in place (view event.now) }
+{
+    let packet = count(event, Key::Packet, place)?;
+    let keep = number_in(event, Key::Keep, place, 0, MOST_PACKET)?;
+    Ok(Act::Cut {
+        packet,
+        keep: keep as u32,
+    })
 }
 
 /// The act of an event of a kind.
-#[tactic(auto, unfolding(crate::specs::Scripts::act_of, crate::specs::Causes::act_refusal))]
-fn act(alloc: Global, kind: Kind, event: &Value, place: u32) -> Result<Act, ScriptRefusal>
-    ensures answer { Answers (act_of kind (view event.now)) result }
-    ensures refused { IfErr result (λ e. e ≢ ScriptRefusal.NoMemory → e ≡ act_refusal kind place (view event.now)) }
+#[tactic(auto, unfolding(crate::specs::Events::act_in))]
+fn act(kind: Kind, event: &Value, place: u64, founding: u8) -> Result<Act, ScriptRefusal>
+    requires { founding ≤ 15 }
+    ensures { result ≡ act_in kind founding place (view event.now) }
 {
     match kind {
-        Kind::Send => Ok(Act::Send(body(alloc, text_in(event, Key::Body, place)?, place)?)),
-        Kind::Done => Ok(Act::Done(number_of(event, Key::Req, place, 1, MOST)? as u32)),
+        Kind::Send => send(event, place),
+        Kind::Done => Ok(Act::Done(count(event, Key::Req, place)?)),
         Kind::Take => Ok(Act::Take),
-        Kind::Hear => Ok(Act::Hear(number_of(event, Key::Packet, place, 1, MOST)? as u32)),
+        Kind::Join => Ok(Act::Join),
+        Kind::State => Ok(Act::State),
+        Kind::Leave => Ok(Act::Leave),
+        Kind::Reset => reset(event, place, founding),
+        Kind::Ask => Ok(Act::Ask(count(event, Key::Round, place)?)),
+        Kind::GiveUp => give_up(event, place),
+        Kind::Stop => Ok(Act::Stop),
+        Kind::Tick => Ok(Act::Tick),
+        Kind::Hear => Ok(Act::Hear(count(event, Key::Packet, place)?)),
+        Kind::Cut => cut(event, place),
+        Kind::Return => Ok(Act::Return),
     }
 }
 
 /// An event of a kind.
-#[tactic(auto, unfolding(crate::specs::Scripts::event_as, crate::specs::Causes::event_as_refusal))]
+#[tactic(auto, unfolding(crate::specs::Events::event_as))]
 fn event_of_kind(
-    alloc: Global,
     kind: Kind,
     event: &Value,
-    place: u32,
+    place: u64,
+    founding: u8,
 ) -> Result<Event, ScriptRefusal>
-    ensures answer { Answers (event_as kind (view event.now)) result }
-    ensures refused { IfErr result (λ e. e ≢ ScriptRefusal.NoMemory → e ≡ event_as_refusal kind place (view event.now)) }
+    requires { founding ≤ 15 }
+    ensures { result ≡ event_as kind founding place (view event.now) }
 {
     if !only(kind.keys(), event) {
         return Err(ScriptRefusal::Unknown { place });
     }
-    let node = number_of(event, Key::Node, place, 0, 15)?;
-    let act = act(alloc, kind, event, place)?;
+    let node = number_in(event, Key::Node, place, 0, 15)?;
+    let act = act(kind, event, place, founding)?;
     Ok(Event {
         node: Name::of_byte(node as u8),
         act,
     })
 }
 
-/// The event that a value tells; `place` is its number.
-#[tactic(auto, unfolding(crate::specs::Scripts::event_of, crate::specs::Causes::event_refusal))]
-pub fn event(alloc: Global, value: &Value, place: u32) -> Result<Event, ScriptRefusal>
-    ensures answer { Answers (event_of (view value.now)) result }
-    ensures refused { IfErr result (λ e. e ≢ ScriptRefusal.NoMemory → e ≡ event_refusal place (view value.now)) }
+/// The event that a value tells, or the first cause that it tells none. `place` is its number, `founding` the founding's
+/// resilience.
+#[tactic(auto, unfolding(crate::specs::Events::event_from))]
+pub fn event(value: &Value, place: u64, founding: u8) -> Result<Event, ScriptRefusal>
+    requires { founding ≤ 15 }
+    ensures { result ≡ event_from founding place (view value.now) }
 {
     if !value.is_object() {
         return Err(ScriptRefusal::BadValue {
@@ -125,5 +194,5 @@ pub fn event(alloc: Global, value: &Value, place: u32) -> Result<Event, ScriptRe
         });
     }
     let kind = kind(value, place)?;
-    event_of_kind(alloc, kind, value, place)
+    event_of_kind(kind, value, place, founding)
 }

@@ -1,9 +1,9 @@
-ghost use Rattle.std.specs.Prelude.{◌≡◌, IfErr, map, option_map, string_bytes};
+ghost use Rattle.std.specs.Prelude.{◌≡◌, ◌≤◌, IfOk, map, string_bytes};
 ghost use Rattle.std.specs.List.{list_all};
-ghost use Rattle.std.specs.Result.{result_ok};
+ghost use Rattle.std.specs.Result.{result_map_both};
 ghost use Rattle.serde_json.specs.View.{view};
-ghost use Rattle.am_script.specs.Refusals.{text_refusal, number_refusal, number_at_refusal};
-ghost use Rattle.am_script.specs.Keys.{is_among, has_only, value_at, text_at, number_in, number_at};
+ghost use Rattle.am_script.specs.Keys.{is_among, has_only};
+ghost use Rattle.am_script.specs.Values.{value_in, text_in, number_from, number_in, number_or, flag_or};
 
 use crate::key::Key;
 use crate::refusal::ScriptRefusal;
@@ -33,10 +33,9 @@ pub fn only(keys: &[Key], value: &Value) -> bool
     }
 }
 
-/// The value at a key of an object.
-pub fn value_in(object: &Value, key: Key, place: u32) -> Result<&Value, ScriptRefusal>
-    ensures answer { option_map (λ v. view v.now) (result_ok result) ≡ value_at key (view object.now) }
-    ensures refused { IfErr result (λ e. e ≡ ScriptRefusal.Missing key place) }
+/// The value at a key of an object; Missing where the key isn't there.
+pub fn value_in(object: &Value, key: Key, place: u64) -> Result<&Value, ScriptRefusal>
+    ensures { result_map_both (λ v. view v.now) (λ e. e) result ≡ value_in key place (view object.now) }
 {
     match object.get(key.word()) {
         Some(value) => Ok(value),
@@ -44,10 +43,9 @@ pub fn value_in(object: &Value, key: Key, place: u32) -> Result<&Value, ScriptRe
     }
 }
 
-/// The text at a key of an object.
-pub fn text_in(object: &Value, key: Key, place: u32) -> Result<&str, ScriptRefusal>
-    ensures answer { option_map (λ s. s.now) (result_ok result) ≡ text_at key (view object.now) }
-    ensures refused { IfErr result (λ e. e ≡ text_refusal key place (view object.now)) }
+/// The text at a key of an object; BadValue where it is another value.
+pub fn text_in(object: &Value, key: Key, place: u64) -> Result<&str, ScriptRefusal>
+    ensures { result_map_both (λ s. s.now) (λ e. e) result ≡ text_in key place (view object.now) }
 {
     let value = value_in(object, key, place)?;
     match value.as_str() {
@@ -56,16 +54,18 @@ pub fn text_in(object: &Value, key: Key, place: u32) -> Result<&str, ScriptRefus
     }
 }
 
-/// A number within its limits.
+/// A whole number within its limits; BadValue where it is another value, OutOfRange where it is outside them.
+#[tactic(auto, unfolding(crate::specs::Values::number_from))]
 pub fn number(
     value: &Value,
     key: Key,
-    place: u32,
+    place: u64,
     least: u64,
     most: u64,
 ) -> Result<u64, ScriptRefusal>
-    ensures answer { result_ok result ≡ number_in least most (view value.now) }
-    ensures refused { IfErr result (λ e. e ≡ number_refusal key place least most (view value.now)) }
+    ensures value { result ≡ number_from key place least most (view value.now) }
+    ensures at_least { IfOk result (λ n. least ≤ n) }
+    ensures at_most { IfOk result (λ n. n ≤ most) }
 {
     let Some(found) = value.as_u64() else {
         return Err(ScriptRefusal::BadValue { key, place });
@@ -83,16 +83,51 @@ pub fn number(
 }
 
 /// The number at a key of an object, within its limits.
-pub fn number_of(
+pub fn number_in(
     object: &Value,
     key: Key,
-    place: u32,
+    place: u64,
     least: u64,
     most: u64,
 ) -> Result<u64, ScriptRefusal>
-    ensures answer { result_ok result ≡ number_at least most key (view object.now) }
-    ensures refused { IfErr result (λ e. e ≡ number_at_refusal key place least most (view object.now)) }
+    ensures value { result ≡ number_in key place least most (view object.now) }
+    ensures at_least { IfOk result (λ n. least ≤ n) }
+    ensures at_most { IfOk result (λ n. n ≤ most) }
 {
     let value = value_in(object, key, place)?;
     number(value, key, place, least, most)
+}
+
+/// The number at a key of an object, within its limits, or another where the key isn't there.
+pub fn number_or(
+    otherwise: u64,
+    object: &Value,
+    key: Key,
+    place: u64,
+    least: u64,
+    most: u64,
+) -> Result<u64, ScriptRefusal>
+    requires at_least { least ≤ otherwise }
+    requires at_most { otherwise ≤ most }
+    ensures value { result ≡ number_or otherwise key place least most (view object.now) }
+    ensures at_least { IfOk result (λ n. least ≤ n) }
+    ensures at_most { IfOk result (λ n. n ≤ most) }
+{
+    match object.get(key.word()) {
+        Some(value) => number(value, key, place, least, most),
+        None => Ok(otherwise),
+    }
+}
+
+/// Whether there is true at a key of an object, or what is said where the key isn't there; BadValue where it is another value.
+pub fn flag_or(otherwise: bool, object: &Value, key: Key, place: u64) -> Result<bool, ScriptRefusal>
+    ensures { result ≡ flag_or otherwise key place (view object.now) }
+{
+    let Some(value) = object.get(key.word()) else {
+        return Ok(otherwise);
+    };
+    match value.as_bool() {
+        Some(flag) => Ok(flag),
+        None => Err(ScriptRefusal::BadValue { key, place }),
+    }
 }

@@ -9,3 +9,5 @@ mod play;
 pub mod read;
 pub mod refusal;
 pub mod script;
+#[cfg(test)]
+mod tests;

@@ -1,68 +1,50 @@
-ghost use Rattle.std.specs.Prelude.{◌≡◌, ◌≢◌, IfErr, ◌≤◌, ◌<◌, IfOk, length};
-ghost use Rattle.std.specs.Result.{result_ok};
+ghost use Rattle.std.specs.Prelude.{◌≡◌, ◌≤◌};
 ghost use Rattle.serde_json.specs.View.{view, items_view};
-ghost use Rattle.am_base.specs.Founding.{MayFound};
 ghost use Rattle.am_base.specs.Names.{nobody};
-ghost use Rattle.am_script.specs.Causes.{first_refusal, events_refusal, founder_refusal, founders_refusal, play_refusal};
 ghost use Rattle.am_script.specs.Refusals.{Answers};
-ghost use Rattle.am_script.specs.Scripts.{is_send, events_from, events_of, founders_from, founders_of, rules_of, play_of};
+ghost use Rattle.am_script.specs.Events.{each_event, events_from};
+ghost use Rattle.am_script.specs.Scripts.{each_founder, founders_from, founding_in, parts_of_play, play_from};
 
 use crate::event::event;
-use crate::fields::{number, only, value_in};
+use crate::fields::{flag_or, number, number_or, only, value_in};
 use crate::key::Key;
 use crate::refusal::ScriptRefusal;
+use crate::script::Script;
 use am_base::founding::Founding;
 use am_base::items::Items;
 use am_base::name::Name;
 use am_base::names::Names;
-use am_group::event::{Act, Event};
+use am_group::event::Event;
 use serde_json::Value;
 use std::alloc::Global;
 
-/// The most events of a script.
-const MOST_EVENTS: usize = 100_000;
+/// The keys of a play.
+const PLAY_KEYS: [Key; 6] = [
+    Key::Founders,
+    Key::Resilience,
+    Key::Window,
+    Key::PbUpTo,
+    Key::Settle,
+    Key::Events,
+];
 
-/// The most sends of a script.
-const MOST_SENDS: usize = 63;
-
-/// Whether an event sends.
-fn is_send(event: &Event) -> bool
-    ensures { result ≡ is_send event.now }
-{
-    matches!(event.act, Act::Send(_))
-}
-
-/// The refusal of a number of items.
-fn too_many(key: Key, found: usize, least: u64, most: usize) -> ScriptRefusal
-    ensures { result ≡ ScriptRefusal.OutOfRange key 0 found least most }
-{
-    ScriptRefusal::OutOfRange {
-        key,
-        place: 0,
-        found: found as u64,
-        least,
-        most: most as u64,
-    }
-}
-
-/// The events that values tell, in order.
-fn each_event(alloc: Global, list: &[Value]) -> Result<Items<Event>, ScriptRefusal>
-    requires { length list.now ≤ 100000 }
-    ensures answer { Answers (events_from (items_view list.now)) result }
-    ensures refused { IfErr result (λ e. e ≢ ScriptRefusal.NoMemory → e ≡ first_refusal 1 (items_view list.now)) }
+/// The events that values tell, in order, counted from 1.
+fn each_event(alloc: Global, list: &[Value], founding: u8) -> Result<Items<Event>, ScriptRefusal>
+    requires { founding ≤ 15 }
+    ensures { Answers (each_event founding 1 (items_view list.now)) result }
 {
     let mut events = Items::new(alloc);
     for (before, value) in list.iter().enumerate() {
-        events.push(event(alloc, value, before as u32 + 1)?)?;
+        events.push(event(value, before as u64 + 1, founding)?)?;
     }
     Ok(events)
 }
 
 /// The events of a play.
-#[tactic(auto, using(crate::proofs::Json::items_len_view), unfolding(crate::specs::Scripts::events_of, crate::specs::Causes::events_refusal))]
-fn events(alloc: Global, value: &Value) -> Result<Items<Event>, ScriptRefusal>
-    ensures answer { Answers (events_of (view value.now)) result }
-    ensures refused { IfErr result (λ e. e ≢ ScriptRefusal.NoMemory → e ≡ events_refusal (view value.now)) }
+#[tactic(auto, unfolding(crate::specs::Events::events_from))]
+fn events(alloc: Global, value: &Value, founding: u8) -> Result<Items<Event>, ScriptRefusal>
+    requires { founding ≤ 15 }
+    ensures { Answers (events_from founding (view value.now)) result }
 {
     let Some(list) = value.as_array() else {
         return Err(ScriptRefusal::BadValue {
@@ -70,27 +52,12 @@ fn events(alloc: Global, value: &Value) -> Result<Items<Event>, ScriptRefusal>
             place: 0,
         });
     };
-    if MOST_EVENTS < list.len() {
-        return Err(too_many(Key::Events, list.len(), 0, MOST_EVENTS));
-    }
-    let events = each_event(alloc, list.as_slice())?;
-    let sends = events
-        .as_slice()
-        .iter()
-        .filter(|event| is_send(event))
-        .count();
-    if MOST_SENDS < sends {
-        return Err(too_many(Key::Events, sends, 0, MOST_SENDS));
-    }
-    Ok(events)
+    each_event(alloc, list.as_slice(), founding)
 }
 
 /// The names of places, each of which is new.
 fn each_founder(list: &[Value]) -> Result<Names, ScriptRefusal>
-    requires { 0 < length list.now }
-    ensures answer { result_ok result ≡ founders_from nobody (items_view list.now) }
-    ensures refused { IfErr result (λ e. e ≡ founder_refusal nobody (items_view list.now)) }
-    ensures may_found { IfOk result (λ names. MayFound (rules_of names)) }
+    ensures { result ≡ each_founder nobody (items_view list.now) }
 {
     let mut names = Names::empty();
     for value in list {
@@ -107,31 +74,61 @@ fn each_founder(list: &[Value]) -> Result<Names, ScriptRefusal>
     Ok(names)
 }
 
-/// The founders of a play.
-#[tactic(auto, using(crate::proofs::Json::items_len_view), unfolding(crate::specs::Scripts::founders_of, crate::specs::Causes::founders_refusal))]
+/// The founders: 1 to 16 places, each once.
+#[tactic(auto, using(crate::proofs::Json::items_len_view), unfolding(crate::specs::Scripts::founders_from))]
 fn founders(value: &Value) -> Result<Names, ScriptRefusal>
-    ensures answer { result_ok result ≡ founders_of (view value.now) }
-    ensures refused { IfErr result (λ e. e ≡ founders_refusal (view value.now)) }
-    ensures may_found { IfOk result (λ names. MayFound (rules_of names)) }
+    ensures { result ≡ founders_from (view value.now) }
 {
-    let refusal = ScriptRefusal::BadValue {
-        key: Key::Founders,
-        place: 0,
-    };
     let Some(list) = value.as_array() else {
-        return Err(refusal);
+        return Err(ScriptRefusal::BadValue {
+            key: Key::Founders,
+            place: 0,
+        });
     };
     if list.is_empty() || 16 < list.len() {
-        return Err(too_many(Key::Founders, list.len(), 1, 16));
+        return Err(ScriptRefusal::OutOfRange {
+            key: Key::Founders,
+            place: 0,
+            found: list.len() as u64,
+            least: 1,
+            most: 16,
+        });
     }
     each_founder(list.as_slice())
 }
 
-/// A play: how its group begins, and its events.
-#[tactic(auto, unfolding(crate::specs::Scripts::play_of, crate::specs::Causes::play_refusal))]
-pub fn play(alloc: Global, value: &Value) -> Result<(Founding, Items<Event>), ScriptRefusal>
-    ensures answer { Answers (play_of (view value.now)) result }
-    ensures refused { IfErr result (λ e. e ≢ ScriptRefusal.NoMemory → e ≡ play_refusal (view value.now)) }
+/// How a group begins, by the keys of a play.
+#[tactic(auto, using(crate::proofs::Limits::founders_are), unfolding(crate::specs::Scripts::founding_in))]
+fn founding(value: &Value) -> Result<Founding, ScriptRefusal>
+    ensures { result ≡ founding_in (view value.now) }
+{
+    let founders = founders(value_in(value, Key::Founders, 0)?)?;
+    let resilience = number_or(0, value, Key::Resilience, 0, 0, 15)?;
+    let window = number_or(64, value, Key::Window, 0, 1, 1008)?;
+    let pb_up_to = number_or(256, value, Key::PbUpTo, 0, 0, 1024)?;
+    Ok(Founding::new(founders, resilience as u8, window as u16, pb_up_to as u16).unwrap())
+}
+
+/// A play's parts.
+#[tactic(auto, unfolding(crate::specs::Scripts::parts_of_play))]
+fn parts(alloc: Global, value: &Value) -> Result<Script, ScriptRefusal>
+    ensures { Answers (parts_of_play (view value.now)) result }
+{
+    let founding = founding(value)?;
+    let settle = flag_or(false, value, Key::Settle, 0)?;
+    let list = value_in(value, Key::Events, 0)?;
+    let events = events(alloc, list, founding.resilience())?;
+    Ok(Script::Play {
+        founding,
+        events,
+        settle,
+    })
+}
+
+/// A play: how its group begins, its events, and whether it is settled at the end.
+#[tactic(auto, unfolding(crate::specs::Scripts::play_from))]
+pub fn play(alloc: Global, value: &Value) -> Result<Script, ScriptRefusal>
+    ensures { Answers (play_from (view value.now)) result }
 {
     if !value.is_object() {
         return Err(ScriptRefusal::BadValue {
@@ -139,11 +136,8 @@ pub fn play(alloc: Global, value: &Value) -> Result<(Founding, Items<Event>), Sc
             place: 0,
         });
     }
-    if !only(&[Key::Founders, Key::Events], value) {
+    if !only(&PLAY_KEYS, value) {
         return Err(ScriptRefusal::Unknown { place: 0 });
     }
-    let founders = founders(value_in(value, Key::Founders, 0)?)?;
-    let events = events(alloc, value_in(value, Key::Events, 0)?)?;
-    let founding = Founding::new(founders, 0, 64, 256).unwrap();
-    Ok((founding, events))
+    parts(alloc, value)
 }

@@ -5,29 +5,29 @@ ghost use Rattle.am_script.specs.declared.refusal.ScriptRefusal.TheVariants.{NoM
 use crate::key::Key;
 use std::alloc::AllocError;
 
-/// Why bytes aren't a script. A place is the number of an event, from 1, or 0 elsewhere.
+/// Why bytes aren't a script, the first cause. A place is the number of an event, from 1, or 0 elsewhere.
 #[derive(Clone, Copy, PartialEq, Eq, Debug)]
 pub enum ScriptRefusal {
     /// The bytes aren't JSON.
     NotJson,
-    /// A key isn't there.
+    /// A key that is needed isn't there.
     Missing {
         key: Key,
-        place: u32,
+        place: u64,
     },
     /// A key is there that doesn't belong.
     Unknown {
-        place: u32,
+        place: u64,
     },
     /// The value at a key isn't of its kind.
     BadValue {
         key: Key,
-        place: u32,
+        place: u64,
     },
-    /// A number isn't within its limits.
+    /// A number, or a count of items or bytes, isn't within its limits.
     OutOfRange {
         key: Key,
-        place: u32,
+        place: u64,
         found: u64,
         least: u64,
         most: u64,
@@ -52,7 +52,7 @@ impl ScriptRefusal {
     }
 
     /// The number of the event that is refused, or 0.
-    pub fn place(self) -> u32
+    pub fn place(self) -> u64
         ensures { result ≡ place_of self }
     {
         match self {

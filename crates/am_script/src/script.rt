@@ -5,7 +5,7 @@ use am_group::event::Event;
 /// What a script says.
 #[derive(Drop)]
 pub enum Script {
-    /// How a group begins, what happens then, and whether it is to be settled at the end.
+    /// How a group begins, any number of events, and whether it is settled behind them.
     Play {
         founding: Founding,
         events: Items<Event>,

@@ -1,6 +1,6 @@
 -- A node's own sends, which are queued until they are collected.
-use Rattle.std.specs.Prelude.{ℕ, ◌+◌, List, [], ◌∷◌, ◌++◌, map, filter, find, count_by, Option, Some, None, option_map, is_some, is_none, Bool, not, ◌==◌, ◌&&◌, if◌then◌else◌}
-use Rattle.std.specs.List.{list_any}
+use Rattle.std.specs.Prelude.{◌≡◌, ℕ, ◌+◌, ◌≤◌, length, true, nat_lt, List, [], ◌∷◌, ◌++◌, map, filter, find, count_by, Option, Some, None, option_map, is_some, is_none, Bool, not, ◌==◌, ◌&&◌, if◌then◌else◌}
+use Rattle.std.specs.List.{list_any, list_all}
 use Rattle.am_base.specs.declared.outcome.Outcome.{Outcome}
 use Rattle.am_base.specs.declared.outcome.Outcome.TheVariants.{Unknown, Pending, Sent}
 use Rattle.am_sender.specs.declared.OwnSend.{OwnSend}
@@ -67,3 +67,23 @@ without_request req sends = record sends { queue = filter (λ send. not (is_requ
 -- a settled send that is collected is removed
 abbrev pub collect : ℕ → Sends → Sends
 collect req sends = if is_settled req sends then without_request req sends else sends
+
+-- ---- what holds of a node's own sends
+
+-- the request that isn't settled and comes first: the waiting send's, or the one after the last
+abbrev pub next_in : ℕ → List OwnSend → ℕ
+next_in last [] = last + 1
+next_in last (send ∷ sends) = if is_unsettled send then send.req else next_in last sends
+
+-- those that aren't settled stand behind the settled ones, with requests that follow one another up to the last
+abbrev pub are_in_line : ℕ → List OwnSend → Bool
+are_in_line last [] = true
+are_in_line last (send ∷ sends) = (if is_unsettled send then (send.req + 1 == next_in last sends) && list_all is_unsettled sends else nat_lt send.req (next_in last sends)) && are_in_line last sends
+
+abbrev pub next_request : Sends → ℕ
+next_request sends = next_in sends.last sends.queue
+
+pub record AreKept (last : ℕ) (queue : List OwnSend) : Type 0 where
+  pub few : length queue ≤ 4
+  pub line : are_in_line last queue ≡ true
+  pub limit : last ≤ 2000000000

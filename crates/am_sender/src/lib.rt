@@ -1,9 +1,9 @@
 //! A node's own sends until they are collected.
 #![tactic(auto)]
 
-ghost use Rattle.std.specs.Prelude.{ℕ, List, find, ◌≡◌, ◌<◌, ◌≤◌, ◌+◌, length, OnOk, OnErr, IfOk, IfErr, IsOk, ◌↔◌, Some, option_map};
+ghost use Rattle.std.specs.Prelude.{ℕ, List, find, map, IsTrue, ◌≡◌, ◌<◌, ◌≤◌, ◌+◌, length, OnOk, OnErr, IfOk, IfErr, IsOk, ◌↔◌, Some, IfSome, option_map};
 ghost use Rattle.std.specs.Option.{option_copied};
-ghost use Rattle.am_sender.specs.Sends.{no_sends, without_request, is_request, waiting_send, collected_of, unsettled, is_settled, submit, settle, collect, collect_outcome};
+ghost use Rattle.am_sender.specs.Sends.{no_sends, without_request, is_request, waiting_send, collected_of, unsettled, is_settled, settle_send, submit, settle, collect, collect_outcome, next_request, AreKept};
 
 use am_base::body::Body;
 use am_base::outcome::Outcome;
@@ -57,14 +57,24 @@ pub struct Sender {
 }
 
 impl Model for Sender {
-    ghost use Rattle.std.specs.Prelude.{◌≤◌, length};
-    ghost use Rattle.am_sender.specs.Sends.{Sends};
+    ghost use Rattle.am_sender.specs.Sends.{Sends, AreKept};
 
     ghost Value = { Sends };
 
     ghost view = { λ s. record { last = s.last; queue = s.queue.items } };
 
-    ghost invariant = { λ s. length s.queue.items ≤ 4 };
+    ghost invariant = { λ s. AreKept s.last s.queue.items };
+}
+
+/// Gives the sends of this request a number.
+fn settle_in(queue: &mut [OwnSend], req: u32, number: u32)
+    ensures { queue.new ≡ map (settle_send req number) queue.old }
+{
+    for send in queue.iter_mut() {
+        if send.req == req {
+            send.number = Some(number);
+        }
+    }
 }
 
 impl Sender {
@@ -85,6 +95,7 @@ impl Sender {
         ensures variant { IsOk result ↔ (length self.old.queue < 4) }
         ensures number { IfOk result (λ req. req ≡ self.old.last + 1) }
         ensures ok { OnOk result (self.new ≡ submit body self.old) }
+        ensures next { next_request self.new ≡ next_request self.old }
         ensures busy { IfErr result (λ busy. busy.queued ≡ 4) }
         ensures err { OnErr result (self.new ≡ self.old) }
     {
@@ -100,9 +111,9 @@ impl Sender {
         Ok(self.last)
     }
 
-    /// The send that is sent next, the first that isn't settled; None exactly where there is none.
-    pub fn waiting(&self) -> Option<(u32, &Body)>
-        ensures { option_map {U = ℕ × List ℕ} (λ send. (send.0, send.1.now)) result ≡ waiting_send self.now }
+    fn first_unsettled(&self) -> Option<(u32, &Body)>
+        ensures kept { AreKept self.now.last self.now.queue }
+        ensures value { option_map {U = ℕ × List ℕ} (λ send. (send.0, send.1.now)) result ≡ waiting_send self.now }
     {
         self.queue
             .as_slice()
@@ -111,26 +122,40 @@ impl Sender {
             .map(|send| (send.req, &send.body))
     }
 
+    /// The send that is sent next, the first that isn't settled; None exactly where there is none.
+    pub fn waiting(&self) -> Option<(u32, &Body)>
+        ensures value { option_map {U = ℕ × List ℕ} (λ send. (send.0, send.1.now)) result ≡ waiting_send self.now }
+        ensures within { IfSome result (λ send. send.0 ≤ 2000000000) }
+        ensures kept { AreKept self.now.last self.now.queue }
+    {
+        self.first_unsettled()
+    }
+
     /// Settles the send that waits: it stands in the list at this number.
     pub fn settle(&mut self, req: u32, number: u32)
         requires { option_map (λ send. send.0) (waiting_send self.old) ≡ Some req }
-        ensures { self.new ≡ settle req number self.old }
+        ensures value { self.new ≡ settle req number self.old }
+        ensures next { next_request self.new ≡ req + 1 }
     {
-        for send in self.queue.as_mut_slice().iter_mut() {
-            if send.req == req {
-                send.number = Some(number);
-            }
-        }
+        settle_in(self.queue.as_mut_slice(), req, number);
     }
 
-    /// Whether a send with this request is there and settled.
-    pub fn settled(&self, req: u32) -> bool
-        ensures { result ≡ is_settled req self.now }
+    fn has_settled(&self, req: u32) -> bool
+        ensures kept { AreKept self.now.last self.now.queue }
+        ensures value { result ≡ is_settled req self.now }
     {
         self.queue
             .as_slice()
             .iter()
             .any(|send| send.req == req && send.number.is_some())
+    }
+
+    /// Whether a send with this request is there and settled.
+    pub fn settled(&self, req: u32) -> bool
+        ensures value { result ≡ is_settled req self.now }
+        ensures low { IsTrue result → req < next_request self.now }
+    {
+        self.has_settled(req)
     }
 
     /// How many sends aren't settled.
@@ -150,6 +175,7 @@ impl Sender {
     pub fn collect(&mut self, req: u32) -> Outcome
         ensures answer { result ≡ collect_outcome req self.old }
         ensures rest { self.new ≡ collect req self.old }
+        ensures next { next_request self.new ≡ next_request self.old }
     {
         let outcome = self.outcome(req);
         if self.settled(req) {
@@ -174,7 +200,9 @@ impl Sender {
     }
 
     fn remove(&mut self, req: u32)
-        ensures { self.new ≡ without_request req self.old }
+        requires { req < next_request self.old }
+        ensures value { self.new ≡ without_request req self.old }
+        ensures next { next_request self.new ≡ next_request self.old }
     {
         self.queue.retain(|send| send.req != req);
     }

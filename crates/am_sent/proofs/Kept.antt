@@ -20,7 +20,7 @@ use Rattle.am_model.specs.Refresh.{advance, lead, refresh, accepted_at, settled_
 use Rattle.am_model.specs.Calls.{queued}
 use Rattle.am_model.specs.Claims.{IsSend}
 use Rattle.am_model.proofs.Greatest.{split}
-use Rattle.am_sent.proofs.Items.{get_front, all_find}
+use Rattle.am_effects.proofs.Items.{get_front, all_find}
 
 -- ---- what was sent
 
@@ -157,9 +157,13 @@ kept_settled : (all : List Record) (who : ℕ) (m : Node) (w : Option OwnSend) �
 kept_settled all who m None h = h
 kept_settled all who m (Some s) h = kept_settled_at all who m s.req (accepted_at m s.req) h
 
+pub kept_settle : (all : List Record) (who : ℕ) (m : Node) → Keeps all who m → Keeps all who (settle m)
+unfolding settle
+kept_settle all who m h = kept_settled all who m (waiting m) h
+
 pub kept_at_end : (all : List Record) (who : ℕ) (m : Node) → Keeps all who m → Keeps all who (refresh_at_end m)
-unfolding refresh_at_end settle
-kept_at_end all who m h = kept_settled all who (refresh m) (waiting (refresh m)) (kept_refresh all who m h)
+unfolding refresh_at_end
+kept_at_end all who m h = kept_settle all who (refresh m) (kept_refresh all who m h)
 
 -- ---- the waiting send
 

@@ -1,19 +1,15 @@
 -- A Data is numbered: whose it may be, and what it leaves as it was.
-use Rattle.std.proofs.Common.{◌≡◌, inl, ℕ, ◌+◌, ◌≤◌, List, true, false, ◌==◌, nat_lt, refl, ap, ◌∙◌, arith, slice_index}
+use Rattle.std.proofs.Common.{◌≡◌, ℕ, ◌+◌, List, true, false, ◌==◌, nat_lt, refl, ap, ◌∙◌, arith, slice_index}
 use Rattle.std.proofs.lemmas.Bool.Decides.{nat_tests}
 use Rattle.std.proofs.Math.ListN.{get_or-map}
 use Rattle.std.proofs.Math.Seq.{map-set_same}
-use Rattle.am_base.specs.declared.name.Stamp.{Stamp}
 use Rattle.am_base.specs.declared.image.Row.{Row}
 use Rattle.am_base.specs.declared.image.Image.{Image}
 use Rattle.am_base.specs.declared.entry.Entry.TheVariants.{Data}
-use Rattle.am_base.specs.Names.{place_of, life_of, has}
+use Rattle.am_base.specs.Names.{place_of, life_of}
 use Rattle.am_base.specs.Lists.{at_place, row_of, blank_row, member_life, members_of, after, fits, told_by, top_of, Log, with_entry}
-use Rattle.am_core.specs.Cores.{CoreState}
 use Rattle.am_core.proofs.Folds.{split}
 use Rattle.am_core.proofs.Ends.{told-push}
-use Rattle.am_fronts.specs.Refresh.{MayLead}
-use Rattle.am_sequencer.specs.Parts.{Remains}
 
 -- the members stay
 pub members_data : (image : Image) (number from req : ℕ) (body : List ℕ) → members_of (after image number (Data from req body)) ≡ members_of image
@@ -24,20 +20,6 @@ members_data image number from req body = split ((at_place image from).life == l
 
 pub members_pushed : (log : Log) (from req : ℕ) (body : List ℕ) → members_of (told_by (with_entry log (Data from req body))) ≡ members_of (told_by log)
 members_pushed log from req body = ap members_of (told-push log (Data from req body)) ∙ members_data (told_by log) (top_of log + 1) from req body
-
--- who is a member leads with one Data more
-pub leads_pushed : (old new : CoreState) (from req : ℕ) (body : List ℕ) → new ≡ record old { log = with_entry old.log (Data from req body) } → has (members_of (told_by old.log)) old.who ≡ true → MayLead new
-leads_pushed old new from req body is member =
-    let members = ap (λ (x : CoreState). members_of (told_by x.log)) is ∙ members_pushed old.log from req body in
-    let who = ap (λ (x : CoreState). x.who) is in
-    inl (ap (λ xs. has xs new.who) members ∙ ap (has (members_of (told_by old.log))) who ∙ member)
-
--- a list with more leaves the promise, and so does a refresh
-pub round_pushed : (old mid new : CoreState) (log : Log) (bound : ℕ) → mid ≡ record old { log = log } → Remains mid new → old.promise.round ≤ bound → new.promise.round ≤ bound
-round_pushed old mid new log bound is same within =
-    let first = ap (λ (x : CoreState). x.promise.round) is in
-    let then_same = ap (λ (s : Stamp). s.round) same.promise in
-    omega arith
 
 known_life : (r : Row) (life : ℕ) → (r.life == life) ≡ true → nat_lt 0 r.joined ≡ true → r.left ≡ 0 → member_life r ≡ life
 known_life r life same joined stays = grind (arith, nat_tests)

@@ -1,200 +1,102 @@
-ghost use Rattle.std.specs.Prelude.{◌≡◌, ◌==◌, ◌≢◌, ◌<◌, ◌≤◌, [], length, true, IsTrue};
-ghost use Rattle.am_base.specs.Names.{has};
-ghost use Rattle.am_base.specs.Lists.{top_of, told_by, members_of, row_of};
-ghost use Rattle.am_core.specs.Cores.{IsInOrder};
-ghost use Rattle.am_fronts.specs.Reports.{reports_of};
-ghost use Rattle.am_fronts.specs.Refresh.{led, MayLead, LeadsBy, StaysAt, refresh};
-ghost use Rattle.am_model.specs.Node.{report_fits};
-ghost use Rattle.am_model.specs.Sequencing.{is_unknown, ack_row, nack_row, request_row};
-ghost use Rattle.am_model.specs.Handlers.{SequencerDoes};
-ghost use Rattle.am_sequencer.specs.Parts.{Tells, and_accept, and_risen, TellsWithin, Remains, with_report};
+ghost use Rattle.std.specs.Prelude.{◌≡◌, ◌≢◌, ◌<◌, [], true};
+ghost use Rattle.am_base.specs.Limits.{IsNumber};
+ghost use Rattle.am_model.specs.Node.{top, is_sequencer};
+ghost use Rattle.am_model.specs.Sequencing.{ack_row, nack_row, request_row};
+ghost use Rattle.am_model.specs.Ends.{Does};
+ghost use Rattle.am_handlers.specs.Parts.{node_of};
+ghost use Rattle.am_handlers.specs.Finishing.{Done};
+ghost use Rattle.am_sequencer.specs.Pieces.{following};
 
-use crate::letters::{accepted, row, tell_accepted, tell_risen};
 use crate::numbering::requested;
 use crate::serving::asked_again;
 use am_base::body::Body;
 use am_base::image::Report;
 use am_base::name::Name;
 use am_base::outcome::Outcome;
-use am_core::log::Log;
-use am_core::state::Core;
-use am_fronts::fronts::Fronts;
+use am_handlers::asking::{is_unknown, report_fits};
+use am_handlers::finishing::finish_quietly;
+use am_handlers::parts::Parts;
 use am_letter::out_box::OutBox;
 
-/// What the sequencer knows beside its core: what each name has reported.
-#[derive(Drop, Debug)]
-pub struct Sequencer {
-    pub fronts: Fronts,
-}
-
-/// Whether no Join of a name stands in the list.
-fn is_unknown<L: Log>(core: &Core<L>, name: Name) -> bool
-    ensures value { Tells (λ m. is_unknown m name) core.now result }
-    ensures kept { result ≡ ((row_of (told_by core.now.log) name).joined == 0) }
+/// The end of a step whose report is taken, and before which so much was accepted. It tells whether that rose.
+fn follow(parts: &mut Parts, before: u32, out: &mut OutBox) -> Outcome
+    requires { out.old ≡ [] }
+    ensures { Done before (following before (node_of parts.old)) result out.new (node_of parts.new) }
 {
-    row(core, name).joined == 0
+    let _before = parts.accepted();
+    parts.end();
+    parts.tell_accepted(before, false, false, out);
+    let acc = parts.accepted();
+    if before < acc {
+        return Outcome::Accepted { acc };
+    }
+    Outcome::Noted
 }
 
-/// Whether its sender could have made a report of this list.
-fn fits<L: Log>(core: &Core<L>, report: Report) -> bool
-    ensures value { Tells (λ m. report_fits m report) core.now result }
-    ensures stored { IsTrue result → report.stored ≤ top_of core.now.log }
+/// Takes a report of another name. Stranger: no Join of its sender stands in the list. Unfit: it isn't one of this list.
+/// Else Accepted where what is accepted rises, and Noted. The out box must be empty.
+pub fn on_ack(parts: &mut Parts, from: Name, report: Report, out: &mut OutBox) -> Outcome
+    requires other { from ≢ parts.old.core.who }
+    requires empty { out.old ≡ [] }
+    ensures { Does (λ m. ack_row m from report) (node_of parts.old) result out.new (node_of parts.new) }
 {
-    report.taken <= report.stored && report.stored <= core.log.top()
+    let before = parts.accepted();
+    if is_unknown(parts, from) {
+        return finish_quietly(parts, before, Outcome::Stranger, out);
+    }
+    if !report_fits(parts, report) {
+        return finish_quietly(parts, before, Outcome::Unfit, out);
+    }
+    parts.report(from, report);
+    follow(parts, before, out)
 }
 
-impl Sequencer {
-    /// The end of a step that polls nobody and numbers nothing: the refresh, and an Accept where what is accepted rose.
-    fn end<L: Log>(&mut self, core: &mut Core<L>, out: &mut OutBox)
-        requires own { (reports_of self.old.fronts core.old.who).taken ≤ core.old.taken }
-        requires leads { MayLead core.old }
-        requires round { core.old.promise.round ≤ 2000000000 }
-        requires room { length out.old < 24 }
-        ensures value { LeadsBy refresh (led core.old self.old.fronts) (led core.new self.new.fronts) }
-        ensures letters { Tells (and_risen core.old.acc out.old) core.new out.new }
-        ensures own { (reports_of self.new.fronts core.new.who).taken ≡ core.new.taken }
-    {
-        let accepted = accepted(core);
-        self.fronts.refresh(core);
-        tell_risen(core, accepted, out);
+/// Takes a report of another name that asks for what comes next. Stranger: no Join of its sender stands in the list.
+/// Unfit: it isn't one of this list. Behind: what its sender stored is trimmed. Else the entries above that go to it,
+/// eight at most: Served. The out box must be empty.
+pub fn on_nack(parts: &mut Parts, from: Name, report: Report, out: &mut OutBox) -> Outcome
+    requires other { from ≢ parts.old.core.who }
+    requires empty { out.old ≡ [] }
+    ensures { Does (λ m. nack_row m from report) (node_of parts.old) result out.new (node_of parts.new) }
+{
+    let before = parts.accepted();
+    if is_unknown(parts, from) {
+        return finish_quietly(parts, before, Outcome::Stranger, out);
     }
+    if !report_fits(parts, report) {
+        return finish_quietly(parts, before, Outcome::Unfit, out);
+    }
+    parts.take_report(from, report);
+    asked_again(parts, before, from, report.stored, out)
+}
 
-    /// Takes a report of another name, and does what follows from it. It tells how far the list was accepted before.
-    fn take_report<L: Log>(&mut self, core: &mut Core<L>, from: Name, report: Report) -> u32
-        requires own { (reports_of self.old.fronts core.old.who).taken ≤ core.old.taken }
-        requires leads { MayLead core.old }
-        requires other { from ≢ core.old.who }
-        ensures value { LeadsBy refresh (with_report (led core.old self.old.fronts) from report) (led core.new self.new.fronts) }
-        ensures again { StaysAt refresh (with_report (led core.old self.old.fronts) from report) (led core.new self.new.fronts) }
-        ensures accepted { result ≡ core.old.acc }
-        ensures remains { Remains core.old core.new }
-        ensures order { IsInOrder core.new }
-        ensures own { (reports_of self.new.fronts core.new.who).taken ≡ core.new.taken }
-    {
-        let accepted = accepted(core);
-        self.fronts.report(from, report);
-        self.fronts.refresh(core);
-        accepted
+/// Takes a send of another name, with its report; `by_order` where its body was spread. Stranger: no Join of its
+/// sender stands in the list, or it has left. Unfit: the report isn't one of this list. Again: the send is numbered
+/// already. Early: it isn't its sender's next one. Held: there is no room, and the members are polled. Else the send is
+/// Numbered. The out box must be empty, the node the sequencer, and its last number not the greatest.
+pub fn on_request(
+    parts: &mut Parts,
+    from: Name,
+    report: Report,
+    req: u32,
+    body: &Body,
+    by_order: bool,
+    out: &mut OutBox,
+) -> Outcome
+    requires leads { is_sequencer (node_of parts.old) ≡ true }
+    requires other { from ≢ parts.old.core.who }
+    requires number { top (node_of parts.old) < 2000000000 }
+    requires req { IsNumber req }
+    requires empty { out.old ≡ [] }
+    ensures { Does (λ m. request_row m from report req body.now by_order) (node_of parts.old) result out.new (node_of parts.new) }
+{
+    let before = parts.accepted();
+    if is_unknown(parts, from) {
+        return finish_quietly(parts, before, Outcome::Stranger, out);
     }
-
-    /// Tells the other members how far the list is accepted, and asks them for a report. The out box must have room.
-    pub fn poll<L: Log>(&self, core: &Core<L>, out: &mut OutBox)
-        requires room { length out.old < 24 }
-        requires round { core.now.promise.round ≤ 2000000000 }
-        ensures { Tells (and_accept true out.old) core.now out.new }
-    {
-        tell_accepted(core, true, out);
+    if !report_fits(parts, report) {
+        return finish_quietly(parts, before, Outcome::Unfit, out);
     }
-
-    /// Takes a report of another name. Stranger: no Join of its sender stands in the list. Unfit: it isn't one of this list.
-    /// Else Accepted where what is accepted rises, and Noted. The out box must be empty, and the node a member, or gone as
-    /// the last one.
-    pub fn on_ack<L: Log>(
-        &mut self,
-        core: &mut Core<L>,
-        from: Name,
-        report: Report,
-        out: &mut OutBox,
-    ) -> Outcome
-        requires own { (reports_of self.old.fronts core.old.who).taken ≤ core.old.taken }
-        requires leads { MayLead core.old }
-        requires other { from ≢ core.old.who }
-        requires round { core.old.promise.round ≤ 2000000000 }
-        requires empty { out.old ≡ [] }
-        ensures row { SequencerDoes (λ m. ack_row m from report) (led core.old self.old.fronts) result out.new (led core.new self.new.fronts) }
-        ensures own { (reports_of self.new.fronts core.new.who).taken ≡ core.new.taken }
-    {
-        if is_unknown(core, from) {
-            self.end(core, out);
-            return Outcome::Stranger;
-        }
-        if !fits(core, report) {
-            self.end(core, out);
-            return Outcome::Unfit;
-        }
-        let accepted = self.take_report(core, from, report);
-        tell_risen(core, accepted, out);
-        if accepted < core.acc {
-            return Outcome::Accepted { acc: core.acc };
-        }
-        Outcome::Noted
-    }
-
-    /// Takes a report of another name that asks for what comes next. Stranger: no Join of its sender stands in the list.
-    /// Unfit: it isn't one of this list. Behind: what its sender stored is trimmed. Else the entries above that go to it,
-    /// eight at most: Served. It wants what `on_ack` does, and entries that packets can tell.
-    pub fn on_nack<L: Log>(
-        &mut self,
-        core: &mut Core<L>,
-        from: Name,
-        report: Report,
-        out: &mut OutBox,
-    ) -> Outcome
-        requires own { (reports_of self.old.fronts core.old.who).taken ≤ core.old.taken }
-        requires leads { MayLead core.old }
-        requires other { from ≢ core.old.who }
-        requires round { core.old.promise.round ≤ 2000000000 }
-        requires entries { TellsWithin core.old.log }
-        requires empty { out.old ≡ [] }
-        ensures row { SequencerDoes (λ m. nack_row m from report) (led core.old self.old.fronts) result out.new (led core.new self.new.fronts) }
-        ensures own { (reports_of self.new.fronts core.new.who).taken ≡ core.new.taken }
-    {
-        if is_unknown(core, from) {
-            self.end(core, out);
-            return Outcome::Stranger;
-        }
-        if !fits(core, report) {
-            self.end(core, out);
-            return Outcome::Unfit;
-        }
-        let accepted = self.take_report(core, from, report);
-        let outcome = asked_again(core, from, report.stored, out);
-        tell_risen(core, accepted, out);
-        outcome
-    }
-
-    /// Takes a report of another name with a send, which is told by an Order where it was spread. Stranger: no Join of its
-    /// sender stands in the list, or it has left. Unfit: the report isn't one of this list. Again: the send is numbered
-    /// already. Early: it isn't its sender's next one. Held: there is no room, and the members are polled. Else the send is
-    /// Numbered. The out box must be empty, and the node a member.
-    pub fn on_request<L: Log>(
-        &mut self,
-        core: &mut Core<L>,
-        from: Name,
-        report: Report,
-        req: u32,
-        body: &Body,
-        by_order: bool,
-        out: &mut OutBox,
-    ) -> Outcome
-        requires own { (reports_of self.old.fronts core.old.who).taken ≤ core.old.taken }
-        requires member { has (members_of (told_by core.old.log)) core.old.who ≡ true }
-        requires other { from ≢ core.old.who }
-        requires number { top_of core.old.log < 2000000000 }
-        requires round { core.old.promise.round ≤ 2000000000 }
-        requires req { req ≤ 2000000000 }
-        requires empty { out.old ≡ [] }
-        ensures row { SequencerDoes (λ m. request_row m from report req body.now by_order) (led core.old self.old.fronts) result out.new (led core.new self.new.fronts) }
-        ensures own { (reports_of self.new.fronts core.new.who).taken ≡ core.new.taken }
-    {
-        if is_unknown(core, from) {
-            self.end(core, out);
-            return Outcome::Stranger;
-        }
-        if !fits(core, report) {
-            self.end(core, out);
-            return Outcome::Unfit;
-        }
-        let accepted = self.take_report(core, from, report);
-        requested(
-            &mut self.fronts,
-            core,
-            accepted,
-            from,
-            req,
-            body,
-            by_order,
-            out,
-        )
-    }
+    parts.take_report(from, report);
+    requested(parts, before, from, req, body, by_order, out)
 }

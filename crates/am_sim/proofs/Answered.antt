@@ -1,77 +1,66 @@
 -- What a script's text is.
-use Rattle.std.proofs.Common.{◌≡◌, ◌↔◌, ℕ, ◌≤◌, ◌<◌, List, [], ◌∷◌, length, map, Bool, true, false, IsTrue, nat_eq, slice_index_or, Bor, Option, Some, None, append-nil, subst, count_by, ◌∙◌, codes, sym, ap, refl, true≢false, arith}
+use Rattle.std.proofs.Common.{◌≡◌, ◌↔◌, ℕ, ◌≤◌, ◌<◌, List, [], ◌∷◌, ◌++◌, length, map, Bool, true, false, IsTrue, nat_eq, slice_index_or, Bor, Option, Some, None, append-nil, subst, Ok, Err, ◌∙◌, codes, sym, ap, refl, true≢false, arith}
 use Rattle.std.specs.Cmp.Lexicographic.{pointwise, same_text, other_text}
 use Rattle.std.specs.Io.KnownBytes.{Consumes}
 use Rattle.am_io.specs.Outside.{ReadToEnd, GaveAtMost}
+use Rattle.am_base.specs.Founding.{Rules}
+use Rattle.am_group.specs.declared.event.Event.{Event}
+use Rattle.am_model.specs.World.{run}
+use Rattle.am_model.specs.Lawful.{Watch, watch_start, watch, watch_all, watched}
+use Rattle.am_model.specs.Play.{watched_text, text_of}
+use Rattle.am_model.specs.Settle.{settle_events}
+use Rattle.am_model.proofs.Runs.{watched_is_run}
+use Rattle.am_bounded.proofs.Runs.{bounded_holds}
+use Rattle.am_sent.proofs.Runs.{sent_holds}
+use Rattle.am_unballoted.proofs.Holds.{unballoted_holds}
 use Rattle.am_script.specs.declared.script.Script.{Script}
 use Rattle.am_script.specs.declared.script.Script.TheVariants.{Play}
-use Rattle.am_base.specs.Founding.{Rules}
-use Rattle.am_group.specs.declared.event.Act.{Act}
-use Rattle.am_group.specs.declared.event.Act.TheVariants as act
-use Rattle.am_group.specs.declared.event.Event.{Event}
-use Rattle.am_model.specs.World as whole
-use Rattle.am_model.specs.FirstRun as first_run
-use Rattle.am_script.specs.Scripts as scripts
-use Rattle.am_script.specs.Scripts.{IsScriptOf}
-use Rattle.am_script.specs.Limits.{ActWithin, IsWithin, ScriptWithin}
-use Rattle.am_joined.specs.Claims as joined
-use Rattle.am_joined.specs.Claims.{IsOfFirstPath, AllFirst, FewSends}
-use Rattle.am_joined.proofs.Room.{few_sends_are_whole, few_sends_text_is_whole}
-use Rattle.am_scripts.proofs.Scripts.{scripts_hold}
-use Rattle.am_runs.specs.FirstClaims.{FirstHolds}
-use Rattle.am_runs.proofs.FirstRuns.{first_run_holds}
-use Rattle.am_sim.specs.Simulation.{IsPlay, Played, script_text}
+use Rattle.am_script.specs.declared.key.Key.TheVariants as key
+use Rattle.am_script.specs.Scripts.{reading}
+use Rattle.am_script.specs.Limits.{ScriptWithin}
+use Rattle.am_sim.specs.declared.simulate.Unplayed.{Unplayed}
+use Rattle.am_sim.specs.declared.simulate.Unplayed.TheVariants as unplayed
+use Rattle.am_sim.specs.Playing.{done_of, IsRunText}
+use Rattle.am_sim.specs.Simulation.{IsPlay, Played, IsText, IsUnrun, IsUnplayed, script_text}
 
--- what a script may do is what the first path has
-of_first_path : (rules : Rules) (a : Act) → rules.pb_up_to ≡ 256 → ActWithin a → IsOfFirstPath rules a
-of_first_path rules (act.Send body) short h = omega (arith, h)
-of_first_path rules (act.Done req) short h = tt
-of_first_path rules act.Take short h = tt
-of_first_path rules (act.Hear packet) short h = tt
-of_first_path rules _ short h = absurd h
+-- ---- a run that is settled behind its own events
 
-all_first : (rules : Rules) (events : List Event) → IsWithin rules events → AllFirst rules events
-all_first rules events within = λ k d lt. of_first_path rules (slice_index_or events k d).act within.short (within.each k d lt).1
+watched_then : (s : Watch) (xs ys : List Event) → watch_all s (xs ++ ys) ≡ watch_all (watch_all s xs) ys
+unfolding watch_all
+watched_then s [] ys = refl
+watched_then s (x ∷ xs) ys = watched_then (watch s x) xs ys
 
--- and there is room for all that it may send
-sends_alike : (e : Event) (a : Act) → e.act ≡ a → scripts.is_send e ≡ joined.is_send e.act
-sends_alike e (act.Send body) is = rw is refl
-sends_alike e (act.Done req) is = rw is refl
-sends_alike e act.Take is = rw is refl
-sends_alike e act.Join is = rw is refl
-sends_alike e act.State is = rw is refl
-sends_alike e act.Leave is = rw is refl
-sends_alike e (act.Reset least resilience) is = rw is refl
-sends_alike e (act.Ask round) is = rw is refl
-sends_alike e (act.GiveUp name) is = rw is refl
-sends_alike e act.Stop is = rw is refl
-sends_alike e act.Tick is = rw is refl
-sends_alike e (act.Hear packet) is = rw is refl
-sends_alike e (act.Cut packet keep) is = rw is refl
-sends_alike e act.Return is = rw is refl
+-- its text is that of all that was done
+text_is : (rules : Rules) (events : List Event) (settles : Bool) → text_of rules (done_of rules events settles) ≡ script_text rules events settles
+text_is rules events false = refl
+text_is rules events true =
+    let s = watched rules events in
+    let world = watched_is_run rules events in
+    ap (watched_text rules) (watched_then (watch_start rules) events (settle_events rules (run rules events)) ∙ ap (λ w. watch_all s (settle_events rules w)) (sym world))
 
-few_sends : (rules : Rules) (events : List Event) → IsWithin rules events → FewSends rules events
-few_sends rules events within =
-    let same : count_by scripts.is_send events ≡ count_by (λ (e : Event). joined.is_send e.act) events = λ i. count_by (λ (e : Event). sends_alike e e.act refl i) events in
-    let few = within.few_sends in
-    let window = within.window in
-    omega arith
-
--- its run is that of the whole protocol, and keeps what is claimed
-pub played_by : (bytes text : List ℕ) (script : Script) → IsScriptOf bytes script → ScriptWithin script → text ≡ script_text script → Played bytes text
-played_by bytes text (Play founding events settle) is within same =
-    let first = all_first founding events within in
-    let few = few_sends founding events within in
-    let run = few_sends_are_whole founding events within.may_found within.no_resilience first few in
+-- its run keeps what is claimed
+pub played_by : (bytes text : List ℕ) (script : Script) → reading key.Play bytes ≡ Ok script → ScriptWithin script → IsText script text → Played bytes text
+unfolding IsRunText
+played_by bytes text (Play founding events settles) is within same =
+    let may = within.may_found in
+    let done = done_of founding events settles in
     record {
       founding = founding;
       events = events;
-      script = is.0;
-      written = same ∙ sym (few_sends_text_is_whole founding events within.may_found within.no_resilience first few);
-      holds = subst (λ rs. FirstHolds rs (whole.run founding events).group) (sym run.records)
-          (subst (λ es. FirstHolds (first_run.run founding events).records es) (sym run.group) (first_run_holds founding events within.may_found within.no_resilience));
-      claims = scripts_hold founding events within.may_found within.no_resilience first few;
+      settles = settles;
+      script = is;
+      written = same.0 ∙ text_is founding events settles;
+      few = same.1;
+      bounded = bounded_holds founding done may;
+      sent = sent_holds founding done may;
+      unballoted = λ none. unballoted_holds founding done may none;
     }
+
+-- why there is no text
+pub unplayed_by : (bytes : List ℕ) (script : Script) (e : Unplayed) → reading key.Play bytes ≡ Ok script → IsUnrun script e → IsUnplayed bytes e
+unplayed_by bytes (Play founding events settle) (unplayed.BadScript cause) is h = absurd h
+unplayed_by bytes (Play founding events settle) unplayed.Spent is h = (founding, events, settle, is, h)
+unplayed_by bytes (Play founding events settle) unplayed.NoMemory is h = tt
 
 first_of : List (List ℕ) → List ℕ
 first_of [] = []

@@ -1,3 +1,3 @@
-pub mod Lines
-pub mod Logged
 mod Answered
+mod Names
+mod Texts

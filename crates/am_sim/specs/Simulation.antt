@@ -1,15 +1,20 @@
 -- What a call of the program did.
-use Rattle.std.specs.Prelude.{◌≡◌, ℕ, List, [], ◌∷◌, take, codes, Option}
+use Rattle.std.specs.Prelude.{◌≡◌, ℕ, ◌<◌, ◌≤◌, List, [], ◌∷◌, length, take, codes, Option, Ok, Err, Bool, if◌then◌else◌}
 use Rattle.std.specs.Io.KnownBytes.{Appends}
 use Rattle.am_base.specs.Founding.{Rules}
 use Rattle.am_group.specs.declared.event.Event.{Event}
-use Rattle.am_model.specs.FirstPlay.{first_text}
 use Rattle.am_model.specs.World.{run}
-use Rattle.am_model.specs.Play.{text_of}
-use Rattle.am_model.specs.Claims.{HoldsUnballoted}
-use Rattle.am_runs.specs.FirstClaims.{FirstHolds}
-use Rattle.am_script.specs.Scripts.{ValidScript}
+use Rattle.am_model.specs.Play.{text_of, settled_text_of}
+use Rattle.am_model.specs.Claims.{Bounded, Sent, NoBallot, HoldsUnballoted}
+use Rattle.am_script.specs.Scripts.{reading}
+use Rattle.am_script.specs.declared.key.Key.TheVariants as key
 use Rattle.am_script.specs.declared.refusal.ScriptRefusal.{ScriptRefusal}
+use Rattle.am_sim.specs.declared.simulate.Unplayed.{Unplayed}
+use Rattle.am_sim.specs.declared.simulate.Unplayed.TheVariants as unplayed
+use Rattle.am_world.specs.declared.world.WorldRefusal.{WorldRefusal}
+use Rattle.am_world.specs.declared.world.WorldRefusal.TheVariants as refusals
+use Rattle.am_sim.specs.Playing.{done_of, IsRunText, IsLong}
+use Rattle.am_io.specs.Outside.{next}
 use Rattle.am_script.specs.declared.script.Script.{Script}
 use Rattle.am_script.specs.declared.script.Script.TheVariants.{Play}
 use Rattle.am_sim.specs.declared.simulate.Status.{Status}
@@ -19,21 +24,24 @@ use Rattle.am_sim.specs.declared.simulate.Status.TheVariants.{Done, Usage, BadSc
 abbrev pub IsPlay : List (List ℕ) → Type 0
 IsPlay words = words ≡ codes "play" ∷ []
 
--- the text of a script's run, by the definitions of the first path
-abbrev pub script_text : Script → List ℕ
-script_text (Play founding events settle) = first_text founding events
+-- the text of a script's run, which is settled behind its own events where that is asked for
+abbrev pub script_text : Rules → List Event → Bool → List ℕ
+script_text rules events settles = if settles then settled_text_of rules events else text_of rules events
 
--- what was read is a script, what was written is the text of its run by the whole protocol, and that run keeps what is
--- claimed: each node gave out a gapless segment of the one group list, accepted sends stand there once, in their senders'
--- order, and everything there was sent; no node ever kept more than it may; and besides each segment is from 1 on, and what
--- was given out had been asked for before
+-- what was read is a script, what was written is the text of its run, which has at most 100,000 events, and that run keeps
+-- what is claimed of every run: no node ever kept more than it may, and everything in the one group list was sent before it
+-- stood there. Where nobody began a ballot, each node besides gave out a gapless segment of the one group list, and accepted
+-- sends stand there once, in their senders' order
 pub record Played (bytes text : List ℕ) : Type 0 where
   pub founding : Rules
   pub events : List Event
-  pub script : ValidScript bytes founding events
-  pub written : text ≡ text_of founding events
-  pub holds : FirstHolds (run founding events).records (run founding events).group
-  pub claims : HoldsUnballoted founding events
+  pub settles : Bool
+  pub script : reading key.Play bytes ≡ Ok (Play founding events settles)
+  pub written : text ≡ script_text founding events settles
+  pub few : length (done_of founding events settles) ≤ 100000
+  pub bounded : Bounded founding (done_of founding events settles)
+  pub sent : Sent founding (done_of founding events settles)
+  pub unballoted : NoBallot (run founding (done_of founding events settles)) → HoldsUnballoted founding (done_of founding events settles)
 
 -- the statuses that come with writing
 abbrev pub Writes : Status → Type 0
@@ -70,3 +78,41 @@ IfBadScript _ claim = Unit {0}
 -- a beginning of the text was appended
 abbrev pub WrotePart : Option (List ℕ) → Option (List ℕ) → List ℕ → Type 0
 WrotePart before after text = (count : ℕ) × Appends before after (take count text)
+
+-- the bytes are a script of which this holds
+abbrev pub IsScript : List ℕ → (Rules → List Event → Bool → Type 0) → Type 0
+IsScript bytes claim = (founding : Rules) × (events : List Event) × (settle : Bool) × (reading key.Play bytes ≡ Ok (Play founding events settle)) × claim founding events settle
+
+-- a script whose run would have more events than a run may have
+abbrev pub IsSpent : List ℕ → Type 0
+IsSpent bytes = IsScript bytes IsLong
+
+-- the text of what a script's run does
+abbrev pub IsText : Script → List ℕ → Type 0
+IsText (Play founding events settles) text = IsRunText founding events settles text
+
+-- why a script isn't run
+abbrev pub IsUnrun : Script → Unplayed → Type 0
+IsUnrun (Play founding events settles) (unplayed.BadScript cause) = ⊥
+IsUnrun (Play founding events settles) unplayed.Spent = IsLong founding events settles
+IsUnrun (Play founding events settles) unplayed.NoMemory = Unit {0}
+
+-- why bytes have no text
+abbrev pub IsUnplayed : List ℕ → Unplayed → Type 0
+IsUnplayed bytes (unplayed.BadScript cause) = reading key.Play bytes ≡ Err cause
+IsUnplayed bytes unplayed.Spent = IsSpent bytes
+IsUnplayed bytes unplayed.NoMemory = Unit {0}
+
+-- the cause by a world's
+abbrev pub unplayed_for : WorldRefusal → Unplayed
+unplayed_for refusals.NoMemory = unplayed.NoMemory
+unplayed_for refusals.Spent = unplayed.Spent
+
+-- how a call counts the faults of its source and of its sink
+abbrev pub reads_after : Status → ℕ → ℕ
+reads_after ReadFault before = next before
+reads_after _ before = before
+
+abbrev pub writes_after : Status → ℕ → ℕ
+writes_after WriteFault before = next before
+writes_after _ before = before

@@ -1,8 +1,8 @@
 //! The program: runs a script and prints what comes of it.
 #![tactic(auto)]
 
+mod playing;
 pub mod simulate;
-mod text;
 
 use am_io::standard::{StdSink, StdSource};
 use simulate::{Status, simulate};

@@ -1,24 +1,19 @@
-ghost use Rattle.std.specs.Prelude.{◌≡◌, ◌≢◌, ◌↔◌, ℕ, List, map, IfOk, IfErr, string_bytes, IsTrue};
+ghost use Rattle.std.specs.Prelude.{◌≡◌, ◌≢◌, ◌↔◌, ℕ, List, map, Err, IfOk, IfErr, string_bytes, IsTrue};
 ghost use Rattle.std.specs.Io.KnownBytes.{Appends};
-ghost use Rattle.am_io.specs.Outside.{Rises, ReadToEnd, GaveMore, GaveAtMost};
-ghost use Rattle.am_model.specs.FirstPlay.{first_text};
-ghost use Rattle.am_group.specs.declared.event.Event.{Event};
-ghost use Rattle.am_script.specs.Scripts.{NoScript};
-ghost use Rattle.am_script.specs.Causes.{IsCause};
-ghost use Rattle.am_script.specs.Limits.{ScriptWithin, IsWithin};
-ghost use Rattle.am_sim.specs.Simulation.{IsPlay, OnDone, OnWriteFault, IfBadScript, Writes, Played, WrotePart, number_of, script_text};
+ghost use Rattle.am_io.specs.Outside.{ReadToEnd, GaveMore, GaveAtMost};
+ghost use Rattle.am_script.specs.declared.key.Key.TheVariants as key;
+ghost use Rattle.am_script.specs.Scripts.{reading};
+ghost use Rattle.am_sim.specs.declared.simulate.Unplayed.TheVariants as unplayed;
+ghost use Rattle.am_sim.specs.Simulation.{IsPlay, OnDone, OnWriteFault, IfBadScript, Writes, Played, WrotePart, IsSpent, IsText, IsUnrun, IsUnplayed, unplayed_for, reads_after, writes_after, number_of};
 
-use crate::text::play_text;
-use am_base::NoMemory;
-use am_base::founding::Founding;
-use am_group::event::Event;
+use crate::playing::text_of_run;
 use am_io::outside::{Sink, Source};
 use am_io::whole::{ReadRefusal, read_all, write_all};
 use am_script::key::Key;
 use am_script::read::read_script;
 use am_script::refusal::ScriptRefusal;
 use am_script::script::Script;
-use am_world::world::{World, WorldRefusal};
+use am_world::world::WorldRefusal;
 use std::alloc::Global;
 
 /// The most bytes of an input.
@@ -73,8 +68,7 @@ fn is_play(words: &[&str]) -> bool
 }
 
 /// Does what the words ask for. `play` reads a script of at most 16,777,216 bytes to its end, runs it, and writes the text
-/// of its run (docs/PROTOCOL.md, "Play text"); no other words are a form yet. On every status but Done and WriteFault nothing
-/// is written, and on Usage nothing is read.
+/// of its run (docs/PROTOCOL.md, "Play text"); no other words are a form yet. On every status but Done and WriteFault nothing is written, and on Usage nothing is read.
 #[tactic(auto, using(crate::proofs::Answered::gave_none))]
 pub fn simulate<S: Source, K: Sink>(
     alloc: Global,
@@ -84,12 +78,12 @@ pub fn simulate<S: Source, K: Sink>(
 ) -> Status
     ensures usage { (result ≡ Status.Usage) ↔ (IsPlay (map (λ word. word.now) words.now) → ⊥) }
     ensures unread { result ≡ Status.Usage → source.new ≡ source.old }
-    ensures not_spent { result ≢ Status.Spent }
-    ensures read_fault { result ≡ Status.ReadFault → Rises (S.count source.old) (S.count source.new) }
+    ensures reads { S.count source.new ≡ reads_after result (S.count source.old) }
+    ensures writes { K.count sink.new ≡ writes_after result (K.count sink.old) }
     ensures too_long { result ≡ Status.TooLong → GaveMore 16777216 (S.left source.old) (S.left source.new) }
     ensures within { result ≢ Status.TooLong → GaveAtMost 16777216 (S.left source.old) (S.left source.new) }
-    ensures bad_script { IfBadScript result (λ cause. (bytes : List ℕ) × ReadToEnd (S.left source.old) (S.left source.new) bytes × NoScript bytes × IsCause bytes cause) }
-    ensures write_fault { OnWriteFault result (Rises (K.count sink.old) (K.count sink.new)) }
+    ensures bad_script { IfBadScript result (λ cause. (bytes : List ℕ) × ReadToEnd (S.left source.old) (S.left source.new) bytes × (reading key.Play bytes ≡ Err cause)) }
+    ensures spent { result ≡ Status.Spent → (bytes : List ℕ) × ReadToEnd (S.left source.old) (S.left source.new) bytes × IsSpent bytes }
     ensures part { OnWriteFault result ((bytes text : List ℕ) × ReadToEnd (S.left source.old) (S.left source.new) bytes × Played bytes text × WrotePart (K.contents sink.old) (K.contents sink.new) text) }
     ensures done { OnDone result ((bytes text : List ℕ) × ReadToEnd (S.left source.old) (S.left source.new) bytes × Played bytes text × Appends (K.contents sink.old) (K.contents sink.new) text) }
     ensures unwritten { (Writes result → ⊥) → sink.new ≡ sink.old }
@@ -100,30 +94,16 @@ pub fn simulate<S: Source, K: Sink>(
     play(alloc, source, sink)
 }
 
-/// Runs a script's events, and gives the text of their run.
-fn text_of(alloc: Global, founding: &Founding, events: &[Event]) -> Result<String, NoMemory>
-    requires { IsWithin founding.now events.now }
-    ensures { IfOk result (λ text. string_bytes text ≡ first_text founding.now events.now) }
-{
-    let mut world = World::new(alloc, founding)?;
-    for event in events {
-        if world.step(event).is_err() {
-            return Err(NoMemory);
-        }
-    }
-    play_text(alloc, founding, world.journal().records(), world.group())
-}
-
 /// Reads a script to its end, runs it, and writes the text of its run.
 #[tactic(auto, using(crate::proofs::Answered::gave_whole))]
 fn play<S: Source, K: Sink>(alloc: Global, source: &mut S, sink: &mut K) -> Status
     ensures not_usage { result ≢ Status.Usage }
-    ensures not_spent { result ≢ Status.Spent }
-    ensures read_fault { result ≡ Status.ReadFault → Rises (S.count source.old) (S.count source.new) }
+    ensures reads { S.count source.new ≡ reads_after result (S.count source.old) }
+    ensures writes { K.count sink.new ≡ writes_after result (K.count sink.old) }
     ensures too_long { result ≡ Status.TooLong → GaveMore 16777216 (S.left source.old) (S.left source.new) }
     ensures within { result ≢ Status.TooLong → GaveAtMost 16777216 (S.left source.old) (S.left source.new) }
-    ensures bad_script { IfBadScript result (λ cause. (bytes : List ℕ) × ReadToEnd (S.left source.old) (S.left source.new) bytes × NoScript bytes × IsCause bytes cause) }
-    ensures write_fault { OnWriteFault result (Rises (K.count sink.old) (K.count sink.new)) }
+    ensures bad_script { IfBadScript result (λ cause. (bytes : List ℕ) × ReadToEnd (S.left source.old) (S.left source.new) bytes × (reading key.Play bytes ≡ Err cause)) }
+    ensures spent { result ≡ Status.Spent → (bytes : List ℕ) × ReadToEnd (S.left source.old) (S.left source.new) bytes × IsSpent bytes }
     ensures part { OnWriteFault result ((bytes text : List ℕ) × ReadToEnd (S.left source.old) (S.left source.new) bytes × Played bytes text × WrotePart (K.contents sink.old) (K.contents sink.new) text) }
     ensures done { OnDone result ((bytes text : List ℕ) × ReadToEnd (S.left source.old) (S.left source.new) bytes × Played bytes text × Appends (K.contents sink.old) (K.contents sink.new) text) }
     ensures unwritten { (Writes result → ⊥) → sink.new ≡ sink.old }
@@ -136,12 +116,9 @@ fn play<S: Source, K: Sink>(alloc: Global, source: &mut S, sink: &mut K) -> Stat
     };
     let text = match answer(alloc, bytes.as_slice()) {
         Ok(text) => text,
-        Err(cause) => {
-            if cause == ScriptRefusal::NoMemory {
-                return Status::NoMemory;
-            }
-            return Status::BadScript(cause);
-        }
+        Err(Unplayed::BadScript(cause)) => return Status::BadScript(cause),
+        Err(Unplayed::Spent) => return Status::Spent,
+        Err(Unplayed::NoMemory) => return Status::NoMemory,
     };
     match write_all(sink, text.as_bytes()) {
         Ok(()) => Status::Done,
@@ -149,31 +126,59 @@ fn play<S: Source, K: Sink>(alloc: Global, source: &mut S, sink: &mut K) -> Stat
     }
 }
 
-fn text_of_script(alloc: Global, script: &Script) -> Result<String, NoMemory>
-    requires { ScriptWithin script.now }
-    ensures { IfOk result (λ text. string_bytes text ≡ script_text script.now) }
+/// Why there is no text of a script's run.
+#[derive(Clone, Copy)]
+enum Unplayed {
+    BadScript(ScriptRefusal),
+    Spent,
+    NoMemory,
+}
+
+impl From<WorldRefusal> for Unplayed {
+    ghost from_gives = { λ refusal e. e ≡ unplayed_for refusal };
+
+    fn from(refusal: WorldRefusal) -> Unplayed {
+        match refusal {
+            WorldRefusal::NoMemory => Unplayed::NoMemory,
+            WorldRefusal::Spent => Unplayed::Spent,
+        }
+    }
+}
+
+/// The text of a script's run.
+fn text_of_script(alloc: Global, script: &Script) -> Result<String, Unplayed>
+    ensures text { IfOk result (λ text. IsText script.now (string_bytes text)) }
+    ensures unrun { IfErr result (λ e. IsUnrun script.now e) }
 {
     match script {
         Script::Play {
             founding,
             events,
-            ..
-        } => text_of(alloc, founding, events.as_slice()),
+            settle,
+        } => {
+            let text = text_of_run(alloc, founding, events.as_slice(), *settle)?;
+            Ok(text)
+        }
     }
 }
 
 /// The text of the run of a script's bytes.
 #[tactic(auto, using(crate::proofs::Answered::played_by))]
-fn answer(alloc: Global, bytes: &[u8]) -> Result<String, ScriptRefusal>
+fn answer(alloc: Global, bytes: &[u8]) -> Result<String, Unplayed>
     ensures played { IfOk result (λ text. Played bytes.now (string_bytes text)) }
-    ensures refused { IfErr result (λ e. e ≢ ScriptRefusal.NoMemory → NoScript bytes.now) }
-    ensures cause { IfErr result (λ e. e ≢ ScriptRefusal.NoMemory → IsCause bytes.now e) }
+    ensures unplayed { IfErr result (λ e. IsUnplayed bytes.now e) }
 {
-    let script = read_script(alloc, Key::Play, bytes)?;
-    match text_of_script(alloc, &script) {
-        Ok(text) => Ok(text),
-        Err(_) => Err(ScriptRefusal::NoMemory),
-    }
+    let script = match read_script(alloc, Key::Play, bytes) {
+        Ok(script) => script,
+        Err(cause) => {
+            if cause == ScriptRefusal::NoMemory {
+                return Err(Unplayed::NoMemory);
+            }
+            return Err(Unplayed::BadScript(cause));
+        }
+    };
+    let text = text_of_script(alloc, &script)?;
+    Ok(text)
 }
 
 #[cfg(test)]
@@ -184,11 +189,16 @@ mod tests {
 
     const SCRIPT: &str = "{\"play\":{\"founders\":[0,1],\"events\":[]}}";
 
+    const TICK: &str = "{\"play\":{\"founders\":[0],\"events\":[{\"do\":\"tick\",\"node\":0}]}}";
+
+    const TICKED: &str =
+        "1 tick 0 ticked\ngroup 1 view 1.0 0\nlog 0 empty\nlawful\n";
+
     const TEXT: &str = "group 1 view 1.0 0,1\nlog 0 empty\nlog 1 empty\nlawful\n";
 
     /// The words, the input, the reads and the writes that fail, the sink's size, the status and what is written, where a
     /// read gives 16 bytes at most and a write takes 20.
-    const CALLS: [(&[&str], &str, &[u64], &[u64], usize, Status, &str); 9] = [
+    const CALLS: [(&[&str], &str, &[u64], &[u64], usize, Status, &str); 10] = [
         (&["play"], SCRIPT, &[], &[], 52, Status::Done, TEXT),
         (&["play"], SCRIPT, &[2], &[], 52, Status::ReadFault, ""),
         (&["play"], SCRIPT, &[4], &[], 52, Status::ReadFault, ""),
@@ -212,6 +222,7 @@ mod tests {
             "group 1 view 1.0 0,1\nlog 0 empty\nlog 1 e",
         ),
         (&[], SCRIPT, &[], &[], 52, Status::Usage, ""),
+        (&["play"], TICK, &[], &[], 70, Status::Done, TICKED),
         (&["play", "play"], SCRIPT, &[], &[], 52, Status::Usage, ""),
         (
             &["play"],

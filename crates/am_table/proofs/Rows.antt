@@ -15,7 +15,7 @@ use Rattle.am_base.specs.Lists.{blank_row, at_place, members_of, member_life, vi
 use Rattle.am_base.proofs.Places.{by_place_all}
 use Rattle.std.proofs.Math.Seq.{map-set_same}
 use Rattle.am_core.proofs.Folds.{split}
-use Rattle.am_core.specs.Images.{IsRow, IsImage}
+use Rattle.am_base.specs.Limits.{IsNumber, IsStamp, IsRow, IsImage}
 use Rattle.am_table.specs.Tables.{IsTable}
 
 -- a member's life by its place
@@ -32,11 +32,14 @@ members_by_place rows lives long wide each =
     let those = by_place_all (λ k. member_life (slice_index_or rows k blank_row)) (map member_life rows) 0 (length-map rows member_life ∙ long) (λ k h. member_at rows k (omega arith)) in
     all ∙ sym those
 
-pub viewed_row : (first : Bool) (number life : ℕ) (r : Row) → IsRow r → life ≤ 16 → IsRow (viewed first number life r)
-viewed_row first number life r is h = record {
-  within = let a = is.within in grind (arith, nat_tests);
+pub viewed_row : (first : Bool) (number life : ℕ) (r : Row) → IsRow r → life ≤ 16 → IsNumber number → IsRow (viewed first number life r)
+viewed_row first number life r is h n = record {
+  life = let a = is.life in grind (arith, nat_tests);
   unused = let b = is.unused in grind (arith, nat_tests);
   used = let b = is.used in grind (arith, nat_tests);
+  joined = let b = is.joined in grind (arith, nat_tests);
+  left = let b = is.left in grind (arith, nat_tests);
+  last = let b = is.last in grind (arith, nat_tests);
 }
 
 eq_or_not : (a b : ℕ) → (a ≡ b) ⊎ (a ≢ b)
@@ -49,6 +52,9 @@ with_row_image image name r is row = record {
       (λ (e : place ≡ place_of name). let P : Row → Type 0 = IsRow in subst P (sym (let at : place_of name < length image.rows = omega (arith, is.places) in get_or-set_at image.rows (place_of name) place r blank_row e at)) row)
       (λ (n : place ≢ place_of name). let P : Row → Type 0 = IsRow in subst P (sym (get_or-set_other image.rows (place_of name) place r blank_row n)) (is.rows place h))
       (eq_or_not place (place_of name));
+  view = is.view;
+  view_number = is.view_number;
+  resilience = is.resilience;
 }
 
 -- the rows after a View
@@ -56,8 +62,8 @@ pub viewed_image : (image : Image) (first : Bool) (number : ℕ) (stamp : Stamp)
 unfolding after
 viewed_image image first number stamp members resilience rows e long each = rw (← e) (ap (λ l. let i : Image = record { view = stamp; view_number = number; resilience = resilience; rows = l } in i) (sym (by_place_all (λ k. viewed first number (slice_index members k) (slice_index_or image.rows k blank_row)) rows blank_row long each)))
 
-pub viewed_rows : (image : Image) (first : Bool) (number : ℕ) (members : List ℕ) (rows : List Row) → IsImage image → ((k : ℕ) → k < 16 → slice_index members k ≤ 16) → ((k : ℕ) → k < 16 → slice_index_or rows k blank_row ≡ viewed first number (slice_index members k) (slice_index_or image.rows k blank_row)) → (k : ℕ) → k < 16 → IsRow (slice_index_or rows k blank_row)
-viewed_rows image first number members rows is lives each k h = let P : Row → Type 0 = IsRow in subst P (sym (each k h)) (viewed_row first number (slice_index members k) (slice_index_or image.rows k blank_row) (is.rows k h) (lives k h))
+pub viewed_within : (stamp : Stamp) (number resilience : ℕ) (rows : List Row) → IsStamp stamp → IsNumber number → resilience ≤ 15 → length rows ≡ 16 → ((k : ℕ) → k < 16 → IsRow (slice_index_or rows k blank_row)) → IsImage (record { view = stamp; view_number = number; resilience = resilience; rows = rows })
+viewed_within stamp number resilience rows s n r long each = record { places = long; rows = each; view = s; view_number = n; resilience = r }
 
 -- one that isn't within
 pub within_none : (a b : List ℕ) (place : ℕ) → place < 16 → ((slice_index a place == 0) || (slice_index a place == slice_index b place)) ≡ false → false ≡ is_within a b

@@ -1,8 +1,8 @@
 -- What a table keeps.
 use Rattle.std.specs.Prelude.{◌≡◌, ℕ, List}
 use Rattle.am_base.specs.declared.image.Image.{Image}
+use Rattle.am_base.specs.Limits.{IsImage}
 use Rattle.am_base.specs.Lists.{members_of}
-use Rattle.am_core.specs.Images.{IsImage}
 
 -- the image, and beside it its members
 pub record IsTable (image : Image) (members : List ℕ) : Type 0 where

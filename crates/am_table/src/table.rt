@@ -2,7 +2,7 @@ ghost use Rattle.std.specs.Prelude.{map, ◌≡◌, ◌≤◌, ◌<◌, ℕ, sli
 ghost use Rattle.std.specs.List.{list_all};
 ghost use Rattle.am_base.specs.Names.{place_of, has, is_within};
 ghost use Rattle.am_base.specs.Lists.{blank, blank_row, after, fits, members_of, member_life, at_place, row_of, with_row, viewed, is_blank, is_blank_row};
-ghost use Rattle.am_core.specs.Images.{IsImage, IsRow};
+ghost use Rattle.am_base.specs.Limits.{IsNumber, IsStamp, IsRow, IsImage, IsEntry};
 ghost use Rattle.am_base.specs.declared.entry.Entry.TheVariants.{View};
 
 use am_base::entry::Entry;
@@ -72,8 +72,13 @@ fn members_of(rows: &[Row; 16]) -> Names
     Names::of_lives(lives)
 }
 
+#[tactic(auto, using(crate::proofs::Rows::viewed_row))]
 fn viewed(first: bool, number: u32, life: u8, row: &Row) -> Row
-    ensures { result ≡ viewed first number life row.now }
+    requires number { IsNumber number }
+    requires life { life ≤ 16 }
+    requires row { IsRow row.now }
+    ensures value { result ≡ viewed first number life row.now }
+    ensures within { IsRow result }
 {
     if first {
         if life == 0 {
@@ -102,7 +107,7 @@ impl Table {
     /// What the empty list tells.
     pub fn blank() -> Table
         ensures value { result ≡ blank }
-        ensures rows { IsImage result }
+        ensures within { IsImage result }
     {
         Table {
             image: Image {
@@ -132,7 +137,7 @@ impl Table {
     /// What the list tells as an image.
     pub fn image(&self) -> Image
         ensures value { result ≡ self.now }
-        ensures rows { IsImage result }
+        ensures within { IsImage result }
     {
         self.image
     }
@@ -140,14 +145,15 @@ impl Table {
     /// The row of a name's place.
     pub fn at_place(&self, name: Name) -> Row
         ensures value { result ≡ at_place self.now name }
-        ensures row { IsRow result }
+        ensures within { IsRow result }
     {
         self.image.rows[usize::from(name.place())]
     }
 
     /// The row of a name's place where its life is the name's, and else all zeros.
     pub fn row(&self, name: Name) -> Row
-        ensures { result ≡ row_of self.now name }
+        ensures value { result ≡ row_of self.now name }
+        ensures within { IsRow result }
     {
         let row = self.at_place(name);
         if row.life == name.life() {
@@ -158,21 +164,24 @@ impl Table {
 
     /// The stamp of the last View, round 0 and name 0 where there is none.
     pub fn view(&self) -> Stamp
-        ensures { result ≡ self.now.view }
+        ensures value { result ≡ self.now.view }
+        ensures within { IsStamp result }
     {
         self.image.view
     }
 
     /// The number of the last View, 0 where there is none.
     pub fn view_number(&self) -> u32
-        ensures { result ≡ self.now.view_number }
+        ensures value { result ≡ self.now.view_number }
+        ensures within { IsNumber result }
     {
         self.image.view_number
     }
 
     /// The resilience of the last View, 0 where there is none.
     pub fn resilience(&self) -> u8
-        ensures { result ≡ self.now.resilience }
+        ensures value { result ≡ self.now.resilience }
+        ensures within { result ≤ 15 }
     {
         self.image.resilience
     }
@@ -257,7 +266,7 @@ impl Table {
         requires row { IsRow row }
         requires members { members ≡ slice_set (members_of self.old) (place_of name) (member_life row) }
         ensures value { self.new ≡ with_row self.old name row }
-        ensures rows { IsImage self.new }
+        ensures within { IsImage self.new }
     {
         self.image.rows[usize::from(name.place())] = row;
         self.members = members;
@@ -266,9 +275,10 @@ impl Table {
     /// Adds an entry, which has this number.
     #[tactic(auto, using(crate::proofs::Rows::row_laws), unfolding(am_base::specs::Lists::after))]
     pub fn apply(&mut self, number: u32, entry: &Entry)
-        requires number { (1 ≤ number) × (number ≤ 2000000000) }
+        requires number { (1 ≤ number) × IsNumber number }
+        requires entry { IsEntry entry.now }
         ensures value { self.new ≡ after self.old number entry.now }
-        ensures rows { IsImage self.new }
+        ensures within { IsImage self.new }
     {
         let _rows = &self.image.rows;
         match entry {
@@ -312,8 +322,11 @@ impl Table {
 
     #[tactic(auto, unfolding(am_base::specs::Lists::after))]
     fn begin_view(&mut self, number: u32, stamp: Stamp, members: Names, resilience: u8)
+        requires number { IsNumber number }
+        requires stamp { IsStamp stamp }
+        requires resilience { resilience ≤ 15 }
         ensures value { self.new ≡ after self.old number (View stamp members resilience) }
-        ensures rows { IsImage self.new }
+        ensures within { IsImage self.new }
     {
         let first = self.is_blank();
         let mut rows = self.image.rows;

@@ -1,17 +1,26 @@
--- How the group list grows.
-use Rattle.std.proofs.Common.{◌≡◌, List, ◌++◌, length, take, drop, true, false, refl}
+-- How the group list grows, entry by entry.
+use Rattle.std.proofs.Common.{◌≡◌, ℕ, ◌+◌, ◌-◌, ◌≤◌, max, List, [], ◌∷◌, ◌++◌, length, take, drop, Some, slice_get, ap, ◌∙◌, arith}
+use Rattle.std.proofs.lemmas.List.{take_more}
+use Rattle.std.proofs.lemmas.Option.{slice_get_within, get_or_from_slice_get}
 use Rattle.am_base.specs.declared.entry.Entry.{Entry}
-use Rattle.am_model.specs.FirstNode.{Node, is_sequencer}
-use Rattle.am_model.specs.FirstRun.{grown}
+use Rattle.am_base.specs.Lists.{Log, entry_at}
+use Rattle.am_core.proofs.Folds.{slice_get-drop}
+use Rattle.am_core.proofs.Ends.{entry-get}
 
--- at another node it stays
-pub grown_other : (group : List Entry) (m : Node) → is_sequencer m ≡ false → grown group m ≡ group
-unfolding grown
-grown_other group m h = rw h refl
+-- what a list has above a number, up to another
+abbrev pub between : Log → ℕ → ℕ → List Entry
+between log had to = take (to - had) (drop (had - log.start) log.entries)
 
--- from the sequencer it gets what it knows besides
-pub grown_more : (group : List Entry) (m : Node) → is_sequencer m ≡ true → grown group m ≡ group ++ drop (length group) (take m.acc m.log)
-unfolding grown
-grown_more group m h = rw h refl
+pub next_between : (log : Log) (had before : ℕ) (e : Entry) → log.start ≤ had → had ≤ before → entry_at log (before + 1) ≡ Some e → between log had (before + 1) ≡ between log had before ++ e ∷ []
+next_between log had before e low up is =
+    let xs = drop (had - log.start) log.entries in
+    let i = before - had in
+    let at : (had - log.start) + i ≡ before - log.start = omega arith in
+    let get : slice_get xs i ≡ Some e = slice_get-drop (had - log.start) i log.entries ∙ ap (slice_get log.entries) at ∙ entry-get log before e (omega arith) is in
+    let up_one : before + 1 - had ≡ i + 1 = omega arith in
+    ap (λ k. take k xs) up_one ∙ take_more xs i e (slice_get_within xs i e get) ∙ ap (λ x. take i xs ++ x ∷ []) (get_or_from_slice_get xs i e e get)
 
-pub ruleset grows = (grown_other, grown_more)
+pub all_between : (log : Log) (group : List Entry) (had before acc : ℕ) → acc ≤ before → before ≤ max had acc → had ≡ length group → between log had before ≡ between log (length group) acc
+all_between log group had before acc least most long =
+    let at : before - had ≡ acc - length group = omega arith in
+    ap (λ k. take k (drop (had - log.start) log.entries)) at ∙ ap (λ k. take (acc - length group) (drop (k - log.start) log.entries)) long

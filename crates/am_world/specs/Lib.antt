@@ -1,3 +1,4 @@
 pub mod Runs
-pub mod Plans
+pub mod Asked
 pub mod Moves
+pub mod Watched

@@ -1,14 +1,16 @@
 -- Which run of a group a world is.
-use Rattle.std.specs.Prelude.{◌≡◌, ℕ, ◌≤◌, List, [], ◌∷◌, ◌++◌, length, map, Some, slice_get}
+use Rattle.std.specs.Prelude.{◌≡◌, ℕ, ◌+◌, ◌<◌, ◌≤◌, List, [], ◌∷◌, ◌++◌, length, map, Some, Bool, false, slice_get, slice_index, slice_index_or}
 use Rattle.am_base.specs.declared.entry.Entry.{Entry}
 use Rattle.am_base.specs.declared.outcome.Outcome.{Outcome}
-use Rattle.am_base.specs.Founding.{Rules}
+use Rattle.am_base.specs.Founding.{Rules, MayFound}
 use Rattle.am_packet.specs.Boxes.{Letter}
+use Rattle.am_core.specs.Cores.{IsInOrder}
 use Rattle.am_group.specs.declared.event.Event.{Event}
 use Rattle.am_group.specs.declared.event.Record.{Record}
 use Rattle.am_group.specs.Journals.{letters_of}
-use Rattle.am_model.specs.FirstRun as model
-use Rattle.am_model.specs.FirstRun.{run, record_of}
+use Rattle.am_model.specs.World as model
+use Rattle.am_model.specs.World.{run, record_of, current, is_stopped, no_caller}
+use Rattle.am_model.specs.Ends.{IsEndOf}
 use Rattle.am_node.specs.declared.node.Node.{Node}
 use Rattle.am_node.specs.Stands.{state_of}
 
@@ -24,28 +26,50 @@ replay p = run p.rules p.events
 abbrev pub after : Play → Event → Play
 after p event = record p { events = p.events ++ event ∷ [] }
 
--- these are the sixteen nodes of the run
+-- of each place the node of its current life
 pub record AreNodes (nodes : List Node) (w : model.World) : Type 0 where
   pub count : length nodes ≡ 16
-  pub each : (i : ℕ) (n : Node) → slice_get nodes i ≡ Some n → state_of n ≡ w.nodes i
+  pub each : (i : ℕ) (n : Node) → slice_get nodes i ≡ Some n → IsEndOf (w.nodes (current w i)) (state_of n) × IsInOrder (state_of n).core
 
 -- these are the first of them
 pub record AreFirst (many : ℕ) (nodes : List Node) (w : model.World) : Type 0 where
   pub count : length nodes ≡ many
-  pub each : (i : ℕ) (n : Node) → slice_get nodes i ≡ Some n → state_of n ≡ w.nodes i
+  pub each : (i : ℕ) (n : Node) → slice_get nodes i ≡ Some n → IsEndOf (w.nodes (current w i)) (state_of n) × IsInOrder (state_of n).core
 
--- the nodes, the records with their letters, and the group list are those of the run
-pub record IsRun (p : Play) (nodes : List Node) (records : List Record) (group : List Entry) : Type 0 where
+-- the life of each place
+pub record AreLives (lives : List ℕ) (w : model.World) : Type 0 where
+  pub count : length lives ≡ 16
+  pub each : (place : ℕ) → place < 16 → slice_index lives place ≡ w.lives place
+  pub within : (place : ℕ) → place < 16 → (0 < w.lives place) × (w.lives place ≤ 16)
+
+-- who has stopped
+pub record AreFlags (flags : List Bool) (w : model.World) : Type 0 where
+  pub count : length flags ≡ 256
+  pub each : (name : ℕ) → slice_index_or flags name false ≡ is_stopped w name
+
+-- the nodes, the lives, who has stopped, the records with their letters, and the group list are those of the run
+pub record Shows (w : model.World) (nodes : List Node) (lives : List ℕ) (flags : List Bool) (records : List Record) (group : List Entry) : Type 0 where
+  pub standing : AreNodes nodes w
+  pub living : AreLives lives w
+  pub stopped : AreFlags flags w
+  pub recorded : records ≡ w.records
+  pub sent : letters_of records ≡ w.letters
+  pub agreed : group ≡ w.group
+
+pub record IsRun (p : Play) (nodes : List Node) (lives : List ℕ) (flags : List Bool) (records : List Record) (group : List Entry) : Type 0 where
+  pub founded : MayFound p.rules
   pub few : length p.events ≤ 100000
-  pub standing : AreNodes nodes (replay p)
-  pub recorded : records ≡ (replay p).records
-  pub sent : letters_of records ≡ (replay p).letters
-  pub agreed : group ≡ (replay p).group
+  pub short : length group ≤ 1 + length p.events
+  pub shows : Shows (replay p) nodes lives flags records group
 
 -- what the records were made by
 abbrev pub play_of : Rules → List Record → Play
 play_of rules records = record { rules = rules; events = map (λ r. r.event) records }
 
+-- a record without a caller
+abbrev pub the_record : Event → ℕ → Outcome → List Letter → Record
+the_record e life outcome letters = record { event = e; life = life; by = no_caller; outcome = outcome; packets = letters }
+
 -- the event's record has this outcome
 abbrev pub Answers : Play → Event → Outcome → Type 0
-Answers p event outcome = (letters : List Letter) × ((replay (after p event)).records ≡ (replay p).records ++ record_of event outcome letters ∷ [])
+Answers p event outcome = (letters : List Letter) × ((replay (after p event)).records ≡ (replay p).records ++ record_of (replay p) event outcome letters ∷ [])

@@ -1,5 +1,10 @@
-//! A whole group: its nodes, every packet that was sent, and the one group list.
+//! A whole group: the nodes of sixteen places, every packet that was sent, and the one group list.
 #![tactic(auto)]
 
-pub mod plan;
+pub mod asked;
+pub mod nodes;
+pub mod run;
+#[cfg(test)]
+mod tests;
+mod watching;
 pub mod world;

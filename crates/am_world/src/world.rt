@@ -1,166 +1,24 @@
-ghost use Rattle.std.specs.Prelude.{◌≡◌, ◌+◌, ◌-◌, ◌<◌, ◌≤◌, ◌++◌, ◌↔◌, [], length, max, Some, slice_get, vec_len, vec_capacity, OnOk, OnErr, IfOk};
-ghost use Rattle.am_base.specs.declared.outcome.Outcome.{Outcome};
-ghost use Rattle.am_model.specs.FirstNode.{top, first_view};
-ghost use Rattle.am_model.specs.FirstRun.{grown, record_of, start};
-ghost use Rattle.am_node.specs.declared.node.Node.{Node};
-ghost use Rattle.am_node.specs.Stands.{state_of, Makes, HasSpare};
-ghost use Rattle.am_world.specs.Plans.{deed_step};
-ghost use Rattle.am_world.specs.Runs.{AreNodes};
-ghost use Rattle.am_world.specs.Moves.{StepsAt, IsReady, IsReadyAt, SameNodes, HasGroupRoom};
+ghost use Rattle.std.specs.Prelude.{◌≡◌, ◌+◌, ◌≤◌, [], length, IfOk};
+ghost use Rattle.am_world.specs.Watched.{stops_by};
+ghost use Rattle.am_base.specs.Names.{place_of};
 
-use crate::plan::{Deed, Plan, place_name, plan_of};
+use crate::run::Run;
+use crate::watching::{has_log, note_step};
 use am_base::NoMemory;
 use am_base::entry::Entry;
 use am_base::event::NodeEvent;
 use am_base::founding::Founding;
-use am_base::items::Items;
-use am_base::name::{Name, Stamp};
+use am_base::name::Name;
 use am_base::outcome::Outcome;
-use am_group::event::{By, Event, Part, Record};
+use am_group::event::Event;
 use am_group::journal::Journal;
-use am_letter::letter::Letter;
-use am_letter::out_box::OutBox;
 use am_node::node::Node;
+use am_watch::watcher::Watcher;
 use std::alloc::Global;
 use std::marker::Model;
 
-fn copy_letters(letters: &[Letter], into: &mut Vec<Letter>)
-    requires { vec_len into.old + length letters.now ≤ vec_capacity into.old }
-    ensures { into.new.items ≡ into.old.items ++ letters.now }
-{
-    for letter in letters {
-        into.push_reserved(letter.copied());
-    }
-}
-
-fn copy_entries(entries: &[Entry], into: &mut Vec<Entry>)
-    requires { vec_len into.old + length entries.now ≤ vec_capacity into.old }
-    ensures { into.new.items ≡ into.old.items ++ entries.now }
-{
-    for entry in entries {
-        into.push_reserved(entry.copied());
-    }
-}
-
-/// The group list after a step of this node.
-#[tactic(auto, using(crate::proofs::Grown::grows))]
-fn grow(group: &mut Vec<Entry>, node: &Node)
-    requires { max (top (state_of node.now)) (vec_len group.old) ≤ vec_capacity group.old }
-    ensures { group.new.items ≡ grown group.old.items (state_of node.now) }
-{
-    if node.is_sequencer() {
-        copy_entries(node.accepted_above(group.len()), group);
-    }
-}
-
-/// A node does a step.
-fn do_deed(node: &mut Node, deed: &Deed, out: &mut OutBox) -> Outcome
-    requires ready { IsReady node.old }
-    requires empty { out.old ≡ [] }
-    ensures { Makes (λ k. deed_step k deed.now) node.old result out.new node.new }
-{
-    match deed {
-        Deed::Asked(what) => node.step(what, out),
-        Deed::Heard(letter) => node.step(&NodeEvent::Hear(letter.bytes().copied()), out),
-    }
-}
-
-/// A node does a step, and the group list grows by it.
-fn step_node(node: &mut Node, deed: &Deed, group: &mut Vec<Entry>, out: &mut OutBox) -> Outcome
-    requires ready { IsReady node.old }
-    requires room { HasGroupRoom (vec_len group.old) (vec_capacity group.old) node.old }
-    requires empty { out.old ≡ [] }
-    ensures step { Makes (λ k. deed_step k deed.now) node.old result out.new node.new }
-    ensures group { group.new.items ≡ grown group.old.items (state_of node.new) }
-{
-    let outcome = do_deed(node, deed, out);
-    grow(group, node);
-    outcome
-}
-
-/// The place's node does a step, and the group list grows by it.
-fn step_at(
-    nodes: &mut [Node],
-    place: Name,
-    deed: &Deed,
-    group: &mut Vec<Entry>,
-    out: &mut OutBox,
-) -> Outcome
-    requires place { place < length nodes.old }
-    requires ready { IsReadyAt nodes.old place (vec_len group.old) (vec_capacity group.old) }
-    requires empty { out.old ≡ [] }
-    ensures { StepsAt nodes.old nodes.new group.old.items group.new.items place deed.now result out.new }
-{
-    step_node(&mut nodes[usize::from(place.get())], deed, group, out)
-}
-
-/// Makes room for a step of a node; how long the group list may be after it.
-fn room_of_node(node: &mut Node) -> Result<usize, NoMemory>
-    ensures state { state_of node.new ≡ state_of node.old }
-    ensures spare { IfOk result (λ most. HasSpare node.new × (most ≡ top (state_of node.new) + 1)) }
-{
-    node.make_room()?;
-    Ok(node.stored() as usize + 1)
-}
-
-fn room_of_group(group: &mut Vec<Entry>, most: usize) -> Result<(), NoMemory>
-    ensures items { group.new.items ≡ group.old.items }
-    ensures stored { vec_len group.new ≡ vec_len group.old }
-    ensures room { OnOk result (max most (vec_len group.new) ≤ vec_capacity group.new) }
-{
-    if group.len() < most {
-        group.reserve(most - group.len())?;
-    }
-    Ok(())
-}
-
-/// Makes room for a step of the place's node.
-fn make_room(nodes: &mut [Node], place: Name, group: &mut Vec<Entry>) -> Result<(), NoMemory>
-    requires place { place < length nodes.old }
-    ensures nodes { SameNodes nodes.old nodes.new }
-    ensures group { group.new.items ≡ group.old.items }
-    ensures spare { OnOk result ((n : Node) → slice_get nodes.new place ≡ Some n → HasSpare n × HasGroupRoom (vec_len group.new) (vec_capacity group.new) n) }
-{
-    let most = room_of_node(&mut nodes[usize::from(place.get())])?;
-    room_of_group(group, most)?;
-    Ok(())
-}
-
-/// The sixteen nodes of a group to which nothing has happened.
-#[tactic(auto, using(crate::proofs::Goes::begins))]
-fn sixteen(alloc: Global, founding: &Founding) -> Result<Vec<Node>, NoMemory>
-    ensures { IfOk result (λ v. AreNodes v.items (start founding.now)) }
-{
-    let mut nodes = Vec::with_capacity(alloc, 16)?;
-    for place in 0..16u8 {
-        let node = first_node(alloc, Name::of_byte(place), founding)?;
-        nodes.push(node)?;
-    }
-    Ok(nodes)
-}
-
-fn first_node(alloc: Global, name: Name, founding: &Founding) -> Result<Node, NoMemory>
-    ensures { IfOk result (λ n. state_of n ≡ (start founding.now).nodes name) }
-{
-    if founding.founders().has(name) {
-        return Node::founder(alloc, name, founding);
-    }
-    Node::stranger(alloc, name, founding)
-}
-
-/// The founders' view, entry 1.
-fn first_view(founding: &Founding) -> Entry
-    ensures { result ≡ first_view founding.now }
-{
-    Entry::View {
-        stamp: Stamp {
-            round: 1,
-            by: founding.founders().lowest().unwrap_or(Name::of_byte(0)),
-        },
-        members: founding.founders(),
-        resilience: founding.resilience(),
-    }
-}
+/// How many events a run has at most.
+pub const MOST_EVENTS: usize = 100_000;
 
 /// Why a world doesn't do an event.
 #[derive(Clone, Copy, PartialEq, Eq, Debug)]
@@ -181,62 +39,58 @@ impl From<NoMemory> for WorldRefusal {
     }
 }
 
-fn new_record(event: &Event, outcome: &Outcome, packets: Vec<Letter>) -> Record
-    ensures { result ≡ record_of event.now outcome.now packets.items }
+/// Whether a name that has or hasn't stopped stops by an answer: by its own event, or because its place returns.
+fn stops_by(has_stopped: bool, outcome: &Outcome) -> bool
+    ensures { result ≡ stops_by has_stopped outcome.now }
 {
-    Record {
-        event: event.copied(),
-        life: 1,
-        by: By {
-            caller: 0,
-            call: 0,
-            part: Part::Call,
-        },
-        outcome: outcome.copied(),
-        packets: Items::of(packets),
+    match outcome {
+        Outcome::Stopped => true,
+        Outcome::Returned { .. } => !has_stopped,
+        _ => false,
     }
 }
 
-/// A whole group from its founding on: sixteen places, all packets that were sent, and the one group list. Contracts see
-/// it as its founding and the events that were done: all else is that of their run (docs/PROTOCOL.md, "Runs").
+/// A whole group from its founding on: sixteen places with the node of each one's current life, all packets that were
+/// sent, the one group list, and whether the run is lawful. Contracts see it as its founding and the events that were
+/// done: all else is that of their run (docs/PROTOCOL.md, "Runs").
 #[derive(Drop)]
 pub struct World {
-    alloc: Global,
-    nodes: Vec<Node>,
-    journal: Journal,
-    group: Vec<Entry>,
-    out: OutBox,
+    run: Run,
+    watcher: Watcher,
 }
 
 impl Model for World {
-    ghost use Rattle.am_world.specs.Runs.{Play, play_of, IsRun};
+    ghost use Rattle.am_watch.specs.Watchers.{watching_of};
+    ghost use Rattle.am_world.specs.Runs.{Play};
+    ghost use Rattle.am_world.specs.Watched.{IsWatched};
 
     ghost Value = { Play };
 
-    ghost view = { λ w. play_of w.journal.founding w.journal.records };
+    ghost view = { λ w. w.run };
 
-    ghost invariant = { λ w. IsRun (play_of w.journal.founding w.journal.records) w.nodes.items w.journal.records w.group.items };
+    ghost invariant = { λ w. IsWatched w.run (watching_of w.watcher) };
 }
 
 impl World {
-    ghost use Rattle.std.specs.Prelude.{Err};
+    ghost use Rattle.std.specs.Prelude.{◌<◌, ◌↔◌, OnOk, OnErr, Err, Ok};
+    ghost use Rattle.am_group.specs.Journals.{letters_of};
+    ghost use Rattle.am_model.specs.World.{current, is_stopped, happens};
+    ghost use Rattle.am_model.specs.Group.{has_log};
+    ghost use Rattle.am_model.specs.Lawful.{broken_at};
+    ghost use Rattle.am_model.specs.Ends.{IsEndOf};
+    ghost use Rattle.am_node.specs.Stands.{state_of};
     ghost use Rattle.am_world.specs.Runs.{after, Answers, replay};
+    ghost use Rattle.am_world.specs.Asked.{answered, comes, IsNextLife};
 
-    /// The group of a founding, to which nothing has happened. Its resilience is 0: no other is built yet.
-    #[tactic(auto, using(crate::proofs::Goes::begins))]
+    /// The group of a founding, to which nothing has happened.
     pub fn new(alloc: Global, founding: &Founding) -> Result<World, NoMemory>
-        requires { founding.now.resilience ≡ 0 }
         ensures { IfOk result (λ w. w ≡ record { rules = founding.now; events = [] }) }
     {
-        let nodes = sixteen(alloc, founding)?;
-        let mut group = Vec::new(alloc);
-        group.push(first_view(founding))?;
+        let run = Run::new(alloc, founding)?;
+        let _founders = founding.founders();
         Ok(World {
-            alloc,
-            nodes,
-            journal: Journal::new(alloc, founding),
-            group,
-            out: OutBox::new(),
+            run,
+            watcher: Watcher::new(alloc, founding),
         })
     }
 
@@ -244,8 +98,9 @@ impl World {
     pub fn journal(&self) -> &Journal
         ensures founding { result.now.founding ≡ self.now.rules }
         ensures records { result.now.records ≡ (replay self.now).records }
+        ensures letters { letters_of result.now.records ≡ (replay self.now).letters }
     {
-        &self.journal
+        self.run.journal()
     }
 
     /// The group list.
@@ -253,7 +108,86 @@ impl World {
         ensures value { result.now ≡ (replay self.now).group }
         ensures few { length result.now ≤ 1 + length self.now.events }
     {
-        self.group.as_slice()
+        self.run.group()
+    }
+
+    /// The current name of a place.
+    pub fn name_at(&self, place: Name) -> Name
+        ensures { result ≡ current (replay self.now) (place_of place) }
+    {
+        self.run.name_at(place)
+    }
+
+    /// Whether a name has stopped, by a Stop or because its place has a greater life.
+    pub fn is_stopped(&self, name: Name) -> bool
+        ensures { result ≡ is_stopped (replay self.now) name }
+    {
+        self.run.is_stopped(name)
+    }
+
+    /// The node of a place's current name. It keeps the end of its list.
+    pub fn node(&self, place: Name) -> &Node
+        ensures { IsEndOf ((replay self.now).nodes (current (replay self.now) (place_of place))) (state_of result.now) }
+    {
+        self.run.node(place)
+    }
+
+    /// Whether a name has or had a list: it is a member, or has left.
+    pub fn has_log(&self, name: Name) -> bool
+        ensures { result ≡ has_log ((replay self.now).nodes name).status }
+    {
+        has_log(self.watcher.standing(name).status)
+    }
+
+    /// The number of the first event after which the run wasn't lawful; None exactly as long as it is.
+    pub fn broken(&self) -> Option<u32>
+        ensures { result ≡ broken_at self.now.rules self.now.events }
+    {
+        self.watcher.broken()
+    }
+
+    /// An event that is no step of a node: a name has stopped, or nothing changed that is watched.
+    fn answer(&mut self, event: &Event, name: Name, outcome: Outcome) -> Result<Outcome, NoMemory>
+        requires few { length self.old.events < 100000 }
+        requires name { name ≡ current (replay self.old) (place_of event.now.node) }
+        requires next { IsNextLife name outcome }
+        requires comes { happens (replay self.old) event.now ≡ answered (replay self.old) event.now outcome }
+        ensures ok { OnOk result (self.new ≡ after self.old event.now) }
+        ensures outcome { IfOk result (λ o. Answers self.old event.now o) }
+        ensures err { OnErr result (self.new ≡ self.old) }
+    {
+        self.watcher.reserve()?;
+        let stops = stops_by(self.run.is_stopped(name), &outcome);
+        let outcome = self.run.answer(event, name, outcome)?;
+        if stops {
+            self.watcher.stop(name);
+        } else {
+            self.watcher.pass();
+        }
+        Ok(outcome)
+    }
+
+    /// A name's node does a step.
+    fn act(&mut self, event: &Event, name: Name, what: &NodeEvent) -> Result<Outcome, NoMemory>
+        requires few { length self.old.events < 100000 }
+        requires name { name ≡ current (replay self.old) (place_of event.now.node) }
+        requires comes { happens (replay self.old) event.now ≡ comes (replay self.old) event.now (Ok what.now) }
+        ensures ok { OnOk result (self.new ≡ after self.old event.now) }
+        ensures outcome { IfOk result (λ o. Answers self.old event.now o) }
+        ensures err { OnErr result (self.new ≡ self.old) }
+    {
+        self.watcher.reserve()?;
+        let known = self.run.group().len();
+        let outcome = self.run.act(event, name, what)?;
+        note_step(
+            &mut self.watcher,
+            name,
+            self.run.node(event.node),
+            what,
+            self.run.group(),
+            known,
+        );
+        Ok(outcome)
     }
 
     /// Does an event. After a refusal all is as it was. It is Spent exactly where 100,000 events were done.
@@ -263,33 +197,13 @@ impl World {
         ensures spent { (result ≡ Err WorldRefusal.Spent) ↔ (length self.old.events ≡ 100000) }
         ensures err { OnErr result (self.new ≡ self.old) }
     {
-        if self.journal.records().len() == 100000 {
+        if self.run.events() == MOST_EVENTS {
             return Err(WorldRefusal::Spent);
         }
-        self.journal.reserve()?;
-        let mut packets = Vec::with_capacity(self.alloc, 24)?;
-        let place = place_name(event.node);
-        match plan_of(&self.journal, event) {
-            Plan::Refuses(outcome) => {
-                self.journal
-                    .push(new_record(event, &outcome, Vec::new(self.alloc)));
-                Ok(outcome)
-            }
-            Plan::Does(deed) => {
-                make_room(&mut self.nodes, place, &mut self.group)?;
-                self.out.clear();
-                let outcome = step_at(
-                    &mut self.nodes,
-                    place,
-                    &deed,
-                    &mut self.group,
-                    &mut self.out,
-                );
-                copy_letters(self.out.letters(), &mut packets);
-                packets.shrink_to_fit();
-                self.journal.push(new_record(event, &outcome, packets));
-                Ok(outcome)
-            }
+        let name = self.run.name_at(event.node);
+        match self.run.asked(event) {
+            Ok(what) => Ok(self.act(event, name, &what)?),
+            Err(outcome) => Ok(self.answer(event, name, outcome)?),
         }
     }
 }

@@ -1,4 +1,4 @@
-use Rattle.std.proofs.Common.{arith}
+use Rattle.std.proofs.Common.{arith, ◌∙◌}
 use Rattle.am_io.proofs.Bytes.{appends_more}
 use Rattle.am_io.proofs.whole.write_all.Goals as goal
 
@@ -6,5 +6,5 @@ pub loop-written-preserved : goal.loop-written-preserved
 loop-written-preserved g c = record {
   within = omega (arith, c.in-Took.ensures.some);
   appended = appends_more _ _ _ _ _ _ c.loop-written.invariant.appended c.in-Took.ensures.took;
-  counts = omega (arith, c.write.ensures.counts);
+  counts = c.in-Took.ensures.counts ∙ c.loop-written.invariant.counts;
 }

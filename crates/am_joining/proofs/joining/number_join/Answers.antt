@@ -1,44 +1,53 @@
-use Rattle.std.proofs.Common.{refl, ap, ◌∙◌, ◌+◌, subst, ℕ}
-use Rattle.am_base.specs.declared.image.Report.{Report}
+use Rattle.std.proofs.Common.{◌≡◌, ◌+◌, List, ℕ, true, false, refl, sym, ap, ◌∙◌, [], subst}
+use Rattle.am_base.specs.declared.image.Image.{Image}
+use Rattle.am_base.specs.declared.entry.Entry.{Entry}
+use Rattle.am_base.specs.declared.entry.Entry.TheVariants.{Join, Leave}
 use Rattle.am_base.specs.declared.outcome.Outcome.TheVariants as said
-use Rattle.am_base.specs.declared.entry.Entry.TheVariants.{Join}
-use Rattle.am_base.specs.Lists.{top_of, told_by}
-use Rattle.am_core.specs.Cores.{CoreState}
-use Rattle.am_fronts.specs.Reports.{reports_of, admitted}
-use Rattle.am_fronts.specs.Refresh.{led}
-use Rattle.am_model.specs.Node.{top}
-use Rattle.am_model.specs.Joining.{number_join}
-use Rattle.am_joining.specs.Parts.{Numbers, and_welcome, with_parts}
-use Rattle.am_joining.proofs.Steps.{goes_to_number}
-use Rattle.am_joining.proofs.Members.{own_stays, stays_by_join}
+use Rattle.am_base.specs.Names.{has}
+use Rattle.am_base.specs.Lists.{members_of, after, fits}
+use Rattle.am_core.proofs.Ends.{told-push}
+use Rattle.am_packet.specs.declared.packet.Packet.{Packet}
+use Rattle.am_packet.specs.Boxes.{Letter, with_letter}
+use Rattle.am_model.specs.Node.{Node, top, told, others, pushed}
+use Rattle.am_model.specs.Ends.{IsEndOf, Tells}
+use Rattle.am_handlers.specs.Cores.{CoreTells}
+use Rattle.am_handlers.specs.Keeps.{NodeKeeps}
+use Rattle.am_handlers.specs.Parts.{node_of, with_told}
+use Rattle.am_handlers.proofs.Ends.{end_self}
+use Rattle.am_handlers.proofs.Keeping.{keeps_pushed, leading_log}
+use Rattle.am_handlers.proofs.Plans.{done, end_tells, told_numbered}
+use Rattle.am_model.specs.Joining.{admitted, number_join}
+use Rattle.am_joining.specs.Pieces.{and_welcome}
+use Rattle.am_joining.proofs.Joins.{keeps_admitted, join_letters}
+use Rattle.am_joining.proofs.Members.{stays_by_join}
 use Rattle.am_joining.proofs.joining.number_join.Goals as goal
 
-pub number_entry-number-requires-clause-own : goal.number_entry-number-requires-clause-own
-number_entry-number-requires-clause-own g c =
-    own_stays (reports_of c.args.fronts.now) (reports_of c.admit.new.self) (told_by c.args.core.now.log) c.args.from c.args.core.now.who _ c.args.core.now.taken c.admit.ensures c.requires.fits c.requires.member c.requires.own
+pub push-requires-clause-fits : goal.push-requires-clause-fits
+push-requires-clause-fits c = subst (λ (x : Node). fits (told x) (Join c.args.from) ≡ true) (sym c.admit.ensures) c.requires.fits
 
-pub number_entry-number-requires-clause-member : goal.number_entry-number-requires-clause-member
-number_entry-number-requires-clause-member g c = stays_by_join (told_by c.args.core.now.log) (top_of c.args.core.now.log + 1) c.args.from c.args.core.now.who c.requires.fits c.requires.member
+pub push-requires-clause-keeps : goal.push-requires-clause-keeps
+push-requires-clause-keeps c =
+    let old = node_of c.args.parts.now in
+    let keeps = keeps_admitted old c.args.from old.core.base c.requires.other c.args.parts.now.keeps in
+    let member = stays_by_join (told old) (top old + 1) c.args.from old.core.who c.requires.fits (c.args.parts.now.keeps.leads c.requires.leads) in
+    subst (λ (x : Node). NodeKeeps (pushed x (Join c.args.from))) (sym c.admit.ensures)
+    (keeps_pushed (admitted old c.args.from) (Join c.args.from) refl c.requires.fits (old.core.rules.window + 15) c.accepted-before.ensures.kept (leading_log old c.requires.leads)
+    (λ leads. ap (λ (i : Image). has (members_of i) old.core.who) (told-push old.core.log (Join c.args.from)) ∙ member) keeps)
 
-pub returns-clause-row : goal.returns-clause-row
-returns-clause-row g c = λ accepted.
-    let old = led c.args.core.now c.args.fronts.now in
-    let new = led c.number_entry-number.new.core c.number_entry-number.new.fronts in
-    let put = c.number_entry-number.new.out in
-    let base = c.base.ensures.value ∙ ap (λ (x : CoreState). x.base) c.core.view_is in
-    let reports = c.admit.ensures ∙ ap (λ b. admitted (reports_of c.args.fronts.now) c.args.from b) base in
-    let P : (ℕ → Report) → Type 0 = λ r. Numbers (Join c.args.from) (record { core = c.args.core.now; reports = r }) put new in
-    goes_to_number accepted (λ m. number_join m c.args.from) (Join c.args.from) old (admitted old.reports c.args.from old.core.base) new _ put c.welcome_accepted.new.out
-    (subst P reports c.number_entry-number.ensures.numbers)
-    (λ m all more s stands puts.
-    let n = with_parts m more new in
-    let number = c.number_entry-number.ensures.number (with_parts m all old) all s in
-    record {
-      node = refl;
-      polls = refl;
-      numbers = refl;
-      answer = ap said.Numbered number;
-      sent = c.welcome_accepted.ensures n more stands
-          ∙ ap (λ k. and_welcome k c.args.from put n) number
-          ∙ ap (λ ls. and_welcome (top (with_parts m all old) + 1) c.args.from ls n) puts;
-    })
+pub returns : goal.returns
+returns c =
+    let old = node_of c.args.parts.now in
+    let mid = node_of c.push.new.self in
+    let new = node_of c.end.new.self in
+    let order = c.accepted-before.ensures.order in
+    let before = c.push.ensures.order in
+    let node : mid ≡ pushed (admitted old c.args.from) (Join c.args.from) = c.push.ensures.node ∙ ap (λ (x : Node). pushed x (Join c.args.from)) c.admit.ensures in
+    let end : IsEndOf (pushed (admitted old c.args.from) (Join c.args.from)) mid = subst (λ (x : Node). IsEndOf x mid) node (end_self mid before.kept) in
+    let to : c.others-others.result ≡ others old = end_tells others old c.others-others.result order.kept c.others-others.ensures in
+    let number : c.next_number-number.result ≡ top old + 1 = c.next_number-number.ensures.value in
+    let put = c.put.ensures ∙ ap (λ set. with_letter set c.bcast.result c.args.out.now) to ∙ ap (with_letter (others old) c.bcast.result) c.requires.empty in
+    let Q : List Letter → Type 0 = λ letters. CoreTells (and_welcome c.next_number-number.result c.args.from letters) new.core c.welcome_accepted.new.out in
+    done c.args.before (number_join old c.args.from) mid new _ c.welcome_accepted.new.out c.welcome_accepted.new.out refl end c.end.ensures
+    (λ n is. ap said.Numbered number)
+    (join_letters old new c.args.from c.next_number-number.result c.bcast.result c.welcome_accepted.new.out number c.bcast.ensures.value (subst Q put c.welcome_accepted.ensures))
+    (told_numbered c.args.before c.welcome_accepted.new.out new)

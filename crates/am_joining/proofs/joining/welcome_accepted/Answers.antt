@@ -1,9 +1,17 @@
-use Rattle.std.proofs.Common.{ap, arith}
+use Rattle.std.proofs.Common.{◌≡◌, ℕ, List, true, nat_le, ap, ◌∙◌, arith}
+use Rattle.std.proofs.lemmas.Bool.Decides.{nat_tests}
 use Rattle.am_core.specs.Cores.{CoreState}
-use Rattle.am_joining.proofs.Tellings.{welcome_sent}
+use Rattle.am_packet.specs.declared.packet.Packet.{Packet}
+use Rattle.am_packet.specs.Boxes.{with_letter}
+use Rattle.am_model.specs.Node.{only_name}
 use Rattle.am_joining.proofs.joining.welcome_accepted.Goals as goal
 
 pub returns-then-number-core : goal.returns-then-number-core
 returns-then-number-core g c =
     let acc = ap (λ (x : CoreState). x.acc) c.core.view_is in
-    welcome_sent c.args.core.now c.args.number c.args.name c.args.out.now c.tell_welcome.new.out (omega arith) c.tell_welcome.ensures.letters
+    let low = c.if-number-core.true in
+    let test : nat_le c.args.number c.args.core.now.acc ≡ true = grind (arith, nat_tests) in
+    λ m all s. rw test (
+    c.put.ensures ∙ ap (λ (to : List ℕ). with_letter to c.welcome.result c.args.out.now) c.only.ensures
+    ∙ ap (λ (p : Packet). with_letter (only_name c.args.name) p c.args.out.now) (c.welcome.ensures.value m all s)
+    )

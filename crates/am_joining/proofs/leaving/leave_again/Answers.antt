@@ -1,39 +1,33 @@
-use Rattle.std.proofs.Common.{refl, ap, sym, ◌∙◌}
+use Rattle.std.proofs.Common.{List, Bool, true, false, [], refl, sym, ap, subst}
 use Rattle.am_base.specs.declared.image.Row.{Row}
-use Rattle.am_base.specs.declared.outcome.Outcome.TheVariants as said
-use Rattle.am_fronts.specs.Refresh.{led}
-use Rattle.am_joining.specs.Parts.{and_risen, leave_again, with_parts}
-use Rattle.am_joining.proofs.Steps.{goes_to_end}
+use Rattle.am_packet.specs.Boxes.{Letter}
+use Rattle.am_model.specs.Joining.{may_go}
+use Rattle.am_model.specs.Ends.{Tells}
+use Rattle.am_handlers.specs.Parts.{node_of}
+use Rattle.am_handlers.proofs.Ends.{end_self}
+use Rattle.am_handlers.proofs.Plans.{done}
+use Rattle.am_joining.specs.Pieces.{and_let_go, leave_again}
+use Rattle.am_joining.proofs.Leaves.{again_goes, again_stays}
 use Rattle.am_joining.proofs.leaving.leave_again.Goals as goal
 
-pub returns-then-goes-clause-row : goal.returns-then-goes-clause-row
-returns-then-goes-clause-row g c =
-    let old = led c.args.core.now c.args.fronts.now in
-    let new = led c.refresh.new.core c.refresh.new.fronts in
-    let put = rw c.requires.empty at c.let_go-goes.ensures.letters in
-    goes_to_end c.args.accepted (λ m. leave_again m c.args.from) old old.reports new _ c.tell_risen.new.out c.refresh.ensures.value
-    (λ m all s stands.
-    let n = with_parts m all new in
-    record {
-      node = refl;
-      polls = refl;
-      numbers = refl;
-      answer = rw (sym (c.let_go-goes.ensures.value m all stands), c.if-goes.true) (ap (λ (r : Row). said.LetGo r.left) (c.row-row.ensures.value (with_parts m all old) all s));
-      sent = c.tell_risen.ensures n all stands ∙ ap (λ ls. and_risen c.args.accepted ls n) (put m all stands);
-    })
+pub returns-then-goes : goal.returns-then-goes
+returns-then-goes c =
+    let old = node_of c.args.parts.now in
+    let new = node_of c.end.new.self in
+    let order = c.accepted-before.ensures.order in
+    let P : Bool → Type 0 = λ b. Tells (λ n. may_go n c.args.from) new b in
+    let Q : List Letter → Type 0 = λ letters. Tells (and_let_go c.args.from letters) new c.let_go-goes.new.out in
+    let left = ap (λ (r : Row). r.left) c.row-row.ensures.value in
+    done c.args.before (leave_again old c.args.from) old new _ c.let_go-goes.new.out c.tell_accepted.new.out refl (end_self old order.kept) c.end.ensures
+    (again_goes old new c.args.from c.row-row.result.left left (subst P c.if-goes.true c.let_go-goes.ensures.value)) (subst Q c.requires c.let_go-goes.ensures.letters) c.tell_accepted.ensures
 
-pub returns-clause-row : goal.returns-clause-row
-returns-clause-row g c =
-    let old = led c.args.core.now c.args.fronts.now in
-    let new = led c.refresh.new.core c.refresh.new.fronts in
-    let put = rw c.requires.empty at c.let_go-goes.ensures.letters in
-    goes_to_end c.args.accepted (λ m. leave_again m c.args.from) old old.reports new _ c.tell_risen.new.out c.refresh.ensures.value
-    (λ m all s stands.
-    let n = with_parts m all new in
-    record {
-      node = refl;
-      polls = refl;
-      numbers = refl;
-      answer = rw (sym (c.let_go-goes.ensures.value m all stands), c.if-goes.false) refl;
-      sent = c.tell_risen.ensures n all stands ∙ ap (λ ls. and_risen c.args.accepted ls n) (put m all stands);
-    })
+pub returns : goal.returns
+returns c =
+    let old = node_of c.args.parts.now in
+    let new = node_of c.end.new.self in
+    let order = c.accepted-before.ensures.order in
+    let P : Bool → Type 0 = λ b. Tells (λ n. may_go n c.args.from) new b in
+    let Q : List Letter → Type 0 = λ letters. Tells (and_let_go c.args.from letters) new c.let_go-goes.new.out in
+    let left = ap (λ (r : Row). r.left) c.row-row.ensures.value in
+    done c.args.before (leave_again old c.args.from) old new _ c.let_go-goes.new.out c.tell_accepted.new.out refl (end_self old order.kept) c.end.ensures
+    (again_stays old new c.args.from (subst P c.if-goes.false c.let_go-goes.ensures.value)) (subst Q c.requires c.let_go-goes.ensures.letters) c.tell_accepted.ensures

@@ -1,22 +1,21 @@
-use Rattle.std.proofs.Common.{ap, arith}
-use Rattle.am_base.specs.declared.image.Row.{Row}
-use Rattle.am_base.specs.Lists.{top_of}
-use Rattle.am_core.specs.Cores.{CoreState}
-use Rattle.am_fronts.specs.Refresh.{led}
-use Rattle.am_joining.proofs.Images.{row_within}
+use Rattle.std.proofs.Common.{List, ℕ, false, true, sym, ap, ◌∙◌, subst, Bool}
+use Rattle.am_packet.specs.Boxes.{Letter, with_letter}
+use Rattle.am_model.specs.Joining.{may_go}
+use Rattle.am_model.specs.Ends.{Tells}
+use Rattle.am_handlers.specs.Parts.{node_of}
+use Rattle.am_joining.specs.Pieces.{and_let_go}
 use Rattle.am_joining.proofs.Leaves.{stays_here, goes_away}
 use Rattle.am_joining.proofs.leaving.let_go.Goals as goal
 
 pub returns-then-not-may_go-clause-letters : goal.returns-then-not-may_go-clause-letters
-returns-then-not-may_go-clause-letters g c = stays_here (led c.args.core.now c.args.fronts.now) c.args.name c.args.out.now c.if-not-may_go.ensures
-
-pub tell_gone-requires-clause-number : goal.tell_gone-requires-clause-number
-tell_gone-requires-clause-number g c =
-    let numbers = c.top-top.ensures.kept.numbers in
-    let same_top = ap (λ (x : CoreState). top_of x.log) c.core.view_is in
-    let left = (row_within c.args.core.now.log c.args.name c.requires.within (omega arith)).left in
-    let same = ap (λ (r : Row). r.left) c.row-row.ensures.kept in
-    omega arith
+returns-then-not-may_go-clause-letters c =
+    let P : Bool → Type 0 = λ b. Tells (λ n. may_go n c.args.name) (node_of c.args.parts.now) b in
+    stays_here (node_of c.args.parts.now) c.args.name c.args.out.now (subst P c.if-not-may_go.true c.may_go.ensures)
 
 pub returns-clause-letters : goal.returns-clause-letters
-returns-clause-letters g c = goes_away (led c.args.core.now c.args.fronts.now) c.args.name c.row-row.result c.args.out.now c.tell_gone.new.out c.if-not-may_go.ensures c.row-row.ensures.value c.tell_gone.ensures.letters
+returns-clause-letters c =
+    let m = node_of c.args.parts.now in
+    let P : Bool → Type 0 = λ b. Tells (λ n. may_go n c.args.name) m b in
+    let Q : List Letter → Type 0 = λ letters. Tells (and_let_go c.args.name c.args.out.now) m letters in
+    subst Q (sym (c.put.ensures ∙ ap (λ (to : List ℕ). with_letter to c.gone.result c.args.out.now) c.only.ensures))
+    (goes_away m c.args.name c.row-row.result c.gone.result c.args.out.now c.row-row.ensures.value (subst P c.if-not-may_go.false c.may_go.ensures) c.gone.ensures.value)

@@ -1,33 +1,49 @@
-use Rattle.std.proofs.Common.{refl, ap, ◌∙◌, ◌+◌}
+use Rattle.std.proofs.Common.{◌≡◌, ◌+◌, List, ℕ, true, false, refl, sym, ap, ◌∙◌, [], subst}
+use Rattle.am_base.specs.declared.image.Image.{Image}
+use Rattle.am_base.specs.declared.entry.Entry.{Entry}
+use Rattle.am_base.specs.declared.entry.Entry.TheVariants.{Join, Leave}
 use Rattle.am_base.specs.declared.outcome.Outcome.TheVariants as said
-use Rattle.am_base.specs.declared.entry.Entry.TheVariants.{Leave}
-use Rattle.am_base.specs.Lists.{top_of, told_by, fits}
-use Rattle.am_fronts.specs.Refresh.{led}
-use Rattle.am_joining.specs.Parts.{and_let_go, number_leave, with_parts}
-use Rattle.am_joining.proofs.Steps.{goes_to_number}
-use Rattle.am_joining.proofs.Members.{stays_by_leave}
+use Rattle.am_base.specs.Names.{has}
+use Rattle.am_base.specs.Lists.{members_of, after}
+use Rattle.am_core.proofs.Ends.{told-push}
+use Rattle.am_packet.specs.declared.packet.Packet.{Packet}
+use Rattle.am_packet.specs.Boxes.{Letter, with_letter}
+use Rattle.am_model.specs.Node.{Node, top, told, others, pushed}
+use Rattle.am_model.specs.Ends.{IsEndOf, Tells}
+use Rattle.am_handlers.specs.Cores.{CoreTells}
+use Rattle.am_handlers.specs.Keeps.{NodeKeeps}
+use Rattle.am_handlers.specs.Parts.{node_of, with_told}
+use Rattle.am_handlers.proofs.Ends.{end_self}
+use Rattle.am_handlers.proofs.Keeping.{keeps_pushed, leading_log}
+use Rattle.am_handlers.proofs.Plans.{done, end_tells, told_numbered}
+use Rattle.am_joining.specs.Pieces.{number_leave}
+use Rattle.am_joining.proofs.Leaves.{leave_letters}
+use Rattle.am_joining.proofs.Members.{stays_by_leave, fits_leave}
 use Rattle.am_joining.proofs.leaving.number_leave.Goals as goal
 
-pub number_entry-number-requires-clause-member : goal.number_entry-number-requires-clause-member
-number_entry-number-requires-clause-member g c = stays_by_leave (told_by c.args.core.now.log) (top_of c.args.core.now.log + 1) c.args.from c.args.core.now.who c.requires.other c.requires.leaver c.requires.member
+pub push-requires-clause-fits : goal.push-requires-clause-fits
+push-requires-clause-fits c = fits_leave (told (node_of c.args.parts.now)) c.args.from c.requires.leaver
 
-pub number_entry-number-requires-clause-fits : goal.number_entry-number-requires-clause-fits
-unfolding fits
-number_entry-number-requires-clause-fits g c = c.requires.leaver
+pub push-requires-clause-keeps : goal.push-requires-clause-keeps
+push-requires-clause-keeps c =
+    let old = node_of c.args.parts.now in
+    let keeps = c.args.parts.now.keeps in
+    let member = stays_by_leave (told old) (top old + 1) c.args.from old.core.who c.requires.other c.requires.leaver (keeps.leads c.requires.leads) in
+    keeps_pushed old (Leave c.args.from) refl (fits_leave (told old) c.args.from c.requires.leaver) (old.core.rules.window + 15) c.accepted-before.ensures.kept (leading_log old c.requires.leads)
+    (λ leads. ap (λ (i : Image). has (members_of i) old.core.who) (told-push old.core.log (Leave c.args.from)) ∙ member) keeps
 
-pub returns-clause-row : goal.returns-clause-row
-returns-clause-row g c = λ accepted.
-    let old = led c.args.core.now c.args.fronts.now in
-    let new = led c.number_entry-number.new.core c.number_entry-number.new.fronts in
-    let put = c.number_entry-number.new.out in
-    goes_to_number accepted (λ m. number_leave m c.args.from) (Leave c.args.from) old old.reports new _ put c.let_go.new.out
-    c.number_entry-number.ensures.numbers
-    (λ m all more s stands puts.
-    let n = with_parts m more new in
-    record {
-      node = refl;
-      polls = refl;
-      numbers = refl;
-      answer = ap said.Numbered (c.number_entry-number.ensures.number (with_parts m all old) all s);
-      sent = c.let_go.ensures.letters n more stands ∙ ap (λ ls. and_let_go c.args.from ls n) puts;
-    })
+pub returns : goal.returns
+returns c =
+    let old = node_of c.args.parts.now in
+    let mid = node_of c.push.new.self in
+    let new = node_of c.end.new.self in
+    let order = c.accepted-before.ensures.order in
+    let before = c.push.ensures.order in
+    let end : IsEndOf (pushed old (Leave c.args.from)) mid = subst (λ (x : Node). IsEndOf x mid) c.push.ensures.node (end_self mid before.kept) in
+    let to : c.others-others.result ≡ others old = end_tells others old c.others-others.result order.kept c.others-others.ensures in
+    let number : c.next_number-number.result ≡ top old + 1 = c.next_number-number.ensures.value in
+    let put = c.put.ensures ∙ ap (λ set. with_letter set c.bcast.result c.args.out.now) to ∙ ap (with_letter (others old) c.bcast.result) c.requires.empty in
+    done c.args.before (number_leave old c.args.from) mid new _ c.let_go-goes.new.out c.let_go-goes.new.out refl end c.end.ensures
+    (λ n is. ap said.Numbered number)
+    (leave_letters old new c.args.from c.next_number-number.result c.bcast.result c.put.new.self c.let_go-goes.new.out number c.bcast.ensures.value put c.let_go-goes.ensures.letters)
+    (told_numbered c.args.before c.let_go-goes.new.out new)

@@ -1,45 +1,49 @@
-use Rattle.std.proofs.Common.{subst, ℕ}
-use Rattle.am_fronts.specs.Reports.{reported}
-use Rattle.am_fronts.specs.Refresh.{led}
+use Rattle.std.proofs.Common.{sym, ap, ◌==◌, ◌∙◌, arith}
+use Rattle.am_base.specs.declared.image.Image.{Image}
+use Rattle.am_base.specs.declared.outcome.Outcome.TheVariants as said
+use Rattle.am_base.specs.Lists.{row_of}
 use Rattle.am_model.specs.Node.{Node}
-use Rattle.am_model.specs.Emit.{Plan}
+use Rattle.am_model.specs.Emit.{quiet}
+use Rattle.am_model.specs.Sequencing.{reported}
 use Rattle.am_model.specs.Joining.{asks_to_leave, leave_ask_row}
-use Rattle.am_joining.specs.Parts.{GoesOn}
-use Rattle.am_joining.proofs.Steps.{goes_quiet, goes_same, goes_reported, does}
-use Rattle.am_joining.proofs.Leaves.{leave_unknown, leave_uncounted, leave_counted}
+use Rattle.am_ends.proofs.Sequencing.{alike_asks_to_leave}
+use Rattle.am_handlers.specs.Parts.{node_of}
+use Rattle.am_handlers.proofs.Keeping.{steady_leads}
+use Rattle.am_handlers.proofs.Plans.{does_plan, done_whole}
+use Rattle.am_joining.proofs.Leaves.{leave_unknown, leave_other, leave_reported}
 use Rattle.am_joining.proofs.leaving.on_leave_ask.Goals as goal
 
-pub returns-then-is_unknown-clause-row : goal.returns-then-is_unknown-clause-row
-returns-then-is_unknown-clause-row g c =
-    let old = led c.args.core.now c.args.fronts.now in
-    let new = led c.end.new.core c.end.new.fronts in
-    let row : Node → Plan = λ m. leave_ask_row m c.args.from c.args.stamp c.args.report in
-    does row old _ c.end.new.out new
-    (goes_quiet c.args.core.now.acc row old old.reports new _ c.end.new.out c.end.ensures.value
-    (leave_unknown old c.args.from c.args.stamp c.args.report c.if-is_unknown.ensures.value) (rw c.requires.empty at c.end.ensures.letters))
+pub returns-then-is_unknown : goal.returns-then-is_unknown
+returns-then-is_unknown c =
+    let old = node_of c.args.parts.now in
+    does_plan (λ m. leave_ask_row m c.args.from c.args.stamp c.args.report) (quiet old said.Stranger) c.accepted-before.result old _ _ _ c.accepted-before.ensures.value
+    (leave_unknown old c.args.from c.args.stamp c.args.report (sym c.is_unknown.ensures ∙ c.if-is_unknown.true)) c.finish_quietly.ensures
 
-pub returns-then-not-counts_report-clause-row : goal.returns-then-not-counts_report-clause-row
-returns-then-not-counts_report-clause-row g c =
-    let old = led c.args.core.now c.args.fronts.now in
-    let new = led c.asks_to_leave.new.core c.asks_to_leave.new.fronts in
-    let row : Node → Plan = λ m. leave_ask_row m c.args.from c.args.stamp c.args.report in
-    let rest : Node → Plan = λ m. asks_to_leave m c.args.from in
-    let P : ℕ → Type 0 = λ accepted. GoesOn accepted rest old c.asks_to_leave.result c.asks_to_leave.new.out new in
-    does row old c.asks_to_leave.result c.asks_to_leave.new.out new
-    (goes_same c.args.core.now.acc row rest old c.asks_to_leave.result c.asks_to_leave.new.out new
-    (leave_uncounted old c.args.from c.args.stamp c.args.report c.if-is_unknown.ensures.value c.if-not-counts_report.ensures)
-    (subst P c.accepted-accepted.ensures.value c.asks_to_leave.ensures.row))
+pub asks_to_leave-requires-clause-known : goal.asks_to_leave-requires-clause-known
+asks_to_leave-requires-clause-known c = sym c.is_unknown.ensures ∙ c.if-is_unknown.false
 
-pub returns-clause-row : goal.returns-clause-row
-returns-clause-row g c =
-    let old = led c.args.core.now c.args.fronts.now in
-    let mid = led c.take_report.new.core c.take_report.new.fronts in
-    let new = led c.asks_to_leave-2.new.core c.asks_to_leave-2.new.fronts in
-    let row : Node → Plan = λ m. leave_ask_row m c.args.from c.args.stamp c.args.report in
-    let rest : Node → Plan = λ m. asks_to_leave m c.args.from in
-    let P : ℕ → Type 0 = λ accepted. GoesOn accepted rest mid c.asks_to_leave-2.result c.asks_to_leave-2.new.out new in
-    does row old c.asks_to_leave-2.result c.asks_to_leave-2.new.out new
-    (goes_reported c.args.core.now.acc row rest old (reported old.reports c.args.from c.args.report) mid new c.asks_to_leave-2.result c.asks_to_leave-2.new.out
-    (leave_counted old c.args.from c.args.stamp c.args.report c.if-is_unknown.ensures.value c.if-not-counts_report.ensures)
-    c.take_report.ensures.value
-    (subst P c.accepted-accepted.ensures.value c.asks_to_leave-2.ensures.row))
+pub returns-then-not-counts_report : goal.returns-then-not-counts_report
+returns-then-not-counts_report c =
+    let old = node_of c.args.parts.now in
+    does_plan (λ m. leave_ask_row m c.args.from c.args.stamp c.args.report) (asks_to_leave old c.args.from) c.accepted-before.result old _ _ _ c.accepted-before.ensures.value
+    (leave_other old c.args.from c.args.stamp c.args.report (sym c.is_unknown.ensures ∙ c.if-is_unknown.false) (sym c.counts_report.ensures ∙ c.if-not-counts_report.true)) c.asks_to_leave.ensures
+
+pub asks_to_leave-requires-2-clause-leads : goal.asks_to_leave-requires-2-clause-leads
+asks_to_leave-requires-2-clause-leads c = steady_leads (node_of c.args.parts.now) (node_of c.take_report.new.self) c.take_report.ensures.steady ∙ c.requires.leads
+
+pub asks_to_leave-requires-2-clause-known : goal.asks_to_leave-requires-2-clause-known
+asks_to_leave-requires-2-clause-known c = ap (λ (i : Image). (row_of i c.args.from).joined == 0) c.take_report.ensures.steady.told ∙ (sym c.is_unknown.ensures ∙ c.if-is_unknown.false)
+
+pub asks_to_leave-requires-2-clause-number : goal.asks_to_leave-requires-2-clause-number
+asks_to_leave-requires-2-clause-number c = let top = c.take_report.ensures.steady.top in let number = c.requires.number in omega arith
+
+pub returns : goal.returns
+returns c =
+    let old = node_of c.args.parts.now in
+    let mid = node_of c.take_report.new.self in
+    let before = c.accepted-before.result in
+    let rest : Node → _ = λ m. asks_to_leave m c.args.from in
+    does_plan (λ m. leave_ask_row m c.args.from c.args.stamp c.args.report) (rest (reported old c.args.from c.args.report)) before old _ _ _ c.accepted-before.ensures.value
+    (leave_reported old c.args.from c.args.stamp c.args.report (sym c.is_unknown.ensures ∙ c.if-is_unknown.false) (sym c.counts_report.ensures ∙ c.if-not-counts_report.false))
+    (done_whole before rest (reported old c.args.from c.args.report) mid _ _ _ c.take_report.ensures.end c.take_report.ensures.order
+    (λ all keeps. alike_asks_to_leave all mid c.args.from keeps) c.asks_to_leave-2.ensures)

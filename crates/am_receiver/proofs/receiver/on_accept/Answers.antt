@@ -1,9 +1,37 @@
-use Rattle.std.proofs.Common.{sym, ◌∙◌, rules}
-use Rattle.am_receiver.proofs.Does.{accept_gap, accept_on}
+use Rattle.std.proofs.Common.{ℕ, sym, ap, ◌∙◌, subst}
+use Rattle.am_base.specs.declared.outcome.Outcome.TheVariants as said
+use Rattle.am_base.specs.Lists.{top_of}
+use Rattle.am_handlers.specs.declared.parts.Parts.{Parts}
+use Rattle.am_model.specs.Node.{Node, only_name}
+use Rattle.am_model.specs.Emit.{telling, nack_of}
+use Rattle.am_model.specs.Receiving.{noted, accept_row}
+use Rattle.am_handlers.specs.Parts.{node_of}
+use Rattle.am_handlers.specs.Finishing.{Done}
+use Rattle.am_handlers.proofs.Plans.{does_plan, done_whole}
+use Rattle.am_receiver.specs.Pieces.{accepting}
+use Rattle.am_receiver.proofs.Rows.{accept_short, accept_all, alike_asking, alike_accepting}
 use Rattle.am_receiver.proofs.receiver.on_accept.Goals as goal
 
-pub returns-then-is_short_of-clause-does : goal.returns-then-is_short_of-clause-does
-returns-then-is_short_of-clause-does g c = λ bodies. accept_gap c.args.core.now c.note.new.core c.advance.new.self bodies c.args.from c.args.base c.args.acc c.args.top c.top-stored.result c.args.poll c.send_nack.new.out (search rules) (sym c.is_short_of.ensures ∙ c.if-is_short_of.true) c.note.ensures.keeps c.advance.ensures.keeps c.send_nack.ensures
+pub returns-then-short : goal.returns-then-short
+returns-then-short c =
+    let old = node_of c.args.parts.now in
+    let mid = node_of c.note.new.parts in
+    let before = c.accepted-before.result in
+    let answer = said.Gap _ in
+    let rest : Node → _ = λ m. telling m answer (only_name c.args.from) nack_of in
+    let top = c.top-stored.ensures.value ∙ ap (λ (p : Parts). top_of p.core.log) c.parts.view_is in
+    does_plan (λ m. accept_row m c.args.from c.args.base c.args.acc c.args.high c.args.poll) (rest (noted old c.args.base c.args.acc)) before old _ _ _ c.accepted-before.ensures.value
+    (accept_short old c.args.from c.args.base c.args.acc c.args.high c.top-stored.result c.args.poll top (sym c.is_short_of-short.ensures ∙ c.if-short.true))
+    (done_whole before rest (noted old c.args.base c.args.acc) mid _ _ _ c.note.ensures.end c.note.ensures.order (λ all keeps. alike_asking answer c.args.from all mid keeps) c.finish_asking.ensures)
 
-pub returns-clause-does : goal.returns-clause-does
-returns-clause-does g c = λ bodies. accept_on c.args.core.now c.note-2.new.core c.accepted_to.new.core bodies c.args.from c.args.base c.args.acc c.args.top c.args.poll c.accepted_to.result c.accepted_to.new.out (sym c.is_short_of.ensures ∙ c.if-is_short_of.false) c.note-2.ensures.keeps (c.accepted_to.ensures.does bodies)
+pub returns : goal.returns
+returns c =
+    let old = node_of c.args.parts.now in
+    let mid = node_of c.note.new.parts in
+    let before = c.accepted-before.result in
+    let whole = noted old c.args.base c.args.acc in
+    let rest : Node → _ = λ m. accepting before c.args.poll c.args.from m in
+    let P : ℕ → Type 0 = λ b. Done before (accepting b c.args.poll c.args.from whole) c.accepted_to.result c.accepted_to.new.out (node_of c.accepted_to.new.parts) in
+    does_plan (λ m. accept_row m c.args.from c.args.base c.args.acc c.args.high c.args.poll) (accepting old.core.acc c.args.poll c.args.from whole) before old _ _ _ c.accepted-before.ensures.value
+    (accept_all old c.args.from c.args.base c.args.acc c.args.high c.args.poll (sym c.is_short_of-short.ensures ∙ c.if-short.false))
+    (subst P c.accepted-before.ensures.value (done_whole before rest whole mid _ _ _ c.note.ensures.end c.note.ensures.order (λ all keeps. alike_accepting before c.args.poll c.args.from all mid keeps) c.accepted_to.ensures))

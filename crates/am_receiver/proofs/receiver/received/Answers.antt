@@ -1,38 +1,58 @@
-use Rattle.std.proofs.Common.{◌≡◌, ◌≤◌, ◌<◌, sym, ◌∙◌, ap, arith, rules}
+use Rattle.std.proofs.Common.{sym, ap, ◌∙◌, subst, Option, arith}
 use Rattle.std.specs.Option.{option_copied}
+use Rattle.am_base.specs.declared.entry.Entry.{Entry}
 use Rattle.am_base.specs.Lists.{top_of}
-use Rattle.am_receiver.proofs.Does.{received_known, received_left, received_past, received_gap, received_missing, received_on}
+use Rattle.am_handlers.specs.declared.parts.Parts.{Parts}
+use Rattle.am_model.specs.Emit.{Plan}
+use Rattle.am_model.specs.Receiving.{store}
+use Rattle.am_handlers.specs.Parts.{node_of}
+use Rattle.am_handlers.specs.Finishing.{Done}
+use Rattle.am_receiver.proofs.Rows.{received_known, received_left, received_gap, received_past, received_next}
 use Rattle.am_receiver.proofs.receiver.received.Goals as goal
 
-pub returns-then-has_left-clause-does : goal.returns-then-has_left-clause-does
-returns-then-has_left-clause-does g c =
-    let top : c.top-top.result ≡ top_of c.args.core.now.log = search rules in
-    received_left c.args.core.now c.advance-then-has_left.new.self c.args.pool.now c.args.from c.args.base c.args.number (option_copied c.args.found) c.args.missing c.args.out.now c.requires.empty (omega arith) (sym c.has_left.ensures ∙ c.if-has_left.true) c.advance-then-has_left.ensures.keeps
+pub returns-then-number-top : goal.returns-then-number-top
+returns-then-number-top c =
+    let old = node_of c.args.parts.now in
+    let top = c.top-top.ensures.value ∙ ap (λ (p : Parts). top_of p.core.log) c.parts.view_is in
+    let P : Plan → Type 0 = λ p. Done c.args.before p c.finish_quietly.result c.finish_quietly.new.out (node_of c.finish_quietly.new.parts) in
+    subst P (sym (received_known old c.args.from c.args.base c.args.number (option_copied c.args.found) c.args.missing (omega arith))) c.finish_quietly.ensures
 
-pub returns-then-top-number-clause-does : goal.returns-then-top-number-clause-does
-returns-then-top-number-clause-does g c =
-    let top : c.top-top.result ≡ top_of c.args.core.now.log = search rules in
-    received_gap c.args.core.now c.advance-then-top-number.new.self c.args.pool.now c.args.from c.args.base c.args.number c.top-top.result (option_copied c.args.found) c.args.missing c.send_nack.new.out top c.if-top-number.true (sym c.has_left.ensures ∙ c.if-has_left.false) c.advance-then-top-number.ensures.keeps c.send_nack.ensures
+pub returns-then-has_left : goal.returns-then-has_left
+returns-then-has_left c =
+    let old = node_of c.args.parts.now in
+    let top = c.top-top.ensures.value ∙ ap (λ (p : Parts). top_of p.core.log) c.parts.view_is in
+    let P : Plan → Type 0 = λ p. Done c.args.before p c.finish_quietly-then-has_left.result c.finish_quietly-then-has_left.new.out (node_of c.finish_quietly-then-has_left.new.parts) in
+    subst P (sym (received_left old c.args.from c.args.base c.args.number (option_copied c.args.found) c.args.missing (omega arith) (sym c.has_left.ensures ∙ c.if-has_left.true))) c.finish_quietly-then-has_left.ensures
 
-pub returns-in-Some-clause-does : goal.returns-in-Some-clause-does
-returns-in-Some-clause-does g c =
-    let top : c.top-top.result ≡ top_of c.args.core.now.log = search rules in
-    let low : c.args.base ≤ c.args.core.now.taken = search rules in
-    received_on c.args.core.now c.store.new.core c.args.pool.now c.store.new.pool c.args.from c.args.base c.args.number (option_copied c.args.found) c.in-Some.entry.now c.args.missing c.store.result c.store.new.out (ap option_copied c.in-Some.is) (record { next = omega arith; stays = sym c.has_left.ensures ∙ c.if-has_left.false; low = low }) (c.store.ensures.does c.args.missing)
+pub returns-then-top-number : goal.returns-then-top-number
+returns-then-top-number c =
+    let old = node_of c.args.parts.now in
+    let top = c.top-top.ensures.value ∙ ap (λ (p : Parts). top_of p.core.log) c.parts.view_is in
+    let P : Plan → Type 0 = λ p. Done c.args.before p c.finish_asking.result c.finish_asking.new.out (node_of c.finish_asking.new.parts) in
+    subst P (sym (received_gap old c.args.from c.args.base c.args.number c.top-top.result (option_copied c.args.found) c.args.missing top c.if-top-number.true (sym c.has_left.ensures ∙ c.if-has_left.false))) c.finish_asking.ensures
 
-pub returns-in-None-clause-does : goal.returns-in-None-clause-does
-returns-in-None-clause-does g c =
-    let top : c.top-top.result ≡ top_of c.args.core.now.log = search rules in
-    let low : c.args.base ≤ c.args.core.now.taken = search rules in
-    received_missing c.args.core.now c.advance-in-None.new.self c.args.pool.now c.args.from c.args.base c.args.number (option_copied c.args.found) c.args.missing c.send_nack-in-None.new.out (ap option_copied c.in-None.is) (record { next = omega arith; stays = sym c.has_left.ensures ∙ c.if-has_left.false; low = low }) c.advance-in-None.ensures.keeps c.send_nack-in-None.ensures
+pub returns-then-parts-base : goal.returns-then-parts-base
+returns-then-parts-base c =
+    let old = node_of c.args.parts.now in
+    let top = c.top-top.ensures.value ∙ ap (λ (p : Parts). top_of p.core.log) c.parts.view_is in
+    let taken = ap (λ (p : Parts). p.core.taken) c.parts.view_is in
+    let P : Plan → Type 0 = λ p. Done c.args.before p c.finish_quietly-then-parts-base.result c.finish_quietly-then-parts-base.new.out (node_of c.finish_quietly-then-parts-base.new.parts) in
+    subst P (sym (received_past old c.args.from c.args.base c.args.number (option_copied c.args.found) c.args.missing (omega arith) (sym c.has_left.ensures ∙ c.if-has_left.false) (omega arith))) c.finish_quietly-then-parts-base.ensures
 
-pub returns-then-number-top-clause-does : goal.returns-then-number-top-clause-does
-returns-then-number-top-clause-does g c =
-    let top : c.top-top.result ≡ top_of c.args.core.now.log = search rules in
-    received_known c.args.core.now c.advance.new.self c.args.pool.now c.args.from c.args.base c.args.number (option_copied c.args.found) c.args.missing c.args.out.now c.requires.empty (omega arith) c.advance.ensures.keeps
+pub returns-in-Some : goal.returns-in-Some
+returns-in-Some c =
+    let old = node_of c.args.parts.now in
+    let top = c.top-top.ensures.value ∙ ap (λ (p : Parts). top_of p.core.log) c.parts.view_is in
+    let taken = ap (λ (p : Parts). p.core.taken) c.parts.view_is in
+    let P : Plan → Type 0 = λ p. Done c.args.before p c.store.result c.store.new.out (node_of c.store.new.parts) in
+    let Q : Option Entry → Type 0 = λ e. P (store old c.args.from c.args.number e c.args.missing) in
+    subst P (sym (received_next old c.args.from c.args.base c.args.number (option_copied c.args.found) c.args.missing (omega arith) (sym c.has_left.ensures ∙ c.if-has_left.false) (omega arith))) (subst Q (sym (ap option_copied c.in-Some.is)) (c.store.ensures c.args.missing))
 
-pub returns-then-core-base-clause-does : goal.returns-then-core-base-clause-does
-returns-then-core-base-clause-does g c =
-    let top : c.top-top.result ≡ top_of c.args.core.now.log = search rules in
-    let high : c.args.core.now.taken < c.args.base = search rules in
-    received_past c.args.core.now c.advance-then-core-base.new.self c.args.pool.now c.args.from c.args.base c.args.number (option_copied c.args.found) c.args.missing c.args.out.now c.requires.empty (omega arith) (sym c.has_left.ensures ∙ c.if-has_left.false) high c.advance-then-core-base.ensures.keeps
+pub returns-in-None : goal.returns-in-None
+returns-in-None c =
+    let old = node_of c.args.parts.now in
+    let top = c.top-top.ensures.value ∙ ap (λ (p : Parts). top_of p.core.log) c.parts.view_is in
+    let taken = ap (λ (p : Parts). p.core.taken) c.parts.view_is in
+    let P : Plan → Type 0 = λ p. Done c.args.before p c.finish_asking-in-None.result c.finish_asking-in-None.new.out (node_of c.finish_asking-in-None.new.parts) in
+    let Q : Option Entry → Type 0 = λ e. P (store old c.args.from c.args.number e c.args.missing) in
+    subst P (sym (received_next old c.args.from c.args.base c.args.number (option_copied c.args.found) c.args.missing (omega arith) (sym c.has_left.ensures ∙ c.if-has_left.false) (omega arith))) (subst Q (sym (ap option_copied c.in-None.is)) c.finish_asking-in-None.ensures)

@@ -1,31 +1,22 @@
-use Rattle.std.proofs.Common.{◌≡◌, ◌+◌, ◌-◌, sym, ◌∙◌, arith}
-use Rattle.am_model.specs.Node.{only_name}
-use Rattle.am_sequencer.specs.Parts.{bcast_from}
-use Rattle.am_sequencer.proofs.Served.{kept_above, put_none, serve_next, served_letters, served_count}
+use Rattle.std.proofs.Common.{◌≡◌, refl, sym, ap, subst, arith}
+use Rattle.am_core.specs.Cores.{CoreState, IsInOrder}
+use Rattle.am_model.specs.Sequencing.{serve}
+use Rattle.am_handlers.specs.Parts.{node_of}
+use Rattle.am_handlers.proofs.Ends.{end_self, settled_end}
+use Rattle.am_handlers.proofs.Plans.{done}
+use Rattle.am_sequencer.proofs.Again.{serves_count, serves_letters}
 use Rattle.am_sequencer.proofs.serving.serve.Goals as goal
 
-pub loop-before-init : goal.loop-before-init
-loop-before-init g c = record {
-  letters = c.requires.empty ∙ sym (put_none (bcast_from c.args.core.now) (only_name c.args.to) (c.args.stored + 1) (c.args.stored - c.args.stored) (kept_above c.args.core.now.log c.args.stored) (omega arith));
-  few = rw c.requires.empty (omega arith);
-}
-
-pub loop-before-preserved : goal.loop-before-preserved
-loop-before-preserved g c =
-    let kept = c.requires.kept in
-    let before = c.loop-before.invariant.few in
-    record {
-      letters = serve_next c.args.core.now (only_name c.args.to) c.args.stored c.loop-before.before c.loop-before.out c.tell_entry.new.out (omega arith) (omega arith) (omega arith) c.loop-before.invariant.letters c.tell_entry.ensures.letters;
-      few = omega arith;
-    }
-
-pub returns-clause-letters : goal.returns-clause-letters
-returns-clause-letters g c =
-    let kept = c.requires.kept in
-    let end : c.loop-before.before ≡ c.last_served-last.result = omega arith in
-    served_letters c.args.core.now (only_name c.args.to) c.args.stored c.loop-before.before c.loop-before.out (omega arith) c.requires.high (end ∙ c.last_served-last.ensures.value) c.loop-before.invariant.letters
-
-pub returns-clause-count : goal.returns-clause-count
-returns-clause-count g c =
-    let kept = c.requires.kept in
-    served_count c.args.core.now c.args.stored c.last_served-last.result (omega arith) c.requires.high c.last_served-last.ensures.value
+pub returns : goal.returns
+returns c =
+    let old = node_of c.args.parts.now in
+    let new = node_of c.settle.new.self in
+    let order = c.accepted-before.ensures.order in
+    let same : new.core ≡ old.core = c.settle.ensures.core in
+    let later : IsInOrder new.core = subst (λ (x : CoreState). IsInOrder x) (sym same) order in
+    let base = ap (λ (x : CoreState). x.base) same in
+    let low = c.requires.low in
+    done c.args.before (serve old c.args.to c.args.stored) old new _ c.put_entries-count.new.out c.tell_accepted.new.out refl (end_self old order.kept) (settled_end old new order c.requires.again c.settle.ensures.changes)
+    (serves_count old new c.args.stored c.put_entries-count.result same later c.put_entries-count.ensures.count)
+    (serves_letters old new c.args.to c.args.stored c.put_entries-count.new.out same later (omega arith) c.put_entries-count.ensures.letters)
+    c.tell_accepted.ensures

@@ -14,7 +14,7 @@ returns-then-top-view-clause-value g c = front_stays (reports_of c.args.self.now
 pub returns-then-not-is_held-clause-value : goal.returns-then-not-is_held-clause-value
 returns-then-not-is_held-clause-value g c =
     let held = is_held (reports_of c.args.self.now) (g.L.Log.list c.args.log.now) in
-    front_stays (reports_of c.args.self.now) (g.L.Log.list c.args.log.now) c.args.acc (omega arith) (omega arith) (λ h. ap held (sym c.view_number-view.ensures) ∙ sym c.is_held.ensures ∙ c.if-not-is_held.true)
+    front_stays (reports_of c.args.self.now) (g.L.Log.list c.args.log.now) c.args.acc (omega arith) (omega arith) (λ h. ap held (sym c.view_number-view.ensures.value) ∙ sym c.is_held.ensures ∙ c.if-not-is_held.true)
 
 pub returns-clause-value : goal.returns-clause-value
 returns-clause-value g c =

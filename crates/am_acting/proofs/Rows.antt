@@ -1,0 +1,127 @@
+-- Rows of calls, by what their tests say.
+use Rattle.std.proofs.Common.{◌≡◌, ℕ, ◌+◌, ◌<◌, ◌≤◌, List, length, Bool, true, false, ◌||◌, ◌==◌, nat_lt, nat_le, if◌then◌else◌, Option, Some, None, is_some, refl, sym, ◌∙◌, ap, arith}
+use Rattle.std.specs.List.{list_any}
+use Rattle.std.proofs.lemmas.Bool.Decides.{nat_tests}
+use Rattle.am_base.specs.declared.entry.Entry.{Entry}
+use Rattle.am_base.specs.declared.outcome.Outcome.TheVariants as said
+use Rattle.am_base.specs.Lists.{entry_at}
+use Rattle.am_core.proofs.Folds.{split}
+use Rattle.am_bodies.specs.Bodies.{is_of, keep_body}
+use Rattle.am_sender.specs.declared.OwnSend.{OwnSend}
+use Rattle.am_sender.specs.Sends as own
+use Rattle.am_model.specs.declared.status.Status.{Status}
+use Rattle.am_model.specs.declared.status.Status.TheVariants as status
+use Rattle.am_model.specs.Node.{Node, is_member, waiting}
+use Rattle.am_model.specs.Emit.{quiet}
+use Rattle.am_model.specs.Calls.{send_row, done_row, take_row, given, join_row, join_by, state_row, state_by, queue, queued, emit}
+use Rattle.am_model.specs.Receiving.{spread_row, hold_row, held_up}
+use Rattle.am_model.specs.Sequencing.{row_at}
+use Rattle.am_model.specs.Joining.{gone_row}
+use Rattle.am_acting.specs.Forms.{waits_for}
+
+-- what isn't below
+pub not_few : (n : ℕ) → (n < 4 → ⊥) → 4 ≤ n
+not_few n never = split (nat_lt n 4) (λ t. let few : n < 4 = grind (arith, nat_tests) in absurd (never few)) (λ f. grind (arith, nat_tests))
+
+-- ---- joining
+
+pub join_is : (m : Node) (s : Status) → m.status ≡ s → join_row m ≡ join_by m s
+unfolding join_row
+join_is m s is = ap (join_by m) is
+
+pub state_is : (m : Node) (s : Status) → m.status ≡ s → state_row m ≡ state_by m s
+unfolding state_row
+state_is m s is = ap (state_by m) is
+
+pub state_member : (m : Node) (leaving : Bool) → m.status ≡ status.Member → m.leaving ≡ leaving → state_row m ≡ (if leaving then quiet m said.Leaving else quiet m (said.Joined m.core.start))
+state_member m leaving is leaves = state_is m status.Member is ∙ ap (λ b. if b then quiet m said.Leaving else quiet m (said.Joined m.core.start)) leaves
+
+-- ---- hearing
+
+pub gone_leaving : (m : Node) → m.leaving ≡ true → gone_row m ≡ quiet (record m { status = status.Departed }) said.Departed
+unfolding gone_row
+gone_leaving m is = rw is refl
+
+pub gone_staying : (m : Node) → m.leaving ≡ false → gone_row m ≡ quiet m said.Known
+unfolding gone_row
+gone_staying m is = rw is refl
+
+pub hold_waits : (m : Node) (base high req : ℕ) → waits_for (waiting m) req ≡ true → hold_row m base high req ≡ quiet m (said.PutOff req base high)
+unfolding hold_row
+hold_waits m base high req is = by_send (waiting m) is
+  where
+    by_send : (w : Option OwnSend) → waits_for w req ≡ true → held_up m base high req w ≡ quiet m (said.PutOff req base high)
+    by_send None is = absurd (cc)
+    by_send (Some s) is = rw is refl
+
+pub hold_idle : (m : Node) (base high req : ℕ) → waits_for (waiting m) req ≡ false → hold_row m base high req ≡ quiet m said.Known
+unfolding hold_row
+hold_idle m base high req is = by_send (waiting m) is
+  where
+    by_send : (w : Option OwnSend) → waits_for w req ≡ false → held_up m base high req w ≡ quiet m said.Known
+    by_send None is = refl
+    by_send (Some s) is = rw is refl
+
+pub spread_known : (m : Node) (s req : ℕ) (body : List ℕ) → (nat_le req (row_at m s).last || list_any (is_of s req) m.bodies) ≡ true → spread_row m s req body ≡ quiet m said.Known
+unfolding spread_row
+spread_known m s req body is = rw is refl
+
+pub spread_kept : (m : Node) (s req : ℕ) (body : List ℕ) → (nat_le req (row_at m s).last || list_any (is_of s req) m.bodies) ≡ false → spread_row m s req body ≡ quiet (record m { bodies = keep_body s req body m.bodies }) said.Kept
+unfolding spread_row
+spread_kept m s req body is = rw is refl
+
+-- ---- taking
+
+member_is : (s : Status) → s ≡ status.Member → is_member s ≡ true
+member_is s is = ap is_member is
+
+pub take_outside : (m : Node) → is_member m.status ≡ false → take_row m ≡ quiet m said.NotMember
+unfolding take_row
+take_outside m is = rw is refl
+
+pub take_empty : (m : Node) → is_member m.status ≡ true → m.core.taken ≡ m.core.acc → take_row m ≡ quiet m said.Empty
+unfolding take_row
+take_empty m is all =
+    let test : (m.core.taken == m.core.acc) ≡ true = grind (arith, nat_tests) in
+    rw (is, test) refl
+
+pub take_given : (m : Node) (number : ℕ) (e : Entry) → is_member m.status ≡ true → number ≤ m.core.acc → number ≡ m.core.taken + 1 → entry_at m.core.log (m.core.taken + 1) ≡ Some e
+    → take_row m ≡ quiet (record m { core = record (m.core) { taken = number } }) (said.Took number e)
+unfolding take_row
+take_given m number e is low next there =
+    let test : (m.core.taken == m.core.acc) ≡ false = grind (arith, nat_tests) in
+    rw (is, test) (ap (given m) there ∙ ap (λ k. quiet (record m { core = record (m.core) { taken = k } }) (said.Took k e)) (sym next))
+
+-- ---- sends
+
+pub send_outside : (m : Node) (body : List ℕ) → is_member m.status ≡ false → send_row m body ≡ quiet m said.NotMember
+unfolding send_row
+send_outside m body is = rw is refl
+
+pub send_leaving : (m : Node) (body : List ℕ) → is_member m.status ≡ true → m.leaving ≡ true → send_row m body ≡ quiet m said.Leaving
+unfolding send_row
+send_leaving m body is leaves = rw (is, leaves) refl
+
+pub send_busy : (m : Node) (body : List ℕ) → is_member m.status ≡ true → m.leaving ≡ false → 4 ≤ length m.sends.queue → send_row m body ≡ quiet m (said.Busy 4)
+unfolding send_row
+send_busy m body is stays many =
+    let test : nat_le 4 (length m.sends.queue) ≡ true = grind (arith, nat_tests) in
+    rw (is, stays, test) refl
+
+send_queues : (m : Node) (body : List ℕ) → is_member m.status ≡ true → m.leaving ≡ false → length m.sends.queue < 4 → send_row m body ≡ queue m body
+unfolding send_row
+send_queues m body is stays few =
+    let test : nat_le 4 (length m.sends.queue) ≡ false = grind (arith, nat_tests) in
+    rw (is, stays, test) refl
+
+pub send_waits : (m : Node) (body : List ℕ) (req : ℕ) → is_member m.status ≡ true → m.leaving ≡ false → length m.sends.queue < 4 → is_some (waiting m) ≡ true → req ≡ m.sends.last + 1
+    → send_row m body ≡ quiet (record m { sends = own.submit body m.sends }) (said.Queued req)
+send_waits m body req is stays few waits next = send_queues m body is stays few ∙ rw waits (ap (λ k. quiet (queued m body) (said.Queued k)) (sym next))
+
+pub send_emits : (m : Node) (body : List ℕ) (req : ℕ) → is_member m.status ≡ true → m.leaving ≡ false → length m.sends.queue < 4 → is_some (waiting m) ≡ false → req ≡ m.sends.last + 1
+    → send_row m body ≡ emit (record m { sends = own.submit body m.sends }) (waiting (record m { sends = own.submit body m.sends })) (said.Queued req)
+send_emits m body req is stays few waits next = send_queues m body is stays few ∙ rw waits (ap (λ k. emit (queued m body) (waiting (queued m body)) (said.Queued k)) (sym next))
+
+pub done_is : (m : Node) (req : ℕ) → done_row m req ≡ quiet (record m { sends = own.collect req m.sends }) (own.collect_outcome req m.sends)
+unfolding done_row
+done_is m req = refl

@@ -1,0 +1,36 @@
+-- The last View is told again.
+use Rattle.std.proofs.Common.{◌≡◌, ℕ, ◌<◌, ◌≤◌, List, true, false, nat_lt, refl, sym, ◌∙◌, ap, arith}
+use Rattle.std.proofs.lemmas.Bool.Decides.{nat_tests}
+use Rattle.am_base.specs.declared.image.Image.{Image}
+use Rattle.am_base.specs.Names.{without_name}
+use Rattle.am_base.specs.Lists.{told_by, members_of, entry_at}
+use Rattle.am_core.proofs.Ends.{end-entry}
+use Rattle.am_packet.specs.declared.packet.Packet.{Packet}
+use Rattle.am_packet.specs.Boxes.{Letter, with_letter}
+use Rattle.am_model.specs.Node.{Node, told, others, those}
+use Rattle.am_model.specs.Emit.{result_of}
+use Rattle.am_model.specs.Ticks.{viewed_by}
+use Rattle.am_model.specs.Ends.{with_log, Tells}
+use Rattle.am_handlers.specs.Cores.{CoreTells}
+use Rattle.am_handlers.proofs.Ends.{tells, told_same}
+use Rattle.am_acting.specs.Forms.{and_view}
+
+pub view_none : (m : Node) (box : List Letter) → (told m).view_number ≤ m.core.base → Tells (and_view box) m box
+view_none m box low = tells (and_view box) m box (λ all s.
+    let same = ap (λ (i : Image). i.view_number) (told_same m all s) in
+    let test : nat_lt m.core.base (told_by all).view_number ≡ false = grind (arith, nat_tests) in
+    rw test refl)
+
+pub view_some : (m : Node) (box letters : List Letter) (number : ℕ) (to members : List ℕ) (resilience : ℕ) (packet : Packet) → m.core.base ≡ m.core.log.start → m.core.base < number → number ≡ (told m).view_number
+    → to ≡ those (λ name. nat_lt (m.reports name).stored number) (others m) → members ≡ viewed_by (entry_at m.core.log number) → resilience ≡ (told m).resilience
+    → CoreTells (λ n. result_of n number members resilience) m.core packet → letters ≡ with_letter to packet box → Tells (and_view box) m letters
+view_some m box letters number to members resilience packet kept high is set named most told_it puts = tells (and_view box) m letters (λ all s.
+    let t = sym (told_same m all s) in
+    let whole = with_log m all in
+    let at : number ≡ (told_by all).view_number = is ∙ ap (λ (i : Image). i.view_number) t in
+    let test : nat_lt m.core.base (told_by all).view_number ≡ true = grind (arith, nat_tests) in
+    let to_is : to ≡ those (λ name. nat_lt (m.reports name).stored (told_by all).view_number) (others whole) = set ∙ (λ k. those (λ name. nat_lt (m.reports name).stored (at k)) (without_name (members_of (t k)) m.core.who)) in
+    let names : members ≡ viewed_by (entry_at all (told_by all).view_number) = named ∙ ap viewed_by (end-entry all m.core.log number s.kept (omega arith) ∙ ap (entry_at all) at) in
+    let strong : resilience ≡ (told_by all).resilience = most ∙ ap (λ (i : Image). i.resilience) t in
+    let packet_is : packet ≡ result_of whole (told_by all).view_number (viewed_by (entry_at all (told_by all).view_number)) (told_by all).resilience = told_it m all s ∙ (λ k. result_of whole (at k) (names k) (strong k)) in
+    rw test (puts ∙ (λ k. with_letter (to_is k) (packet_is k) box)))

@@ -1,0 +1,10 @@
+use Rattle.std.proofs.Common.{◌∙◌, ap}
+use Rattle.am_packet.specs.Boxes.{with_letter}
+use Rattle.am_handlers.specs.Parts.{node_of}
+use Rattle.am_handlers.proofs.Doing.{core_tells}
+use Rattle.am_acting.specs.Notes.{packet_of}
+use Rattle.am_acting.proofs.finishing.tell.Goals as goal
+
+pub returns-clause-letters : goal.returns-clause-letters
+returns-clause-letters c = λ all e.
+    c.put.ensures ∙ ap (λ p. with_letter c.args.to p c.args.out.now) (core_tells (packet_of c.args.note.now) (node_of c.args.parts.now) c.packet.result c.packet.ensures.value all e)

@@ -1,0 +1,12 @@
+use Rattle.std.proofs.Common.{sym, ap, ◌∙◌}
+use Rattle.am_model.specs.Emit.{quiet}
+use Rattle.am_handlers.specs.Parts.{node_of}
+use Rattle.am_acting.proofs.Plans.{does_rest}
+use Rattle.am_sender.specs.Sends as own
+use Rattle.am_model.specs.Calls.{done_row}
+use Rattle.am_acting.proofs.Rows.{done_is}
+use Rattle.am_acting.proofs.sending.on_done.Goals as goal
+
+pub returns : goal.returns
+returns c =
+    does_rest (λ m. done_row m c.args.req) (λ m. quiet m c.collect-answer.result) (node_of c.args.parts.now) (node_of c.collect-answer.new.parts) (record (node_of c.args.parts.now) { sends = own.collect c.args.req c.args.parts.now.sender }) (node_of c.finish_quietly.new.parts) c.accepted-before.result c.finish_quietly.result c.finish_quietly.new.out c.accepted-before.ensures.value c.collect-answer.ensures.rest (done_is (node_of c.args.parts.now) c.args.req ∙ ap (λ o. quiet (record (node_of c.args.parts.now) { sends = own.collect c.args.req c.args.parts.now.sender }) o) (sym c.collect-answer.ensures.answer)) c.finish_quietly.ensures

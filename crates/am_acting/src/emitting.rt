@@ -1,0 +1,191 @@
+ghost use Rattle.std.specs.Prelude.{◌≡◌, ◌<◌, ◌≤◌, ◌+◌, ◌&&◌, nat_lt, nat_le, [], length, true, Some, IsTrue, IfSome, is_some, option_map};
+ghost use Rattle.am_base.specs.declared.entry.Entry.TheVariants.{Data};
+ghost use Rattle.am_base.specs.Limits.{IsNumber};
+ghost use Rattle.am_base.specs.Lists.{top_of};
+ghost use Rattle.am_sender.specs.Sends.{waiting_send};
+ghost use Rattle.am_model.specs.Node.{top, view, others, acts, own_row, waiting, has_room, pushed, is_sequencer};
+ghost use Rattle.am_model.specs.Calls.{hand_in, emit};
+ghost use Rattle.am_handlers.specs.Parts.{node_of};
+ghost use Rattle.am_acting.specs.declared.note.Note.TheVariants as note;
+ghost use Rattle.am_acting.specs.Notes.{IsNoteWithin};
+ghost use Rattle.am_handlers.specs.Finishing.{Done};
+ghost use Rattle.am_acting.specs.Forms.{own_send};
+
+use crate::finishing::finish_noting;
+use crate::note::Note;
+use am_base::body::Body;
+use am_base::entry::Entry;
+use am_base::name::Name;
+use am_base::names::Names;
+use am_base::outcome::Outcome;
+use am_core::log::Log;
+use am_handlers::finishing::finish_quietly;
+use am_handlers::packets::only;
+use am_handlers::parts::Parts;
+use am_letter::out_box::OutBox;
+
+/// A send of the node's own: its request and its body.
+#[derive(Drop, Debug)]
+pub struct WaitingSend {
+    /// Its request.
+    pub req: u32,
+    /// Its body.
+    pub body: Body,
+}
+
+/// The send that waits; None exactly where there is none.
+pub fn next_send(parts: &Parts) -> Option<WaitingSend>
+    ensures value { option_map (λ send. (send.req, send.body)) result ≡ waiting_send parts.now.sender }
+    ensures within { IfSome result (λ send. IsNumber send.req) }
+{
+    let (req, body) = parts.sender.waiting()?;
+    Some(WaitingSend {
+        req,
+        body: body.copied(),
+    })
+}
+
+/// Whether a send waits.
+pub fn has_waiting(parts: &Parts) -> bool
+    ensures { result ≡ is_some (waiting (node_of parts.now)) }
+{
+    parts.sender.waiting().is_some()
+}
+
+/// Whether a send would go out: the node acts, and the send isn't numbered yet.
+pub fn would_emit(parts: &Parts, req: u32) -> bool
+    ensures { result ≡ (acts (node_of parts.now) && nat_lt (own_row (node_of parts.now)).last req) }
+{
+    parts.acts() && parts.core.log.row(parts.core.who).last < req
+}
+
+/// Whether another entry may be numbered.
+pub fn has_room(parts: &Parts) -> bool
+    ensures value { result ≡ has_room (node_of parts.now) }
+    ensures room { IsTrue result → length parts.now.core.log.entries < parts.now.core.rules.window + 15 }
+{
+    parts.core.log.top() + 1 - parts.core.log.base() <= u32::from(parts.core.rules.window())
+}
+
+/// The node's name.
+pub fn who(parts: &Parts) -> Name
+    ensures { result ≡ parts.now.core.who }
+{
+    parts.core.who
+}
+
+/// The number that the next entry gets.
+pub fn next_number(parts: &Parts) -> u32
+    requires { top_of parts.now.core.log < 2000000000 }
+    ensures value { result ≡ top (node_of parts.now) + 1 }
+    ensures within { IsNumber result }
+{
+    parts.core.log.top() + 1
+}
+
+/// Whether a body goes by the sequencer.
+fn is_short(parts: &Parts, body: &Body) -> bool
+    ensures { result ≡ nat_le (length body.now) parts.now.core.rules.pb_up_to }
+{
+    body.bytes().len() <= usize::from(parts.core.rules.pb_up_to())
+}
+
+/// Whose view it is.
+pub fn leader(parts: &Parts) -> Name
+    ensures { result ≡ (view (node_of parts.now)).by }
+{
+    parts.core.log.view().by
+}
+
+/// The members without the node itself.
+pub fn others(parts: &Parts) -> Names
+    ensures { result ≡ others (node_of parts.now) }
+{
+    let _acts = parts.acts();
+    parts.others()
+}
+
+/// A member hands its send in: to the sequencer where it is short, else to everybody.
+fn hand_in(
+    parts: &mut Parts,
+    before: u32,
+    send: WaitingSend,
+    answer: Outcome,
+    out: &mut OutBox,
+) -> Outcome
+    requires empty { out.old ≡ [] }
+    requires req { IsNumber send.req }
+    ensures { Done before (hand_in (node_of parts.old) (own_send send.req send.body) answer) result out.new (node_of parts.new) }
+{
+    let WaitingSend { req, body } = send;
+    if is_short(parts, &body) {
+        let to = only(leader(parts));
+        return finish_noting(
+            parts,
+            before,
+            false,
+            answer,
+            to,
+            &Note::Request { req, body },
+            out,
+        );
+    }
+    let to = others(parts);
+    finish_noting(
+        parts,
+        before,
+        false,
+        answer,
+        to,
+        &Note::Spread { req, body },
+        out,
+    )
+}
+
+/// Numbers the node's own send, and gives what is to be told of it.
+pub fn number_send(parts: &mut Parts, send: WaitingSend) -> Note
+    requires leads { is_sequencer (node_of parts.old) ≡ true }
+    requires waits { waiting_send parts.old.sender ≡ Some (send.req, send.body) }
+    requires new { (own_row (node_of parts.old)).last < send.req }
+    requires room { length parts.old.core.log.entries < parts.old.core.rules.window + 15 }
+    requires req { IsNumber send.req }
+    requires number { top_of parts.old.core.log < 2000000000 }
+    ensures node { node_of parts.new ≡ pushed (node_of parts.old) (Data parts.old.core.who send.req send.body) }
+    ensures note { result ≡ note.Bcast (top (node_of parts.old) + 1) (Data parts.old.core.who send.req send.body) }
+    ensures within { IsNoteWithin result }
+{
+    let WaitingSend { req, body } = send;
+    let _before = parts.accepted();
+    let number = next_number(parts);
+    let entry = Entry::Data {
+        from: who(parts),
+        req,
+        body,
+    };
+    parts.push(entry.copied());
+    Note::Bcast { number, entry }
+}
+
+/// Emits the waiting send: a member hands it in, and the sequencer numbers it where there is room. Nothing is emitted where
+/// none waits, or where it wouldn't go out. It gives the answer back.
+pub fn emit(parts: &mut Parts, before: u32, answer: Outcome, out: &mut OutBox) -> Outcome
+    requires empty { out.old ≡ [] }
+    requires number { top_of parts.old.core.log < 2000000000 }
+    ensures { Done before (emit (node_of parts.old) (waiting (node_of parts.old)) answer) result out.new (node_of parts.new) }
+{
+    let Some(send) = next_send(parts) else {
+        return finish_quietly(parts, before, answer, out);
+    };
+    if !would_emit(parts, send.req) {
+        return finish_quietly(parts, before, answer, out);
+    }
+    if !parts.is_sequencer() {
+        return hand_in(parts, before, send, answer, out);
+    }
+    if !has_room(parts) {
+        return finish_quietly(parts, before, answer, out);
+    }
+    let to = others(parts);
+    let note = number_send(parts, send);
+    finish_noting(parts, before, true, answer, to, &note, out)
+}

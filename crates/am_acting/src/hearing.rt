@@ -1,0 +1,76 @@
+ghost use Rattle.std.specs.Prelude.{◌≡◌, [], ◌||◌, nat_le};
+ghost use Rattle.std.specs.List.{list_any};
+ghost use Rattle.am_bodies.specs.Bodies.{is_of};
+ghost use Rattle.am_model.specs.Sequencing.{row_at};
+ghost use Rattle.am_model.specs.Node.{waiting};
+ghost use Rattle.am_model.specs.Receiving.{spread_row, hold_row};
+ghost use Rattle.am_model.specs.Joining.{gone_row};
+ghost use Rattle.am_model.specs.Ends.{Does};
+ghost use Rattle.am_handlers.specs.Parts.{node_of};
+ghost use Rattle.am_acting.specs.Forms.{waits_for};
+
+use crate::changing::{is_leaving, keep_body, set_status};
+use am_base::body::Body;
+use am_base::name::Name;
+use am_base::outcome::Outcome;
+use am_core::log::Log;
+use am_handlers::finishing::finish_quietly;
+use am_handlers::parts::Parts;
+use am_letter::out_box::OutBox;
+use am_model::status::Status;
+
+/// Whether a send is numbered, or its body is kept.
+fn is_known(parts: &Parts, from: Name, req: u32) -> bool
+    ensures { result ≡ (nat_le req (row_at (node_of parts.now) from).last || list_any (is_of from req) parts.now.pool) }
+{
+    req <= parts.core.log.row(from).last || parts.pool.holds(from, req)
+}
+
+/// A name spreads a body, at a member that isn't the sequencer (docs/PROTOCOL.md, "Spread"). Known where the send is numbered
+/// or its body is kept already; else Kept.
+pub fn on_spread(parts: &mut Parts, from: Name, req: u32, body: &Body, out: &mut OutBox) -> Outcome
+    requires { out.old ≡ [] }
+    ensures { Does (λ m. spread_row m from req body.now) (node_of parts.old) result out.new (node_of parts.new) }
+{
+    let before = parts.accepted();
+    if is_known(parts, from, req) {
+        return finish_quietly(parts, before, Outcome::Known, out);
+    }
+    keep_body(parts, from, req, body);
+    finish_quietly(parts, before, Outcome::Kept, out)
+}
+
+/// Whether the waiting send has this request.
+fn waits_for(parts: &Parts, req: u32) -> bool
+    ensures { result ≡ waits_for (waiting (node_of parts.now)) req }
+{
+    match parts.sender.waiting() {
+        Some(send) => send.0 == req,
+        None => false,
+    }
+}
+
+/// The sequencer has no room for a send: PutOff where that is the waiting send, else Known.
+pub fn on_hold(parts: &mut Parts, base: u32, top: u32, req: u32, out: &mut OutBox) -> Outcome
+    requires { out.old ≡ [] }
+    ensures { Does (λ m. hold_row m base top req) (node_of parts.old) result out.new (node_of parts.new) }
+{
+    let before = parts.accepted();
+    if waits_for(parts, req) {
+        return finish_quietly(parts, before, Outcome::PutOff { req, base, top }, out);
+    }
+    finish_quietly(parts, before, Outcome::Known, out)
+}
+
+/// The node may go: Departed where it is leaving, else Known.
+pub fn on_gone(parts: &mut Parts, out: &mut OutBox) -> Outcome
+    requires { out.old ≡ [] }
+    ensures { Does gone_row (node_of parts.old) result out.new (node_of parts.new) }
+{
+    let before = parts.accepted();
+    if is_leaving(parts) {
+        set_status(parts, Status::Departed);
+        return finish_quietly(parts, before, Outcome::Departed, out);
+    }
+    finish_quietly(parts, before, Outcome::Known, out)
+}

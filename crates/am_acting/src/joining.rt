@@ -1,0 +1,93 @@
+ghost use Rattle.std.specs.Prelude.{◌≡◌, ◌==◌, ℕ, ◌<◌, if◌then◌else◌, []};
+ghost use Rattle.am_base.specs.Names.{place_of, by_place};
+ghost use Rattle.am_model.specs.Calls.{everywhere_else, ask_to_join, join_row, state_row};
+ghost use Rattle.am_model.specs.Ends.{Does};
+ghost use Rattle.am_handlers.specs.Parts.{node_of};
+ghost use Rattle.am_handlers.specs.Finishing.{Done};
+
+use crate::changing::{is_leaving, set_status, status};
+use crate::finishing::finish_noting;
+use crate::note::Note;
+use am_base::name::Name;
+use am_base::names::Names;
+use am_base::outcome::Outcome;
+use am_handlers::finishing::finish_quietly;
+use am_handlers::parts::Parts;
+use am_letter::out_box::OutBox;
+use am_model::status::Status;
+
+/// Life 1 of all places but one.
+#[tactic(auto, using(crate::proofs::Lives::all_but))]
+fn all_but(own: u8) -> Names
+    requires { own < 16 }
+    ensures { result ≡ by_place (λ place. if place == own then 0 else 1) }
+{
+    let mut lives = [1; 16];
+    lives[usize::from(own)] = 0;
+    Names::of_lives(lives)
+}
+
+/// Life 1 of the fifteen other places.
+#[tactic(auto, unfolding(am_model::specs::Calls::everywhere_else))]
+fn everywhere_else(parts: &Parts) -> Names
+    ensures { result ≡ everywhere_else (node_of parts.now) }
+{
+    all_but(parts.core.who.place())
+}
+
+/// The number from which on the node is a member.
+fn start(parts: &Parts) -> u32
+    ensures { result ≡ parts.now.core.start }
+{
+    parts.core.start
+}
+
+/// Asks everybody else to be let in.
+pub fn ask_to_join(parts: &mut Parts, before: u32, answer: Outcome, out: &mut OutBox) -> Outcome
+    requires { out.old ≡ [] }
+    ensures { Done before (ask_to_join (node_of parts.old) answer) result out.new (node_of parts.new) }
+{
+    let to = everywhere_else(parts);
+    finish_noting(parts, before, false, answer, to, &Note::JoinAsk, out)
+}
+
+/// The application would join (docs/PROTOCOL.md, "Calls"). A Stranger asks: Asked. Asked again; Joined with its number;
+/// NotMember once it has departed.
+pub fn on_join(parts: &mut Parts, out: &mut OutBox) -> Outcome
+    requires { out.old ≡ [] }
+    ensures { Does join_row (node_of parts.old) result out.new (node_of parts.new) }
+{
+    let before = parts.accepted();
+    match status(parts) {
+        Status::Stranger => {
+            set_status(parts, Status::Asking);
+            ask_to_join(parts, before, Outcome::Asked, out)
+        }
+        Status::Asking => finish_quietly(parts, before, Outcome::Asked, out),
+        Status::Member => {
+            let number = start(parts);
+            finish_quietly(parts, before, Outcome::Joined { number }, out)
+        }
+        Status::Departed => finish_quietly(parts, before, Outcome::NotMember, out),
+    }
+}
+
+/// The application asks how the node stands to its group: Stranger, Asked, Leaving, Joined with its number, or Departed.
+pub fn on_state(parts: &mut Parts, out: &mut OutBox) -> Outcome
+    requires { out.old ≡ [] }
+    ensures { Does state_row (node_of parts.old) result out.new (node_of parts.new) }
+{
+    let before = parts.accepted();
+    let number = start(parts);
+    match status(parts) {
+        Status::Stranger => finish_quietly(parts, before, Outcome::Stranger, out),
+        Status::Asking => finish_quietly(parts, before, Outcome::Asked, out),
+        Status::Member => {
+            if is_leaving(parts) {
+                return finish_quietly(parts, before, Outcome::Leaving, out);
+            }
+            finish_quietly(parts, before, Outcome::Joined { number }, out)
+        }
+        Status::Departed => finish_quietly(parts, before, Outcome::Departed, out),
+    }
+}

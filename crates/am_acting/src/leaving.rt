@@ -1,0 +1,159 @@
+ghost use Rattle.std.specs.Prelude.{◌≡◌, ◌<◌, ◌≤◌, ◌+◌, ◌||◌, nat_lt, [], true, false, length, None};
+ghost use Rattle.am_base.specs.declared.entry.Entry.TheVariants.{Leave};
+ghost use Rattle.am_base.specs.declared.outcome.Outcome.TheVariants as said;
+ghost use Rattle.am_base.specs.Names.{size};
+ghost use Rattle.am_base.specs.Lists.{top_of};
+ghost use Rattle.am_fronts.specs.Refresh.{MayLead};
+ghost use Rattle.am_model.specs.declared.status.Status.TheVariants as status;
+ghost use Rattle.am_model.specs.Node.{others, waiting, unsettled, pushed, is_sequencer, is_member, lowest_or_first, top};
+ghost use Rattle.am_model.specs.Emit.{quiet};
+ghost use Rattle.am_model.specs.Refresh.{lead, refresh_at_end};
+ghost use Rattle.am_model.specs.Calls.{go, is_unfinished, leave_now, leave_row};
+ghost use Rattle.am_model.specs.Ends.{IsEndOf, Does};
+ghost use Rattle.am_handlers.specs.Parts.{node_of};
+ghost use Rattle.am_handlers.specs.Finishing.{Done};
+
+use crate::changing::{begin_leaving, is_leaving, set_status, status};
+use crate::emitting::{has_room, others, who};
+use crate::finishing::finish_noting;
+use crate::note::Note;
+use am_base::entry::Entry;
+use am_base::name::Name;
+use am_base::names::Names;
+use am_base::outcome::Outcome;
+use am_core::log::Log;
+use am_handlers::finishing::finish_quietly;
+use am_handlers::packets::only;
+use am_handlers::parts::Parts;
+use am_letter::out_box::OutBox;
+use am_model::status::Status;
+
+/// Whether there is a ballot that isn't over.
+pub fn is_unfinished(parts: &Parts) -> bool
+    ensures { result ≡ is_unfinished (node_of parts.now).ballot }
+{
+    match &parts.ballot {
+        Some(ballot) => !ballot.is_over(),
+        None => false,
+    }
+}
+
+/// How many sends aren't settled.
+fn unsettled(parts: &Parts) -> u32
+    ensures value { result ≡ unsettled (node_of parts.now) }
+    ensures few { result ≤ 4 }
+{
+    parts.sender.unsettled()
+}
+
+/// Whether a send isn't settled, or a ballot isn't over.
+fn is_busy(parts: &Parts) -> bool
+    ensures { result ≡ (nat_lt 0 (unsettled (node_of parts.now)) || is_unfinished (node_of parts.now).ballot) }
+{
+    0 < unsettled(parts) || is_unfinished(parts)
+}
+
+/// The lowest of some names; the first of all where there is none.
+pub fn lowest_or_first(names: Names) -> Name
+    ensures { result ≡ lowest_or_first names }
+{
+    match names.lowest() {
+        Some(name) => name,
+        None => Name::of_byte(0),
+    }
+}
+
+/// The answer where there is no room.
+pub fn held(parts: &Parts) -> Outcome
+    ensures { result ≡ said.Held (node_of parts.now).core.base (top (node_of parts.now)) }
+{
+    Outcome::Held {
+        base: parts.core.log.base(),
+        top: parts.core.log.top(),
+    }
+}
+
+/// Leads as the last member does that has departed.
+fn lead(parts: &mut Parts)
+    requires leads { MayLead parts.old.core }
+    requires outside { is_member parts.old.status ≡ false }
+    ensures { IsEndOf (lead (node_of parts.old)) (node_of parts.new) }
+{
+    let _before = parts.accepted();
+    parts.fronts.refresh(&mut parts.core);
+}
+
+/// The last member numbers its Leave, which is accepted at once, and departs.
+pub fn depart(parts: &mut Parts)
+    requires leads { is_sequencer (node_of parts.old) ≡ true }
+    requires alone { size (others (node_of parts.old)) ≡ 0 }
+    requires idle { waiting (node_of parts.old) ≡ None }
+    requires room { length parts.old.core.log.entries < parts.old.core.rules.window + 15 }
+    requires number { top_of parts.old.core.log < 2000000000 }
+    ensures end { IsEndOf (record (refresh_at_end (pushed (node_of parts.old) (Leave parts.old.core.who))) { status = status.Departed }) (node_of parts.new) }
+    ensures alone { size (others (refresh_at_end (pushed (node_of parts.old) (Leave parts.old.core.who)))) ≡ 0 }
+{
+    set_status(parts, Status::Departed);
+    let _before = parts.accepted();
+    let who = who(parts);
+    parts.push(Entry::Leave(who));
+    lead(parts);
+}
+
+/// A leaving node goes on: a member asks the others; the sequencer hands over to the lowest other member; the last member
+/// departs where there is room, and else the answer is Held. It gives the answer back, where that isn't another.
+pub fn go_on_leaving(parts: &mut Parts, before: u32, answer: Outcome, out: &mut OutBox) -> Outcome
+    requires empty { out.old ≡ [] }
+    requires idle { waiting (node_of parts.old) ≡ None }
+    requires number { top_of parts.old.core.log < 2000000000 }
+    ensures { Done before (go (quiet (node_of parts.old) answer)) result out.new (node_of parts.new) }
+{
+    let others = others(parts);
+    if !parts.is_sequencer() {
+        return finish_noting(parts, before, false, answer, others, &Note::LeaveAsk, out);
+    }
+    if 0 < others.len() {
+        let to = only(lowest_or_first(others));
+        return finish_noting(parts, before, false, answer, to, &Note::HandOver, out);
+    }
+    if !has_room(parts) {
+        let answer = held(parts);
+        return finish_quietly(parts, before, answer, out);
+    }
+    depart(parts);
+    Outcome::Departed
+}
+
+/// A member begins to leave, unless it is leaving already, or has unsettled sends or an unfinished ballot.
+fn leave_now(parts: &mut Parts, before: u32, out: &mut OutBox) -> Outcome
+    requires empty { out.old ≡ [] }
+    requires number { top_of parts.old.core.log < 2000000000 }
+    ensures { Done before (leave_now (node_of parts.old)) result out.new (node_of parts.new) }
+{
+    if is_leaving(parts) {
+        return finish_quietly(parts, before, Outcome::Leaving, out);
+    }
+    if is_busy(parts) {
+        let queued = unsettled(parts) as u8;
+        return finish_quietly(parts, before, Outcome::Busy { queued }, out);
+    }
+    begin_leaving(parts);
+    go_on_leaving(parts, before, Outcome::Asked, out)
+}
+
+/// The application would leave (docs/PROTOCOL.md, "Calls"). NotMember where the node never was one; Departed; Leaving
+/// already; Busy with the number of unsettled sends where there is one, or an unfinished ballot. Else it goes on leaving:
+/// Asked, Departed as the last member, or Held where that one has no room.
+pub fn on_leave(parts: &mut Parts, out: &mut OutBox) -> Outcome
+    requires empty { out.old ≡ [] }
+    requires number { top_of parts.old.core.log < 2000000000 }
+    ensures { Does leave_row (node_of parts.old) result out.new (node_of parts.new) }
+{
+    let before = parts.accepted();
+    match status(parts) {
+        Status::Stranger => finish_quietly(parts, before, Outcome::NotMember, out),
+        Status::Asking => finish_quietly(parts, before, Outcome::NotMember, out),
+        Status::Member => leave_now(parts, before, out),
+        Status::Departed => finish_quietly(parts, before, Outcome::Departed, out),
+    }
+}

@@ -1,0 +1,53 @@
+ghost use Rattle.std.specs.Prelude.{◌≡◌, ◌<◌, []};
+ghost use Rattle.am_base.specs.Lists.{top_of};
+ghost use Rattle.am_model.specs.Calls.{send_row, done_row};
+ghost use Rattle.am_model.specs.Ends.{Does};
+ghost use Rattle.am_handlers.specs.Parts.{node_of};
+
+use crate::changing::{collect, is_leaving, is_member, submit};
+use crate::emitting::{emit, has_waiting};
+use am_base::body::Body;
+use am_base::outcome::Outcome;
+use am_handlers::finishing::finish_quietly;
+use am_handlers::parts::Parts;
+use am_letter::out_box::OutBox;
+
+/// The application sends a body (docs/PROTOCOL.md, "Calls"). NotMember where the node is none; Leaving; Busy where four sends
+/// aren't collected; else Queued with its request, and where no send waits before it, it is emitted.
+pub fn on_send(parts: &mut Parts, body: Body, out: &mut OutBox) -> Outcome
+    requires empty { out.old ≡ [] }
+    requires number { top_of parts.old.core.log < 2000000000 }
+    requires last { parts.old.sender.last < 2000000000 }
+    ensures { Does (λ m. send_row m body) (node_of parts.old) result out.new (node_of parts.new) }
+{
+    let before = parts.accepted();
+    if !is_member(parts) {
+        return finish_quietly(parts, before, Outcome::NotMember, out);
+    }
+    if is_leaving(parts) {
+        return finish_quietly(parts, before, Outcome::Leaving, out);
+    }
+    let waits = has_waiting(parts);
+    match submit(parts, body) {
+        Err(busy) => {
+            let queued = busy.queued;
+            finish_quietly(parts, before, Outcome::Busy { queued }, out)
+        }
+        Ok(req) => {
+            if waits {
+                return finish_quietly(parts, before, Outcome::Queued { req }, out);
+            }
+            emit(parts, before, Outcome::Queued { req }, out)
+        }
+    }
+}
+
+/// The application asks what came of a send: Unknown, Pending, or Sent with its number, and then the send is collected.
+pub fn on_done(parts: &mut Parts, req: u32, out: &mut OutBox) -> Outcome
+    requires { out.old ≡ [] }
+    ensures { Does (λ m. done_row m req) (node_of parts.old) result out.new (node_of parts.new) }
+{
+    let before = parts.accepted();
+    let answer = collect(parts, req);
+    finish_quietly(parts, before, answer, out)
+}

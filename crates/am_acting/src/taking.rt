@@ -1,0 +1,44 @@
+ghost use Rattle.std.specs.Prelude.{◌≡◌, ◌≤◌, ◌+◌, [], Some, IsNone, IfSome, ◌↔◌};
+ghost use Rattle.am_base.specs.Lists.{entry_at};
+ghost use Rattle.am_model.specs.Calls.{take_row};
+ghost use Rattle.am_model.specs.Ends.{Does};
+ghost use Rattle.am_handlers.specs.Parts.{node_of};
+
+use crate::changing::{is_member, set_taken};
+use am_base::entry::Entry;
+use am_base::outcome::Outcome;
+use am_core::log::Log;
+use am_handlers::finishing::finish_quietly;
+use am_handlers::parts::Parts;
+use am_letter::out_box::OutBox;
+
+/// The entry after those that the application has taken, with its number; None exactly where all that is accepted is taken.
+fn next(parts: &Parts) -> Option<(u32, Entry)>
+    ensures none { IsNone result ↔ (parts.now.core.taken ≡ parts.now.core.acc) }
+    ensures number { IfSome result (λ given. given.0 ≡ parts.now.core.taken + 1) }
+    ensures accepted { IfSome result (λ given. given.0 ≤ parts.now.core.acc) }
+    ensures entry { IfSome result (λ given. entry_at parts.now.core.log (parts.now.core.taken + 1) ≡ Some given.1) }
+{
+    if parts.core.taken == parts.core.acc {
+        return None;
+    }
+    let number = parts.core.taken + 1;
+    Some((number, parts.core.log.entry(number)?.copied()))
+}
+
+/// The application takes the next entry (docs/PROTOCOL.md, "Calls"). NotMember where the node is none; Empty where all that
+/// is accepted is taken; else Took.
+pub fn on_take(parts: &mut Parts, out: &mut OutBox) -> Outcome
+    requires { out.old ≡ [] }
+    ensures { Does take_row (node_of parts.old) result out.new (node_of parts.new) }
+{
+    let before = parts.accepted();
+    if !is_member(parts) {
+        return finish_quietly(parts, before, Outcome::NotMember, out);
+    }
+    let Some((number, entry)) = next(parts) else {
+        return finish_quietly(parts, before, Outcome::Empty, out);
+    };
+    set_taken(parts, number);
+    finish_quietly(parts, before, Outcome::Took { number, entry }, out)
+}

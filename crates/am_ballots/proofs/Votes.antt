@@ -1,0 +1,65 @@
+-- Votes by the names' bytes, and the best of them.
+use Rattle.std.proofs.Common.{◌≡◌, ℕ, zero, suc, ◌+◌, ◌-◌, ◌*◌, ◌/◌, ◌%◌, ◌<◌, ◌≤◌, List, ◌∷◌, map, replicate, length, refl, sym, ◌∙◌, ap, subst, Bool, true, ◌==◌, Option, Some, slice_index, slice_index_or, ⊎_elim, arith}
+use Rattle.std.specs.Option.{IfSome}
+use Rattle.std.specs.List.{range_with_len}
+use Rattle.std.proofs.lemmas.List.{get_or-replicate, get_or_past, length-replicate}
+use Rattle.std.proofs.lemmas.Bool.{cases_lt}
+use Rattle.std.proofs.lemmas.Bool.Decides.{nat_tests}
+use Rattle.am_base.specs.declared.image.Vote.{Vote}
+use Rattle.am_base.specs.Names.{IsSet, place_of, life_of, name_at, names_of, has}
+use Rattle.am_base.proofs.Places.{by_place_all}
+use Rattle.am_fronts.specs.Reports.{least_of}
+use Rattle.am_fronts.proofs.Leaders.{least_in}
+use Rattle.am_model.specs.Node.{Ballot, name_where, those}
+use Rattle.am_model.specs.Ballots.{taken_by}
+use Rattle.am_base.specs.Votes.{Shown, better_of, best_from}
+
+-- the same for each name
+pub all_same : {A : Type 0} (n : ℕ) (x : A) → ◌≡◌ {A = ℕ → A} (λ name. slice_index_or (replicate n x) name x) (λ name. x)
+all_same n x = λ i name. (each name) i
+  where
+    each : (name : ℕ) → slice_index_or (replicate n x) name x ≡ x
+    each name = ⊎_elim
+        (λ (h : name < n). get_or-replicate n name x x h)
+        (λ (h : n ≤ name). let l = length-replicate n x in get_or_past (replicate n x) name x (omega arith))
+        (cases_lt name n)
+
+-- the names of a set that pass a test, by each place
+pub those_all : (test : ℕ → Bool) (set xs : List ℕ) → length xs ≡ 16 → ((k : ℕ) → k < 16 → slice_index xs k ≡ name_where test k (slice_index set k)) → xs ≡ those test set
+unfolding those
+those_all test set xs long each = by_place_all (λ place. name_where test place (slice_index set place)) xs 0 long each
+
+-- the coordinator's own is at least the least of those with it
+pub least_own : (who taken : ℕ) (b : Ballot) (set : List ℕ) (o : Option ℕ) → IsSet set → o ≡ least_of (taken_by who taken b) (names_of set) → has set who ≡ true → IfSome o (λ least. least ≤ taken)
+least_own who taken b set o is e h =
+    let long = is.places in
+    let place : place_of who < 16 = omega arith in
+    let there : slice_index set (place_of who) ≡ life_of who = grind (arith, nat_tests) in
+    let found = least_in (taken_by who taken b) set 0 (place_of who) (omega arith) (omega arith) in
+    let name : name_at (0 + place_of who) (slice_index set (place_of who)) ≡ who = omega arith in
+    let itself : (who == who) ≡ true = grind (arith, nat_tests) in
+    let own : taken_by who taken b who ≡ taken = rw itself refl in
+    let at = ap (taken_by who taken b) name in
+    let most : found.0 ≤ taken = let f = found.2 in omega arith in
+    let P : Option ℕ → Type 0 = λ o. IfSome o (λ least. least ≤ taken) in
+    let is_it : o ≡ Some found.0 = e ∙ found.1 in
+    subst P (sym is_it) most
+
+-- the names of so many ranks, from one on
+abbrev pub named : ℕ → ℕ
+named rank = rank / 16 + 16 * (rank % 16)
+
+ranks_go : (rank n : ℕ) → n ≡ 256 - rank → rank < 256 → map named (range_with_len rank n) ≡ named rank ∷ map named (range_with_len (rank + 1) (256 - (rank + 1)))
+ranks_go rank zero is h = absurd (omega arith)
+ranks_go rank (suc n) is h = let e : n ≡ 256 - (rank + 1) = omega arith in ap (λ k. named rank ∷ map named (range_with_len (rank + 1) k)) e
+
+-- what is best up to a rank, with the rest
+pub best_more : (votes : ℕ → Option Vote) (best : Shown) (rank : ℕ) → rank < 256 → best_from votes best (map named (range_with_len rank (256 - rank))) ≡ best_from votes (better_of best (named rank) (votes (named rank))) (map named (range_with_len (rank + 1) (256 - (rank + 1))))
+unfolding best_from
+best_more votes best rank h = ap (best_from votes best) (ranks_go rank (256 - rank) refl h)
+
+pub best_end : (votes : ℕ → Option Vote) (best : Shown) (rank : ℕ) → 256 ≤ rank → best_from votes best (map named (range_with_len rank (256 - rank))) ≡ best
+unfolding best_from
+best_end votes best rank h = let e : 256 - rank ≡ 0 = omega arith in ap (λ k. best_from votes best (map named (range_with_len rank k))) e
+
+pub ruleset best_laws = (best_more, best_end)

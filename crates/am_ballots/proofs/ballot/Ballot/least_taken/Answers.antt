@@ -1,0 +1,17 @@
+use Rattle.std.proofs.Common.{◌≡◌, ℕ, ◌∙◌, ap, sym, length, arith}
+use Rattle.am_base.specs.Names.{names_of}
+use Rattle.am_fronts.specs.Reports.{least_of}
+use Rattle.am_fronts.proofs.ReportLaws.{least_end}
+use Rattle.am_model.specs.Ballots.{taken_by}
+use Rattle.am_ballots.specs.Kept.{ballot_of}
+use Rattle.am_ballots.proofs.Votes.{least_own}
+use Rattle.am_ballots.proofs.ballot.Ballot.least_taken.Goals as goal
+
+pub returns-clause-own : goal.returns-clause-own
+returns-clause-own c =
+    let f : ℕ → ℕ = taken_by c.args.coordinator c.args.taken (ballot_of c.args.self.now) in
+    let set = c.each_life-lives.ensures.set in
+    let long = set.places in
+    let same = ap length c.each_life-lives.ensures.value in
+    let e : c.loop-place.least ≡ least_of f (names_of c.args.names) = sym (least_end f c.loop-place.least c.each_life-lives.result c.loop-place.place (omega arith)) ∙ c.loop-place.invariant ∙ ap (λ names. least_of f (names_of names)) c.each_life-lives.ensures.value in
+    least_own c.args.coordinator c.args.taken (ballot_of c.args.self.now) c.args.names c.loop-place.least set e

@@ -1,0 +1,129 @@
+-- What each change keeps. A coordinator that isn't given up is itself a member of the view that it decides.
+use Rattle.std.proofs.Common.{◌≡◌, ℕ, zero, suc, ◌+◌, ◌-◌, ◌<◌, ◌≤◌, max, Bool, true, false, not, ◌==◌, nat_lt, if◌then◌else◌, List, [], ◌∷◌, length, slice_index, unwrap_or, refl, sym, ap, subst, ◌∙◌, arith}
+use Rattle.std.proofs.lemmas.Bool.Decides.{nat_tests}
+use Rattle.am_base.specs.declared.entry.Entry.{Entry}
+use Rattle.am_base.specs.declared.entry.Entry.TheVariants.{Leave, View}
+use Rattle.am_base.specs.declared.outcome.Outcome.{Outcome}
+use Rattle.am_base.specs.Founding.{Rules}
+use Rattle.am_base.specs.Names.{place_of, life_of, name_at, has, size, names_of, by_place}
+use Rattle.am_base.proofs.Places.{slice_index-by_place, length-by_place}
+use Rattle.am_fronts.specs.Reports.{least_of}
+use Rattle.am_fronts.proofs.ReportLaws.{count_cons}
+use Rattle.am_model.specs.Node.{Node, Ballot, top, told, name_where, those, pushed, trimmed}
+use Rattle.am_model.specs.Ballots.{Verdict, need_of, left_in, taken_by, trimmed_for}
+use Rattle.am_effects.specs.Causes.{Cause}
+use Rattle.am_effects.specs.Looks.{Looks, finds_itself_out, waits, fetches_from_best, finds_too_few, finds_no_room, decides, HasOpen, Balloting, with_more, without_one, as_it_is}
+use Rattle.am_effects.specs.Changes.{MayStore, Change, refreshes, settles, takes_report, admits, numbers, keeps_body, notes, stores, begins_list, departs, promises, opens, looks, fetches, stores_view, queues, collects, takes, asks_to_join, asks_to_leave, closes}
+use Rattle.am_bounded.proofs.Kept.{HasItself, Keeps, kept_next, kept_pushed, kept_trimmed, kept_promised, kept_refresh, kept_settle, kept_at_end}
+
+-- ---- a set with a name in it isn't empty
+
+size_cons : (life : ℕ) (lives : List ℕ) → size (life ∷ lives) ≡ (if nat_lt 0 life then 1 else 0) + size lives
+size_cons life lives = count_cons (λ x. nat_lt 0 x) life lives
+
+some_size : (set : List ℕ) (place : ℕ) → place < length set → 0 < slice_index set place → 0 < size set
+some_size [] place within is = absurd (omega arith)
+some_size (life ∷ lives) zero within is =
+    let t : nat_lt 0 life ≡ true = grind (arith, nat_tests) in
+    let e : size (life ∷ lives) ≡ 1 + size lives = size_cons life lives ∙ ap (λ (b : Bool). (if b then 1 else 0) + size lives) t in
+    omega arith
+some_size (life ∷ lives) (suc place) within is =
+    let h = some_size lives place (omega arith) is in
+    let e = size_cons life lives in
+    omega arith
+
+-- the place of a name that passes has its life
+life_there : (test : ℕ → Bool) (who : ℕ) → test who ≡ true → name_where test (place_of who) (life_of who) ≡ life_of who
+life_there test who t =
+    let some : (life_of who == 0) ≡ false = grind (arith, nat_tests) in
+    let same : name_at (place_of who) (life_of who) ≡ who = omega arith in
+    let passes : test (name_at (place_of who) (life_of who)) ≡ true = ap test same ∙ t in
+    rw (some, passes) refl
+
+some_left : (test : ℕ → Bool) (set : List ℕ) (who : ℕ) → has set who ≡ true → test who ≡ true → 0 < size (those test set)
+unfolding those
+some_left test set who there passes =
+    let f : ℕ → ℕ = λ place. name_where test place (slice_index set place) in
+    let place : place_of who < 16 = omega arith in
+    let is : slice_index set (place_of who) ≡ life_of who = grind (arith, nat_tests) in
+    let value = slice_index-by_place f (place_of who) place ∙ ap (name_where test (place_of who)) is ∙ life_there test who passes in
+    let long = length-by_place f in
+    some_size (by_place f) (place_of who) (omega arith) (omega arith)
+
+-- ---- looks at a ballot
+
+open_itself : (m : Node) (b : Ballot) (who : ℕ) → HasOpen m b → HasItself who m.ballot → b.given_up who ≡ false
+open_itself m b who h own = subst (HasItself who) h.last own
+
+-- the ballot that is looked at hasn't given up its coordinator
+itself : (c : Cause) (m : Node) (b : Ballot) → Balloting c m b → HasItself m.core.who m.ballot → b.given_up m.core.who ≡ false
+itself c m b (with_more old s v vote is heard low high open_ same stays) own = open_itself m old m.core.who open_ own
+itself c m b (as_it_is old open_) own = open_itself m old m.core.who open_ own
+itself c m b (without_one old name is open_ other) own =
+    let flipped : (m.core.who == name) ≡ false = grind (arith, nat_tests) in
+    rw flipped (open_itself m old m.core.who open_ own)
+
+kept_look : (rules : Rules) (m : Node) (b : Ballot) (v : Verdict) → Looks m b v → b.given_up m.core.who ≡ false → Keeps rules m → Keeps rules v.node
+kept_look rules m b v (finds_itself_out x) own h = record { founding = h.founding; few = h.few; itself = own }
+kept_look rules m b v (waits x y) own h = record { founding = h.founding; few = h.few; itself = own }
+kept_look rules m b v (fetches_from_best x y z) own h = record { founding = h.founding; few = h.few; itself = own }
+kept_look rules m b v (finds_too_few x y) own h = record { founding = h.founding; few = h.few; itself = own }
+kept_look rules m b v (finds_no_room x) own h =
+    let k = kept_trimmed rules m (unwrap_or (least_of (taken_by m.core.who m.core.taken b) (names_of (left_in b (need_of m b)))) 0) h in
+    record { founding = k.founding; few = k.few; itself = own }
+kept_look rules m b v (decides may) own h =
+    let names = left_in b (need_of m b) in
+    let before = trimmed_for m b names in
+    let some = some_left (λ name. not (b.given_up name)) (need_of m b) m.core.who may.learned.needed (ap not own) in
+    let same = ap (λ (r : Rules). r.window) h.founding in
+    let room = may.room in
+    let low : top m + 1 - before.core.base ≤ m.core.rules.window + 16 - size names = grind (arith, nat_tests) in
+    let k = kept_trimmed rules m (unwrap_or (least_of (taken_by m.core.who m.core.taken b) (names_of names)) 0) h in
+    let l = kept_next rules before (View b.stamp names (max b.resilience (told m).resilience)) k (omega arith) in
+    record { founding = l.founding; few = l.few; itself = own }
+
+-- ---- entries that are stored
+
+-- the next number is within the bound
+kept_stored : (rules : Rules) (m : Node) (base number : ℕ) (e : Entry) → MayStore m m.core.base base number e → Keeps rules m → Keeps rules (pushed m e)
+kept_stored rules m base number e may h =
+    let next = may.next in
+    let within = may.within in
+    let same = ap (λ (r : Rules). r.window) h.founding in
+    let low : number - m.core.base ≤ m.core.rules.window + 15 = grind (arith, nat_tests) in
+    kept_next rules m e h (omega arith)
+
+kept_fetched : (rules : Rules) (m : Node) (base number : ℕ) (e : Entry) → MayStore m (max m.core.base base) base number e → Keeps rules m → Keeps rules (pushed (trimmed m base) e)
+kept_fetched rules m base number e may h = kept_stored rules (trimmed m base) base number e (record { next = may.next; taken = may.taken; stays = may.stays; fits = may.fits; within = may.within }) (kept_trimmed rules m base h)
+
+same_bounds : (rules : Rules) (m n : Node) → n.core.rules ≡ m.core.rules → n.core.who ≡ m.core.who → n.core.base ≡ m.core.base → top n ≡ top m → n.ballot ≡ m.ballot → Keeps rules m → Keeps rules n
+same_bounds rules m n a b c d e h = record {
+  founding = a ∙ h.founding;
+  few = let f = h.few in omega arith;
+  itself = subst (HasItself n.core.who) (sym e) (subst (λ w. HasItself w m.ballot) (sym b) h.itself);
+}
+
+-- ---- each change
+
+pub kept_change : (rules : Rules) {c : Cause} {o : Outcome} (m n : Node) → Change c o m n → Keeps rules m → Keeps rules n
+kept_change rules m n refreshes h = kept_refresh rules m h
+kept_change rules m n settles h = kept_settle rules m h
+kept_change rules m n (takes_report s v report by may) h = h
+kept_change rules m n (admits s v is leads fit) h = h
+kept_change rules m n (numbers e leads room why) h = kept_pushed rules m e room h
+kept_change rules m n (keeps_body s v report req body is heard) h = h
+kept_change rules m n (notes s v base acc by heard) h = kept_trimmed rules m _ h
+kept_change rules m n (stores s v base acc number e by heard plain may) h = same_bounds rules (pushed m e) n refl refl refl refl refl (kept_stored rules m base number e may h)
+kept_change rules m n (begins_list s v base join image is o may) h = record { founding = h.founding; few = omega arith; itself = h.itself }
+kept_change rules m n (departs s v number is heard leaves) h = h
+kept_change rules m n (promises v low why) h = kept_promised rules m v h
+kept_change rules m n (opens least resilience by may) h = record { founding = h.founding; few = h.few; itself = refl }
+kept_change rules m n (looks b verdict over why look is) h = kept_look rules m b verdict look (itself _ m b why h.itself) h
+kept_change rules m n (fetches s v base number e is heard promise below from may) h = kept_fetched rules m base number e may h
+kept_change rules m n (stores_view s v base number names resilience is heard own other promise below may) h = kept_fetched rules m base number (View v names resilience) may h
+kept_change rules m n (queues body is o member stays few) h = h
+kept_change rules m n (collects req is) h = h
+kept_change rules m n (takes e is o member some there) h = h
+kept_change rules m n (asks_to_join is was) h = h
+kept_change rules m n (asks_to_leave is was stays done) h = h
+kept_change rules m n (closes leads leaves alone room) h = kept_at_end rules (pushed m (Leave m.core.who)) (kept_pushed rules m (Leave m.core.who) room h)

@@ -1,0 +1,16 @@
+pub mod Tests
+pub mod Statuses
+pub mod Items
+pub mod Founders
+pub mod Rests
+pub mod Plans
+pub mod Says
+pub mod Calls
+pub mod Ticks
+pub mod Ballots
+pub mod Sequencing
+pub mod Receiving
+pub mod Resets
+pub mod Hearing
+pub mod Events
+pub mod Runs

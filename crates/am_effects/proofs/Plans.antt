@@ -1,0 +1,160 @@
+-- What a row's plan does, and the effect once it is done.
+use Rattle.std.proofs.Common.{◌≡◌, ℕ, Bool, true, false, nat_lt, if◌then◌else◌, List, [], inl, inr, refl}
+use Rattle.std.specs.Prelude.{All}
+use Rattle.std.proofs.lemmas.List.Elements.{All-nil}
+use Rattle.am_base.specs.declared.entry.Entry.{Entry}
+use Rattle.am_base.specs.declared.entry.Entry.TheVariants.{Leave}
+use Rattle.am_base.specs.declared.outcome.Outcome.{Outcome}
+use Rattle.am_base.specs.declared.outcome.Outcome.TheVariants as said
+use Rattle.am_base.specs.Names.{size}
+use Rattle.am_packet.specs.declared.packet.Packet.{Packet}
+use Rattle.am_packet.specs.Boxes.{Letter, with_letter}
+use Rattle.am_model.specs.Node.{Node, others, is_sequencer, has_room, pushed}
+use Rattle.am_model.specs.Refresh.{refresh, refresh_at_end}
+use Rattle.am_model.specs.Emit.{Plan, quiet, telling, polling, and_telling, and_where, numbering, accept_of, tells_accepted, with_accept, finish}
+use Rattle.am_model.proofs.Greatest.{split, and_both}
+use Rattle.am_effects.specs.Causes.{Cause}
+use Rattle.am_effects.specs.Changes.{Change, refreshes, settles, closes, Changes, unchanged, changed}
+use Rattle.am_effects.specs.Letters.{Says, accept, LetterSays}
+use Rattle.am_effects.specs.Effects.{Answers, Effect}
+use Rattle.am_effects.proofs.Items.{all_letter}
+use Rattle.am_effects.proofs.Rests.{Rests, RestsWhole, rests_at_end, rests_closed}
+
+-- ---- changes in turn
+
+pub and_then : {c : Cause} {o : Outcome} {m n k : Node} → Changes c o m n → Change c o n k → Changes c o m k
+and_then unchanged x = changed x unchanged
+and_then (changed y ys) x = changed y (and_then ys x)
+
+-- ---- letters
+
+abbrev pub AllSay : Node → Cause → Node → List Letter → Type 0
+AllSay m c n letters = All (LetterSays m c n) letters
+
+pub none_says : (m : Node) (c : Cause) (n : Node) → AllSay m c n []
+none_says m c n = All-nil (LetterSays m c n)
+
+pub and_says : (m : Node) (c : Cause) (n : Node) (to : List ℕ) (packet : Packet) (letters : List Letter) → Says m c n to packet → AllSay m c n letters → AllSay m c n (with_letter to packet letters)
+and_says m c n to packet letters s h = all_letter (LetterSays m c n) to packet letters (record { says = s; any = refl }) h
+
+-- ---- plans
+
+-- A plan whose node comes of changes, whose answer tells what it says, and whose letters say what is so once the step is done, of each
+-- node that this relation ties to the plan's.
+pub record Does (R : Node → Node → Type 0) (m : Node) (c : Cause) (p : Plan) : Type 0 where
+  pub stays : p.departs ≡ false
+  pub changes : (n : Node) → Changes c (p.outcome n) m p.node
+  pub answer : (n : Node) → R p.node n → Answers m c n (p.outcome n)
+  pub letters : (n : Node) → R p.node n → AllSay m c n (p.letters n)
+
+-- the effect of a row
+pub record HasEffect (m : Node) (c : Cause) (p : Plan) : Type 0 where
+  pub effect : Effect m c (finish m p)
+
+-- by what a test says
+pub effect_if : (m : Node) (c : Cause) (b : Bool) (p q : Plan) → (b ≡ true → HasEffect m c p) → (b ≡ false → HasEffect m c q) → HasEffect m c (if b then p else q)
+effect_if m c true p q f g = f refl
+effect_if m c false p q f g = g refl
+
+pub does_if : (R : Node → Node → Type 0) (m : Node) (c : Cause) (b : Bool) (p q : Plan) → (b ≡ true → Does R m c p) → (b ≡ false → Does R m c q) → Does R m c (if b then p else q)
+does_if R m c true p q f g = f refl
+does_if R m c false p q f g = g refl
+
+-- what stays with the whole list stays
+pub tightly : (m : Node) (c : Cause) (p : Plan) → Does Rests m c p → Does RestsWhole m c p
+tightly m c p h = record { stays = h.stays; changes = h.changes; answer = λ n r. h.answer n r.rests; letters = λ n r. h.letters n r.rests }
+
+-- ---- the plans of rows
+
+pub nothing : Unit {0}
+nothing = tt
+
+pub no_change : (c : Cause) (o : Outcome) (m : Node) → Changes c o m m
+no_change c o m = unchanged
+
+-- by their node, whatever the answer
+abbrev pub Comes : Node → Cause → Node → Type 0
+Comes m c n = (o : Outcome) → Changes c o m n
+
+-- what the letter tells is so once the step is done
+abbrev pub Tells : (Node → Node → Type 0) → Node → Cause → Node → List ℕ → (Node → Packet) → Type 0
+Tells R m c p to packet = (n : Node) → R p n → Says m c n to (packet n)
+
+abbrev pub Answered : (Node → Node → Type 0) → Node → Cause → Node → (Node → Outcome) → Type 0
+Answered R m c p outcome = (n : Node) → R p n → Answers m c n (outcome n)
+
+pub does_quiet : (R : Node → Node → Type 0) (m : Node) (c : Cause) (p : Node) (o : Outcome) → Changes c o m p → Answered R m c p (λ n. o) → Does R m c (quiet p o)
+does_quiet R m c p o h a = record { stays = refl; changes = λ n. h; answer = a; letters = λ n r. none_says m c n }
+
+-- with an answer that the step tells
+pub does_saying : (R : Node → Node → Type 0) (m : Node) (c : Cause) (p : Node) (o : Outcome) (f : Node → Outcome) → ((n : Node) → Changes c (f n) m p) → Answered R m c p f → Does R m c (record (quiet p o) { outcome = f })
+does_saying R m c p o f h a = record { stays = refl; changes = h; answer = a; letters = λ n r. none_says m c n }
+
+pub does_polling : (R : Node → Node → Type 0) (m : Node) (c : Cause) (p : Node) (o : Outcome) → Changes c o m p → Answered R m c p (λ n. o) → Does R m c (polling p o)
+does_polling R m c p o h a = record { stays = refl; changes = λ n. h; answer = a; letters = λ n r. none_says m c n }
+
+pub does_telling : (R : Node → Node → Type 0) (m : Node) (c : Cause) (p : Node) (o : Outcome) (to : List ℕ) (packet : Node → Packet) → Changes c o m p → Answered R m c p (λ n. o) → Tells R m c p to packet → Does R m c (telling p o to packet)
+does_telling R m c p o to packet h a t = record { stays = refl; changes = λ n. h; answer = a; letters = λ n r. and_says m c n to (packet n) [] (t n r) (none_says m c n) }
+
+pub does_and : (R : Node → Node → Type 0) (m : Node) (c : Cause) (p : Plan) (to : List ℕ) (packet : Node → Packet) → Does R m c p → Tells R m c p.node to packet → Does R m c (and_telling p to packet)
+does_and R m c p to packet h t = record { stays = h.stays; changes = h.changes; answer = h.answer; letters = λ n r. and_says m c n to (packet n) (p.letters n) (t n r) (h.letters n r) }
+
+pub does_where : (R : Node → Node → Type 0) (m : Node) (c : Cause) (test : Node → Bool) (p : Plan) (to : List ℕ) (packet : Node → Packet) → Does R m c p → ((n : Node) → R p.node n → test n ≡ true → Says m c n to (packet n)) → Does R m c (and_where test p to packet)
+does_where R m c test p to packet h t = record {
+  stays = h.stays;
+  changes = h.changes;
+  answer = h.answer;
+  letters = λ n r. split (test n) (λ b. rw b (and_says m c n to (packet n) (p.letters n) (t n r b) (h.letters n r))) (λ b. rw b (h.letters n r));
+}
+
+pub does_numbering : (R : Node → Node → Type 0) (m : Node) (c : Cause) (p : Node) (e : Entry) (o : Outcome) (packet : Node → Packet) → Changes c o m (pushed p e) → Answered R m c (pushed p e) (λ n. o) → Tells R m c (pushed p e) (others p) packet → Does R m c (numbering p e o packet)
+does_numbering R m c p e o packet h a t = record { stays = refl; changes = λ n. h; answer = a; letters = λ n r. and_says m c n (others p) (packet n) [] (t n r) (none_says m c n) }
+
+-- ---- a plan that is done
+
+accept_says : (m : Node) (c : Cause) (p : Plan) (n : Node) (letters : List Letter) → AllSay m c n letters → AllSay m c n (with_accept m p n letters)
+accept_says m c p n letters h = split (tells_accepted m p n)
+    (λ t. let leads = (and_both (is_sequencer n) _ t).0 in rw t (and_says m c n (others n) (accept_of n p.polls) letters (accept (others n) p.polls leads) h))
+    (λ f. rw f h)
+
+ended : {c : Cause} {o : Outcome} {m p : Node} → Changes c o m p → Changes c o m (refresh_at_end p)
+unfolding refresh_at_end
+ended {p = p} h = and_then (and_then h (refreshes {m = p})) (settles {m = refresh p})
+
+pub effect_of : (m : Node) (c : Cause) (p : Plan) → Does RestsWhole m c p → HasEffect m c p
+unfolding finish
+effect_of m c p h =
+    let n = refresh_at_end p.node in
+    let r = rests_at_end p.node in
+    record {
+      effect = rw (h.stays) (record {
+        changes = ended (h.changes n);
+        answer = h.answer n r;
+        sender = n;
+        is = refl;
+        stays = inl refl;
+        letters = accept_says m c p n (p.letters n) (h.letters n r);
+      });
+    }
+
+pub ruleset rows = (effect_if, effect_of, does_if, does_quiet, does_polling, does_telling, no_change, nothing)
+
+-- ---- a plan that closes the group
+
+-- the last member's own Leave is numbered, and it departs
+pub row_closing : (m : Node) (c : Cause) (p : Plan) → Does Rests m c p → Changes c said.Departed m p.node → is_sequencer p.node ≡ true → p.node.leaving ≡ true → nat_lt 0 (size (others p.node)) ≡ false → has_room p.node ≡ true
+    → HasEffect m c (record p { node = pushed p.node (Leave p.node.core.who); outcome = λ n. said.Departed; numbers = true; departs = true })
+unfolding finish
+row_closing m c p h comes leads leaves alone room =
+    let n = refresh_at_end (pushed p.node (Leave p.node.core.who)) in
+    let q = record p { node = pushed p.node (Leave p.node.core.who); outcome = λ n. said.Departed; numbers = true; departs = true } in
+    record {
+      effect = record {
+        changes = and_then comes (closes {m = p.node} leads leaves alone room);
+        answer = tt;
+        sender = n;
+        is = refl;
+        stays = inr refl;
+        letters = accept_says m c q n (p.letters n) (h.letters n (rests_closed p.node));
+      };
+    }

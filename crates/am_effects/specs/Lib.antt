@@ -1,0 +1,6 @@
+pub mod Causes
+pub mod Looks
+pub mod Changes
+pub mod Letters
+pub mod Effects
+pub mod Events

@@ -1,0 +1,193 @@
+-- Ballots, on the kept end of a list as on all of it.
+use Rattle.std.proofs.Common.{◌≡◌, ℕ, ◌+◌, ◌-◌, max, min, Bool, true, false, not, ◌&&◌, ◌==◌, nat_lt, if◌then◌else◌, List, [], Option, Some, None, unwrap_or, refl, ◌∙◌, ap}
+use Rattle.am_base.specs.declared.image.Vote.{Vote}
+use Rattle.am_base.specs.declared.name.Stamp.{Stamp}
+use Rattle.am_base.specs.declared.entry.Entry.TheVariants.{View}
+use Rattle.am_base.specs.declared.outcome.Outcome.{Outcome}
+use Rattle.am_base.specs.declared.outcome.Outcome.TheVariants as said
+use Rattle.am_base.specs.Names.{has, size, minus, without_name, names_of}
+use Rattle.am_base.specs.Votes.{Shown, best_vote}
+use Rattle.am_base.specs.Lists.{Log, members_of, with_entry}
+use Rattle.am_fronts.specs.Reports.{least_of}
+use Rattle.am_packet.specs.Boxes.{Letter, with_letter}
+use Rattle.am_model.specs.Node.{Node, Ballot, top, told, those, is_member, pushed, only_name}
+use Rattle.am_model.specs.Emit.{invite_of, result_of}
+use Rattle.am_model.specs.Ballots.{Verdict, promised, best_of, has_voted, is_waited_for, left_in, taken_by, goes_on, ends, restarted, decide_view, trimmed_for, decide, with_result, with_fetch, answered, next_stamp, new_ballot, begin, with_vote, newly_needed, keep_vote, without_voter, give_up}
+use Rattle.am_model.specs.Calls.{reset_row, give_up_of, give_up_row}
+use Rattle.am_model.specs.Resets.{fetched_for}
+use Rattle.am_model.specs.Ends.{with_log}
+use Rattle.am_ends.proofs.Nodes.{Keeps, reads, keeps_pushed, keeps_trimmed}
+use Rattle.am_ends.proofs.Plans.{Says, Alike, same_others, says_fetch, alike_if, alike_case, alike_quiet}
+
+-- ---- verdicts
+
+-- the first comes to the node of the second with all of a list, and both have one answer
+pub record Agrees (v w : Verdict) : Type 0 where
+  pub log : Log
+  pub keeps : Keeps log w.node
+  pub node : v.node ≡ with_log w.node log
+  pub outcome : v.outcome ≡ w.outcome
+
+agrees_if : (b c : Bool) (u v w x : Verdict) → b ≡ c → Agrees u v → Agrees w x → Agrees (if b then u else w) (if c then v else x)
+agrees_if true true u v w x e f g = f
+agrees_if true false u v w x e f g = absurd (cc)
+agrees_if false true u v w x e f g = absurd (cc)
+agrees_if false false u v w x e f g = g
+
+agrees_on : (all : Log) (m : Node) (b : Ballot) (o w : Outcome) → Keeps all m → o ≡ w → Agrees (goes_on (with_log m all) b o) (goes_on m b w)
+agrees_on all m b o w h e = record {
+  log = all;
+  keeps = record { kept = h.kept; order = h.order };
+  node = λ i. record (with_log m all) { ballot = Some (record b { answer = e i; is_over = false }) };
+  outcome = e;
+}
+
+agrees_over : (all : Log) (m : Node) (b : Ballot) (o w : Outcome) → Keeps all m → o ≡ w → Agrees (ends (with_log m all) b o) (ends m b w)
+agrees_over all m b o w h e = record {
+  log = all;
+  keeps = record { kept = h.kept; order = h.order };
+  node = λ i. record (with_log m all) { ballot = Some (record b { answer = e i; is_over = true }) };
+  outcome = e;
+}
+
+-- ---- what a ballot comes to
+
+same_best : (all : Log) (m : Node) (b : Ballot) → Keeps all m → best_of (with_log m all) b ≡ best_of m b
+unfolding best_of
+same_best all m b h = reads all m (λ i t. best_vote b.votes m.core.who (record { view = i.view; top = t; taken = m.core.taken; members = members_of i })) h
+
+-- the view is pushed on both sides
+agrees_pushed : (all : Log) (m : Node) (b : Ballot) (names : List ℕ) (r s : ℕ) (o w : Outcome) → Keeps all m → r ≡ s → o ≡ w
+    → Agrees (ends (restarted (pushed (with_log m all) (View b.stamp names r))) b o) (ends (restarted (pushed m (View b.stamp names s))) b w)
+agrees_pushed all m b names r s o w h e f =
+    let k = keeps_pushed all m (View b.stamp names s) h in
+    let n = restarted (pushed m (View b.stamp names s)) in
+    let kn : Keeps (with_entry all (View b.stamp names s)) n = record { kept = k.kept; order = k.order } in
+    let a = agrees_over (with_entry all (View b.stamp names s)) n b o w kn f in
+    record {
+      log = a.log;
+      keeps = a.keeps;
+      node = ap (λ (x : ℕ). (ends (restarted (pushed (with_log m all) (View b.stamp names x))) b o).node) e ∙ a.node;
+      outcome = f;
+    }
+
+agrees_view : (all : Log) (m : Node) (b : Ballot) (names : List ℕ) → Keeps all m → Agrees (decide_view (with_log m all) b names) (decide_view m b names)
+agrees_view all m b names h =
+    let full = reads all m (λ i t. nat_lt (m.core.rules.window + 16 - size names) (t + 1 - m.core.base)) h in
+    let crowded = reads all m (λ i t. said.Crowded m.core.base t) h in
+    let r = reads all m (λ i t. max b.resilience i.resilience) h in
+    let decided = reads all m (λ i t. said.Decided (t + 1) names) h in
+    agrees_if _ _ _ _ _ _ full (agrees_over all m b _ _ h crowded) (agrees_pushed all m b names _ _ _ _ h r decided)
+
+-- what is asked of the best vote alone
+best_reads : {X : Type 0} (all : Log) (m : Node) (b : Ballot) (f : Shown → ℕ → X) → Keeps all m
+    → f (best_of (with_log m all) b) (top (with_log m all)) ≡ f (best_of m b) (top m)
+best_reads all m b f h = ap (λ s. f s (top (with_log m all))) (same_best all m b h) ∙ reads all m (λ i t. f (best_of m b) t) h
+
+-- the names of the best vote's members that are left
+agrees_left : (all : Log) (m : Node) (b : Ballot) (names some : List ℕ) → Keeps all m → names ≡ some
+    → Agrees (decide_view (trimmed_for (with_log m all) b names) b names) (decide_view (trimmed_for m b some) b some)
+agrees_left all m b names some h e =
+    let to = unwrap_or (least_of (taken_by m.core.who m.core.taken b) (names_of some)) 0 in
+    let k = keeps_trimmed all m to h in
+    let a = agrees_view all (trimmed_for m b some) b some k in
+    let v = ap (λ set. decide_view (trimmed_for (with_log m all) b set) b set) e in
+    record {
+      log = a.log;
+      keeps = a.keeps;
+      node = ap (λ (x : Verdict). x.node) v ∙ a.node;
+      outcome = ap (λ (x : Verdict). x.outcome) v ∙ a.outcome;
+    }
+
+agrees_decide : (all : Log) (m : Node) (b : Ballot) → Keeps all m → Agrees (decide (with_log m all) b) (decide m b)
+unfolding decide
+agrees_decide all m b h =
+    let not_in = best_reads all m b (λ s t. said.NotIn s.vote.view) h in
+    let waiting = best_reads all m b (λ s t. said.Waiting (those (is_waited_for m.core.who b) s.vote.members)) h in
+    let fetching = best_reads all m b (λ s t. said.Fetching s.by (t + 1)) h in
+    let few = best_reads all m b (λ s t. said.TooFew (size (left_in b s.vote.members)) b.least) h in
+    agrees_if _ _ _ _ _ _ (best_reads all m b (λ s t. not (has s.vote.members m.core.who)) h) (agrees_over all m b _ _ h not_in)
+    (agrees_if _ _ _ _ _ _ (best_reads all m b (λ s t. nat_lt 0 (size (those (is_waited_for m.core.who b) s.vote.members))) h) (agrees_on all m b _ _ h waiting)
+    (agrees_if _ _ _ _ _ _ (best_reads all m b (λ s t. not (s.by == m.core.who)) h) (agrees_on all m b _ _ h fetching)
+    (agrees_if _ _ _ _ _ _ (best_reads all m b (λ s t. nat_lt (size (left_in b s.vote.members)) b.least) h) (agrees_over all m b _ _ h few)
+    (agrees_left all m b _ _ h (best_reads all m b (λ s t. left_in b s.vote.members) h)))))
+
+-- ---- what a verdict sends
+
+with_result_same : (all : Log) (n : Node) (o : Outcome) (ls ks : List Letter) → Keeps all n → ls ≡ ks → with_result o (with_log n all) ls ≡ with_result o n ks
+with_result_same all n (said.Decided number names) ls ks h e =
+    reads all n (λ i t. with_letter (without_name names n.core.who) (result_of n number names i.resilience) ls) h ∙ ap
+    (with_letter (without_name names n.core.who) (result_of n number names (told n).resilience)) e
+with_result_same all n _ ls ks h e = e
+
+with_fetch_same : (all : Log) (n : Node) (o : Outcome) (ls ks : List Letter) → Keeps all n → ls ≡ ks → with_fetch o (with_log n all) ls ≡ with_fetch o n ks
+with_fetch_same all n (said.Fetching from want) ls ks h e = λ i. with_letter (only_name from) (says_fetch all n h i) (e i)
+with_fetch_same all n _ ls ks h e = e
+
+pub alike_answered : (v w : Verdict) (f g : Node → List Letter) → Agrees v w → Says f g → Alike (answered v f) (answered w g)
+alike_answered v w f g a says = record {
+  log = a.log;
+  keeps = a.keeps;
+  node = a.node;
+  outcome = λ all n k. a.outcome;
+  letters = λ all n k. ap (λ o. with_result o (with_log n all) (f (with_log n all))) a.outcome ∙ with_result_same all n w.outcome
+      (f (with_log n all)) (g n) k (says all n k);
+  polls = refl;
+  numbers = refl;
+  departs = refl;
+}
+
+-- ---- the rows of ballots
+
+pub keeps_promised : (all : Log) (m : Node) (v : Stamp) → Keeps all m → Keeps all (promised m v)
+keeps_promised all m v h =
+    let o = h.order in
+    record { kept = h.kept; order = record { base = o.base; taken = o.taken; given = o.given; accepted = o.accepted } }
+
+pub alike_begin : (all : Log) (m : Node) (least resilience : ℕ) → Keeps all m → Alike (begin (with_log m all) least resilience) (begin m least resilience)
+unfolding begin
+alike_begin all m least resilience h =
+    let stamp = next_stamp m in
+    alike_answered _ _ _ _ (agrees_decide all (promised m stamp) (new_ballot stamp least (min resilience 15)) (keeps_promised all m stamp h))
+    (λ a n k. ap (λ to. with_letter to (invite_of n) []) (same_others all m h))
+
+pub alike_keep_vote : (all : Log) (m : Node) (b : Ballot) (name : ℕ) (vote : Vote) → Keeps all m
+    → Alike (keep_vote (with_log m all) b name vote) (keep_vote m b name vote)
+unfolding keep_vote
+alike_keep_vote all m b name vote h =
+    let new = with_vote b name vote in
+    let a = agrees_decide all m new h in
+    let needed : newly_needed (with_log m all) b new ≡ newly_needed m b new = λ i. those (λ other. not (has_voted m.core.who new other))
+    (minus (same_best all m new h i).vote.members (same_best all m b h i).vote.members) in
+    alike_answered _ _ _ _ a (λ l n k. ap
+    (λ o. with_fetch o (with_log n l) (with_letter (newly_needed (with_log m all) b new) (invite_of n) [])) a.outcome ∙ with_fetch_same l n
+    (decide m new).outcome _ _ k (ap (λ to. with_letter to (invite_of n) []) needed))
+
+pub alike_give_up : (all : Log) (m : Node) (b : Ballot) (name : ℕ) → Keeps all m → Alike (give_up (with_log m all) b name) (give_up m b name)
+unfolding give_up
+alike_give_up all m b name h =
+    let a = agrees_decide all m (without_voter b name) h in
+    alike_answered _ _ _ _ a (λ l n k. ap (λ o. with_fetch o (with_log n l) []) a.outcome ∙ with_fetch_same l n
+    (decide m (without_voter b name)).outcome [] [] k refl)
+
+pub alike_fetched_for : (all : Log) (m : Node) (b : Ballot) → Keeps all m → Alike (fetched_for b (with_log m all)) (fetched_for b m)
+alike_fetched_for all m b h = alike_answered _ _ _ _ (agrees_decide all m b h) (λ l n k. refl)
+
+pub alike_reset : (all : Log) (m : Node) (least resilience : ℕ) → Keeps all m
+    → Alike (reset_row (with_log m all) least resilience) (reset_row m least resilience)
+unfolding reset_row
+alike_reset all m least resilience h =
+    alike_if _ _ _ _ _ _ (reads all m (λ i t. not (is_member m.status && has (members_of i) m.core.who)) h) (λ t. alike_quiet all m _ _ h refl)
+    (λ f. alike_case m.leaving _ _ _ _ (λ t. alike_quiet all m _ _ h refl)
+    (λ g. alike_begin all m least resilience h))
+
+pub alike_give_up_of : (all : Log) (m : Node) (name : ℕ) (b : Option Ballot) → Keeps all m → Alike (give_up_of (with_log m all) name b) (give_up_of m name b)
+alike_give_up_of all m name None h = alike_quiet all m _ _ h refl
+alike_give_up_of all m name (Some b) h =
+    alike_case b.is_over _ _ _ _ (λ t. alike_quiet all m _ _ h refl)
+    (λ f. alike_case (name == m.core.who) _ _ _ _ (λ t. alike_quiet all m _ _ h refl)
+    (λ g. alike_give_up all m b name h))
+
+pub alike_give_up_row : (all : Log) (m : Node) (name : ℕ) → Keeps all m → Alike (give_up_row (with_log m all) name) (give_up_row m name)
+unfolding give_up_row
+alike_give_up_row all m name h = alike_give_up_of all m name m.ballot h

@@ -1,0 +1,318 @@
+-- What a member does with packets, and a whole step, on the kept end of a list as on all of it.
+use Rattle.std.proofs.Common.{◌≡◌, ℕ, ◌+◌, ◌≤◌, max, Bool, true, false, not, ◌&&◌, ◌||◌, ◌==◌, nat_lt, nat_le, List, [], length, take, Option, Some, None, refl, sym, ◌∙◌, ap, subst, arith}
+use Rattle.std.specs.Prelude.{Ok, Err}
+use Rattle.std.specs.List.{list_any}
+use Rattle.std.proofs.lemmas.Bool.Decides.{nat_tests}
+use Rattle.am_base.specs.declared.image.Vote.{Vote}
+use Rattle.am_base.specs.declared.name.Stamp.{Stamp}
+use Rattle.am_base.specs.declared.entry.Entry.{Entry}
+use Rattle.am_base.specs.declared.entry.Entry.TheVariants.{View}
+use Rattle.am_base.specs.declared.outcome.Outcome.{Outcome}
+use Rattle.am_base.specs.declared.outcome.Outcome.TheVariants as said
+use Rattle.am_base.specs.declared.event.NodeEvent.{NodeEvent}
+use Rattle.am_base.specs.declared.event.NodeEvent.TheVariants as does
+use Rattle.am_base.specs.Names.{without_name, names_of}
+use Rattle.am_base.specs.Stamps.{stamp_lt, stamp_eq}
+use Rattle.am_base.specs.Lists.{Log, fits, row_of, members_of, with_entry}
+use Rattle.am_core.specs.Cores.{IsInOrder}
+use Rattle.am_core.proofs.Ends.{end-self}
+use Rattle.am_packet.specs.Boxes.{Letter}
+use Rattle.am_packet.specs.declared.packet.Packet.{Packet}
+use Rattle.am_packet.specs.declared.packet.Packet.TheVariants as packet
+use Rattle.am_codec.specs.Reading.{Read, reading}
+use Rattle.am_sender.specs.declared.OwnSend.{OwnSend}
+use Rattle.am_bodies.specs.Bodies.{is_of, keep_body}
+use Rattle.am_model.specs.Node.{Node, Ballot, told, view, only_name, is_member, has_own_leave, is_within_bound, waiting, pushed, trimmed}
+use Rattle.am_model.specs.Emit.{Step, Plan, ack_of, nack_of, fetch_of, piece_of, put_all}
+use Rattle.am_model.specs.Sequencing.{risen}
+use Rattle.am_model.specs.Receiving.{spread_row, body_of, bodies_after, is_view, noted, acknowledges, stored, store, received, bcast_row, data_of, order_row, accept_row, held_up, hold_row}
+use Rattle.am_model.specs.Ballots.{promised, vote_of}
+use Rattle.am_model.specs.Resets.{invite_row, is_open, voted_for, vote_row, serve_pieces, fetch_row, is_view_past, fetched, caught_up, fetched_for, fetches_from, piece_promised, piece_for, piece_row, hears_result, result_row, hand_over_row}
+use Rattle.am_model.specs.Calls.{reset_row}
+use Rattle.am_model.specs.Hearing.{hears_member, hears_asking, hears_in_view, hears_as_sequencer, hears_sequencer, where_heard, hear_row}
+use Rattle.am_model.specs.Step.{read_row, row, step, hear}
+use Rattle.am_model.specs.Ends.{with_log, IsEndOf, StepsAlike, EndsStepAlike, ComesTo}
+use Rattle.am_ends.specs.Order.{StepsKeepOrder}
+use Rattle.am_ends.proofs.Nodes.{Keeps, keeps_end, reads, same_sequencer, keeps_pushed, keeps_trimmed}
+use Rattle.am_ends.proofs.Plans.{Alike, says_ack, says_nack, says_fetch, says_vote, alike_if, alike_case, alike_quiet, alike_saying, alike_sending, alike_telling, alike_where, finish_alike, finish_ordered}
+use Rattle.am_ends.proofs.Ballots.{keeps_promised, alike_keep_vote, alike_fetched_for, alike_reset, alike_give_up_row}
+use Rattle.am_ends.proofs.Calls.{alike_send, alike_done, alike_take, alike_join, alike_state, alike_leave, alike_ask, alike_tick}
+use Rattle.am_ends.proofs.Sequencing.{same_served, alike_request, alike_ack, alike_nack, alike_join_ask, alike_welcome, alike_leave_ask, alike_gone_row}
+
+-- ---- bodies and entries
+
+pub alike_spread : (all : Log) (m : Node) (s req : ℕ) (body : List ℕ) → Keeps all m → Alike (spread_row (with_log m all) s req body) (spread_row m s req body)
+unfolding spread_row
+alike_spread all m s req body h =
+    alike_if _ _ _ _ _ _ (reads all m (λ i t. nat_le req (row_of i s).last || list_any (is_of s req) m.bodies) h) (λ t. alike_quiet all m _ _ h refl)
+    (λ f. alike_quiet all (record m { bodies = keep_body s req body m.bodies }) _ _ (record { kept = h.kept; order = h.order }) refl)
+
+keeps_noted : (all : Log) (m : Node) (base acc : ℕ) → Keeps all m → Keeps all (noted m base acc)
+keeps_noted all m base acc h = record {
+  kept = h.kept;
+  order = let o = h.order in record { base = omega arith; taken = o.taken; given = o.given; accepted = o.accepted };
+}
+
+same_leave : (all : Log) (m : Node) → Keeps all m → has_own_leave (with_log m all) ≡ has_own_leave m
+same_leave all m h = reads all m (λ i t. nat_lt 0 (row_of i m.core.who).left) h
+
+pub alike_stored : (all : Log) (m : Node) (s number : ℕ) (e : Entry) → Keeps all m → Alike (stored (with_log m all) s number e) (stored m s number e)
+alike_stored all m s number e h =
+    let k = keeps_pushed all m e h in
+    alike_where (acknowledges (pushed (with_log m all) e) s) (acknowledges (pushed m e) s) _ _ (only_name s) (only_name s) ack_of ack_of
+    (λ a n l. reads (with_entry all e) (pushed m e)
+    (λ i t. list_any (λ name. name == n.core.who) (take i.resilience (names_of (without_name (members_of i) s)))) k)
+    (alike_quiet (with_entry all e) (record (pushed m e) { bodies = bodies_after m.bodies e }) (said.Stored number) (said.Stored number)
+    (record { kept = k.kept; order = k.order }) refl)
+    refl says_ack
+
+pub alike_store : (all : Log) (m : Node) (s number : ℕ) (e : Option Entry) (missing : Outcome) → Keeps all m
+    → Alike (store (with_log m all) s number e missing) (store m s number e missing)
+alike_store all m s number None missing h = alike_telling all m _ _ (only_name s) (only_name s) nack_of nack_of h refl refl says_nack
+alike_store all m s number (Some e) missing h =
+    alike_if _ _ _ _ _ _ (reads all m (λ i t. is_view e || (not (fits i e) || not (is_within_bound m m.core.base number))) h)
+    (λ t. alike_quiet all m _ _ h refl)
+    (λ f. alike_stored all m s number e h)
+
+pub alike_received : (all : Log) (m : Node) (s base number : ℕ) (e : Option Entry) (missing : Outcome) → Keeps all m
+    → Alike (received (with_log m all) s base number e missing) (received m s base number e missing)
+alike_received all m s base number e missing h =
+    alike_if _ _ _ _ _ _ (reads all m (λ i t. nat_le number t) h) (λ t. alike_quiet all m _ _ h refl)
+    (λ f. alike_if _ _ _ _ _ _ (same_leave all m h) (λ t. alike_quiet all m _ _ h refl)
+    (λ g. alike_if _ _ _ _ _ _ (reads all m (λ i t. nat_lt (t + 1) number) h)
+    (λ t. alike_telling all m _ _ (only_name s) (only_name s) nack_of nack_of h (reads all m (λ i t. said.Gap (t + 1)) h) refl says_nack)
+    (λ k. alike_case (nat_lt m.core.taken base) _ _ _ _ (λ t. alike_quiet all m _ _ h refl)
+    (λ l. alike_store all m s number e missing h))))
+
+pub alike_bcast : (all : Log) (m : Node) (s base acc number : ℕ) (e : Entry) → Keeps all m
+    → Alike (bcast_row (with_log m all) s base acc number e) (bcast_row m s base acc number e)
+unfolding bcast_row
+alike_bcast all m s base acc number e h = alike_received all (noted m base acc) s base number (Some e) said.Known (keeps_noted all m base acc h)
+
+pub alike_order : (all : Log) (m : Node) (s base acc number from req : ℕ) → Keeps all m
+    → Alike (order_row (with_log m all) s base acc number from req) (order_row m s base acc number from req)
+unfolding order_row
+alike_order all m s base acc number from req h = alike_received all (noted m base acc) s base number (data_of from req (body_of m from req))
+    (said.NoBody from req) (keeps_noted all m base acc h)
+
+pub alike_accept : (all : Log) (m : Node) (s base acc high : ℕ) (poll : Bool) → Keeps all m
+    → Alike (accept_row (with_log m all) s base acc high poll) (accept_row m s base acc high poll)
+unfolding accept_row
+alike_accept all m s base acc high poll h =
+    let k = keeps_noted all m base acc h in
+    alike_if _ _ _ _ _ _ (reads all m (λ i t. nat_lt t high && not (nat_lt 0 (row_of i m.core.who).left)) h)
+    (λ t. alike_telling all (noted m base acc) _ _ (only_name s) (only_name s) nack_of nack_of k (reads all m (λ i t. said.Gap (t + 1)) h) refl says_nack)
+    (λ f. alike_where (λ n. poll) (λ n. poll) _ _ (only_name s) (only_name s) ack_of ack_of (λ a n l. refl)
+    (alike_saying all (noted m base acc) said.Known said.Known (risen (with_log m all) said.Known (λ n. said.Advanced n.core.acc))
+    (risen m said.Known (λ n. said.Advanced n.core.acc)) k (λ a n l. refl)) refl says_ack)
+
+pub alike_held_up : (all : Log) (m : Node) (base high req : ℕ) (w : Option OwnSend) → Keeps all m
+    → Alike (held_up (with_log m all) base high req w) (held_up m base high req w)
+alike_held_up all m base high req None h = alike_quiet all m _ _ h refl
+alike_held_up all m base high req (Some s) h = alike_case (s.req == req) _ _ _ _ (λ t. alike_quiet all m _ _ h refl) (λ f. alike_quiet all m _ _ h refl)
+
+pub alike_hold : (all : Log) (m : Node) (base high req : ℕ) → Keeps all m → Alike (hold_row (with_log m all) base high req) (hold_row m base high req)
+unfolding hold_row
+alike_hold all m base high req h = alike_held_up all m base high req (waiting m) h
+
+-- ---- votes
+
+pub alike_invite : (all : Log) (m : Node) (s : ℕ) (v : Stamp) → Keeps all m → Alike (invite_row (with_log m all) s v) (invite_row m s v)
+unfolding invite_row
+alike_invite all m s v h =
+    alike_case (stamp_lt v m.core.promise) _ _ _ _ (λ t. alike_telling all m _ _ (only_name s) (only_name s) vote_of vote_of h refl refl says_vote)
+    (λ f. alike_telling all (promised m v) _ _ (only_name s) (only_name s) vote_of vote_of (keeps_promised all m v h) refl refl says_vote)
+
+pub alike_voted_for : (all : Log) (m : Node) (s : ℕ) (v : Stamp) (vote : Vote) (b : Option Ballot) → Keeps all m
+    → Alike (voted_for (with_log m all) s v vote b) (voted_for m s v vote b)
+alike_voted_for all m s v vote None h = alike_quiet all m _ _ h refl
+alike_voted_for all m s v vote (Some b) h =
+    alike_case (stamp_lt v m.core.promise || not (is_open v b)) _ _ _ _ (λ t. alike_quiet all m _ _ h refl)
+    (λ f. alike_case (b.given_up s) _ _ _ _ (λ t. alike_quiet all m _ _ h refl) (λ g. alike_keep_vote all m b s vote h))
+
+pub alike_vote : (all : Log) (m : Node) (s : ℕ) (v : Stamp) (vote : Vote) → Keeps all m → Alike (vote_row (with_log m all) s v vote) (vote_row m s v vote)
+unfolding vote_row
+alike_vote all m s v vote h =
+    alike_case (stamp_lt m.core.promise v) _ _ _ _ (λ t. alike_quiet all (promised m v) _ _ (keeps_promised all m v h) refl)
+    (λ f. alike_voted_for all m s v vote m.ballot h)
+
+-- ---- fetching
+
+pub alike_serve_pieces : (all : Log) (m : Node) (s stored : ℕ) → Keeps all m → m.core.base ≤ stored
+    → Alike (serve_pieces (with_log m all) s stored) (serve_pieces m s stored)
+alike_serve_pieces all m s stored h low =
+    let e = same_served all m stored h low in
+    alike_sending all m _ _ _ _ h (ap (λ es. said.Served (length es)) e) (λ a n k. ap (λ es. put_all (piece_of n) (only_name s) (stored + 1) es []) e)
+
+pub alike_fetch : (all : Log) (m : Node) (s : ℕ) (v : Stamp) (stored : ℕ) → Keeps all m → Alike (fetch_row (with_log m all) s v stored) (fetch_row m s v stored)
+unfolding fetch_row
+alike_fetch all m s v stored h =
+    alike_if _ _ _ _ _ _ (reads all m (λ i t. not (stamp_eq v m.core.promise && ((v.by == s) || ((v.by == m.core.who) && stamp_eq i.view v)))) h)
+    (λ t. alike_quiet all m _ _ h refl)
+    (λ f. alike_if _ _ _ _ _ _ (reads all m (λ i t. nat_lt stored m.core.base || nat_lt t stored) h) (λ t. alike_quiet all m _ _ h refl)
+    (λ g. alike_serve_pieces all m s stored h (grind (arith, nat_tests))))
+
+pub alike_fetched : (all : Log) (m : Node) (v : Stamp) (base number : ℕ) (e : Entry) (in_ballot : Bool) (then_ : Node → Plan) → Keeps all m
+    → Alike (then_ (pushed (trimmed (with_log m all) base) e)) (then_ (pushed (trimmed m base) e))
+    → Alike (fetched (with_log m all) v base number e in_ballot then_) (fetched m v base number e in_ballot then_)
+alike_fetched all m v base number e in_ballot then_ h next =
+    alike_if _ _ _ _ _ _ (reads all m (λ i t. nat_le number t) h) (λ t. alike_quiet all m _ _ h refl)
+    (λ f. alike_if _ _ _ _ _ _ (same_leave all m h) (λ t. alike_quiet all m _ _ h refl)
+    (λ g. alike_if _ _ _ _ _ _ (reads all m (λ i t. nat_lt (t + 1) number) h) (λ t. alike_quiet all m _ _ h (reads all m (λ i t. said.Gap (t + 1)) h))
+    (λ k. alike_case (nat_lt m.core.taken base) _ _ _ _ (λ t. alike_quiet all m _ _ h refl)
+    (λ l. alike_if _ _ _ _ _ _ (reads all m
+    (λ i t. not (fits i e) || (is_view_past v in_ballot e || not (is_within_bound m (max m.core.base base) number))) h)
+    (λ t. alike_quiet all m _ _ h refl)
+    (λ x. next)))))
+
+-- the node with a fetched entry
+keeps_fetched : (all : Log) (m : Node) (base : ℕ) (e : Entry) → Keeps all m → Keeps (with_entry all e) (pushed (trimmed m base) e)
+keeps_fetched all m base e h = keeps_pushed all (trimmed m base) e (keeps_trimmed all m base h)
+
+pub alike_caught_up : (all : Log) (m : Node) (s : ℕ) (v : Stamp) (number : ℕ) → Keeps all m → Alike (caught_up s v number (with_log m all)) (caught_up s v number m)
+alike_caught_up all m s v number h =
+    alike_where (λ n. stamp_eq (view n) v) (λ n. stamp_eq (view n) v) _ _ (only_name s) (only_name s) ack_of ack_of
+    (λ a n k. reads a n (λ i t. stamp_eq i.view v) k)
+    (alike_quiet all m (said.Stored number) (said.Stored number) h refl) refl says_ack
+
+pub alike_piece_promised : (all : Log) (m : Node) (s : ℕ) (v : Stamp) (base number : ℕ) (e : Entry) → Keeps all m
+    → Alike (piece_promised (with_log m all) s v base number e) (piece_promised m s v base number e)
+alike_piece_promised all m s v base number e h =
+    alike_case (not (v.by == s)) _ _ _ _ (λ t. alike_quiet all m _ _ h refl)
+    (λ f. alike_fetched all m v base number e false (caught_up s v number) h
+    (alike_caught_up (with_entry all e) (pushed (trimmed m base) e) s v number (keeps_fetched all m base e h)))
+
+pub alike_piece_for : (all : Log) (m : Node) (s : ℕ) (v : Stamp) (base number : ℕ) (e : Entry) (b : Option Ballot) → Keeps all m
+    → Alike (piece_for (with_log m all) s v base number e b) (piece_for m s v base number e b)
+alike_piece_for all m s v base number e None h = alike_piece_promised all m s v base number e h
+alike_piece_for all m s v base number e (Some b) h =
+    alike_case b.is_over _ _ _ _ (λ t. alike_piece_promised all m s v base number e h)
+    (λ f. alike_case (not (fetches_from b.answer s)) _ _ _ _ (λ t. alike_quiet all m _ _ h refl)
+    (λ g. alike_fetched all m v base number e true (fetched_for b) h
+    (alike_fetched_for (with_entry all e) (pushed (trimmed m base) e) b (keeps_fetched all m base e h))))
+
+pub alike_piece : (all : Log) (m : Node) (s : ℕ) (v : Stamp) (base number : ℕ) (e : Entry) → Keeps all m
+    → Alike (piece_row (with_log m all) s v base number e) (piece_row m s v base number e)
+unfolding piece_row
+alike_piece all m s v base number e h =
+    alike_if _ _ _ _ _ _ (reads all m (λ i t. not (stamp_eq v m.core.promise) || stamp_eq i.view v) h) (λ t. alike_quiet all m _ _ h refl)
+    (λ f. alike_piece_for all m s v base number e m.ballot h)
+
+-- ---- a decided view
+
+pub alike_hears_result : (all : Log) (m : Node) (s : ℕ) (v : Stamp) (base number : ℕ) (names : List ℕ) (resilience : ℕ) → Keeps all m
+    → Alike (hears_result (with_log m all) s v base number names resilience) (hears_result m s v base number names resilience)
+alike_hears_result all m s v base number names resilience h =
+    let e = View v names resilience in
+    alike_if _ _ _ _ _ _ (reads all m (λ i t. stamp_eq i.view v) h)
+    (λ t. alike_telling all m _ _ (only_name s) (only_name s) ack_of ack_of h refl refl says_ack)
+    (λ f. alike_if _ _ _ _ _ _ (reads all m (λ i t. nat_le number t) h) (λ t. alike_quiet all m _ _ h refl)
+    (λ g. alike_if _ _ _ _ _ _ (same_leave all m h) (λ t. alike_quiet all m _ _ h refl)
+    (λ k. alike_if _ _ _ _ _ _ (reads all m (λ i t. nat_lt (t + 1) number) h)
+    (λ t. alike_telling all m _ _ (only_name s) (only_name s) fetch_of fetch_of h (reads all m (λ i t. said.Catching (t + 1)) h) refl says_fetch)
+    (λ l. alike_case (nat_lt m.core.taken base) _ _ _ _ (λ t. alike_quiet all m _ _ h refl)
+    (λ x. alike_if _ _ _ _ _ _ (reads all m (λ i t. not (fits i e) || not (is_within_bound m (max m.core.base base) number)) h)
+    (λ t. alike_quiet all m _ _ h refl)
+    (λ y. alike_telling (with_entry all e) (pushed (trimmed m base) e) _ _ (only_name s) (only_name s) ack_of ack_of
+    (keeps_fetched all m base e h) refl refl says_ack))))))
+
+pub alike_result_row : (all : Log) (m : Node) (s : ℕ) (v : Stamp) (base number : ℕ) (names : List ℕ) (resilience : ℕ) → Keeps all m
+    → Alike (result_row (with_log m all) s v base number names resilience) (result_row m s v base number names resilience)
+unfolding result_row
+alike_result_row all m s v base number names resilience h =
+    alike_case ((v.by == m.core.who) || stamp_lt v m.core.promise) _ _ _ _ (λ t. alike_quiet all m _ _ h refl)
+    (λ f. alike_hears_result all (promised m v) s v base number names resilience (keeps_promised all m v h))
+
+pub alike_hand_over : (all : Log) (m : Node) → Keeps all m → Alike (hand_over_row (with_log m all)) (hand_over_row m)
+unfolding hand_over_row
+alike_hand_over all m h =
+    subst (λ r. Alike (reset_row (with_log m all) 1 r) (reset_row m 1 (told m).resilience)) (sym (reads all m (λ i t. i.resilience) h))
+    (alike_reset all m 1 (told m).resilience h)
+
+-- ---- hearing
+
+same_in_view : (all : Log) (m : Node) (s : ℕ) (v : Stamp) → Keeps all m → hears_in_view (with_log m all) s v ≡ hears_in_view m s v
+same_in_view all m s v h = reads all m (λ i t. hears_member m s && ((is_member m.status && stamp_eq m.core.promise i.view) && stamp_eq v i.view)) h
+
+same_as_sequencer : (all : Log) (m : Node) (s : ℕ) (v : Stamp) → Keeps all m → hears_as_sequencer (with_log m all) s v ≡ hears_as_sequencer m s v
+same_as_sequencer all m s v h = λ i. same_in_view all m s v h i && same_sequencer all m h i
+
+same_of_sequencer : (all : Log) (m : Node) (s : ℕ) (v : Stamp) → Keeps all m → hears_sequencer (with_log m all) s v ≡ hears_sequencer m s v
+same_of_sequencer all m s v h = λ i. same_in_view all m s v h i && (v.by == s)
+
+pub alike_heard : (all : Log) (m : Node) (b c : Bool) (p q : Plan) → Keeps all m → b ≡ c → Alike p q → Alike (where_heard b (with_log m all) p) (where_heard c m q)
+alike_heard all m b c p q h e a = alike_if b c p q _ _ e (λ t. a) (λ f. alike_quiet all m _ _ h refl)
+
+pub alike_hear : (all : Log) (m : Node) (p : Packet) → Keeps all m → Alike (hear_row (with_log m all) p) (hear_row m p)
+unfolding hear_row
+alike_hear all m (packet.Request s v report req body) h = alike_heard all m _ _ _ _ h (same_as_sequencer all m s v h)
+    (alike_request all m s report req body false h)
+alike_hear all m (packet.Spread s v report req body) h =
+    alike_heard all m _ _ _ _ h (same_in_view all m s v h)
+    (alike_if _ _ _ _ _ _ (same_sequencer all m h) (λ t. alike_request all m s report req body true h) (λ f. alike_spread all m s req body h))
+alike_hear all m (packet.Bcast s v base acc number e) h = alike_heard all m _ _ _ _ h (same_of_sequencer all m s v h) (alike_bcast all m s base acc number e h)
+alike_hear all m (packet.Order s v base acc number from req) h = alike_heard all m _ _ _ _ h (same_of_sequencer all m s v h)
+    (alike_order all m s base acc number from req h)
+alike_hear all m (packet.Accept s v base acc high poll) h = alike_heard all m _ _ _ _ h (same_of_sequencer all m s v h)
+    (alike_accept all m s base acc high poll h)
+alike_hear all m (packet.Ack s v report) h = alike_heard all m _ _ _ _ h (same_as_sequencer all m s v h) (alike_ack all m s report h)
+alike_hear all m (packet.Nack s v report) h = alike_heard all m _ _ _ _ h (same_as_sequencer all m s v h) (alike_nack all m s report h)
+alike_hear all m (packet.Hold s v base high req) h = alike_heard all m _ _ _ _ h (same_of_sequencer all m s v h) (alike_hold all m base high req h)
+alike_hear all m (packet.JoinAsk s v) h = alike_heard all m _ _ _ _ h (ap (λ b. hears_member m s && b) (same_sequencer all m h)) (alike_join_ask all m s h)
+alike_hear all m (packet.Welcome s v base join image) h = alike_heard all m (hears_asking m s && (v.by == s))
+    (hears_asking m s && (v.by == s)) _ _ h refl (alike_welcome all m s v base join image h)
+alike_hear all m (packet.LeaveAsk s v report) h = alike_heard all m _ _ _ _ h (ap (λ b. hears_member m s && b) (same_sequencer all m h))
+    (alike_leave_ask all m s v report h)
+alike_hear all m (packet.Gone s v number) h = alike_heard all m (hears_member m s) (hears_member m s) _ _ h refl (alike_gone_row all m h)
+alike_hear all m (packet.Invite s v) h = alike_heard all m (hears_asking m s && (v.by == s)) (hears_asking m s && (v.by == s)) _ _ h refl
+    (alike_invite all m s v h)
+alike_hear all m (packet.Vote s v vote) h = alike_heard all m (hears_member m s) (hears_member m s) _ _ h refl (alike_vote all m s v vote h)
+alike_hear all m (packet.Fetch s v stored) h = alike_heard all m (hears_member m s) (hears_member m s) _ _ h refl (alike_fetch all m s v stored h)
+alike_hear all m (packet.Piece s v base number e) h = alike_heard all m (hears_member m s) (hears_member m s) _ _ h refl (alike_piece all m s v base number e h)
+alike_hear all m (packet.Result s v base number names resilience) h = alike_heard all m (hears_member m s && (v.by == s))
+    (hears_member m s && (v.by == s)) _ _ h refl (alike_result_row all m s v base number names resilience h)
+alike_hear all m (packet.HandOver s v) h = alike_heard all m _ _ _ _ h (same_of_sequencer all m s v h) (alike_hand_over all m h)
+
+pub alike_read : (all : Log) (m : Node) (r : Read Packet) → Keeps all m → Alike (read_row (with_log m all) r) (read_row m r)
+alike_read all m (Ok p) h = alike_hear all m p h
+alike_read all m (Err refusal) h = alike_quiet all m _ _ h refl
+
+-- ---- a step
+
+pub alike_row : (all : Log) (m : Node) (event : NodeEvent) → Keeps all m → Alike (row (with_log m all) event) (row m event)
+unfolding row
+alike_row all m (does.Send body) h = alike_send all m body h
+alike_row all m (does.Done req) h = alike_done all m req h
+alike_row all m does.Take h = alike_take all m h
+alike_row all m does.Join h = alike_join all m h
+alike_row all m does.State h = alike_state all m h
+alike_row all m does.Leave h = alike_leave all m h
+alike_row all m (does.Reset least resilience) h = alike_reset all m least resilience h
+alike_row all m (does.Ask round) h = alike_ask all m round h
+alike_row all m (does.GiveUp name) h = alike_give_up_row all m name h
+alike_row all m does.Tick h = alike_tick all m h
+alike_row all m (does.Hear bytes) h = alike_read all m (reading bytes) h
+
+step_alike : (all : Log) (m : Node) (event : NodeEvent) → Keeps all m → StepsAlike (step (with_log m all) event) (step m event)
+unfolding step
+step_alike all m event h = finish_alike all m (row (with_log m all) event) (row m event) (alike_row all m event h)
+
+pub ends_step_alike : EndsStepAlike
+ends_step_alike all m event end order = subst (λ n. StepsAlike (step n event) (step m event)) end.same
+    (step_alike all.core.log m event (keeps_end all m end order))
+
+-- the same of a packet
+hear_alike_whole : (all : Log) (m : Node) (p : Packet) → Keeps all m → StepsAlike (hear (with_log m all) p) (hear m p)
+unfolding hear
+hear_alike_whole all m p h = finish_alike all m (hear_row (with_log m all) p) (hear_row m p) (alike_hear all m p h)
+
+pub hear_alike : (all m : Node) (p : Packet) → IsEndOf all m → IsInOrder m.core → StepsAlike (hear all p) (hear m p)
+hear_alike all m p end order = subst (λ n. StepsAlike (hear n p) (hear m p)) end.same (hear_alike_whole all.core.log m p (keeps_end all m end order))
+
+-- ---- the order of a node's numbers
+
+pub steps_keep_order : StepsKeepOrder
+unfolding step
+steps_keep_order m event order =
+    let h : Keeps m.core.log m = record { kept = end-self m.core.log; order = order } in
+    finish_ordered m (row (with_log m m.core.log) event) (row m event) (alike_row m.core.log m event h)

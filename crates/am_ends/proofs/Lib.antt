@@ -1,0 +1,6 @@
+pub mod Nodes
+pub mod Plans
+pub mod Ballots
+pub mod Calls
+pub mod Sequencing
+pub mod Hearing

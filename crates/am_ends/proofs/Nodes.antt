@@ -1,0 +1,202 @@
+-- A node and the same node with all of a list: what they tell, and what the refresh makes of them.
+use Rattle.std.proofs.Common.{◌≡◌, ℕ, ◌+◌, ◌-◌, ◌<◌, ◌≤◌, List, [], ◌∷◌, length-append, drop, take, position, refl, sym, ◌∙◌, ap, arith, Option, Some, None, true, false, ◌&&◌, ◌==◌}
+use Rattle.std.proofs.lemmas.List.{drop-drop}
+use Rattle.am_base.specs.declared.entry.Entry.{Entry}
+use Rattle.am_base.specs.declared.image.Image.{Image}
+use Rattle.am_base.specs.Lists.{Log, told_by, image_at, entry_at, with_entry}
+use Rattle.am_base.specs.Stamps.{stamp_eq}
+use Rattle.am_core.specs.Kept.{IsEnd}
+use Rattle.am_core.specs.Cores.{IsInOrder, CoreState, whole, accept, pass_over, since_accepted}
+use Rattle.am_core.proofs.Folds.{split}
+use Rattle.am_core.proofs.Ends.{end-top, end-told, end-image, end-entry, end-push}
+use Rattle.am_core.proofs.CoreLaws.{since_whole}
+use Rattle.am_fronts.specs.Reports.{least_taken}
+use Rattle.am_fronts.specs.Refresh.{Led, own_report, tell, go_on, let_go, base_after, go_up, whole_led}
+use Rattle.am_fronts.proofs.Refreshes.{go_up_whole}
+use Rattle.am_sender.specs.declared.OwnSend.{OwnSend}
+use Rattle.am_model.specs.Node.{Node, is_member, top, told, is_sequencer, waiting, entries_above, pushed, trimmed}
+use Rattle.am_model.specs.Refresh.{advance, lead, refresh, led_of, is_data_of, accepted_at, settled_at, settled, settle, refresh_at_end}
+use Rattle.am_model.specs.Ends.{with_log, IsEndOf}
+use Rattle.am_ends.specs.Order.{IsOrdered}
+
+-- the node keeps an end of this list, and its numbers stand in their order
+pub record Keeps (all : Log) (m : Node) : Type 0 where
+  pub kept : IsEnd all m.core.log
+  pub order : IsOrdered m.core
+
+low_acc : (all : Log) (m : Node) → Keeps all m → m.core.log.start ≤ m.core.acc
+low_acc all m h = let o = h.order in omega arith
+
+-- ---- what both tell
+
+-- what goes by the image and the top alone
+pub reads : {X : Type 0} (all : Log) (m : Node) (f : Image → ℕ → X) → Keeps all m → f (told (with_log m all)) (top (with_log m all)) ≡ f (told m) (top m)
+reads all m f h = ap (f (told_by all)) (sym (end-top all m.core.log h.kept)) ∙ ap (λ i. f i (top m)) (sym (end-told all m.core.log h.kept))
+
+entries_end : (all kept : Log) (number : ℕ) → IsEnd all kept → kept.start ≤ number
+    → drop (number - all.start) all.entries ≡ drop (number - kept.start) kept.entries
+entries_end all kept number is low =
+    let a = is.low in
+    let at : (kept.start - all.start) + (number - kept.start) ≡ number - all.start = omega arith in
+    ap (λ k. drop k all.entries) (sym at) ∙ sym (drop-drop (number - kept.start) (kept.start - all.start) all.entries) ∙ ap
+    (drop (number - kept.start)) (sym is.entries)
+
+-- the end of an end
+pub end_trans : (all some kept : Log) → IsEnd all some → IsEnd some kept → IsEnd all kept
+end_trans all some kept a b =
+    let t = end-top all some a in
+    let c = a.low in
+    let d = b.low in
+    let e = b.high in
+    record {
+      low = omega arith;
+      high = omega arith;
+      image = b.image ∙ end-image all some kept.start a b.low;
+      entries = b.entries ∙ sym (entries_end all some kept.start a b.low);
+    }
+
+pub same_entries : (all : Log) (m : Node) (number : ℕ) → Keeps all m → m.core.base ≤ number → entries_above (with_log m all) number ≡ entries_above m number
+same_entries all m number h low = let o = h.order in entries_end all m.core.log number h.kept (omega arith)
+
+pub same_entry : (all : Log) (m : Node) (number : ℕ) → Keeps all m → m.core.log.start < number → entry_at all number ≡ entry_at m.core.log number
+same_entry all m number h low = sym (end-entry all m.core.log number h.kept low)
+
+pub same_base : (all : Log) (m : Node) → Keeps all m → image_at all m.core.base ≡ image_at m.core.log m.core.base
+same_base all m h = sym (end-image all m.core.log m.core.base h.kept h.order.base)
+
+pub same_since : (all : Log) (m : Node) → Keeps all m → since_accepted (whole all m.core) ≡ since_accepted m.core
+same_since all m h =
+    let c : CoreState = record (m.core) { base = m.core.log.start } in
+    sym (since_whole c (low_acc all m h) all (record { base = refl; kept = h.kept }))
+
+-- ---- changes
+
+pub keeps_pushed : (all : Log) (m : Node) (e : Entry) → Keeps all m → Keeps (with_entry all e) (pushed m e)
+keeps_pushed all m e h =
+    let o = h.order in
+    let l = length-append m.core.log.entries (e ∷ []) in
+    record { kept = end-push all m.core.log e h.kept; order = record { base = o.base; taken = o.taken; given = o.given; accepted = omega arith } }
+
+pub keeps_trimmed : (all : Log) (m : Node) (base : ℕ) → Keeps all m → Keeps all (trimmed m base)
+keeps_trimmed all m base h = record {
+  kept = h.kept;
+  order = let o = h.order in record { base = omega arith; taken = o.taken; given = o.given; accepted = o.accepted };
+}
+
+-- ---- the refresh
+
+advance_end : (all : Log) (m : Node) → Keeps all m → advance (with_log m all) ≡ with_log (advance m) all
+unfolding accept pass_over
+advance_end all m h = let e = end-top all m.core.log h.kept in rw e refl
+
+keeps_advance : (all : Log) (m : Node) → Keeps all m → Keeps all (advance m)
+unfolding accept pass_over
+keeps_advance all m h =
+    let o = h.order in
+    record { kept = h.kept; order = record { base = o.base; taken = grind arith; given = grind arith; accepted = omega arith } }
+
+grows_base : (o : Option ℕ) (start base : ℕ) → start ≤ base → start ≤ base_after o base
+grows_base None start base h = h
+grows_base (Some to) start base h = omega arith
+
+keeps_led : (all : Log) (m : Node) → Keeps all m → Keeps all (lead m)
+unfolding lead own_report tell go_on let_go accept pass_over
+keeps_led all m h =
+    let o = h.order in
+    record {
+      kept = h.kept;
+      order = record {
+        base = grows_base (least_taken (go_up (led_of m)).reports (since_accepted (go_up (led_of m)).core)) m.core.log.start m.core.base o.base;
+        taken = grind arith;
+        given = grind arith;
+        accepted = omega arith;
+      };
+    }
+
+-- a sequencer's refresh, on all of the list as on its end
+go_up_end : (all : Log) (m : Node) → Keeps all m → go_up (led_of (with_log m all)) ≡ whole_led all (go_up (led_of m))
+unfolding own_report tell go_on accept pass_over
+go_up_end all m h =
+    let s : Led = record { core = record (m.core) { base = m.core.log.start }; reports = m.reports } in
+    ap (λ (l : Led). record l { core = record (l.core) { base = m.core.base } }) (go_up_whole all s (record { base = refl; kept = h.kept }) (low_acc all m h))
+
+-- what stands of the led node before the base goes on
+risen : Node → Node
+risen m = record m { core = (go_up (led_of m)).core; reports = (go_up (led_of m)).reports }
+
+keeps_risen : (all : Log) (m : Node) → Keeps all m → Keeps all (risen m)
+unfolding risen own_report tell go_on accept pass_over
+keeps_risen all m h =
+    let o = h.order in
+    record { kept = h.kept; order = record { base = o.base; taken = grind arith; given = grind arith; accepted = omega arith } }
+
+let_go_end : (all : Log) (s : Led) → since_accepted (whole all s.core) ≡ since_accepted s.core → let_go (whole_led all s) ≡ whole_led all (let_go s)
+unfolding let_go
+let_go_end all s e = ap (λ since. let l : Led = record {
+  core = record
+      (whole all s.core) { base = base_after (least_taken s.reports since) s.core.base };
+  reports = s.reports;
+} in l) e
+
+risen_since : (all : Log) (m : Node) → Keeps all m → since_accepted (whole all (go_up (led_of m)).core) ≡ since_accepted (go_up (led_of m)).core
+unfolding risen
+risen_since all m h = same_since all (risen m) (keeps_risen all m h)
+
+lead_end : (all : Log) (m : Node) → Keeps all m → lead (with_log m all) ≡ with_log (lead m) all
+unfolding lead
+lead_end all m h = ap (λ (l : Led). let n : Node = record m { core = l.core; reports = l.reports } in n)
+    (ap let_go (go_up_end all m h) ∙ let_go_end all (go_up (led_of m)) (risen_since all m h))
+
+pub same_sequencer : (all : Log) (m : Node) → Keeps all m → is_sequencer (with_log m all) ≡ is_sequencer m
+same_sequencer all m h = reads all m (λ i t. is_member m.status && stamp_eq m.core.promise i.view && (i.view.by == m.core.who)) h
+
+pub refresh_end : (all : Log) (m : Node) → Keeps all m → refresh (with_log m all) ≡ with_log (refresh m) all
+unfolding refresh
+refresh_end all m h =
+    let e = same_sequencer all m h in
+    split (is_sequencer m)
+    (λ t. let u : is_sequencer (with_log m all) ≡ true = e ∙ t in rw (t, u) (lead_end all m h))
+    (λ t. let u : is_sequencer (with_log m all) ≡ false = e ∙ t in rw (t, u) (advance_end all m h))
+
+pub keeps_refresh : (all : Log) (m : Node) → Keeps all m → Keeps all (refresh m)
+unfolding refresh
+keeps_refresh all m h = split (is_sequencer m) (λ t. rw t (keeps_led all m h)) (λ t. rw t (keeps_advance all m h))
+
+-- ---- the end of a step
+
+accepted_end : (all : Log) (m : Node) (req : ℕ) → Keeps all m → accepted_at (with_log m all) req ≡ accepted_at m req
+accepted_end all m req h = ap (λ (es : List Entry). position (is_data_of m.core.who req) (take (m.core.acc - m.core.base) es))
+    (same_entries all m m.core.base h (omega arith))
+
+settled_at_end : (all : Log) (m : Node) (req : ℕ) (at : Option ℕ) → settled_at (with_log m all) req at ≡ with_log (settled_at m req at) all
+settled_at_end all m req None = refl
+settled_at_end all m req (Some k) = refl
+
+settled_end : (all : Log) (m : Node) (w : Option OwnSend) → Keeps all m → settled (with_log m all) w ≡ with_log (settled m w) all
+settled_end all m None h = refl
+settled_end all m (Some s) h = ap (settled_at (with_log m all) s.req) (accepted_end all m s.req h) ∙ settled_at_end all m s.req (accepted_at m s.req)
+
+keeps_settled_at : (all : Log) (m : Node) (req : ℕ) (at : Option ℕ) → Keeps all m → Keeps all (settled_at m req at)
+keeps_settled_at all m req None h = h
+keeps_settled_at all m req (Some k) h = record { kept = h.kept; order = h.order }
+
+keeps_settled : (all : Log) (m : Node) (w : Option OwnSend) → Keeps all m → Keeps all (settled m w)
+keeps_settled all m None h = h
+keeps_settled all m (Some s) h = keeps_settled_at all m s.req (accepted_at m s.req) h
+
+pub at_end : (all : Log) (m : Node) → Keeps all m → refresh_at_end (with_log m all) ≡ with_log (refresh_at_end m) all
+unfolding refresh_at_end settle
+at_end all m h =
+    ap (λ n. settled n (waiting n)) (refresh_end all m h) ∙ settled_end all (refresh m) (waiting (refresh m)) (keeps_refresh all m h)
+
+pub keeps_at_end : (all : Log) (m : Node) → Keeps all m → Keeps all (refresh_at_end m)
+unfolding refresh_at_end settle
+keeps_at_end all m h = keeps_settled all (refresh m) (waiting (refresh m)) (keeps_refresh all m h)
+
+-- a node and the end of it
+pub keeps_end : (all m : Node) → IsEndOf all m → IsInOrder m.core → Keeps all.core.log m
+keeps_end all m end order =
+    let base = end.stands.base in
+    let low = order.let_go in
+    let given = order.given in
+    record { kept = end.stands.kept; order = record { base = omega arith; taken = omega arith; given = given; accepted = order.accepted } }

@@ -1,0 +1,248 @@
+-- Plans that are alike: the first comes to the node of the second with all of a list, and both say and send the same.
+use Rattle.std.proofs.Common.{◌≡◌, ℕ, Bool, true, false, not, ◌&&◌, ◌||◌, nat_lt, if◌then◌else◌, List, [], refl, sym, ◌∙◌, ap, subst}
+use Rattle.am_base.specs.declared.entry.Entry.{Entry}
+use Rattle.am_base.specs.declared.outcome.Outcome.{Outcome}
+use Rattle.am_base.specs.Names.{without_name}
+use Rattle.am_base.specs.Lists.{Log, image_at, members_of, row_of, with_entry}
+use Rattle.am_core.specs.Kept.{IsEnd}
+use Rattle.am_packet.specs.declared.packet.Packet.{Packet}
+use Rattle.am_packet.specs.declared.packet.Packet.TheVariants as packet
+use Rattle.am_packet.specs.Boxes.{Letter, with_letter}
+use Rattle.am_model.specs.declared.status.Status.TheVariants.{Departed}
+use Rattle.am_model.specs.Node.{Node, told, others}
+use Rattle.am_model.specs.Refresh.{refresh_at_end}
+use Rattle.am_model.specs.Emit.{Step, Plan, quiet, telling, polling, and_telling, and_where, numbering, request_of, spread_of, ack_of, nack_of, hold_of, welcome_of, leave_ask_of, fetch_of, with_accept, finish}
+use Rattle.am_model.specs.Ballots.{vote_of}
+use Rattle.am_model.specs.Ends.{with_log, IsEndOf, ComesTo, StepsAlike}
+use Rattle.am_ends.specs.Order.{IsOrdered}
+use Rattle.am_ends.proofs.Nodes.{Keeps, reads, end_trans, same_base, keeps_pushed, same_sequencer, at_end, keeps_at_end}
+
+-- the first says of a node with all of a list what the second says of the node
+abbrev pub Says : {X : Type 0} → (Node → X) → (Node → X) → Type 0
+Says f g = (all : Log) (n : Node) → Keeps all n → f (with_log n all) ≡ g n
+
+pub record Alike (p q : Plan) : Type 0 where
+  pub log : Log
+  pub keeps : Keeps log q.node
+  pub node : p.node ≡ with_log q.node log
+  pub outcome : Says p.outcome q.outcome
+  pub letters : Says p.letters q.letters
+  pub polls : p.polls ≡ q.polls
+  pub numbers : p.numbers ≡ q.numbers
+  pub departs : p.departs ≡ q.departs
+
+-- ---- packets
+
+pub same_others : (all : Log) (m : Node) → Keeps all m → others (with_log m all) ≡ others m
+same_others all m h = reads all m (λ i t. without_name (members_of i) m.core.who) h
+
+pub says_request : (req : ℕ) (body : List ℕ) → Says (λ n. request_of n req body) (λ n. request_of n req body)
+says_request req body all n h = reads all n (λ i t. packet.Request n.core.who n.core.promise (record { stored = t; taken = n.core.taken }) req body) h
+
+pub says_spread : (req : ℕ) (body : List ℕ) → Says (λ n. spread_of n req body) (λ n. spread_of n req body)
+says_spread req body all n h = reads all n (λ i t. packet.Spread n.core.who n.core.promise (record { stored = t; taken = n.core.taken }) req body) h
+
+pub says_ack : Says ack_of ack_of
+says_ack all n h = reads all n (λ i t. packet.Ack n.core.who n.core.promise (record { stored = t; taken = n.core.taken })) h
+
+pub says_nack : Says nack_of nack_of
+says_nack all n h = reads all n (λ i t. packet.Nack n.core.who n.core.promise (record { stored = t; taken = n.core.taken })) h
+
+pub says_leave_ask : Says leave_ask_of leave_ask_of
+says_leave_ask all n h = reads all n (λ i t. packet.LeaveAsk n.core.who n.core.promise (record { stored = t; taken = n.core.taken })) h
+
+pub says_fetch : Says fetch_of fetch_of
+says_fetch all n h = reads all n (λ i t. packet.Fetch n.core.who n.core.promise t) h
+
+pub says_hold : (req : ℕ) → Says (λ n. hold_of n req) (λ n. hold_of n req)
+says_hold req all n h = reads all n (λ i t. packet.Hold n.core.who n.core.promise n.core.base t req) h
+
+pub says_welcome : (name : ℕ) → Says (λ n. welcome_of n name) (λ n. welcome_of n name)
+says_welcome name all n h =
+    reads all n (λ i t. packet.Welcome n.core.who n.core.promise n.core.base (row_of i name).joined (image_at all n.core.base)) h
+    ∙ ap (packet.Welcome n.core.who n.core.promise n.core.base (row_of (told n) name).joined) (same_base all n h)
+
+pub says_vote : Says vote_of vote_of
+says_vote all n h = reads all n
+    (λ i t. packet.Vote n.core.who n.core.promise (record { view = i.view; top = t; taken = n.core.taken; members = members_of i })) h
+
+-- ---- plans
+
+-- by tests that say the same
+pub alike_if : (b c : Bool) (p q r s : Plan) → b ≡ c → (c ≡ true → Alike p q) → (c ≡ false → Alike r s) → Alike (if b then p else r) (if c then q else s)
+alike_if true true p q r s e f g = f refl
+alike_if true false p q r s e f g = absurd (cc)
+alike_if false true p q r s e f g = absurd (cc)
+alike_if false false p q r s e f g = g refl
+
+-- by one test
+pub alike_case : (b : Bool) (p q r s : Plan) → (b ≡ true → Alike p q) → (b ≡ false → Alike r s) → Alike (if b then p else r) (if b then q else s)
+alike_case b p q r s f g = alike_if b b p q r s refl f g
+
+pub alike_quiet : (all : Log) (m : Node) (o w : Outcome) → Keeps all m → o ≡ w → Alike (quiet (with_log m all) o) (quiet m w)
+alike_quiet all m o w h e = record {
+  log = all;
+  keeps = h;
+  node = refl;
+  outcome = λ a n k. e;
+  letters = λ a n k. refl;
+  polls = refl;
+  numbers = refl;
+  departs = refl;
+}
+
+pub alike_polling : (all : Log) (m : Node) (o w : Outcome) → Keeps all m → o ≡ w → Alike (polling (with_log m all) o) (polling m w)
+alike_polling all m o w h e = record {
+  log = all;
+  keeps = h;
+  node = refl;
+  outcome = λ a n k. e;
+  letters = λ a n k. refl;
+  polls = refl;
+  numbers = refl;
+  departs = refl;
+}
+
+-- with an answer that the step tells
+pub alike_saying : (all : Log) (m : Node) (o w : Outcome) (f g : Node → Outcome) → Keeps all m → Says f g
+    → Alike (record (quiet (with_log m all) o) { outcome = f }) (record (quiet m w) { outcome = g })
+alike_saying all m o w f g h says = record {
+  log = all;
+  keeps = h;
+  node = refl;
+  outcome = says;
+  letters = λ a n k. refl;
+  polls = refl;
+  numbers = refl;
+  departs = refl;
+}
+
+-- with letters of its own
+pub alike_sending : (all : Log) (m : Node) (o w : Outcome) (f g : Node → List Letter) → Keeps all m → o ≡ w → Says f g
+    → Alike (record (quiet (with_log m all) o) { letters = f }) (record (quiet m w) { letters = g })
+alike_sending all m o w f g h e says = record {
+  log = all;
+  keeps = h;
+  node = refl;
+  outcome = λ a n k. e;
+  letters = says;
+  polls = refl;
+  numbers = refl;
+  departs = refl;
+}
+
+-- one letter more
+more : (to at : List ℕ) (p q : Packet) (ls ks : List Letter) → to ≡ at → p ≡ q → ls ≡ ks → with_letter to p ls ≡ with_letter at q ks
+more to at p q ls ks e f g = λ i. with_letter (e i) (f i) (g i)
+
+pub alike_telling : (all : Log) (m : Node) (o w : Outcome) (to at : List ℕ) (p q : Node → Packet) → Keeps all m → o ≡ w → to ≡ at → Says p q
+    → Alike (telling (with_log m all) o to p) (telling m w at q)
+alike_telling all m o w to at p q h e f says = record {
+  log = all;
+  keeps = h;
+  node = refl;
+  outcome = λ a n k. e;
+  letters = λ a n k. more to at
+      (p (with_log n a)) (q n) [] [] f (says a n k) refl;
+  polls = refl;
+  numbers = refl;
+  departs = refl;
+}
+
+pub alike_and : (p q : Plan) (to at : List ℕ) (f g : Node → Packet) → Alike p q → to ≡ at → Says f g → Alike (and_telling p to f) (and_telling q at g)
+alike_and p q to at f g h e says = record {
+  log = h.log;
+  keeps = h.keeps;
+  node = h.node;
+  outcome = h.outcome;
+  letters = λ a n k. more to at (f (with_log n a)) (g n) (p.letters (with_log n a)) (q.letters n) e (says a n k) (h.letters a n k);
+  polls = h.polls;
+  numbers = h.numbers;
+  departs = h.departs;
+}
+
+pub alike_where : (t u : Node → Bool) (p q : Plan) (to at : List ℕ) (f g : Node → Packet) → Says t u → Alike p q → to ≡ at → Says f g
+    → Alike (and_where t p to f) (and_where u q at g)
+alike_where t u p q to at f g tests h e says = record {
+  log = h.log;
+  keeps = h.keeps;
+  node = h.node;
+  outcome = h.outcome;
+  letters = λ a n k i. if tests a n k i then with_letter (e i) (says a n k i) (h.letters a n k i) else h.letters a n k i;
+  polls = h.polls;
+  numbers = h.numbers;
+  departs = h.departs;
+}
+
+pub alike_numbering : (all : Log) (m : Node) (e : Entry) (o w : Outcome) (p q : Node → Packet) → Keeps all m → o ≡ w → Says p q
+    → Alike (numbering (with_log m all) e o p) (numbering m e w q)
+alike_numbering all m e o w p q h same says = record {
+  log = with_entry all e;
+  keeps = keeps_pushed all m e h;
+  node = refl;
+  outcome = λ a n k. same;
+  letters = λ a n k. more (others (with_log m all)) (others m) (p (with_log n a)) (q n) [] [] (same_others all m h) (says a n k) refl;
+  polls = refl;
+  numbers = refl;
+  departs = refl;
+}
+
+-- ---- a plan that is done
+
+end_of : (all : Log) (n x : Node) → IsEnd all n.core.log → IsEndOf n x → IsEndOf (with_log n all) x
+end_of all n x is h = record {
+  stands = record { base = h.stands.base; kept = end_trans all n.core.log x.core.log is h.stands.kept };
+  same = ap (λ y. with_log y all) h.same;
+}
+
+departed : Bool → Node → Node
+departed d n = if d then record n { status = Departed } else n
+
+departed_end : (d : Bool) (all : Log) (n : Node) → departed d (with_log n all) ≡ with_log (departed d n) all
+unfolding departed
+departed_end true all n = refl
+departed_end false all n = refl
+
+departed_log : (d : Bool) (all : Log) (n : Node) → IsEnd all n.core.log → IsEnd all (departed d n).core.log
+unfolding departed
+departed_log true all n h = h
+departed_log false all n h = h
+
+accept_alike : (all : Log) (m : Node) (p q : Plan) (a : Log) (n : Node) (ls ks : List Letter) → Alike p q → Keeps a n → ls ≡ ks
+    → with_accept (with_log m all) p (with_log n a) ls ≡ with_accept m q n ks
+accept_alike all m p q a n ls ks h k e = λ i.
+    if same_sequencer a n k i && (h.polls i || (nat_lt m.core.acc n.core.acc && not (h.numbers i)))
+    then with_letter (same_others a n k i) (reads a n (λ j t. packet.Accept n.core.who n.core.promise n.core.base n.core.acc t (h.polls i)) k i) (e i)
+    else e i
+
+departed_order : (d : Bool) (n : Node) → IsOrdered n.core → IsOrdered (departed d n).core
+unfolding departed
+departed_order true n h = h
+departed_order false n h = h
+
+pub finish_ordered : (m : Node) (p q : Plan) → Alike p q → IsOrdered (finish m q).node.core
+unfolding finish departed
+finish_ordered m p q h = departed_order q.departs (refresh_at_end q.node) (keeps_at_end h.log q.node h.keeps).order
+
+pub finish_alike : (all : Log) (m : Node) (p q : Plan) → Alike p q → StepsAlike (finish (with_log m all) p) (finish m q)
+unfolding finish departed
+finish_alike all m p q h =
+    let n = refresh_at_end q.node in
+    let k = keeps_at_end h.log q.node h.keeps in
+    let e : refresh_at_end p.node ≡ with_log n h.log = ap refresh_at_end h.node ∙ at_end h.log q.node h.keeps in
+    let same : departed p.departs (refresh_at_end p.node) ≡ with_log (departed q.departs n) h.log = (λ i. departed (h.departs i) (e i))
+    ∙ departed_end q.departs h.log n in
+    record {
+      answer = ap p.outcome e ∙ h.outcome h.log n k;
+      sent = ap (λ x. with_accept (with_log m all) p x (p.letters x)) e ∙ accept_alike all m p q h.log n (p.letters (with_log n h.log))
+          (q.letters n) h k (h.letters h.log n k);
+      node = λ x end. subst (λ y. IsEndOf y x) (sym same) (end_of h.log (departed q.departs n) x (departed_log q.departs h.log n k.kept) end);
+    }
+
+-- what comes to the step of the end comes to that of the whole node
+pub comes_whole : (s t : Step) (o : Outcome) (letters : List Letter) (n : Node) → StepsAlike s t → ComesTo t o letters n → ComesTo s o letters n
+comes_whole s t o letters n same comes = record {
+  node = same.node n comes.node;
+  answer = comes.answer ∙ sym same.answer;
+  sent = comes.sent ∙ sym same.sent;
+}

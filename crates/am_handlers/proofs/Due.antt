@@ -1,0 +1,130 @@
+-- What is settled of a node's sends stands in its list, as that grows.
+use Rattle.std.proofs.Common.{◌≡◌, ◌⊎◌, ⊎_elim, inl, inr, ℕ, zero, suc, ◌+◌, ◌-◌, ◌<◌, ◌≤◌, List, [], ◌∷◌, length, Bool, true, false, ◌&&◌, ◌==◌, nat_lt, Option, Some, None, slice_get, refl, sym, ◌∙◌, ap, subst, arith}
+use Rattle.std.proofs.lemmas.Bool.Decides.{nat_tests}
+use Rattle.am_base.specs.declared.image.Image.{Image}
+use Rattle.am_base.specs.declared.image.Row.{Row}
+use Rattle.am_base.specs.declared.entry.Entry.{Entry}
+use Rattle.am_base.specs.declared.entry.Entry.TheVariants.{Data, Join, Leave, View}
+use Rattle.am_base.specs.Names.{place_of, life_of}
+use Rattle.am_base.specs.Lists.{Log, entry_at, told_by, at_place, after, fits, fold, AllFit}
+use Rattle.am_core.proofs.Folds.{split}
+use Rattle.am_chain_lists.proofs.Rows.{row_at, long_after}
+use Rattle.am_model.specs.Claims.{request_in}
+use Rattle.am_orders.proofs.Rows.{IsNext, GoesOn, entry_goes_on, own_request}
+use Rattle.am_core.specs.Kept.{IsKept}
+use Rattle.am_model.specs.Refresh.{is_data_of}
+use Rattle.am_handlers.specs.Parts.{passes}
+use Rattle.am_handlers.specs.Keeps.{IsDue}
+use Rattle.am_handlers.proofs.Settling.{some_entry, entry_get}
+
+-- the next request of a life of a place that such a row allows, at least as great as this one
+pub record NextFrom (r : Row) (life least : ℕ) : Type 0 where
+  pub next : ℕ
+  pub is : IsNext r life next
+  pub low : least ≤ next
+
+due_next : (r : Row) (life next : ℕ) → IsDue r life next → NextFrom r life next
+due_next r life next due = split (r.joined == 0)
+    (λ t.
+    let z : r.joined ≡ 0 = grind (arith, nat_tests) in
+    record { next = 1; is = record { free = λ h. refl; younger = λ h. refl; own = λ j l. absurd (omega arith) }; low = due.free z })
+    (λ f. split (nat_lt r.life life)
+    (λ t.
+    let y : r.life < life = grind (arith, nat_tests) in
+    record { next = 1; is = record { free = λ h. refl; younger = λ h. refl; own = λ j l. absurd (omega arith) }; low = due.younger y })
+    (λ old.
+    let no : r.joined ≡ 0 → ⊥ = λ h. let x : ⊥ = grind (arith, nat_tests) in x in
+    let not_younger : r.life < life → ⊥ = λ h. let x : ⊥ = grind (arith, nat_tests) in x in
+    split (r.life == life)
+    (λ t.
+    let e : r.life ≡ life = grind (arith, nat_tests) in
+    record { next = r.last + 1; is = record { free = λ h. absurd (no h); younger = λ h. absurd (not_younger h); own = λ j l. refl }; low = due.own (omega arith) e })
+    (λ other.
+    record { next = next; is = record { free = λ h. absurd (no h); younger = λ h. absurd (not_younger h); own = λ j l. absurd (let x : ⊥ = grind (arith, nat_tests) in x) }; low = omega arith })))
+
+next_due : (r : Row) (life next low : ℕ) → IsNext r life next → low ≤ next → IsDue r life low
+next_due r life next low is le = record {
+  free = λ h. let e = is.free h in omega arith;
+  younger = λ h. let e = is.younger h in omega arith;
+  own = λ j l. let e = is.own j l in omega arith;
+}
+
+-- the first request may always be next
+pub due_first : (r : Row) (life next : ℕ) → next ≤ 1 → IsDue r life next
+due_first r life next h = record { free = λ z. h; younger = λ y. h; own = λ j l. omega arith }
+
+-- ---- one entry more
+
+next_after : (image : Image) (n : ℕ) (e : Entry) (name low : ℕ) → length image.rows ≡ 16 → 0 < n → fits image e ≡ true → NextFrom (row_at image (place_of name)) (life_of name) low → NextFrom (row_at (after image n e) (place_of name)) (life_of name) low
+next_after image n e name low long up fit from =
+    let le = from.low in
+    ⊎_elim
+    (λ (x : (request_in name e ≡ []) × IsNext (row_at (after image n e) (place_of name)) (life_of name) from.next). record { next = from.next; is = x.1; low = le })
+    (λ (x : (request_in name e ≡ from.next ∷ []) × IsNext (row_at (after image n e) (place_of name)) (life_of name) (from.next + 1)). record { next = from.next + 1; is = x.1; low = omega arith })
+    (entry_goes_on image n e name from.next long up fit from.is)
+
+pub due_after : (image : Image) (n : ℕ) (e : Entry) (name next : ℕ) → length image.rows ≡ 16 → 0 < n → fits image e ≡ true → IsDue (at_place image name) (life_of name) next → IsDue (at_place (after image n e) name) (life_of name) next
+due_after image n e name next long up fit due =
+    let after_it = next_after image n e name next long up fit (due_next (at_place image name) (life_of name) next due) in
+    next_due (at_place (after image n e) name) (life_of name) after_it.next next after_it.is after_it.low
+
+-- ---- a send that stands in the list
+
+head_is : (a b : ℕ) → a ∷ [] ≡ b ∷ [] → a ≡ b
+head_is a b e = cc
+
+not_empty : (a : ℕ) → a ∷ [] ≡ [] → ⊥
+not_empty a e = cc
+
+next_own : (image : Image) (n name req : ℕ) (body : List ℕ) (low : ℕ) → length image.rows ≡ 16 → 0 < n → fits image (Data name req body) ≡ true → NextFrom (row_at image (place_of name)) (life_of name) low → NextFrom (row_at (after image n (Data name req body)) (place_of name)) (life_of name) (req + 1)
+next_own image n name req body low long up fit from =
+    let own = own_request name req body in
+    ⊎_elim
+    (λ (x : (request_in name (Data name req body) ≡ []) × IsNext (row_at (after image n (Data name req body)) (place_of name)) (life_of name) from.next). absurd (not_empty req (sym own ∙ x.0)))
+    (λ (x : (request_in name (Data name req body) ≡ from.next ∷ []) × IsNext (row_at (after image n (Data name req body)) (place_of name)) (life_of name) (from.next + 1)).
+    let same = head_is req from.next (sym own ∙ x.0) in
+    record { next = from.next + 1; is = x.1; low = omega arith })
+    (entry_goes_on image n (Data name req body) name from.next long up fit from.is)
+
+next_fold : (image : Image) (n : ℕ) (es : List Entry) (name low : ℕ) → length image.rows ≡ 16 → 0 < n → AllFit image n es → NextFrom (row_at image (place_of name)) (life_of name) low → NextFrom (row_at (fold image n es) (place_of name)) (life_of name) low
+unfolding fold AllFit
+next_fold image n [] name low long up fit from = from
+next_fold image n (e ∷ es) name low long up fit from =
+    next_fold (after image n e) (n + 1) es name low (long_after image n e long) (omega arith) fit.1 (next_after image n e name low long up fit.0 from)
+
+next_stands : (image : Image) (n : ℕ) (es : List Entry) (name req : ℕ) (body : List ℕ) (low k : ℕ) → length image.rows ≡ 16 → 0 < n → AllFit image n es → NextFrom (row_at image (place_of name)) (life_of name) low → slice_get es k ≡ Some (Data name req body) → NextFrom (row_at (fold image n es) (place_of name)) (life_of name) (req + 1)
+unfolding fold AllFit
+next_stands image n [] name req body low k long up fit from at = absurd (cc)
+next_stands image n (e ∷ es) name req body low zero long up fit from at =
+    let is : e ≡ Data name req body = cc in
+    let here = subst (λ (x : Entry). fits image x ≡ true → NextFrom (row_at (after image n x) (place_of name)) (life_of name) (req + 1)) (sym is) (λ f. next_own image n name req body low long up f from) fit.0 in
+    next_fold (after image n e) (n + 1) es name (req + 1) (long_after image n e long) (omega arith) fit.1 here
+next_stands image n (e ∷ es) name req body low (suc k) long up fit from at =
+    next_stands (after image n e) (n + 1) es name req body low k (long_after image n e long) (omega arith) fit.1 (next_after image n e name low long up fit.0 from) at
+
+-- some next request, whatever the row
+some_next : (r : Row) (life : ℕ) → NextFrom r life 0
+some_next r life = due_next r life 0 (record { free = λ h. omega arith; younger = λ h. omega arith; own = λ j l. omega arith })
+
+pub due_stands : (image : Image) (n : ℕ) (es : List Entry) (name req : ℕ) (body : List ℕ) (k : ℕ) → length image.rows ≡ 16 → 0 < n → AllFit image n es → slice_get es k ≡ Some (Data name req body) → IsDue (at_place (fold image n es) name) (life_of name) (req + 1)
+due_stands image n es name req body k long up fit at =
+    let last = next_stands image n es name req body 0 k long up fit (some_next (row_at image (place_of name)) (life_of name)) at in
+    next_due (at_place (fold image n es) name) (life_of name) last.next (req + 1) last.is last.low
+
+own_data : (who req : ℕ) (e : Entry) → is_data_of who req e ≡ true → (body : List ℕ) × (e ≡ Data who req body)
+own_data who req (Data from r body) is =
+    let a : from ≡ who = grind (arith, nat_tests) in
+    let b : r ≡ req = grind (arith, nat_tests) in
+    (body, λ k. Data (a k) (b k) body)
+own_data who req (Join name) is = absurd (cc)
+own_data who req (Leave name) is = absurd (cc)
+own_data who req (View stamp members resilience) is = absurd (cc)
+
+-- a send of the node's own that stands in its list
+pub stands_due : (log : Log) (capacity who req before : ℕ) → IsKept log capacity → log.start ≤ before → passes (is_data_of who req) (entry_at log (before + 1)) ≡ true → IsDue (at_place (told_by log) who) (life_of who) (req + 1)
+stands_due log capacity who req before kept low at =
+    let e = some_entry (is_data_of who req) (entry_at log (before + 1)) at in
+    let passes_it : is_data_of who req e.0 ≡ true = ap (passes (is_data_of who req)) (sym e.1) ∙ at in
+    let send = own_data who req e.0 passes_it in
+    let get : slice_get log.entries (before - log.start) ≡ Some (Data who req send.0) = sym (entry_get log before low) ∙ e.1 ∙ ap Some send.1 in
+    due_stands log.image (log.start + 1) log.entries who req send.0 (before - log.start) kept.image.places (omega arith) kept.fit get

@@ -1,0 +1,271 @@
+-- The parts of a node keep what they keep.
+use Rattle.std.proofs.Common.{◌≡◌, ◌≢◌, ◌<◌, inl, ℕ, ◌+◌, [], ◌∷◌, length, ◌-◌, ◌≤◌, max, min, nat_lt, List, Bool, true, false, ◌&&◌, ◌==◌, Option, Some, None, option_map, refl, sym, ◌∙◌, ap, subst, arith}
+use Rattle.am_base.specs.declared.image.Image.{Image}
+use Rattle.am_base.specs.declared.name.Stamp.{Stamp}
+use Rattle.am_base.specs.declared.image.Report.{Report}
+use Rattle.am_base.specs.declared.image.Row.{Row}
+use Rattle.am_base.specs.declared.entry.Entry.{Entry}
+use Rattle.am_base.specs.declared.entry.Entry.TheVariants.{Data, Join, Leave, View}
+use Rattle.std.proofs.lemmas.Bool.Decides.{nat_tests}
+use Rattle.am_base.specs.Names.{has, life_of}
+use Rattle.am_base.specs.Stamps.{stamp_eq, stamp_lt}
+use Rattle.am_base.specs.Lists.{Log, top_of, told_by, members_of, at_place, after, fits, fold}
+use Rattle.am_core.specs.Cores.{CoreState, Stands, IsInOrder, advance, accept, pass_over}
+use Rattle.am_core.specs.Kept.{IsKept}
+use Rattle.am_core.proofs.Folds.{split}
+use Rattle.am_core.proofs.Ends.{end-top, end-told, told-push}
+use Rattle.am_core.proofs.CoreLaws.{stands_self}
+use Rattle.am_fronts.specs.Refresh as fronts
+use Rattle.am_fronts.specs.Refresh.{Led, LeadsBy, MayLead, own_report, tell, go_on, let_go}
+use Rattle.am_bodies.specs.declared.KeptBody.{KeptBody}
+use Rattle.am_sender.specs.declared.OwnSend.{OwnSend}
+use Rattle.am_sender.specs.Sends as sending
+use Rattle.am_sender.specs.Sends.{Sends, next_request}
+use Rattle.am_model.specs.Group.{has_log}
+use Rattle.am_fronts.specs.Reports.{reported}
+use Rattle.am_model.specs.declared.status.Status.{Status}
+use Rattle.am_model.specs.declared.status.Status.TheVariants.{Stranger, Asking, Member, Departed}
+use Rattle.am_model.specs.Receiving.{is_view}
+use Rattle.am_model.specs.Node.{Node, top, told, view, members, acts, waiting, is_member, is_sequencer, pushed, with_report}
+use Rattle.am_model.specs.Refresh.{refresh, lead, led_of, with_led, accepted_at, settled_at, settled, settle, refresh_at_end}
+use Rattle.am_model.specs.Ends.{IsEndOf}
+use Rattle.am_chain_lists.proofs.Rows.{long_after}
+use Rattle.am_handlers.proofs.Due.{due_after}
+use Rattle.am_handlers.specs.Keeps.{NodeKeeps, IsOwnBallot, IsSteady, IsDue}
+
+pub steady_leads : (m n : Node) → IsSteady m n → is_sequencer n ≡ is_sequencer m
+steady_leads m n s = λ k. (is_member (s.status k) && stamp_eq (s.promise k) (s.told k).view) && ((s.told k).view.by == s.who k)
+
+pub keeps_steady : (m n : Node) → IsSteady m n → NodeKeeps m → (n.reports n.core.who).taken ≤ n.core.taken → NodeKeeps n
+keeps_steady m n s keeps own = record {
+  own = own;
+  leads = λ is. (λ k. has (members_of (s.told k)) (s.who k)) ∙ keeps.leads (sym (steady_leads m n s) ∙ is);
+  promised = (λ k. stamp_lt (s.promise k) (s.told k).view) ∙ keeps.promised;
+  blank = λ none. let before = ap has_log (sym s.status) ∙ none in s.top ∙ keeps.blank before;
+  ballot = λ b is.
+      let own_ballot = keeps.ballot b (sym s.ballot ∙ is) in
+      record {
+        stamp = λ open_. own_ballot.stamp open_ ∙ sym s.promise;
+        by = λ open_. own_ballot.by open_ ∙ sym s.who;
+        ahead = λ open_. (λ k. stamp_lt (s.told k).view b.stamp) ∙ own_ballot.ahead open_;
+        logged = λ open_. ap has_log s.status ∙ own_ballot.logged open_;
+        itself = λ open_. ap b.given_up s.who ∙ own_ballot.itself open_;
+        unvoted = λ open_. ap b.votes s.who ∙ own_ballot.unvoted open_;
+        resilience = own_ballot.resilience;
+      };
+  settled = λ leaves. ap sending.waiting s.sends ∙ keeps.settled (sym s.leaving ∙ leaves);
+  due = subst (λ (r : Row). IsDue r (life_of n.core.who) (next_request n.sends)) (sym (λ k. at_place (s.told k) (s.who k)))
+      (subst (λ (w : ℕ). IsDue (at_place (told m) m.core.who) (life_of w) (next_request n.sends)) (sym s.who)
+      (subst (λ (x : Sends). IsDue (at_place (told m) m.core.who) (life_of m.core.who) (next_request x)) (sym s.sends) keeps.due));
+  unsent = λ none.
+      let before = keeps.unsent (ap has_log (sym s.status) ∙ none) in
+      let same = ap next_request s.sends in
+      omega arith;
+}
+
+-- who leads may
+pub may_lead : (m : Node) → NodeKeeps m → is_sequencer m ≡ true → MayLead m.core
+may_lead m keeps is = inl (keeps.leads is)
+
+-- ---- the refresh
+
+pub steady_led : (m : Node) (new : Led) → IsInOrder m.core → LeadsBy fronts.refresh (led_of m) new → IsSteady m (with_led m new)
+unfolding own_report tell go_on let_go accept pass_over
+steady_led m new order by =
+    let is = by m.core.log (stands_self m.core order.kept) in
+    let end = (is.0).kept in
+    record {
+      who = ap (λ (s : Led). s.core.who) is.1;
+      promise = ap (λ (s : Led). s.core.promise) is.1;
+      told = end-told m.core.log new.core.log end;
+      top = end-top m.core.log new.core.log end;
+      status = refl;
+      ballot = refl;
+      leaving = refl;
+      sends = refl;
+    }
+
+-- a node that goes on with what it was told
+pub keeps_advance : (m : Node) (core : CoreState) → core ≡ advance m.core → NodeKeeps m → NodeKeeps (record m { core = core })
+unfolding accept pass_over
+keeps_advance m core is keeps = subst (λ (x : CoreState). NodeKeeps (record m { core = x })) (sym is) (record {
+  own = let own = keeps.own in split (nat_lt m.core.taken (m.core.start - 1))
+      (λ t. rw t (omega arith))
+      (λ f. rw f own);
+  leads = keeps.leads;
+  promised = keeps.promised;
+  blank = keeps.blank;
+  ballot = λ b there. let is_own = keeps.ballot b there in record { stamp = is_own.stamp; by = is_own.by; ahead = is_own.ahead; logged = is_own.logged; itself = is_own.itself; unvoted = is_own.unvoted; resilience = is_own.resilience };
+  settled = keeps.settled;
+  due = keeps.due;
+  unsent = keeps.unsent;
+})
+
+-- other sends, and all else the same
+pub record MaySend (m : Node) (sends : Sends) : Type 0 where
+  pub settled : m.leaving ≡ true → sending.waiting sends ≡ None
+  pub due : IsDue (at_place (told m) m.core.who) (life_of m.core.who) (next_request sends)
+  pub unsent : has_log m.status ≡ false → next_request sends ≤ 1
+
+pub keeps_sends : (m : Node) (sends : Sends) → MaySend m sends → NodeKeeps m → NodeKeeps (record m { sends = sends })
+keeps_sends m sends may keeps = record {
+  own = keeps.own;
+  leads = keeps.leads;
+  promised = keeps.promised;
+  blank = keeps.blank;
+  ballot = λ b there. let is_own = keeps.ballot b there in record { stamp = is_own.stamp; by = is_own.by; ahead = is_own.ahead; logged = is_own.logged; itself = is_own.itself; unvoted = is_own.unvoted; resilience = is_own.resilience };
+  settled = may.settled;
+  due = may.due;
+  unsent = may.unsent;
+}
+
+-- the waiting send is settled, which stands in the list
+pub may_settle : (m : Node) (sends : Sends) (req : ℕ) → NodeKeeps m → option_map (λ (send : OwnSend). send.req) (sending.waiting m.sends) ≡ Some req → next_request sends ≡ req + 1 → IsDue (at_place (told m) m.core.who) (life_of m.core.who) (req + 1) → 0 < top m → MaySend m sends
+may_settle m sends req keeps waits next due some = record {
+  settled = λ leaves. let none = ap (option_map (λ (send : OwnSend). send.req)) (keeps.settled leaves) in absurd (cc);
+  due = subst (λ n. IsDue (at_place (told m) m.core.who) (life_of m.core.who) n) (sym next) due;
+  unsent = λ none. let blank = keeps.blank none in absurd (omega arith);
+}
+
+-- who has a send that waits doesn't leave
+pub waits_not_leaving : (m : Node) (req : ℕ) → NodeKeeps m → Some req ≡ option_map (λ (send : OwnSend). send.req) (waiting m) → m.leaving ≡ true → ⊥
+waits_not_leaving m req keeps is leaves =
+    let none = is ∙ ap (option_map (λ (send : OwnSend). send.req)) (keeps.settled leaves) in
+    absurd (cc)
+
+-- ---- a report of another name, and an entry more
+
+pub report_steady : (m : Node) (from : ℕ) (report : Report) → IsSteady m (with_report m from report)
+report_steady m from report = record { who = refl; promise = refl; told = refl; top = refl; status = refl; ballot = refl; leaving = refl; sends = refl }
+
+pub keeps_report : (m : Node) (from : ℕ) (report : Report) → from ≢ m.core.who → NodeKeeps m → NodeKeeps (with_report m from report)
+keeps_report m from report other keeps =
+    let test : (m.core.who == from) ≡ false = grind (arith, nat_tests) in
+    let same : reported m.reports from report m.core.who ≡ m.reports m.core.who = rw test refl in
+    let taken = ap (λ (r : Report). r.taken) same in
+    keeps_steady m (with_report m from report) (report_steady m from report) keeps (let own = keeps.own in omega arith)
+
+view_after : (image : Image) (number : ℕ) (e : Entry) → is_view e ≡ false → (after image number e).view ≡ image.view
+unfolding after
+view_after image number (Data from req body) h = split ((at_place image from).life == life_of from) (λ t. rw t refl) (λ f. rw f refl)
+view_after image number (Join name) h = refl
+view_after image number (Leave name) h = split ((at_place image name).life == life_of name) (λ t. rw t refl) (λ f. rw f refl)
+view_after image number (View stamp names resilience) h = absurd (cc)
+
+pub view_pushed : (m : Node) (e : Entry) → is_view e ≡ false → view (pushed m e) ≡ view m
+view_pushed m e h = ap (λ (i : Image). i.view) (told-push m.core.log e) ∙ view_after (told m) (top m + 1) e h
+
+pub leads_pushed : (m : Node) (e : Entry) → is_view e ≡ false → is_sequencer (pushed m e) ≡ is_sequencer m
+leads_pushed m e h = ap (λ (v : Stamp). (is_member m.status && stamp_eq m.core.promise v) && (v.by == m.core.who)) (view_pushed m e h)
+
+pub long_fold : (image : Image) (n : ℕ) (es : List Entry) → length image.rows ≡ 16 → length (fold image n es).rows ≡ 16
+unfolding fold
+long_fold image n [] long = long
+long_fold image n (e ∷ es) long = long_fold (after image n e) (n + 1) es (long_after image n e long)
+
+-- what is settled stands in the list with an entry more
+pub due_pushed : (m : Node) (e : Entry) (capacity : ℕ) → IsKept m.core.log capacity → fits (told m) e ≡ true → (next : ℕ) → IsDue (at_place (told m) m.core.who) (life_of m.core.who) next → IsDue (at_place (told (pushed m e)) m.core.who) (life_of m.core.who) next
+due_pushed m e capacity kept fit next due =
+    subst (λ (i : Image). IsDue (at_place i m.core.who) (life_of m.core.who) next) (sym (told-push m.core.log e))
+    (due_after (told m) (top m + 1) e m.core.who next (long_fold m.core.log.image (m.core.log.start + 1) m.core.log.entries kept.image.places) (omega arith) fit due)
+
+-- one that isn't a View, where who leads stays a member
+pub keeps_pushed : (m : Node) (e : Entry) → is_view e ≡ false → fits (told m) e ≡ true → (capacity : ℕ) → IsKept m.core.log capacity → has_log m.status ≡ true → (is_sequencer m ≡ true → has (members (pushed m e)) m.core.who ≡ true) → NodeKeeps m → NodeKeeps (pushed m e)
+keeps_pushed m e plain fit capacity kept has_one stays keeps = record {
+  own = keeps.own;
+  leads = λ is. stays (sym (leads_pushed m e plain) ∙ is);
+  promised = ap (stamp_lt m.core.promise) (view_pushed m e plain) ∙ keeps.promised;
+  blank = λ none. absurd (cc);
+  ballot = λ b there.
+      let own_ballot = keeps.ballot b there in
+      record {
+        stamp = own_ballot.stamp;
+        by = own_ballot.by;
+        ahead = λ open_. ap (λ v. stamp_lt v b.stamp) (view_pushed m e plain) ∙ own_ballot.ahead open_;
+        logged = own_ballot.logged;
+        itself = own_ballot.itself;
+        unvoted = own_ballot.unvoted;
+        resilience = own_ballot.resilience;
+      };
+  settled = keeps.settled;
+  due = due_pushed m e capacity kept fit (next_request m.sends) keeps.due;
+  unsent = λ none. absurd (cc);
+}
+
+pub member_log : (s : Status) → is_member s ≡ true → has_log s ≡ true
+member_log Stranger h = absurd (cc)
+member_log Asking h = absurd (cc)
+member_log Member h = refl
+member_log Departed h = absurd (cc)
+
+and_left : (a b : Bool) → (a && b) ≡ true → a ≡ true
+and_left true b h = refl
+and_left false b h = absurd (cc)
+
+-- who acts has a list
+pub acting_log : (m : Node) → acts m ≡ true → has_log m.status ≡ true
+acting_log m h = member_log m.status (and_left (is_member m.status) (stamp_eq m.core.promise (view m)) h)
+
+pub leading_log : (m : Node) → is_sequencer m ≡ true → has_log m.status ≡ true
+leading_log m h = acting_log m (and_left (acts m) ((view m).by == m.core.who) h)
+
+-- ---- the refresh leaves what a node tells, and once more changes nothing
+
+pub refresh_steady : (m : Node) → IsSteady m (refresh m)
+unfolding refresh lead own_report tell go_on let_go accept pass_over
+refresh_steady m = split (is_sequencer m)
+    (λ t. rw t (record { who = refl; promise = refl; told = refl; top = refl; status = refl; ballot = refl; leaving = refl; sends = refl }))
+    (λ f. rw f (record { who = refl; promise = refl; told = refl; top = refl; status = refl; ballot = refl; leaving = refl; sends = refl }))
+
+-- the end of a node tells what it tells
+pub end_steady : (m n : Node) → IsEndOf m n → IsSteady m n
+end_steady m n end = record {
+  who = ap (λ (x : Node). x.core.who) end.same;
+  promise = ap (λ (x : Node). x.core.promise) end.same;
+  told = end-told m.core.log n.core.log end.stands.kept;
+  top = end-top m.core.log n.core.log end.stands.kept;
+  status = ap (λ (x : Node). x.status) end.same;
+  ballot = ap (λ (x : Node). x.ballot) end.same;
+  leaving = ap (λ (x : Node). x.leaving) end.same;
+  sends = ap (λ (x : Node). x.sends) end.same;
+}
+
+pub steady_then : (a b c : Node) → IsSteady a b → IsSteady b c → IsSteady a c
+steady_then a b c f g = record {
+  who = g.who ∙ f.who;
+  promise = g.promise ∙ f.promise;
+  told = g.told ∙ f.told;
+  top = g.top ∙ f.top;
+  status = g.status ∙ f.status;
+  ballot = g.ballot ∙ f.ballot;
+  leaving = g.leaving ∙ f.leaving;
+  sends = g.sends ∙ f.sends;
+}
+
+pub refreshed_steady : (m n : Node) → IsEndOf (refresh m) n → IsSteady m n
+refreshed_steady m n end = steady_then m (refresh m) n (refresh_steady m) (end_steady (refresh m) n end)
+
+-- the end of a node keeps what it keeps
+pub end_keeps : (m n : Node) → IsEndOf m n → NodeKeeps m → NodeKeeps n
+end_keeps m n end keeps =
+    let taken = ap (λ (x : Node). x.core.taken) end.same in
+    let own = ap (λ (x : Node). (x.reports x.core.who).taken) end.same in
+    let before = keeps.own in
+    keeps_steady m n (end_steady m n end) keeps (omega arith)
+
+-- other bodies, and all else the same
+pub keeps_bodies : (m : Node) (bodies : List KeptBody) → NodeKeeps m → NodeKeeps (record m { bodies = bodies })
+keeps_bodies m bodies keeps = keeps_steady m (record m { bodies = bodies }) (record { who = refl; promise = refl; told = refl; top = refl; status = refl; ballot = refl; leaving = refl; sends = refl }) keeps keeps.own
+
+-- the end of a step leaves a node its name
+settled_at_who : (m : Node) (req : ℕ) (at : Option ℕ) → (settled_at m req at).core.who ≡ m.core.who
+settled_at_who m req None = refl
+settled_at_who m req (Some k) = refl
+
+settled_who : (m : Node) (w : Option OwnSend) → (settled m w).core.who ≡ m.core.who
+settled_who m None = refl
+settled_who m (Some s) = settled_at_who m s.req (accepted_at m s.req)
+
+pub at_end_who : (m : Node) → (refresh_at_end m).core.who ≡ m.core.who
+unfolding refresh_at_end settle
+at_end_who m = settled_who (refresh m) (waiting (refresh m)) ∙ (refresh_steady m).who

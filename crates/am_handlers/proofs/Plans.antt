@@ -1,0 +1,73 @@
+-- Plans that are done.
+use Rattle.std.proofs.Common.{◌≡◌, ℕ, List, [], Bool, true, false, ◌&&◌, nat_lt, refl, sym, ◌∙◌, ap, subst}
+use Rattle.am_base.specs.declared.outcome.Outcome.{Outcome}
+use Rattle.am_base.specs.Lists.{Log}
+use Rattle.am_core.specs.Cores.{IsInOrder}
+use Rattle.am_core.proofs.Ends.{end-top, end-told}
+use Rattle.am_packet.specs.declared.packet.Packet.{Packet}
+use Rattle.am_packet.specs.Boxes.{Letter, with_letter}
+use Rattle.am_model.specs.Node.{Node, top, told}
+use Rattle.am_model.specs.Emit.{Plan, finish}
+use Rattle.am_model.specs.Refresh.{refresh_at_end}
+use Rattle.am_model.specs.Ends.{with_log, IsEndOf, Tells, Changes, ComesTo, Does}
+use Rattle.am_ends.proofs.Nodes.{Keeps, keeps_end}
+use Rattle.am_ends.proofs.Plans.{Alike, finish_alike, comes_whole}
+use Rattle.am_handlers.specs.Cores.{CoreTells}
+use Rattle.am_handlers.specs.Parts.{with_told}
+use Rattle.am_handlers.specs.Finishing.{Done}
+use Rattle.am_handlers.proofs.Doing.{core_tells}
+use Rattle.am_handlers.proofs.Ends.{end_self}
+
+-- a plan is done by the end of its node, by the end of a step, and by what is told then
+pub done : (before : ℕ) (p : Plan) (mid new : Node) (outcome : Outcome) (sent letters : List Letter)
+    → p.departs ≡ false → IsEndOf p.node mid → Changes refresh_at_end mid new
+    → Tells p.outcome new outcome → Tells p.letters new sent → Tells (with_told before p.polls p.numbers sent) new letters
+    → Done before p outcome letters new
+unfolding finish
+done before p mid new outcome sent letters stays is end says sends tells_accepted = λ first acc.
+    let e = end p.node is in
+    let n = refresh_at_end p.node in
+    record {
+      node = rw stays e;
+      answer = says n e;
+      sent = tells_accepted n e ∙ ap (λ ls. with_told before p.polls p.numbers ls n) (sends n e) ∙ ap (λ b. with_told b p.polls p.numbers (p.letters n) n) (sym acc);
+    }
+
+-- a row is its plan, done
+pub does_plan : (row : Node → Plan) (p : Plan) (before : ℕ) (old new : Node) (outcome : Outcome) (letters : List Letter) → before ≡ old.core.acc → row old ≡ p → Done before p outcome letters new → Does row old outcome letters new
+does_plan row p before old new outcome letters acc is did = subst (λ (q : Plan). ComesTo (finish old q) outcome letters new) (sym is) (did old (sym acc))
+
+-- what the end of a node does, the node does
+pub done_whole : (before : ℕ) (rest : Node → Plan) (x mid new : Node) (outcome : Outcome) (letters : List Letter) → IsEndOf x mid → IsInOrder mid.core
+    → ((all : Log) → Keeps all mid → Alike (rest (with_log mid all)) (rest mid))
+    → Done before (rest mid) outcome letters new → Done before (rest x) outcome letters new
+done_whole before rest x mid new outcome letters end order alike did = λ first acc.
+    let whole = rest (with_log mid x.core.log) in
+    let same = finish_alike first.core.log first whole (rest mid) (alike x.core.log (keeps_end x mid end order)) in
+    subst (λ (y : Node). ComesTo (finish first (rest y)) outcome letters new) end.same (comes_whole (finish first whole) (finish first (rest mid)) outcome letters new same (did first acc))
+
+-- one letter of a core
+pub letter_tells : (to : List ℕ) (packet : Node → Packet) (m : Node) (x : Packet) → CoreTells packet m.core x → Tells (λ n. with_letter to (packet n) []) m (with_letter to x [])
+letter_tells to packet m x told = λ n is. ap (λ p. with_letter to p []) (core_tells packet m x told n is)
+
+-- what a node tells, its end tells
+pub end_tells : {A : Type 0} (f : Node → A) (m : Node) (x : A) → m.core.base ≡ m.core.log.start → Tells f m x → x ≡ f m
+end_tells f m x kept tells = tells m (end_self m kept)
+
+pub told_end : (x m : Node) → IsEndOf x m → told m ≡ told x
+told_end x m end = end-told x.core.log m.core.log end.stands.kept
+
+pub top_end : (x m : Node) → IsEndOf x m → top m ≡ top x
+top_end x m end = end-top x.core.log m.core.log end.stands.kept
+
+-- nothing is told of what is accepted where an entry was numbered
+pub told_numbered : (before : ℕ) (letters : List Letter) (new : Node) → Tells (with_told before false true letters) new letters
+told_numbered before letters new = λ n end. sym (none n)
+  where
+    and_not : (a b : Bool) → (a && (b && false)) ≡ false
+    and_not true true = refl
+    and_not true false = refl
+    and_not false b = refl
+
+    none : (n : Node) → with_told before false true letters n ≡ letters
+    none n = rw (and_not (_) (nat_lt before n.core.acc)) refl

@@ -1,0 +1,42 @@
+use Rattle.std.proofs.Common.{sym, ap, ◌∙◌, arith}
+use Rattle.am_core.specs.Cores.{CoreState}
+use Rattle.am_model.specs.Refresh.{with_led}
+use Rattle.am_fronts.specs.Refresh.{led}
+use Rattle.am_handlers.specs.Parts.{node_of}
+use Rattle.am_handlers.proofs.Ends.{lead_changes, advance_changes, lead_again, advance_again}
+use Rattle.am_handlers.proofs.Keeping.{keeps_steady, keeps_advance, steady_led, may_lead}
+use Rattle.am_handlers.proofs.parts.Parts.refresh.Goals as goal
+
+-- src/parts.rt:61:13
+pub invariant_of-self : goal.invariant_of-self
+invariant_of-self c =
+    let old = node_of c.args.self.now in
+    let new = with_led old (led c.refresh.new.core c.refresh.new.self) in
+    let own = c.refresh.ensures.own in
+    record { keeps = keeps_steady old new (steady_led old _ c.is_sequencer.ensures.order c.refresh.ensures.value) c.args.self.now.keeps (omega arith) }
+
+-- src/parts.rt:63:13
+pub invariant_of-self-else-is_sequencer : goal.invariant_of-self-else-is_sequencer
+invariant_of-self-else-is_sequencer c = record { keeps = keeps_advance (node_of c.args.self.now) c.advance.new.self c.advance.ensures.value c.args.self.now.keeps }
+
+-- src/parts.rt:57:5
+pub returns-then-is_sequencer-clause-changes : goal.returns-then-is_sequencer-clause-changes
+returns-then-is_sequencer-clause-changes c = lead_changes (node_of c.args.self.now) (led c.refresh.new.core c.refresh.new.self) (sym c.is_sequencer.ensures.value ∙ c.if-is_sequencer.true) c.refresh.ensures.value
+
+-- src/parts.rt:57:5
+pub returns-else-is_sequencer-clause-changes : goal.returns-else-is_sequencer-clause-changes
+returns-else-is_sequencer-clause-changes c =
+    let old = node_of c.args.self.now in
+    advance_changes old _ (sym c.is_sequencer.ensures.value ∙ c.if-is_sequencer.false) (ap (λ (x : CoreState). record old { core = x }) c.advance.ensures.value)
+
+pub refresh-requires-clause-leads : goal.refresh-requires-clause-leads
+refresh-requires-clause-leads c = may_lead (node_of c.args.self.now) c.args.self.now.keeps (sym c.is_sequencer.ensures.value ∙ c.if-is_sequencer.true)
+
+pub refresh-requires-clause-own : goal.refresh-requires-clause-own
+refresh-requires-clause-own c = c.args.self.now.keeps.own
+
+pub returns-then-is_sequencer-clause-again : goal.returns-then-is_sequencer-clause-again
+returns-then-is_sequencer-clause-again c = lead_again (node_of c.args.self.now) (led c.refresh.new.core c.refresh.new.self) (sym c.is_sequencer.ensures.value ∙ c.if-is_sequencer.true) c.refresh.ensures.value c.refresh.ensures.again
+
+pub returns-else-is_sequencer-clause-again : goal.returns-else-is_sequencer-clause-again
+returns-else-is_sequencer-clause-again c = advance_again (node_of c.args.self.now) (sym c.is_sequencer.ensures.value ∙ c.if-is_sequencer.false)

@@ -1,0 +1,15 @@
+use Rattle.std.proofs.Common.{ℕ, ap, sym, subst}
+use Rattle.am_base.specs.declared.image.Report.{Report}
+use Rattle.am_model.specs.Node.{Node}
+use Rattle.am_handlers.specs.Keeps.{NodeKeeps}
+use Rattle.am_handlers.specs.Parts.{node_of}
+use Rattle.am_handlers.proofs.Keeping.{keeps_report}
+use Rattle.am_handlers.proofs.parts.Parts.report.Goals as goal
+
+pub invariant_of-self : goal.invariant_of-self
+invariant_of-self c =
+    let old = node_of c.args.self.now in
+    record { keeps = subst (λ (r : ℕ → Report). NodeKeeps (record old { reports = r })) (sym c.report.ensures) (keeps_report old c.args.from c.args.report c.requires c.args.self.now.keeps) }
+
+pub returns : goal.returns
+returns c = ap (λ (r : ℕ → Report). let n : Node = record (node_of c.args.self.now) { reports = r } in n) c.report.ensures

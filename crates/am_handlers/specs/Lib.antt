@@ -1,0 +1,4 @@
+pub mod Keeps
+pub mod Parts
+pub mod Cores
+pub mod Finishing

@@ -1,0 +1,154 @@
+-- What ballots add to the numbers that grow: one round where one begins, one entry where one is decided.
+use Rattle.std.proofs.Common.{◌≡◌, ℕ, ◌+◌, ◌≤◌, ◌==◌, nat_lt, max, min, Bool, true, false, if◌then◌else◌, List, Option, Some, None, option_map, unwrap_or, refl, ap, arith}
+use Rattle.am_base.specs.declared.image.Vote.{Vote}
+use Rattle.am_base.specs.declared.entry.Entry.TheVariants.{View}
+use Rattle.am_base.specs.declared.outcome.Outcome.{Outcome}
+use Rattle.am_base.specs.declared.outcome.Outcome.TheVariants as said
+use Rattle.am_base.specs.Names.{names_of}
+use Rattle.am_fronts.specs.Reports as reports
+use Rattle.am_fronts.specs.Reports.{least_of}
+use Rattle.am_model.specs.Node.{Node, Ballot, top, told, pushed}
+use Rattle.am_model.specs.Ballots.{Verdict, promised, taken_by, goes_on, ends as ended, decide_view, trimmed_for, restarted, decide, next_stamp, new_ballot, begin, with_vote, keep_vote, without_voter, give_up}
+use Rattle.am_model.specs.Calls.{give_up_of, give_up_row, reset_row}
+use Rattle.am_model.proofs.Greatest.{split}
+use Rattle.am_laws.specs.Packets.{Bounds, up}
+use Rattle.am_laws.proofs.Counts.{Low, Behind, VotesKnown, low_more, low_viewed, low_trimmed, low_promised, least_low, Ends, ends_next, ends as plans}
+
+-- a verdict whose node has at most one more
+record Comes (most : Bounds) (g : ℕ) (v : Verdict) : Type 0 where
+  node : Low (up most) g v.node
+
+comes_if : (most : Bounds) (g : ℕ) (t : Bool) (v w : Verdict) → Comes most g v → Comes most g w → Comes most g (if t then v else w)
+comes_if most g true v w f k = f
+comes_if most g false v w f k = k
+
+comes_at : (most : Bounds) (g : ℕ) (v : Verdict) → Low (up most) g v.node → Comes most g v
+comes_at most g v h = record { node = h }
+
+-- a ballot whose votes are known, and reports that begin anew
+with_ballot : (most : Bounds) (g : ℕ) (m : Node) (b : Ballot) → VotesKnown g (Some b) → Low most g m → Low most g (record m { ballot = Some b })
+with_ballot most g m b votes h = record {
+  entries = h.entries;
+  rounds = h.rounds;
+  sends = h.sends;
+  quits = h.quits;
+  given = h.given;
+  accepted = h.accepted;
+  kept = h.kept;
+  listed = h.listed;
+  began = h.began;
+  took = h.took;
+  trims = h.trims;
+  reported = h.reported;
+  votes = votes;
+  known = h.known;
+}
+
+with_restart : (most : Bounds) (g : ℕ) (m : Node) → Low most g m → Low most g (restarted m)
+with_restart most g m h = record {
+  entries = h.entries;
+  rounds = h.rounds;
+  sends = h.sends;
+  quits = h.quits;
+  given = h.given;
+  accepted = h.accepted;
+  kept = h.kept;
+  listed = h.listed;
+  began = h.began;
+  took = h.took;
+  trims = h.trims;
+  reported = λ name. restart_low g m.core.base name h.trims;
+  votes = h.votes;
+  known = h.known;
+}
+  where
+    restart_low : (g base name : ℕ) → base ≤ g → (reports.restarted base name).taken ≤ g
+    restart_low g base name low = split (nat_lt name 256) (λ t. rw t low) (λ f. rw f (omega arith))
+
+comes_on : (most : Bounds) (g : ℕ) (m : Node) (b : Ballot) (o : Outcome) → VotesKnown g (Some b) → Low (up most) g m → Comes most g (goes_on m b o)
+comes_on most g m b o votes h = comes_at most g _ (with_ballot (up most) g m (record b { answer = o; is_over = false }) votes h)
+
+comes_over : (most : Bounds) (g : ℕ) (m : Node) (b : Ballot) (o : Outcome) → VotesKnown g (Some b) → Low (up most) g m → Comes most g (ended m b o)
+comes_over most g m b o votes h = comes_at most g _ (with_ballot (up most) g m (record b { answer = o; is_over = true }) votes h)
+
+-- how far those who voted have taken the list
+vote_low : (g : ℕ) (vote : Option Vote) → ((v : Vote) → vote ≡ Some v → v.taken ≤ g) → unwrap_or (option_map (λ (v : Vote). v.taken) vote) 0 ≤ g
+vote_low g None h = omega arith
+vote_low g (Some v) h = h v refl
+
+taken_low : (g : ℕ) (m : Node) (b : Ballot) → m.core.taken ≤ g → VotesKnown g (Some b) → (name : ℕ) → taken_by m.core.who m.core.taken b name ≤ g
+taken_low g m b took votes name = split (name == m.core.who) (λ t. rw t took) (λ f. rw f (vote_low g (b.votes name) (votes name)))
+
+or_nought : (g : ℕ) (least : Option ℕ) → ((y : ℕ) → least ≡ Some y → y ≤ g) → unwrap_or least 0 ≤ g
+or_nought g None h = omega arith
+or_nought g (Some x) h = h x refl
+
+-- a View, where nothing is accepted that the group hasn't
+comes_view : (most : Bounds) (g : ℕ) (m : Node) (b : Ballot) (names : List ℕ) → top m ≤ most.lists → VotesKnown g (Some b) → Behind g m → Low (up most) g m → Comes most g (decide_view m b names)
+comes_view most g m b names low votes k h =
+    let e = View b.stamp names (max b.resilience (told m).resilience) in
+    let n = low_viewed (up most) g m e (omega arith) k h in
+    let over : Comes most g (ended m b (said.Crowded m.core.base (top m))) = comes_over most g m b (said.Crowded m.core.base (top m)) votes h in
+    let done : Comes most g (ended (restarted (pushed m e)) b (said.Decided (top m + 1) names)) = comes_over most g (restarted (pushed m e)) b (said.Decided (top m + 1) names) votes (with_restart (up most) g (pushed m e) n) in
+    search (comes_if, over, done)
+
+comes_trimmed : (most : Bounds) (g : ℕ) (m : Node) (b : Ballot) (names : List ℕ) → top m ≤ most.lists → VotesKnown g (Some b) → Behind g m → Low (up most) g m → Comes most g (decide_view (trimmed_for m b names) b names)
+comes_trimmed most g m b names low votes k h =
+    let to = unwrap_or (least_of (taken_by m.core.who m.core.taken b) (names_of names)) 0 in
+    let taken : to ≤ g = or_nought g (least_of (taken_by m.core.who m.core.taken b) (names_of names)) (λ y is. least_low g (taken_by m.core.who m.core.taken b) (names_of names) (taken_low g m b h.took votes) y is) in
+    comes_view most g (trimmed_for m b names) b names low votes (record { told = k.told; acc = k.acc }) (low_trimmed (up most) g m to taken h)
+
+comes_decide : (most : Bounds) (g : ℕ) (m : Node) (b : Ballot) → top m ≤ most.lists → VotesKnown g (Some b) → Behind g m → Low (up most) g m → Comes most g (decide m b)
+unfolding decide
+comes_decide most g m b low votes k h = search (comes_if, comes_on, comes_over, comes_trimmed)
+
+low_decide : (most : Bounds) (g : ℕ) (m : Node) (b : Ballot) → top m ≤ most.lists → VotesKnown g (Some b) → Behind g m → Low (up most) g m → Low (up most) g (decide m b).node
+low_decide most g m b low votes k h = (comes_decide most g m b low votes k h).node
+
+-- of a node that has no more yet
+pub low_look : (most : Bounds) (g : ℕ) (m : Node) (b : Ballot) → VotesKnown g (Some b) → Behind g m → Low most g m → Low (up most) g (decide m b).node
+low_look most g m b votes k h = low_decide most g m b h.entries votes k (low_more most g m h)
+
+-- ---- the rows of ballots
+
+ends_begin : (most : Bounds) (g : ℕ) (m : Node) (least resilience : ℕ) → Behind g m → Low most g m → Ends most g (begin m least resilience)
+unfolding begin
+ends_begin most g m least resilience k h =
+    let stamp = next_stamp m in
+    let low = h.rounds in
+    let n = low_promised (up most) g m stamp (omega arith) (low_more most g m h) in
+    let votes : VotesKnown g (Some (new_ballot stamp least (min resilience 15))) = λ name vote is. absurd (cc) in
+    ends_next most g _ (low_decide most g (promised m stamp) (new_ballot stamp least (min resilience 15)) h.entries votes (record { told = k.told; acc = k.acc }) n)
+
+-- the votes with one more, or without one
+votes_more : (g : ℕ) (b : Ballot) (name : ℕ) (vote : Vote) → vote.taken ≤ g → VotesKnown g (Some b) → VotesKnown g (Some (with_vote b name vote))
+votes_more g b name vote low h other x is = split (other == name)
+    (λ t. let now = rw t at is in let same : vote ≡ x = cc in let e = ap (λ (v : Vote). v.taken) same in omega arith)
+    (λ f. h other x (rw f at is))
+
+votes_less : (g : ℕ) (b : Ballot) (name : ℕ) → VotesKnown g (Some b) → VotesKnown g (Some (without_voter b name))
+votes_less g b name h other x is = split (other == name)
+    (λ t. let now = rw t at is in absurd (cc))
+    (λ f. h other x (rw f at is))
+
+pub ends_keep_vote : (most : Bounds) (g : ℕ) (m : Node) (b : Ballot) (name : ℕ) (vote : Vote) → vote.taken ≤ g → VotesKnown g (Some b) → Behind g m → Low most g m → Ends most g (keep_vote m b name vote)
+unfolding keep_vote
+ends_keep_vote most g m b name vote low votes k h = ends_next most g _ (low_look most g m (with_vote b name vote) (votes_more g b name vote low votes) k h)
+
+ends_give_up : (most : Bounds) (g : ℕ) (m : Node) (b : Ballot) (name : ℕ) → VotesKnown g (Some b) → Behind g m → Low most g m → Ends most g (give_up m b name)
+unfolding give_up
+ends_give_up most g m b name votes k h = ends_next most g _ (low_look most g m (without_voter b name) (votes_less g b name votes) k h)
+
+pub ends_reset : (most : Bounds) (g : ℕ) (m : Node) (least resilience : ℕ) → Behind g m → Low most g m → Ends most g (reset_row m least resilience)
+unfolding reset_row
+ends_reset most g m least resilience k h = search (plans, ends_begin)
+
+ends_give_up_of : (most : Bounds) (g : ℕ) (m : Node) (name : ℕ) (b : Option Ballot) → VotesKnown g b → Behind g m → Low most g m → Ends most g (give_up_of m name b)
+ends_give_up_of most g m name None votes k h = search plans
+ends_give_up_of most g m name (Some b) votes k h =
+    let l = ends_give_up most g m b name votes k h in
+    search (plans, l)
+
+pub ends_give_up_row : (most : Bounds) (g : ℕ) (m : Node) (name : ℕ) → Behind g m → Low most g m → Ends most g (give_up_row m name)
+unfolding give_up_row
+ends_give_up_row most g m name k h = ends_give_up_of most g m name m.ballot h.votes k h

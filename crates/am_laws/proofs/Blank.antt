@@ -1,0 +1,144 @@
+-- A node that has no list has a blank one.
+use Rattle.std.proofs.Common.{◌≡◌, ℕ, ◌<◌, ◌==◌, true, false, [], refl, sym, ap, ◌∙◌, subst, arith}
+use Rattle.am_base.specs.declared.outcome.Outcome.{Outcome}
+use Rattle.am_base.specs.Founding.{Rules}
+use Rattle.am_base.specs.Names.{has}
+use Rattle.am_base.specs.Lists.{Log, blank, top_of}
+use Rattle.am_core.specs.Cores.{accept, pass_over}
+use Rattle.am_model.specs.declared.status.Status.{Status}
+use Rattle.am_model.specs.declared.status.Status.TheVariants as status
+use Rattle.am_model.specs.Node.{Node, Ballot, is_member, is_sequencer}
+use Rattle.am_model.specs.Ballots.{Verdict}
+use Rattle.am_model.specs.Refresh.{refresh}
+use Rattle.am_model.specs.Group.{has_log}
+use Rattle.am_model.specs.World.{World, start, first_node, unchanged, stepped, run}
+use Rattle.am_model.proofs.Greatest.{split}
+use Rattle.am_effects.specs.Causes.{Cause}
+use Rattle.am_effects.specs.Changes.{Change, refreshes, settles, takes_report, admits, numbers, keeps_body, notes, stores, begins_list, departs, promises, opens, looks, fetches, stores_view, queues, collects, takes, asks_to_join, asks_to_leave, closes, Changes, unchanged as no_change, changed}
+use Rattle.am_effects.specs.Events.{actor, idles, stops, returns, steps}
+use Rattle.am_effects.specs.Looks.{Looks, finds_itself_out, waits, fetches_from_best, finds_too_few, finds_no_room, decides}
+use Rattle.am_effects.proofs.Rests.{rests_refresh, settle_is}
+use Rattle.am_effects.proofs.Runs.{EachKeeps, runs_keep}
+use Rattle.am_laws.specs.Blank.{BlankHolds}
+use Rattle.am_laws.proofs.Named.{few_names}
+use Rattle.am_laws.proofs.RunCounts.{numbers_hold}
+use Rattle.am_laws.proofs.ViewNames.{HasNames, HeardNames, change_names}
+use Rattle.am_laws.proofs.ViewChanges.{Balloted, log_of_member, leads_member, in_view_log, member_of, looked_at, change_does}
+use Rattle.am_laws.proofs.Views.{AllViews, heard_names, each_views, views_start}
+
+-- by the parts of a node that stay while it has no list
+record NoList (log : Log) (base told begins : ℕ) : Type 0 where
+  blank_ : log ≡ record { start = 0; image = blank; entries = [] }
+  base_ : base ≡ 0
+  told_ : told ≡ 0
+  begins_ : begins ≡ 0
+
+abbrev Blanked : Node → Type 0
+Blanked m = has_log m.status ≡ false → NoList m.core.log m.core.base m.core.told m.core.start
+
+no_member : (s : Status) → has_log s ≡ false → is_member s ≡ false
+no_member status.Stranger h = refl
+no_member status.Asking h = refl
+no_member status.Member h = absurd (cc)
+no_member status.Departed h = absurd (cc)
+
+blank_refresh : (m : Node) → Blanked m → Blanked (refresh m)
+unfolding refresh accept pass_over
+blank_refresh m h = split (is_sequencer m)
+    (λ t. λ none. absurd (
+    let a = leads_member m t in
+    let kept : has_log m.status ≡ false = (let same = (rests_refresh m).rests.status in sym (ap has_log same) ∙ none) in
+    let f = no_member m.status kept in
+    cc))
+    (λ f. rw f h)
+
+-- a look changes no status
+look_log : (m : Node) (b : Ballot) (v : Verdict) → Looks m b v → has_log v.node.status ≡ has_log m.status
+look_log m b v (finds_itself_out x) = refl
+look_log m b v (waits x y) = refl
+look_log m b v (fetches_from_best x y z) = refl
+look_log m b v (finds_too_few x y) = refl
+look_log m b v (finds_no_room x) = refl
+look_log m b v (decides may) = refl
+
+-- who has a list isn't blank
+listed : (m n : Node) → has_log n.status ≡ has_log m.status → has_log m.status ≡ true → Blanked n
+listed m n same t = λ f. absurd (cc)
+
+change_blank : {c : Cause} {o : Outcome} (m n : Node) → Change c o m n → Balloted m → Blanked m → Blanked n
+change_blank m n refreshes k h = blank_refresh m h
+change_blank m n settles k h = subst Blanked (sym (settle_is m)) h
+change_blank m n (takes_report s v report by may) k h = h
+change_blank m n (admits s v is leads fit) k h = h
+change_blank m n (numbers e leads room why) k h = listed m n refl (log_of_member m.status (leads_member m leads))
+change_blank m n (keeps_body s v report req body is by) k h = h
+change_blank m n (notes s v base acc by from) k h = listed m n refl (in_view_log m s v from)
+change_blank m n (stores s v base acc number e by from plain may) k h = listed m n refl (in_view_log m s v from)
+change_blank m n (begins_list s v base join image is o may) k h = λ f. absurd (cc)
+change_blank m n (departs s v number is by leaves) k h = λ f. absurd (cc)
+change_blank m n (promises v low why) k h = h
+change_blank m n (opens least resilience by may) k h = h
+change_blank m n (looks b verdict over why look is) k h =
+    let l = looked_at m b why k in
+    λ f. absurd (let d = look_log m b verdict look in let t = l.has_list in cc)
+change_blank m n (fetches s v base number e is by promise below from may) k h = listed m n refl (member_of m s by)
+change_blank m n (stores_view s v base number names resilience is by own other promise below may) k h = listed m n refl (member_of m s by)
+change_blank m n (queues body is o member stays few) k h = h
+change_blank m n (collects req is) k h = h
+change_blank m n (takes e is o member some there) k h = h
+change_blank m n (asks_to_join is was) k h = λ f. h (ap has_log was)
+change_blank m n (asks_to_leave is was stays done) k h = h
+change_blank m n (closes leads leaves alone room) k h = λ f. absurd (cc)
+
+changes_blank : {c : Cause} {o : Outcome} (m n : Node) → HeardNames c → Changes c o m n → HasNames m → Balloted m → Blanked m → Blanked n
+changes_blank m n heard no_change names k h = h
+changes_blank m n heard (changed {n = x} one more) names k h =
+    changes_blank x n heard more (change_names heard m x one names) (change_does heard m x one names k).balloted (change_blank m x one k h)
+
+-- ---- runs
+
+record AllBlank (rules : Rules) (w : World) : Type 0 where
+  views : AllViews rules w
+  each : (name : ℕ) → name < 256 → Blanked (w.nodes name)
+
+each_blank : (rules : Rules) → EachKeeps (AllBlank rules)
+unfolding unchanged stepped
+each_blank rules w e v (idles o idle) h = record { views = each_views rules w e v (idles o idle) h.views; each = h.each }
+each_blank rules w e v (stops runs) h = record { views = each_views rules w e v (stops runs) h.views; each = h.each }
+each_blank rules w e v (returns place is left more) h = record { views = each_views rules w e v (returns place is left more) h.views; each = h.each }
+each_blank rules w e v (steps c s runs cause effect) h =
+    let name = actor w e in
+    let few = few_names rules w e h.views.named in
+    let kept = h.views.each name few in
+    let one : Blanked s.node = changes_blank (w.nodes name) s.node (heard_names rules w e c h.views cause) effect.changes kept.names kept.balloted (h.each name few) in
+    record {
+      views = each_views rules w e v (steps c s runs cause effect) h.views;
+      each = λ other low. split (other == name) (λ t. rw t one) (λ f. rw f (h.each other low));
+    }
+
+first_blank : (rules : Rules) (name : ℕ) → Blanked (first_node rules name)
+first_blank rules name = split (has rules.founders name)
+    (λ t. rw t (λ f. absurd (cc)))
+    (λ u. rw u (λ f. record { blank_ = refl; base_ = refl; told_ = refl; begins_ = refl }))
+
+none_in : (log : Log) → log ≡ record { start = 0; image = blank; entries = [] } → top_of log ≡ 0
+none_in log is = ap top_of is
+
+pub blank_holds : BlankHolds
+blank_holds rules events name may few none =
+    let w = run rules events in
+    let h = runs_keep (AllBlank rules) (each_blank rules) (start rules) events (record { views = views_start rules may; each = λ other low. first_blank rules other }) in
+    let k = h.each name few none in
+    let n = (numbers_hold rules events).each name in
+    let given = n.given in
+    let accepted = n.accepted in
+    let top = none_in (w.nodes name).core.log k.blank_ in
+    record {
+      log = k.blank_;
+      base = k.base_;
+      told = k.told_;
+      start = k.begins_;
+      acc = omega arith;
+      taken = omega arith;
+      ballot = (h.views.each name few).balloted.none none;
+    }

@@ -1,0 +1,258 @@
+-- What the calls and the tick add to the numbers that grow.
+use Rattle.std.proofs.Common.{◌≡◌, ℕ, ◌+◌, ◌<◌, ◌≤◌, ◌==◌, ◌||◌, nat_lt, not, Bool, true, false, List, [], ◌∷◌, find, filter, Option, Some, None, refl, arith, length-append}
+use Rattle.std.proofs.lemmas.Bool.Decides.{nat_tests}
+use Rattle.am_base.specs.declared.entry.Entry.{Entry}
+use Rattle.am_base.specs.declared.entry.Entry.TheVariants.{Data, Leave}
+use Rattle.am_base.specs.declared.outcome.Outcome.{Outcome}
+use Rattle.am_base.specs.declared.outcome.Outcome.TheVariants as said
+use Rattle.am_base.specs.Lists.{entry_at}
+use Rattle.am_sender.specs.declared.OwnSend.{OwnSend}
+use Rattle.am_sender.specs.Sends.{Sends}
+use Rattle.am_sender.specs.Sends as own
+use Rattle.am_model.specs.declared.status.Status.{Status}
+use Rattle.am_model.specs.declared.status.Status.TheVariants as status
+use Rattle.am_model.specs.Node.{Node, Ballot, top, pushed, waiting, unsettled}
+use Rattle.am_model.specs.Emit.{Plan, quiet}
+use Rattle.am_model.specs.Calls.{number_send, emit, queued, queue, given, join_by, state_by, go, is_unfinished, leave_now, leave_by, ask_of, send_row, done_row, take_row, join_row, state_row, leave_row, ask_row}
+use Rattle.am_model.specs.Receiving.{is_view}
+use Rattle.am_model.specs.Ticks.{tick_ballot, tick_member, put_off, and_result, tick_sequencer, tick_acting, tick_with, tick_by, tick_row}
+use Rattle.am_model.proofs.Greatest.{split}
+use Rattle.am_laws.specs.Packets.{Bounds, up}
+use Rattle.am_laws.proofs.Counts.{Low, Behind, Ends, ends_if, ends_at, ends_next, ends, low_pushed, none_waits}
+
+-- ---- sends
+
+-- a send that was just queued goes out
+ends_queued : (most : Bounds) (g : ℕ) (m : Node) (w : Option OwnSend) (o : Outcome) → top m ≤ most.lists → Low (up most) g m → Ends most g (emit m w o)
+ends_queued most g m None o low h = ends_next most g _ h
+ends_queued most g m (Some s) o low h =
+    let k = low_sent most g m (Data m.core.who s.req s.body) refl low h in
+    search (ends_if, ends_next, k)
+  where
+    low_sent : (most : Bounds) (g : ℕ) (m : Node) (e : Entry) → is_view e ≡ false → top m ≤ most.lists → Low (up most) g m → Low (up most) g (pushed m e)
+    low_sent most g m e other low h = let p = low_pushed (up most) g m e other h in
+        record { entries = simp length-append (omega arith); rounds = h.rounds; sends = h.sends; quits = h.quits; given = h.given; accepted = p.accepted; kept = h.kept; listed = h.listed; began = h.began; took = h.took; trims = h.trims; reported = h.reported; votes = h.votes; known = p.known }
+
+ends_emit : (most : Bounds) (g : ℕ) (m : Node) (w : Option OwnSend) (o : Outcome) → Low most g m → Ends most g (emit m w o)
+ends_emit most g m None o h = ends_at most g _ h
+ends_emit most g m (Some s) o h =
+    let k : Ends most g (number_send m s o) = ends_next most g _ (low_pushed most g m (Data m.core.who s.req s.body) refl h) in
+    search (ends, k)
+
+ends_queue : (most : Bounds) (g : ℕ) (m : Node) (body : List ℕ) → m.leaving ≡ false → Low most g m → Ends most g (queue m body)
+ends_queue most g m body stays h =
+    let last = h.sends in
+    let few = h.entries in
+    let low = h.rounds in
+    let now : Low (up most) g (queued m body) = record {
+      entries = omega arith;
+      rounds = omega arith;
+      sends = omega arith;
+      quits = λ t. absurd (cc);
+      given = h.given;
+      accepted = h.accepted;
+      kept = h.kept;
+      listed = h.listed;
+      began = h.began;
+      took = h.took;
+      trims = h.trims;
+      reported = h.reported;
+      votes = h.votes;
+      known = h.known;
+    } in
+    let k = ends_queued most g (queued m body) (waiting (queued m body)) (said.Queued (m.sends.last + 1)) few now in
+    search (ends_if, ends_next, k)
+
+pub ends_send : (most : Bounds) (g : ℕ) (m : Node) (body : List ℕ) → Low most g m → Ends most g (send_row m body)
+unfolding send_row
+ends_send most g m body h =
+    let k : m.leaving ≡ false → Ends most g (queue m body) = λ f. ends_queue most g m body f h in search (ends, k)
+
+-- what is collected was settled
+collect_last : (sends : Sends) (req most : ℕ) → sends.last ≤ most → (own.collect req sends).last ≤ most
+collect_last sends req most h = split (own.is_settled req sends) (λ t. rw t h) (λ f. rw f h)
+
+fewer_wait : (test : OwnSend → Bool) (queue : List OwnSend) → find own.is_unsettled queue ≡ None → find own.is_unsettled (filter test queue) ≡ None
+fewer_wait test [] h = refl
+fewer_wait test (s ∷ queue) h = split (own.is_unsettled s)
+    (λ t. absurd (let x = rw t at h in cc))
+    (λ f. let rest = fewer_wait test queue (rw f at h) in split (test s) (λ t. rw (t, f) rest) (λ g. rw g rest))
+
+collect_waits : (last : ℕ) (queue : List OwnSend) (req : ℕ) → find own.is_unsettled queue ≡ None → own.waiting (own.collect req (record { last = last; queue = queue })) ≡ None
+collect_waits last queue req h = split (own.is_settled req (record { last = last; queue = queue }))
+    (λ t. rw t (fewer_wait (λ send. not (own.is_request req send)) queue h))
+    (λ f. rw f h)
+
+pub ends_done : (most : Bounds) (g : ℕ) (m : Node) (req : ℕ) → Low most g m → Ends most g (done_row m req)
+unfolding done_row
+ends_done most g m req h = ends_at most g _ (record {
+  entries = h.entries;
+  rounds = h.rounds;
+  sends = collect_last m.sends req most.requests h.sends;
+  quits = λ t. collect_waits m.sends.last m.sends.queue req (h.quits t);
+  given = h.given;
+  accepted = h.accepted;
+  kept = h.kept;
+  listed = h.listed;
+  began = h.began;
+  took = h.took;
+  trims = h.trims;
+  reported = h.reported;
+  votes = h.votes;
+  known = h.known;
+})
+
+-- ---- what is accepted
+
+ends_given : (most : Bounds) (g : ℕ) (m : Node) (e : Option Entry) → (m.core.taken == m.core.acc) ≡ false → Behind g m → Low most g m → Ends most g (given m e)
+ends_given most g m None more k h = ends_at most g _ h
+ends_given most g m (Some e) more k h =
+    let given = h.given in
+    let low = k.acc in
+    let next : m.core.taken < m.core.acc = grind (arith, nat_tests) in
+    ends_at most g _ (record {
+      entries = h.entries;
+      rounds = h.rounds;
+      sends = h.sends;
+      quits = h.quits;
+      given = omega arith;
+      accepted = h.accepted;
+      kept = h.kept;
+      listed = h.listed;
+      began = h.began;
+      took = omega arith;
+      trims = h.trims;
+      reported = h.reported;
+      votes = h.votes;
+      known = h.known;
+    })
+
+pub ends_take : (most : Bounds) (g : ℕ) (m : Node) → Behind g m → Low most g m → Ends most g (take_row m)
+unfolding take_row
+ends_take most g m k h =
+    let l : (m.core.taken == m.core.acc) ≡ false → Ends most g (given m (entry_at m.core.log (m.core.taken + 1))) = λ f. ends_given most g m (entry_at m.core.log (m.core.taken + 1)) f k h in
+    search (ends, l)
+
+-- ---- joining and leaving
+
+ends_join_by : (most : Bounds) (g : ℕ) (m : Node) (s : Status) → Low most g m → Ends most g (join_by m s)
+ends_join_by most g m status.Stranger h = ends_at most g _ h
+ends_join_by most g m status.Asking h = ends_at most g _ h
+ends_join_by most g m status.Member h = ends_at most g _ h
+ends_join_by most g m status.Departed h = ends_at most g _ h
+
+pub ends_join : (most : Bounds) (g : ℕ) (m : Node) → Low most g m → Ends most g (join_row m)
+unfolding join_row
+ends_join most g m h = ends_join_by most g m m.status h
+
+ends_state_by : (most : Bounds) (g : ℕ) (m : Node) (s : Status) → Low most g m → Ends most g (state_by m s)
+ends_state_by most g m status.Stranger h = search ends
+ends_state_by most g m status.Asking h = search ends
+ends_state_by most g m status.Member h = search ends
+ends_state_by most g m status.Departed h = search ends
+
+pub ends_state : (most : Bounds) (g : ℕ) (m : Node) → Low most g m → Ends most g (state_row m)
+unfolding state_row
+ends_state most g m h = ends_state_by most g m m.status h
+
+-- the last member's own Leave
+ends_go : (most : Bounds) (g : ℕ) (p : Plan) → Low most g p.node → Ends most g (go p)
+ends_go most g p h =
+    let k : Low (up most) g (pushed p.node (Leave p.node.core.who)) = low_pushed most g p.node (Leave p.node.core.who) refl h in
+    search (ends, ends_next, k)
+
+low_leaving : (most : Bounds) (g : ℕ) (m : Node) → waiting m ≡ None → Low most g m → Low most g (record m { leaving = true })
+low_leaving most g m none h = record {
+  entries = h.entries;
+  rounds = h.rounds;
+  sends = h.sends;
+  quits = λ t. none;
+  given = h.given;
+  accepted = h.accepted;
+  kept = h.kept;
+  listed = h.listed;
+  began = h.began;
+  took = h.took;
+  trims = h.trims;
+  reported = h.reported;
+  votes = h.votes;
+  known = h.known;
+}
+
+-- who begins to leave has nothing to send
+ends_leave_now : (most : Bounds) (g : ℕ) (m : Node) → Low most g m → Ends most g (leave_now m)
+ends_leave_now most g m h =
+    let p = quiet (record m { leaving = true }) said.Asked in
+    let k : (nat_lt 0 (unsettled m) || is_unfinished m.ballot) ≡ false → Ends most g (go p) = λ f.
+    ends_go most g p (low_leaving most g m (none_waits m (no_more (unsettled m) (is_unfinished m.ballot) f)) h) in
+    search (ends, k)
+  where
+    no_more : (n : ℕ) (t : Bool) → (nat_lt 0 n || t) ≡ false → n ≡ 0
+    no_more n t f = split (nat_lt 0 n) (λ a. absurd (let x = rw a at f in cc)) (λ a. grind (arith, nat_tests))
+
+ends_leave_by : (most : Bounds) (g : ℕ) (m : Node) (s : Status) → Low most g m → Ends most g (leave_by m s)
+ends_leave_by most g m status.Stranger h = search ends
+ends_leave_by most g m status.Asking h = search ends
+ends_leave_by most g m status.Member h = ends_leave_now most g m h
+ends_leave_by most g m status.Departed h = search ends
+
+pub ends_leave : (most : Bounds) (g : ℕ) (m : Node) → Low most g m → Ends most g (leave_row m)
+unfolding leave_row
+ends_leave most g m h = ends_leave_by most g m m.status h
+
+-- ---- ballots
+
+ends_ask_of : (most : Bounds) (g : ℕ) (m : Node) (round : ℕ) (b : Option Ballot) → Low most g m → Ends most g (ask_of m round b)
+ends_ask_of most g m round None h = search ends
+ends_ask_of most g m round (Some b) h = search ends
+
+pub ends_ask : (most : Bounds) (g : ℕ) (m : Node) (round : ℕ) → Low most g m → Ends most g (ask_row m round)
+unfolding ask_row
+ends_ask most g m round h = ends_ask_of most g m round m.ballot h
+
+-- ---- the tick
+
+ends_tick_ballot : (most : Bounds) (g : ℕ) (m : Node) (o : Outcome) → Low most g m → Ends most g (tick_ballot m o)
+ends_tick_ballot most g m (said.Waiting names) h = ends_at most g _ h
+ends_tick_ballot most g m (said.Fetching from want) h = ends_at most g _ h
+ends_tick_ballot most g m _ h = ends_at most g _ h
+
+ends_tick_member : (most : Bounds) (g : ℕ) (m : Node) → Low most g m → Ends most g (tick_member m)
+ends_tick_member most g m h =
+    let k = ends_go most g (quiet m said.Ticked) h in
+    let l = ends_emit most g m (waiting m) said.Ticked h in
+    search (ends, k, l)
+
+-- who leaves has no send to number
+ends_tick_sequencer : (most : Bounds) (g : ℕ) (m : Node) → Low most g m → Ends most g (tick_sequencer m)
+ends_tick_sequencer most g m h =
+    let p = and_result (record (emit m (waiting m) (put_off m (waiting m))) { polls = true }) in
+    let k = (ends_emit most g m (waiting m) (put_off m (waiting m)) h).node in
+    ends_if most g m.leaving (go p) p (λ t. ends_go most g p (stays_low most g m (waiting m) (put_off m (waiting m)) (h.quits t) h)) (λ f. ends_next most g p k)
+  where
+    stays_low : (most : Bounds) (g : ℕ) (m : Node) (w : Option OwnSend) (o : Outcome) → w ≡ None → Low most g m → Low most g (emit m w o).node
+    stays_low most g m None o is h = h
+    stays_low most g m (Some s) o is h = absurd (cc)
+
+ends_tick_acting : (most : Bounds) (g : ℕ) (m : Node) → Low most g m → Ends most g (tick_acting m)
+ends_tick_acting most g m h =
+    let k = ends_tick_sequencer most g m h in
+    let l = ends_tick_member most g m h in
+    search (ends, k, l)
+
+ends_tick_with : (most : Bounds) (g : ℕ) (m : Node) (b : Option Ballot) → Low most g m → Ends most g (tick_with m b)
+ends_tick_with most g m None h = ends_tick_acting most g m h
+ends_tick_with most g m (Some b) h =
+    let k = ends_tick_acting most g m h in
+    let l = ends_tick_ballot most g m b.answer h in
+    search (ends, k, l)
+
+ends_tick_by : (most : Bounds) (g : ℕ) (m : Node) (s : Status) → Low most g m → Ends most g (tick_by m s)
+ends_tick_by most g m status.Stranger h = ends_at most g _ h
+ends_tick_by most g m status.Asking h = ends_at most g _ h
+ends_tick_by most g m status.Member h = ends_tick_with most g m m.ballot h
+ends_tick_by most g m status.Departed h = ends_at most g _ h
+
+pub ends_tick : (most : Bounds) (g : ℕ) (m : Node) → Low most g m → Ends most g (tick_row m)
+unfolding tick_row
+ends_tick most g m h = ends_tick_by most g m m.status h

@@ -1,0 +1,95 @@
+-- How high the numbers of the acting name's node are after an event.
+use Rattle.std.proofs.Common.{◌≡◌, ℕ, ◌==◌, not, nat_lt, nat_le, Bool, true, false, if◌then◌else◌, List, Option, Some, None, refl, arith}
+use Rattle.std.proofs.lemmas.Bool.Decides.{nat_tests}
+use Rattle.am_base.specs.declared.outcome.Outcome.{Outcome}
+use Rattle.am_base.specs.declared.outcome.Outcome.TheVariants as said
+use Rattle.am_base.specs.declared.event.NodeEvent.{NodeEvent}
+use Rattle.am_packet.specs.declared.packet.Packet.{Packet}
+use Rattle.am_packet.specs.Boxes.{Letter}
+use Rattle.am_group.specs.declared.event.Act.{Act}
+use Rattle.am_group.specs.declared.event.Act.TheVariants as act
+use Rattle.am_group.specs.declared.event.Event.{Event}
+use Rattle.am_group.specs.Addressed.{is_for}
+use Rattle.am_group.specs.Journals.{letter_at}
+use Rattle.am_model.specs.Node.{Node}
+use Rattle.am_model.specs.Emit.{Step}
+use Rattle.am_model.specs.Step.{step, hear, refused}
+use Rattle.am_model.specs.Lengths.{packet_length}
+use Rattle.am_model.specs.World.{World, is_stopped, unchanged, stepped, heard, hear_cut, lives_on, acts_as, happens}
+use Rattle.am_model.specs.Claims.{heard_by}
+use Rattle.am_effects.specs.Events.{actor}
+use Rattle.am_laws.specs.Packets.{Bounds, up, UpTo}
+use Rattle.am_laws.proofs.Counts.{Low, Behind, low_more}
+use Rattle.am_laws.proofs.HearingCounts.{IsDone, low_step, low_hear, low_refused}
+
+-- a name's node in a world has one more at most
+record OneMore (b : Bounds) (g name : ℕ) (v : World) : Type 0 where
+  node : Low (up b) g (v.nodes name)
+
+more_if : (b : Bounds) (g name : ℕ) (t : Bool) (v w : World) → OneMore b g name v → OneMore b g name w → OneMore b g name (if t then v else w)
+more_if b g name true v w f h = f
+more_if b g name false v w f h = h
+
+more_unchanged : (b : Bounds) (g name : ℕ) (w : World) (e : Event) (o : Outcome) → Low b g (w.nodes name) → OneMore b g name (unchanged w e o)
+unfolding unchanged
+more_unchanged b g name w e o h = record { node = low_more b g (w.nodes name) h }
+
+more_stops : (b : Bounds) (g name : ℕ) (w : World) (e : Event) (o : Outcome) (stopped : List ℕ) → Low b g (w.nodes name) → OneMore b g name (unchanged (record w { stopped = stopped }) e o)
+unfolding unchanged
+more_stops b g name w e o stopped h = record { node = low_more b g (w.nodes name) h }
+
+more_lives : (b : Bounds) (g name : ℕ) (w : World) (e : Event) (o : Outcome) (place : ℕ) → Low b g (w.nodes name) → OneMore b g name (lives_on (unchanged w e o) place)
+unfolding unchanged
+more_lives b g name w e o place h = record { node = low_more b g (w.nodes name) h }
+
+is_itself : (name : ℕ) → (name == name) ≡ true
+is_itself name = grind (arith, nat_tests)
+
+more_stepped : (b : Bounds) (g name : ℕ) (w : World) (e : Event) (s : Step) → Low (up b) g s.node → OneMore b g name (stepped w e name s)
+unfolding stepped
+more_stepped b g name w e s h = record { node = rw (is_itself name) h }
+
+ruleset mores = (more_if, more_unchanged, more_stops, more_lives)
+
+more_event : (b : Bounds) (g name : ℕ) (w : World) (e : Event) (event : NodeEvent) → IsDone event → Behind g (w.nodes name) → Low b g (w.nodes name) → OneMore b g name (stepped w e name (step (w.nodes name) event))
+more_event b g name w e event d k h = more_stepped b g name w e (step (w.nodes name) event) (low_step b g (w.nodes name) event d k h)
+
+low_cut : (b : Bounds) (g : ℕ) (m : Node) (keep : ℕ) (p : Packet) → UpTo b g p → Behind g m → Low b g m → Low (up b) g (hear_cut m keep p).node
+low_cut b g m keep p u k h = one (nat_le (packet_length p) keep) (nat_lt keep 12)
+  where
+    one : (whole none : Bool) → Low (up b) g (if whole then hear m p else if none then refused m 1 else refused m 5).node
+    one true none = low_hear b g m p u k h
+    one false true = low_refused b g m 1 h
+    one false false = low_refused b g m 5 h
+
+more_heard : (b : Bounds) (g name : ℕ) (w : World) (e : Event) (hearing : Packet → Step) (l : Option Letter) → Low b g (w.nodes name) → ((letter : Letter) → l ≡ Some letter → Low (up b) g (hearing letter.packet).node) → OneMore b g name (heard w e name hearing l)
+more_heard b g name w e hearing None h k = search mores
+more_heard b g name w e hearing (Some l) h k =
+    more_if b g name (not (is_for l name)) _ _ (more_unchanged b g name w e said.NotAddressed h)
+    (more_if b g name (is_stopped w name) _ _ (more_unchanged b g name w e said.IsStopped h) (more_stepped b g name w e (hearing l.packet) (k l refl)))
+
+unit : Unit {0}
+unit = tt
+
+more_acts : (b : Bounds) (g name : ℕ) (w : World) (e : Event) (a : Act) → ((letter : Letter) → letter_at w.letters (heard_by a) ≡ Some letter → UpTo b g letter.packet) → Behind g (w.nodes name) → Low b g (w.nodes name) → OneMore b g name (acts_as w e name a)
+more_acts b g name w e (act.Send body) u k h = search (mores, more_event, unit)
+more_acts b g name w e (act.Done req) u k h = search (mores, more_event, unit)
+more_acts b g name w e act.Take u k h = search (mores, more_event, unit)
+more_acts b g name w e act.Join u k h = search (mores, more_event, unit)
+more_acts b g name w e act.State u k h = search (mores, more_event, unit)
+more_acts b g name w e act.Leave u k h = search (mores, more_event, unit)
+more_acts b g name w e (act.Reset least resilience) u k h = search (mores, more_event, unit)
+more_acts b g name w e (act.Ask round) u k h = search (mores, more_event, unit)
+more_acts b g name w e (act.GiveUp other) u k h = search (mores, more_event, unit)
+more_acts b g name w e act.Stop u k h = search mores
+more_acts b g name w e act.Tick u k h = search (mores, more_event, unit)
+more_acts b g name w e (act.Hear number) u k h =
+    more_heard b g name w e (hear (w.nodes name)) (letter_at w.letters number) h (λ letter is. low_hear b g (w.nodes name) letter.packet (u letter is) k h)
+more_acts b g name w e (act.Cut number keep) u k h =
+    more_heard b g name w e (hear_cut (w.nodes name) keep) (letter_at w.letters number) h (λ letter is. low_cut b g (w.nodes name) keep letter.packet (u letter is) k h)
+more_acts b g name w e act.Return u k h = search mores
+
+-- whatever the bounds are that the node and the letter that it hears are within
+pub actor_low : (b : Bounds) (g : ℕ) (w : World) (e : Event) → ((letter : Letter) → letter_at w.letters (heard_by e.act) ≡ Some letter → UpTo b g letter.packet) → Behind g (w.nodes (actor w e)) → Low b g (w.nodes (actor w e)) → Low (up b) g ((happens w e).nodes (actor w e))
+unfolding happens
+actor_low b g w e u k h = (more_acts b g (actor w e) w e e.act u k h).node

@@ -1,0 +1,137 @@
+-- Only stopped names are given up.
+use Rattle.std.proofs.Common.{◌≡◌, ℕ, ◌==◌, ◌&&◌, ◌||◌, not, Bool, true, List, ◌++◌, Option, Some, None, refl, sym, ap, ◌∙◌, subst, arith}
+use Rattle.std.specs.List.{list_any}
+use Rattle.std.proofs.lemmas.Bool.Decides.{nat_tests}
+use Rattle.std.proofs.lemmas.List.Folds.{list_any-append}
+use Rattle.am_base.specs.declared.name.Stamp.{Stamp}
+use Rattle.am_base.specs.declared.outcome.Outcome.{Outcome}
+use Rattle.am_base.specs.declared.event.NodeEvent.{NodeEvent}
+use Rattle.am_base.specs.declared.event.NodeEvent.TheVariants as does
+use Rattle.am_base.specs.declared.entry.Entry.TheVariants.{Leave}
+use Rattle.am_base.specs.Founding.{Rules}
+use Rattle.am_base.specs.Names.{has}
+use Rattle.am_base.specs.Stamps.{stamp_lt}
+use Rattle.am_group.specs.declared.event.Act.{Act}
+use Rattle.am_group.specs.declared.event.Event.{Event}
+use Rattle.am_model.specs.Node.{Node, Ballot, pushed}
+use Rattle.am_model.specs.Ballots.{Verdict, overtaken}
+use Rattle.am_model.specs.Refresh.{refresh, refresh_at_end}
+use Rattle.am_model.specs.World.{World, start, current, is_stopped, unchanged, stepped, run}
+use Rattle.am_model.proofs.Greatest.{split}
+use Rattle.am_effects.specs.Causes.{Cause, calls}
+use Rattle.am_effects.specs.Looks.{HasOpen, Balloting, with_more, without_one, as_it_is, Looks, finds_itself_out, waits, fetches_from_best, finds_too_few, finds_no_room, decides}
+use Rattle.am_effects.specs.Changes.{Change, refreshes, settles, takes_report, admits, numbers, keeps_body, notes, stores, begins_list, departs, promises, opens, looks, fetches, stores_view, queues, collects, takes, asks_to_join, asks_to_leave, closes}
+use Rattle.am_effects.specs.Events.{actor, IsCall, IsCause, Happens, idles, stops, returns, steps}
+use Rattle.am_effects.specs.Events as event
+use Rattle.am_effects.proofs.Rests.{rests_refresh, rests_at_end, settle_is}
+use Rattle.am_effects.proofs.Runs.{along, EachKeeps, runs_keep}
+use Rattle.am_laws.specs.GivenUp.{OnlyStoppedGivenUp}
+
+-- a ballot gives up only such names
+abbrev GivesUp : (ℕ → Type 0) → Option Ballot → Type 0
+GivesUp S None = Unit {0}
+GivesUp S (Some b) = (other : ℕ) → b.given_up other ≡ true → S other
+
+still_overtaken : (S : ℕ → Type 0) (by : Stamp) (ballot : Option Ballot) → GivesUp S ballot → GivesUp S (overtaken by ballot)
+still_overtaken S by None h = tt
+still_overtaken S by (Some b) h = split (not b.is_over && stamp_lt b.stamp by) (λ t. rw t h) (λ f. rw f h)
+
+-- who is given up by a call has stopped
+abbrev Calls : (ℕ → Type 0) → Cause → Type 0
+Calls S c = (other : ℕ) → c ≡ calls (does.GiveUp other) → S other
+
+open_gives : (S : ℕ → Type 0) (m : Node) (b : Ballot) → HasOpen m b → GivesUp S m.ballot → GivesUp S (Some b)
+open_gives S m b open_ h = subst (GivesUp S) open_.last h
+
+looked_at : (S : ℕ → Type 0) {c : Cause} → Calls S c → (m : Node) (b : Ballot) → Balloting c m b → GivesUp S m.ballot → GivesUp S (Some b)
+looked_at S called m b (with_more old s v vote is heard low high open_ same stays) h = open_gives S m old open_ h
+looked_at S called m b (as_it_is old open_) h = open_gives S m old open_ h
+looked_at S called m b (without_one old name is open_ other_) h = λ other up. split (other == name)
+    (λ t. let same : name ≡ other = grind (arith, nat_tests) in subst S same (called name is))
+    (λ f. open_gives S m old open_ h other (rw f at up))
+
+look_gives : (S : ℕ → Type 0) (m : Node) (b : Ballot) (v : Verdict) → Looks m b v → GivesUp S (Some b) → GivesUp S v.node.ballot
+look_gives S m b v (finds_itself_out x) h = h
+look_gives S m b v (waits x y) h = h
+look_gives S m b v (fetches_from_best x y z) h = h
+look_gives S m b v (finds_too_few x y) h = h
+look_gives S m b v (finds_no_room x) h = h
+look_gives S m b v (decides may) h = h
+
+same_ballot : (S : ℕ → Type 0) (m n : Node) → n.ballot ≡ m.ballot → GivesUp S m.ballot → GivesUp S n.ballot
+same_ballot S m n is h = subst (GivesUp S) (sym is) h
+
+abbrev NodeGives : (ℕ → Type 0) → Node → Type 0
+NodeGives S m = GivesUp S m.ballot
+
+change_gives : (S : ℕ → Type 0) {c : Cause} {o : Outcome} → Calls S c → (m n : Node) → Change c o m n → NodeGives S m → NodeGives S n
+change_gives S called m n refreshes h = same_ballot S m (refresh m) (rests_refresh m).rests.ballot h
+change_gives S called m n settles h = subst (NodeGives S) (sym (settle_is m)) h
+change_gives S called m n (takes_report s v report by may) h = h
+change_gives S called m n (admits s v is leads fit) h = h
+change_gives S called m n (numbers e leads room why) h = h
+change_gives S called m n (keeps_body s v report req body is by) h = h
+change_gives S called m n (notes s v base acc by from) h = h
+change_gives S called m n (stores s v base acc number e by from plain may) h = h
+change_gives S called m n (begins_list s v base join image is o may) h = h
+change_gives S called m n (departs s v number is by leaves) h = h
+change_gives S called m n (promises v low why) h = still_overtaken S v m.ballot h
+change_gives S called m n (opens least resilience by may) h = λ other up. absurd (cc)
+change_gives S called m n (looks b verdict over why look is) h = look_gives S m b verdict look (looked_at S called m b why h)
+change_gives S called m n (fetches s v base number e is by promise below from may) h = h
+change_gives S called m n (stores_view s v base number names resilience is by own other promise below may) h = h
+change_gives S called m n (queues body is o member stays few) h = h
+change_gives S called m n (collects req is) h = h
+change_gives S called m n (takes e is o member some there) h = h
+change_gives S called m n (asks_to_join is was) h = h
+change_gives S called m n (asks_to_leave is was stays done) h = h
+change_gives S called m n (closes leads leaves alone room) h = same_ballot S m (refresh_at_end (pushed m (Leave m.core.who))) (rests_at_end (pushed m (Leave m.core.who))).rests.ballot h
+
+-- ---- worlds
+
+record AllGiven (w : World) : Type 0 where
+  each : (name : ℕ) → NodeGives (λ other. is_stopped w other ≡ true) (w.nodes name)
+
+any_more : (p : ℕ → Bool) (xs ys : List ℕ) → list_any p xs ≡ true → list_any p (xs ++ ys) ≡ true
+any_more p xs ys h = list_any-append p xs ys ∙ ap (λ (b : Bool). b || list_any p ys) h
+
+weaker : (S T : ℕ → Type 0) (ballot : Option Ballot) → ((other : ℕ) → S other → T other) → GivesUp S ballot → GivesUp T ballot
+weaker S T None f h = tt
+weaker S T (Some b) f h = λ other up. f other (h other up)
+
+call_stopped : (w : World) (a : Act) (ev : NodeEvent) (other : ℕ) → ev ≡ does.GiveUp other → IsCall w a ev → is_stopped w other ≡ true
+call_stopped w a ev other is (event.send body) = absurd (cc)
+call_stopped w a ev other is (event.done req) = absurd (cc)
+call_stopped w a ev other is event.take = absurd (cc)
+call_stopped w a ev other is event.join = absurd (cc)
+call_stopped w a ev other is event.state = absurd (cc)
+call_stopped w a ev other is event.leave = absurd (cc)
+call_stopped w a ev other is (event.reset least resilience) = absurd (cc)
+call_stopped w a ev other is (event.ask round) = absurd (cc)
+call_stopped w a ev other is (event.give_up name stopped) = let same : name ≡ other = cc in subst (λ n. is_stopped w n ≡ true) same stopped
+call_stopped w a ev other is event.tick = absurd (cc)
+
+cause_stopped : (w : World) (e : Event) (c : Cause) → IsCause w (actor w e) e.act c → Calls (λ other. is_stopped w other ≡ true) c
+cause_stopped w e c cause other is = call_stopped w e.act (does.GiveUp other) other refl (subst (IsCause w (actor w e) e.act) is cause)
+
+given_stopped : (w v : World) → v.nodes ≡ w.nodes → ((other : ℕ) → is_stopped w other ≡ true → is_stopped v other ≡ true) → AllGiven w → AllGiven v
+given_stopped w v nodes more h = record { each = rw nodes (λ name. weaker (λ other. is_stopped w other ≡ true) (λ other. is_stopped v other ≡ true) (w.nodes name).ballot more (h.each name)) }
+
+each_gives : EachKeeps AllGiven
+unfolding unchanged stepped
+each_gives w e v (idles o idle) h = given_stopped w v refl (λ other s. s) h
+each_gives w e v (stops runs) h = given_stopped w v refl (λ other s. any_more (λ x. x == other) w.stopped _ s) h
+each_gives w e v (returns place is left more) h = given_stopped w v refl (λ other s. split (is_stopped w (current w place)) (λ t. rw t s) (λ f. rw f (any_more (λ x. x == other) w.stopped _ s))) h
+each_gives w e v (steps c s runs cause effect) h = record {
+  each = λ name. split (name == actor w e)
+      (λ t. rw t (along (NodeGives (λ other. is_stopped w other ≡ true)) (change_gives (λ other. is_stopped w other ≡ true) (cause_stopped w e c cause)) effect.changes (h.each (actor w e))))
+      (λ f. rw f (h.each name));
+}
+
+given_start : (rules : Rules) → AllGiven (start rules)
+given_start rules = record { each = λ name. split (has rules.founders name) (λ t. rw t tt) (λ f. rw f tt) }
+
+pub only_stopped_given_up : OnlyStoppedGivenUp
+only_stopped_given_up rules events name other b is up =
+    let h = runs_keep AllGiven each_gives (start rules) events (given_start rules) in
+    subst (GivesUp (λ other. is_stopped (run rules events) other ≡ true)) is (h.each name) other up

@@ -1,0 +1,342 @@
+-- What hearing adds to the numbers that grow, and a whole step.
+use Rattle.std.proofs.Common.{◌≡◌, inl, inr, ⊎_elim, ℕ, ◌≤◌, ◌==◌, ◌||◌, not, max, if◌then◌else◌, Bool, true, false, nat_le, List, [], ◌∷◌, Option, Some, None, refl, arith}
+use Rattle.std.specs.Prelude.{All}
+use Rattle.std.proofs.lemmas.Bool.Decides.{nat_tests}
+use Rattle.std.proofs.lemmas.List.Elements.{All-head, All-tail}
+use Rattle.am_base.specs.declared.name.Stamp.{Stamp}
+use Rattle.am_base.specs.declared.image.Report.{Report}
+use Rattle.am_base.specs.declared.image.Row.{Row}
+use Rattle.am_base.specs.declared.image.Image.{Image}
+use Rattle.am_base.specs.declared.image.Vote.{Vote}
+use Rattle.am_base.specs.declared.entry.Entry.{Entry}
+use Rattle.am_base.specs.declared.entry.Entry.TheVariants.{Data, Join, Leave, View}
+use Rattle.am_base.specs.declared.outcome.Outcome.{Outcome}
+use Rattle.am_base.specs.declared.outcome.Outcome.TheVariants as said
+use Rattle.am_base.specs.declared.event.NodeEvent.{NodeEvent}
+use Rattle.am_base.specs.declared.event.NodeEvent.TheVariants as does
+use Rattle.am_base.specs.Lists.{at_place, fits}
+use Rattle.am_packet.specs.declared.packet.Packet.{Packet}
+use Rattle.am_packet.specs.declared.packet.Packet.TheVariants as packet
+use Rattle.am_sender.specs.declared.OwnSend.{OwnSend}
+use Rattle.am_model.specs.Node.{Node, Ballot, top, told, is_within_bound, pushed, trimmed, with_report, waiting}
+use Rattle.am_model.specs.Emit.{Plan}
+use Rattle.am_model.specs.Sequencing.{reported, number_data, requested, request_row, ack_row, asked_again, nack_row}
+use Rattle.am_model.specs.Receiving.{spread_row, is_view, stored, store, noted, received, bcast_row, data_of, body_of, order_row, accept_row, held_up, hold_row}
+use Rattle.am_model.specs.Joining.{admitted, number_join, asks_to_join, join_ask_row, begun, welcome_row, asks_to_leave, leave_ask_row, gone_row}
+use Rattle.am_model.specs.Ballots.{promised}
+use Rattle.am_model.specs.Resets.{invite_row, voted_for, vote_row, fetch_row, fetched, caught_up, fetched_for, piece_promised, piece_for, piece_row, hears_result, result_row, hand_over_row}
+use Rattle.am_model.specs.Hearing.{hear_row}
+use Rattle.am_model.specs.Step.{row, step, hear, refused, refuse}
+use Rattle.am_model.proofs.Greatest.{split}
+use Rattle.am_effects.proofs.Tests.{or_first}
+use Rattle.am_laws.specs.Packets.{Bounds, up, UpTo}
+use Rattle.am_laws.proofs.Counts.{IsKnown, VotesKnown, leads, Low, Behind, low_pushed, low_any, low_within, low_trimmed, low_report, low_promised, low_refresh, Ends, ends_if, ends_at, ends_next, ends, low_finish}
+use Rattle.am_laws.proofs.BallotCounts.{low_look, ends_keep_vote, ends_reset, ends_give_up_row}
+use Rattle.am_laws.proofs.CallCounts.{ends_send, ends_done, ends_take, ends_join, ends_state, ends_leave, ends_ask, ends_tick}
+
+-- ---- the sequencer
+
+low_reported : (most : Bounds) (g : ℕ) (m : Node) (s : ℕ) (report : Report) → report.taken ≤ g → Low most g m → Low most g (reported m s report)
+low_reported most g m s report taken h = low_refresh most g (with_report m s report) (low_report most g m s report taken h)
+
+ends_requested : (most : Bounds) (g : ℕ) (m : Node) (s req : ℕ) (body : List ℕ) (by_order : Bool) → Low most g m → Ends most g (requested m s req body by_order)
+ends_requested most g m s req body by_order h =
+    let k : Ends most g (number_data m s req body by_order) = ends_next most g _ (low_pushed most g m (Data s req body) refl h) in
+    search (ends, k)
+
+ends_request : (most : Bounds) (g : ℕ) (m : Node) (s : ℕ) (report : Report) (req : ℕ) (body : List ℕ) (by_order : Bool) → report.taken ≤ g → Low most g m → Ends most g (request_row m s report req body by_order)
+unfolding request_row
+ends_request most g m s report req body by_order taken h =
+    let k = ends_requested most g (reported m s report) s req body by_order (low_reported most g m s report taken h) in
+    search (ends, k)
+
+ends_ack : (most : Bounds) (g : ℕ) (m : Node) (s : ℕ) (report : Report) → report.taken ≤ g → Low most g m → Ends most g (ack_row m s report)
+unfolding ack_row
+ends_ack most g m s report taken h =
+    let k = low_report most g m s report taken h in
+    search (ends, k)
+
+ends_asked_again : (most : Bounds) (g : ℕ) (m : Node) (s k : ℕ) → Low most g m → Ends most g (asked_again m s k)
+ends_asked_again most g m s k h = search ends
+
+ends_nack : (most : Bounds) (g : ℕ) (m : Node) (s : ℕ) (report : Report) → report.taken ≤ g → Low most g m → Ends most g (nack_row m s report)
+unfolding nack_row
+ends_nack most g m s report taken h =
+    let k = ends_asked_again most g (reported m s report) s report.stored (low_reported most g m s report taken h) in
+    search (ends, k)
+
+-- ---- a member
+
+ends_spread : (most : Bounds) (g : ℕ) (m : Node) (s req : ℕ) (body : List ℕ) → Low most g m → Ends most g (spread_row m s req body)
+unfolding spread_row
+ends_spread most g m s req body h = search ends
+
+-- the next entry is stored
+ends_store : (most : Bounds) (g : ℕ) (m : Node) (s number : ℕ) (e : Option Entry) (missing : Outcome) → Low most g m → Ends most g (store m s number e missing)
+ends_store most g m s number None missing h = search ends
+ends_store most g m s number (Some e) missing h =
+    let k : (is_view e || (not (fits (told m) e) || not (is_within_bound m m.core.base number))) ≡ false → Ends most g (stored m s number e) =
+    λ f. ends_next most g _ (low_pushed most g m e (or_first (is_view e) _ f) h) in
+    search (ends, k)
+
+ends_received : (most : Bounds) (g : ℕ) (m : Node) (s base number : ℕ) (e : Option Entry) (missing : Outcome) → Low most g m → Ends most g (received m s base number e missing)
+ends_received most g m s base number e missing h =
+    let k = ends_store most g m s number e missing h in
+    search (ends, k)
+
+-- what the sequencer has accepted the group has accepted
+low_noted : (most : Bounds) (g : ℕ) (m : Node) (base acc : ℕ) → acc ≤ g → Low most g m → Low most g (noted m base acc)
+low_noted most g m base acc low h =
+    let to = if nat_le base m.core.taken then base else m.core.base in
+    let taken = h.took in
+    let trims = h.trims in
+    let most_base : to ≤ g = split (nat_le base m.core.taken) (λ t. let b : base ≤ m.core.taken = grind (arith, nat_tests) in rw t (omega arith)) (λ f. rw f trims) in
+    let known : IsKnown g (max m.core.told acc) m.core.acc (leads m) = ⊎_elim
+    (λ (k : (m.core.told ≤ g) × (m.core.acc ≤ g)). let t = k.0 in inl (omega arith, k.1))
+    (λ (k : (leads m ≡ true) × (m.core.told ≤ max g m.core.acc)). let t = k.1 in inr (k.0, omega arith))
+    h.known in
+    let kept = h.kept in
+    record {
+      entries = h.entries;
+      rounds = h.rounds;
+      sends = h.sends;
+      quits = h.quits;
+      given = h.given;
+      accepted = h.accepted;
+      kept = omega arith;
+      listed = h.listed;
+      began = h.began;
+      took = h.took;
+      trims = omega arith;
+      reported = h.reported;
+      votes = h.votes;
+      known = known;
+    }
+
+ends_bcast : (most : Bounds) (g : ℕ) (m : Node) (s base acc number : ℕ) (e : Entry) → acc ≤ g → Low most g m → Ends most g (bcast_row m s base acc number e)
+unfolding bcast_row
+ends_bcast most g m s base acc number e low h = ends_received most g (noted m base acc) s base number (Some e) said.Known (low_noted most g m base acc low h)
+
+ends_order : (most : Bounds) (g : ℕ) (m : Node) (s base acc number from req : ℕ) → acc ≤ g → Low most g m → Ends most g (order_row m s base acc number from req)
+unfolding order_row
+ends_order most g m s base acc number from req low h = ends_received most g (noted m base acc) s base number (data_of from req (body_of m from req)) (said.NoBody from req) (low_noted most g m base acc low h)
+
+ends_accept : (most : Bounds) (g : ℕ) (m : Node) (s base acc high : ℕ) (poll : Bool) → acc ≤ g → Low most g m → Ends most g (accept_row m s base acc high poll)
+unfolding accept_row
+ends_accept most g m s base acc high poll low h =
+    let k = low_noted most g m base acc low h in
+    search (ends, k)
+
+ends_held_up : (most : Bounds) (g : ℕ) (m : Node) (base high req : ℕ) (w : Option OwnSend) → Low most g m → Ends most g (held_up m base high req w)
+ends_held_up most g m base high req None h = search ends
+ends_held_up most g m base high req (Some s) h = search ends
+
+ends_hold : (most : Bounds) (g : ℕ) (m : Node) (base high req : ℕ) → Low most g m → Ends most g (hold_row m base high req)
+unfolding hold_row
+ends_hold most g m base high req h = ends_held_up most g m base high req (waiting m) h
+
+-- ---- joining and leaving
+
+-- a joiner's reports begin at the base
+low_admitted : (most : Bounds) (g : ℕ) (m : Node) (s : ℕ) → Low most g m → Low most g (admitted m s)
+low_admitted most g m s h = record {
+  entries = h.entries;
+  rounds = h.rounds;
+  sends = h.sends;
+  quits = h.quits;
+  given = h.given;
+  accepted = h.accepted;
+  kept = h.kept;
+  listed = h.listed;
+  began = h.began;
+  took = h.took;
+  trims = h.trims;
+  reported = λ name. split (name == s) (λ t. rw t h.trims) (λ f. rw f (h.reported name));
+  votes = h.votes;
+  known = h.known;
+}
+
+ends_asks_to_join : (most : Bounds) (g : ℕ) (m : Node) (s : ℕ) (q : Row) → Low most g m → Ends most g (asks_to_join m s q)
+ends_asks_to_join most g m s q h =
+    let k : Ends most g (number_join m s) = ends_next most g _ (low_pushed most g (admitted m s) (Join s) refl (low_admitted most g m s h)) in
+    search (ends, k) depth 9
+
+ends_join_ask : (most : Bounds) (g : ℕ) (m : Node) (s : ℕ) → Low most g m → Ends most g (join_ask_row m s)
+unfolding join_ask_row
+ends_join_ask most g m s h = ends_asks_to_join most g m s (at_place (told m) s) h
+
+-- the list begins with nothing above the base
+low_begun : (most : Bounds) (g : ℕ) (m : Node) (v : Stamp) (base join : ℕ) (image : Image) → v.round ≤ most.rounds → base ≤ most.lists → base ≤ g → join ≤ g → Low most g m → Low most g (begun m v base join image)
+low_begun most g m v base join image round low from start h =
+    record {
+      entries = omega arith;
+      rounds = round;
+      sends = h.sends;
+      quits = h.quits;
+      given = omega arith;
+      accepted = omega arith;
+      kept = omega arith;
+      listed = from;
+      began = start;
+      took = from;
+      trims = from;
+      reported = h.reported;
+      votes = h.votes;
+      known = inl (from, from);
+    }
+
+ends_welcome : (most : Bounds) (g : ℕ) (m : Node) (s : ℕ) (v : Stamp) (base join : ℕ) (image : Image) → v.round ≤ most.rounds → base ≤ most.lists → base ≤ g → join ≤ g → Low most g m → Ends most g (welcome_row m s v base join image)
+unfolding welcome_row
+ends_welcome most g m s v base join image round low from start h =
+    let k = low_begun most g m v base join image round low from start h in
+    search (ends, k)
+
+ends_asks_to_leave : (most : Bounds) (g : ℕ) (m : Node) (s : ℕ) → Low most g m → Ends most g (asks_to_leave m s)
+ends_asks_to_leave most g m s h =
+    let k : Low (up most) g (pushed m (Leave s)) = low_pushed most g m (Leave s) refl h in
+    search (ends, ends_next, k)
+
+ends_leave_ask : (most : Bounds) (g : ℕ) (m : Node) (s : ℕ) (v : Stamp) (report : Report) → report.taken ≤ g → Low most g m → Ends most g (leave_ask_row m s v report)
+unfolding leave_ask_row
+ends_leave_ask most g m s v report taken h =
+    let k = ends_asks_to_leave most g (reported m s report) s (low_reported most g m s report taken h) in
+    let l = ends_asks_to_leave most g m s h in
+    search (ends, k, l)
+
+ends_gone : (most : Bounds) (g : ℕ) (m : Node) → Low most g m → Ends most g (gone_row m)
+unfolding gone_row
+ends_gone most g m h = search ends
+
+-- ---- ballots
+
+ends_invite : (most : Bounds) (g : ℕ) (m : Node) (s : ℕ) (v : Stamp) → v.round ≤ most.rounds → Low most g m → Ends most g (invite_row m s v)
+unfolding invite_row
+ends_invite most g m s v round h =
+    let k = low_promised most g m v round h in
+    search (ends, k)
+
+ends_voted_for : (most : Bounds) (g : ℕ) (m : Node) (s : ℕ) (v : Stamp) (vote : Vote) (b : Option Ballot) → vote.taken ≤ g → VotesKnown g b → Behind g m → Low most g m → Ends most g (voted_for m s v vote b)
+ends_voted_for most g m s v vote None low votes k h = search ends
+ends_voted_for most g m s v vote (Some b) low votes k h =
+    let l = ends_keep_vote most g m b s vote low votes k h in
+    search (ends, l)
+
+ends_vote : (most : Bounds) (g : ℕ) (m : Node) (s : ℕ) (v : Stamp) (vote : Vote) → v.round ≤ most.rounds → vote.taken ≤ g → Behind g m → Low most g m → Ends most g (vote_row m s v vote)
+unfolding vote_row
+ends_vote most g m s v vote round low behind h =
+    let k = low_promised most g m v round h in
+    let l = ends_voted_for most g m s v vote m.ballot low h.votes behind h in
+    search (ends, k, l)
+
+ends_fetch : (most : Bounds) (g : ℕ) (m : Node) (s : ℕ) (v : Stamp) (k : ℕ) → Low most g m → Ends most g (fetch_row m s v k)
+unfolding fetch_row
+ends_fetch most g m s v k h = search ends
+
+-- the next fetched entry is pushed: it has a number that was there before
+ends_fetched : (most : Bounds) (g : ℕ) (m : Node) (v : Stamp) (base number : ℕ) (e : Entry) (in_ballot : Bool) (then_ : Node → Plan) → number ≤ most.lists → base ≤ g → (Low most g (pushed (trimmed m base) e) → Ends most g (then_ (pushed (trimmed m base) e))) → Behind g m → Low most g m → Ends most g (fetched m v base number e in_ballot then_)
+ends_fetched most g m v base number e in_ballot then_ low from goes k h =
+    let l : nat_le number (top m) ≡ false → Ends most g (then_ (pushed (trimmed m base) e)) =
+    λ f. goes (low_within most g (trimmed m base) number e f low (record { told = k.told; acc = k.acc }) (low_trimmed most g m base from h)) in
+    search (ends_if, ends_at, h, l) depth 8
+
+ends_piece_promised : (most : Bounds) (g : ℕ) (m : Node) (s : ℕ) (v : Stamp) (base number : ℕ) (e : Entry) → number ≤ most.lists → base ≤ g → Behind g m → Low most g m → Ends most g (piece_promised m s v base number e)
+ends_piece_promised most g m s v base number e low from k h =
+    let l = ends_fetched most g m v base number e false (caught_up s v number) low from (λ n. ends_at most g _ n) k h in
+    search (ends, l)
+
+ends_piece_for : (most : Bounds) (g : ℕ) (m : Node) (s : ℕ) (v : Stamp) (base number : ℕ) (e : Entry) (b : Option Ballot) → number ≤ most.lists → base ≤ g → VotesKnown g b → Behind g m → Low most g m → Ends most g (piece_for m s v base number e b)
+ends_piece_for most g m s v base number e None low from votes k h = ends_piece_promised most g m s v base number e low from k h
+ends_piece_for most g m s v base number e (Some b) low from votes k h =
+    let goes : Low most g (pushed (trimmed m base) e) → Ends most g (fetched_for b (pushed (trimmed m base) e)) =
+    λ n. ends_next most g _ (low_look most g (pushed (trimmed m base) e) b votes (record { told = k.told; acc = k.acc }) n) in
+    let l = ends_fetched most g m v base number e true (fetched_for b) low from goes k h in
+    let p = ends_piece_promised most g m s v base number e low from k h in
+    search (ends_if, ends_at, h, l, p)
+
+ends_piece : (most : Bounds) (g : ℕ) (m : Node) (s : ℕ) (v : Stamp) (base number : ℕ) (e : Entry) → number ≤ most.lists → base ≤ g → Behind g m → Low most g m → Ends most g (piece_row m s v base number e)
+unfolding piece_row
+ends_piece most g m s v base number e low from k h =
+    let l = ends_piece_for most g m s v base number e m.ballot low from h.votes k h in
+    search (ends, l)
+
+ends_hears_result : (most : Bounds) (g : ℕ) (m : Node) (s : ℕ) (v : Stamp) (base number : ℕ) (names : List ℕ) (resilience : ℕ) → base ≤ g → Behind g m → Low most g m → Ends most g (hears_result m s v base number names resilience)
+ends_hears_result most g m s v base number names resilience from k h =
+    let l : Low (up most) g (pushed (trimmed m base) (View v names resilience)) = low_any most g (trimmed m base) (View v names resilience) (record { told = k.told; acc = k.acc }) (low_trimmed most g m base from h) in
+    search (ends_if, ends_at, ends_next, h, l) depth 8
+
+ends_result : (most : Bounds) (g : ℕ) (m : Node) (s : ℕ) (v : Stamp) (base number : ℕ) (names : List ℕ) (resilience : ℕ) → v.round ≤ most.rounds → base ≤ g → Behind g m → Low most g m → Ends most g (result_row m s v base number names resilience)
+unfolding result_row
+ends_result most g m s v base number names resilience round from k h =
+    let l = ends_hears_result most g (promised m v) s v base number names resilience from (record { told = k.told; acc = k.acc }) (low_promised most g m v round h) in
+    search (ends, l)
+
+ends_hand_over : (most : Bounds) (g : ℕ) (m : Node) → Behind g m → Low most g m → Ends most g (hand_over_row m)
+unfolding hand_over_row
+ends_hand_over most g m k h = ends_reset most g m 1 (told m).resilience k h
+
+-- ---- a step
+
+-- the first of what a packet tells as accepted, and the second
+first_low : (g x : ℕ) (rest : List ℕ) → All (λ n. n ≤ g) (x ∷ rest) → x ≤ g
+first_low g x rest h = All-head (λ n. n ≤ g) x rest h
+
+second_low : (g x y : ℕ) (rest : List ℕ) → All (λ n. n ≤ g) (x ∷ y ∷ rest) → y ≤ g
+second_low g x y rest h = first_low g y rest (All-tail (λ n. n ≤ g) x (y ∷ rest) h)
+
+ends_hear : (most : Bounds) (g : ℕ) (m : Node) (p : Packet) → UpTo most g p → Behind g m → Low most g m → Ends most g (hear_row m p)
+unfolding hear_row
+ends_hear most g m (packet.Request s v report req body) u k h = let a = first_low g report.taken [] u.accepted in search (ends, ends_request)
+ends_hear most g m (packet.Spread s v report req body) u k h = let a = first_low g report.taken [] u.accepted in search (ends, ends_request, ends_spread)
+ends_hear most g m (packet.Bcast s v base acc number e) u k h = let a = first_low g acc [] u.accepted in search (ends, ends_bcast)
+ends_hear most g m (packet.Order s v base acc number from req) u k h = let a = first_low g acc [] u.accepted in search (ends, ends_order)
+ends_hear most g m (packet.Accept s v base acc high poll) u k h = let a = first_low g acc [] u.accepted in search (ends, ends_accept)
+ends_hear most g m (packet.Ack s v report) u k h = let a = first_low g report.taken [] u.accepted in search (ends, ends_ack)
+ends_hear most g m (packet.Nack s v report) u k h = let a = first_low g report.taken [] u.accepted in search (ends, ends_nack)
+ends_hear most g m (packet.Hold s v base high req) u k h = search (ends, ends_hold)
+ends_hear most g m (packet.JoinAsk s v) u k h = search (ends, ends_join_ask)
+ends_hear most g m (packet.Welcome s v base join image) u k h =
+    let l = ends_welcome most g m s v base join image u.round (first_low most.lists base (join ∷ []) u.numbers) (first_low g base (join ∷ []) u.accepted) (second_low g base join [] u.accepted) h in
+    search (ends, l)
+ends_hear most g m (packet.LeaveAsk s v report) u k h = let a = first_low g report.taken [] u.accepted in search (ends, ends_leave_ask)
+ends_hear most g m (packet.Gone s v number) u k h = search (ends, ends_gone)
+ends_hear most g m (packet.Invite s v) u k h = let l = ends_invite most g m s v u.round h in search (ends, l)
+ends_hear most g m (packet.Vote s v vote) u k h = let l = ends_vote most g m s v vote u.round (first_low g vote.taken [] u.accepted) k h in search (ends, l)
+ends_hear most g m (packet.Fetch s v stored) u k h = search (ends, ends_fetch)
+ends_hear most g m (packet.Piece s v base number e) u k h =
+    let l = ends_piece most g m s v base number e (second_low most.lists base number [] u.numbers) (first_low g base [] u.accepted) k h in
+    search (ends, l)
+ends_hear most g m (packet.Result s v base number names resilience) u k h =
+    let l = ends_result most g m s v base number names resilience u.round (first_low g base [] u.accepted) k h in
+    search (ends, l)
+ends_hear most g m (packet.HandOver s v) u k h = let l = ends_hand_over most g m k h in search (ends, l)
+
+-- any event but bytes
+abbrev pub IsDone : NodeEvent → Type 0
+IsDone (does.Hear bytes) = ⊥
+IsDone _ = Unit {0}
+
+ends_row : (most : Bounds) (g : ℕ) (m : Node) (event : NodeEvent) → IsDone event → Behind g m → Low most g m → Ends most g (row m event)
+unfolding row
+ends_row most g m (does.Send body) d k h = ends_send most g m body h
+ends_row most g m (does.Done req) d k h = ends_done most g m req h
+ends_row most g m does.Take d k h = ends_take most g m k h
+ends_row most g m does.Join d k h = ends_join most g m h
+ends_row most g m does.State d k h = ends_state most g m h
+ends_row most g m does.Leave d k h = ends_leave most g m h
+ends_row most g m (does.Reset least resilience) d k h = ends_reset most g m least resilience k h
+ends_row most g m (does.Ask round) d k h = ends_ask most g m round h
+ends_row most g m (does.GiveUp name) d k h = ends_give_up_row most g m name k h
+ends_row most g m does.Tick d k h = ends_tick most g m h
+ends_row most g m (does.Hear bytes) d k h = absurd d
+
+pub low_step : (most : Bounds) (g : ℕ) (m : Node) (event : NodeEvent) → IsDone event → Behind g m → Low most g m → Low (up most) g (step m event).node
+unfolding step
+low_step most g m event d k h = low_finish most g m (row m event) (ends_row most g m event d k h)
+
+pub low_hear : (most : Bounds) (g : ℕ) (m : Node) (p : Packet) → UpTo most g p → Behind g m → Low most g m → Low (up most) g (hear m p).node
+unfolding hear
+low_hear most g m p u k h = low_finish most g m (hear_row m p) (ends_hear most g m p u k h)
+
+pub low_refused : (most : Bounds) (g : ℕ) (m : Node) (cause : ℕ) → Low most g m → Low (up most) g (refused m cause).node
+unfolding refused
+low_refused most g m cause h = low_finish most g m (refuse m cause) (ends_at most g _ h)

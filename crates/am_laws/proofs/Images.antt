@@ -1,0 +1,106 @@
+-- How high the numbers are that a list tells of, and which numbers a list has.
+use Rattle.std.proofs.Common.{◌≡◌, ℕ, zero, suc, ◌+◌, ◌-◌, ◌≤◌, ◌==◌, ◌&&◌, not, nat_lt, Bool, true, false, List, [], ◌∷◌, length, take, slice_index, slice_index_or, sym, subst, arith}
+use Rattle.std.specs.Prelude.{All}
+use Rattle.std.specs.List.{range_with_len}
+use Rattle.std.proofs.lemmas.List.{length-take}
+use Rattle.std.proofs.lemmas.List.Elements.{All-nil, All-cons, All-head, All-tail, All-map, All-set, All-weaker, All-replicate}
+use Rattle.am_base.specs.declared.entry.Entry.{Entry}
+use Rattle.am_base.specs.declared.entry.Entry.TheVariants.{Data, Join, Leave, View}
+use Rattle.am_base.specs.declared.image.Row.{Row}
+use Rattle.am_base.specs.declared.image.Image.{Image}
+use Rattle.am_base.specs.Names.{place_of, life_of, by_place}
+use Rattle.am_base.specs.Lists.{Log, blank_row, blank, is_blank, at_place, row_of, member_life, viewed, after, fold, top_of, image_at, told_by}
+use Rattle.am_model.proofs.Greatest.{split}
+
+-- ---- rows
+
+pub record RowUp (n : ℕ) (r : Row) : Type 0 where
+  pub joined : r.joined ≤ n
+  pub left : r.left ≤ n
+
+pub record ImageUp (n : ℕ) (image : Image) : Type 0 where
+  pub view : image.view_number ≤ n
+  pub rows : All (RowUp n) image.rows
+
+row_more : (n : ℕ) (r : Row) → RowUp n r → RowUp (n + 1) r
+row_more n r h = let j = h.joined in let l = h.left in record { joined = omega arith; left = omega arith }
+
+up_blank : (n : ℕ) → RowUp n blank_row
+up_blank n = record { joined = omega arith; left = omega arith }
+
+up_at : (n : ℕ) (rows : List Row) (place : ℕ) → All (RowUp n) rows → RowUp n (slice_index_or rows place blank_row)
+up_at n [] place h = up_blank n
+up_at n (r ∷ rs) zero h = All-head (RowUp n) r rs h
+up_at n (r ∷ rs) (suc place) h = up_at n rs place (All-tail (RowUp n) r rs h)
+
+all_places : {A : Type 0} (P : A → Type 0) (f : ℕ → A) (places : List ℕ) → ((place : ℕ) → P (f place)) → All (λ place. P (f place)) places
+all_places P f [] h = All-nil (λ place. P (f place))
+all_places P f (place ∷ places) h = All-cons (λ place. P (f place)) place places (h place) (all_places P f places h)
+
+viewed_up : (n : ℕ) (first : Bool) (life : ℕ) (r : Row) → RowUp n r → RowUp (n + 1) (viewed first (n + 1) life r)
+viewed_up n true life r h = split (life == 0) (λ t. rw t (row_more n r h)) (λ f. rw f (record { joined = omega arith; left = omega arith }))
+viewed_up n false life r h = split (nat_lt 0 (member_life r) && not (member_life r == life))
+    (λ t. rw t (let j = h.joined in record { joined = omega arith; left = omega arith }))
+    (λ f. rw f (row_more n r h))
+
+-- ---- an entry more
+
+image_more : (n : ℕ) (image : Image) → ImageUp n image → ImageUp (n + 1) image
+image_more n image h = let v = h.view in record { view = omega arith; rows = All-weaker (RowUp n) (RowUp (n + 1)) (row_more n) image.rows h.rows }
+
+after_up : (n : ℕ) (image : Image) (e : Entry) → ImageUp n image → ImageUp (n + 1) (after image (n + 1) e)
+unfolding after by_place
+after_up n image (Data from req body) h =
+    let more = image_more n image h in
+    let old = row_more n (at_place image from) (up_at n image.rows (place_of from) h.rows) in
+    split ((at_place image from).life == life_of from)
+    (λ t. rw t (record { view = more.view; rows = All-set (RowUp (n + 1)) image.rows (place_of from) (record (at_place image from) { last = req }) (record { joined = old.joined; left = old.left }) more.rows }))
+    (λ f. rw f more)
+after_up n image (Join name) h =
+    let more = image_more n image h in
+    record { view = more.view; rows = All-set (RowUp (n + 1)) image.rows (place_of name) (record { life = life_of name; joined = n + 1; left = 0; last = 0 }) (record { joined = omega arith; left = omega arith }) more.rows }
+after_up n image (Leave name) h =
+    let more = image_more n image h in
+    let old = row_more n (at_place image name) (up_at n image.rows (place_of name) h.rows) in
+    split ((at_place image name).life == life_of name)
+    (λ t. rw t (record { view = more.view; rows = All-set (RowUp (n + 1)) image.rows (place_of name) (record (at_place image name) { left = n + 1 }) (record { joined = old.joined; left = omega arith }) more.rows }))
+    (λ f. rw f more)
+after_up n image (View stamp members resilience) h =
+    let f : ℕ → Row = λ place. viewed (is_blank image) (n + 1) (slice_index members place) (slice_index_or image.rows place blank_row) in
+    record { view = omega arith; rows = All-map (RowUp (n + 1)) f (range_with_len 0 16) (all_places (RowUp (n + 1)) f (range_with_len 0 16) (λ place. viewed_up n (is_blank image) (slice_index members place) _ (up_at n image.rows place h.rows))) }
+
+fold_up : (n : ℕ) (image : Image) (es : List Entry) → ImageUp n image → ImageUp (n + length es) (fold image (n + 1) es)
+unfolding fold
+fold_up n image [] h = let z : n + 0 ≡ n = omega arith in subst (λ k. ImageUp k image) (sym z) h
+fold_up n image (e ∷ es) h =
+    let z : n + 1 + length es ≡ n + length (e ∷ es) = omega arith in
+    subst (λ k. ImageUp k (fold (after image (n + 1) e) (n + 1 + 1) es)) z (fold_up (n + 1) (after image (n + 1) e) es (after_up n image e h))
+
+-- ---- lists
+
+pub told_up : (log : Log) → ImageUp log.start log.image → ImageUp (top_of log) (told_by log)
+told_up log h = fold_up log.start log.image log.entries h
+
+up_higher : (n k : ℕ) (image : Image) → n ≤ k → ImageUp n image → ImageUp k image
+up_higher n k image low h = let v = h.view in record {
+  view = omega arith;
+  rows = All-weaker (RowUp n) (RowUp k) (λ r x. let j = x.joined in let l = x.left in record { joined = omega arith; left = omega arith }) image.rows h.rows;
+}
+
+pub image_up : (log : Log) (number : ℕ) → log.start ≤ number → ImageUp log.start log.image → ImageUp number (image_at log number)
+image_up log number from h =
+    let k = fold_up log.start log.image (take (number - log.start) log.entries) h in
+    let long = length-take (number - log.start) log.entries in
+    up_higher (log.start + length (take (number - log.start) log.entries)) number (image_at log number) (omega arith) k
+
+-- the row of a name
+pub row_up : (n : ℕ) (image : Image) (name : ℕ) → ImageUp n image → RowUp n (row_of image name)
+row_up n image name h = split ((at_place image name).life == life_of name)
+    (λ t. rw t (up_at n image.rows (place_of name) h.rows))
+    (λ f. rw f (up_blank n))
+
+pub place_up : (n : ℕ) (image : Image) (name : ℕ) → ImageUp n image → RowUp n (at_place image name)
+place_up n image name h = up_at n image.rows (place_of name) h.rows
+
+pub blank_up : (n : ℕ) → ImageUp n blank
+blank_up n = record { view = omega arith; rows = All-replicate (RowUp n) 16 blank_row (up_blank n) }

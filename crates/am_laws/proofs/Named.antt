@@ -1,0 +1,190 @@
+-- Which name each node has, and which nodes nobody has been yet.
+use Rattle.std.proofs.Common.{◌≡◌, ℕ, ◌+◌, ◌<◌, ◌≤◌, ◌==◌, Bool, false, if◌then◌else◌, List, slice_index, refl, sym, ap, ◌∙◌, subst, arith}
+use Rattle.std.specs.Prelude.{All}
+use Rattle.std.proofs.lemmas.Bool.Decides.{nat_tests}
+use Rattle.std.proofs.lemmas.List.Elements.{All-nil, All-append, All-weaker}
+use Rattle.am_base.specs.declared.outcome.Outcome.{Outcome}
+use Rattle.am_base.specs.declared.entry.Entry.TheVariants.{Leave}
+use Rattle.am_base.specs.Founding.{Rules, MayFound}
+use Rattle.am_base.specs.Names.{place_of, life_of, has}
+use Rattle.am_packet.specs.declared.packet.Packet.{Packet}
+use Rattle.am_packet.specs.Boxes.{Letter}
+use Rattle.am_group.specs.declared.event.Event.{Event}
+use Rattle.am_model.specs.Node.{Node, Ballot, pushed, set_at, stranger}
+use Rattle.am_model.specs.Ballots.{Verdict}
+use Rattle.am_model.specs.Emit.{Step}
+use Rattle.am_model.specs.World.{World, start, first_node, unchanged, stepped, run}
+use Rattle.am_model.proofs.Greatest.{split}
+use Rattle.am_effects.specs.Causes.{Cause}
+use Rattle.am_effects.specs.Looks.{Looks, finds_itself_out, waits, fetches_from_best, finds_too_few, finds_no_room, decides}
+use Rattle.am_effects.specs.Letters.{Says, request, spread, bcast, order, accept, ack, nack, hold, join_ask, welcome, leave_ask, gone, invite, vote, fetch, piece, result, hand_over, LetterSays}
+use Rattle.am_effects.specs.Changes.{Change, refreshes, settles, takes_report, admits, numbers, keeps_body, notes, stores, begins_list, departs, promises, opens, looks, fetches, stores_view, queues, collects, takes, asks_to_join, asks_to_leave, closes}
+use Rattle.am_effects.specs.Effects.{Effect}
+use Rattle.am_effects.specs.Events.{actor, idles, stops, returns, steps}
+use Rattle.am_effects.proofs.Items.{all_item}
+use Rattle.am_effects.proofs.Rests.{rests_refresh, rests_at_end, settle_is}
+use Rattle.am_effects.proofs.Runs.{along, EachKeeps, runs_keep}
+use Rattle.am_laws.specs.Packets.{sender_of}
+use Rattle.am_laws.specs.Named.{NamesHold}
+
+-- ---- a node keeps its name
+
+abbrev IsNamed : ℕ → Node → Type 0
+IsNamed name m = m.core.who ≡ name
+
+look_named : (name : ℕ) (m : Node) (b : Ballot) (v : Verdict) → Looks m b v → IsNamed name m → IsNamed name v.node
+look_named name m b v (finds_itself_out x) h = h
+look_named name m b v (waits x y) h = h
+look_named name m b v (fetches_from_best x y z) h = h
+look_named name m b v (finds_too_few x y) h = h
+look_named name m b v (finds_no_room x) h = h
+look_named name m b v (decides may) h = h
+
+change_named : (name : ℕ) {c : Cause} {o : Outcome} (m n : Node) → Change c o m n → IsNamed name m → IsNamed name n
+change_named name m n refreshes h = (rests_refresh m).rests.who ∙ h
+change_named name m n settles h = ap (λ (x : Node). x.core.who) (settle_is m) ∙ h
+change_named name m n (takes_report s v report by may) h = h
+change_named name m n (admits s v is leads fit) h = h
+change_named name m n (numbers e leads room why) h = h
+change_named name m n (keeps_body s v report req body is by) h = h
+change_named name m n (notes s v base acc by from) h = h
+change_named name m n (stores s v base acc number e by from plain may) h = h
+change_named name m n (begins_list s v base join image is o may) h = h
+change_named name m n (departs s v number is by leaves) h = h
+change_named name m n (promises v low why) h = h
+change_named name m n (opens least resilience by may) h = h
+change_named name m n (looks b verdict over why look is) h = look_named name m b verdict look h
+change_named name m n (fetches s v base number e is by promise below from may) h = h
+change_named name m n (stores_view s v base number names resilience is by own other promise below may) h = h
+change_named name m n (queues body is o member stays few) h = h
+change_named name m n (collects req is) h = h
+change_named name m n (takes e is o member some there) h = h
+change_named name m n (asks_to_join is was) h = h
+change_named name m n (asks_to_leave is was stays done) h = h
+change_named name m n (closes leads leaves alone room) h = (rests_at_end (pushed m (Leave m.core.who))).rests.who ∙ h
+
+-- and its letters have it
+says_named : (m n : Node) (c : Cause) (to : List ℕ) (p : Packet) → Says m c n to p → sender_of p ≡ n.core.who
+says_named m n c to p (request _ req body a f s) = refl
+says_named m n c to p (spread _ req body a f s) = refl
+says_named m n c to p (bcast _ number e l s) = refl
+says_named m n c to p (order _ number from_ req v report body is l s) = refl
+says_named m n c to p (accept _ poll l) = refl
+says_named m n c to p (ack _ a) = refl
+says_named m n c to p (nack _ a) = refl
+says_named m n c to p (hold _ req l) = refl
+says_named m n c to p (join_ask _ a) = refl
+says_named m n c to p (welcome s l may) = refl
+says_named m n c to p (leave_ask _ a l) = refl
+says_named m n c to p (gone s l may) = refl
+says_named m n c to p (invite _ may) = refl
+says_named m n c to p (vote s v is) = refl
+says_named m n c to p (fetch _ may) = refl
+says_named m n c to p (piece s v stored number e is may at) = refl
+says_named m n c to p (result _ number names is viewed may) = refl
+says_named m n c to p (hand_over _ l leaves) = refl
+
+-- ---- worlds
+
+abbrev SentByName : Letter → Type 0
+SentByName letter = sender_of letter.packet < 256
+
+pub record AllNamed (rules : Rules) (w : World) : Type 0 where
+  pub who : (name : ℕ) → IsNamed name (w.nodes name)
+  pub least : (place : ℕ) → 0 < w.lives place
+  pub most : (place : ℕ) → w.lives place ≤ 16
+  pub senders : All SentByName w.letters
+  pub unborn : (name : ℕ) → w.lives (place_of name) < life_of name → w.nodes name ≡ stranger rules name
+
+-- a current name is one of the 256
+pub few_names : (rules : Rules) (w : World) (e : Event) → AllNamed rules w → actor w e < 256
+few_names rules w e h = let a = h.least (place_of e.node) in let b = h.most (place_of e.node) in omega arith
+
+-- and its life has begun
+actor_born : (rules : Rules) (w : World) (e : Event) → AllNamed rules w → w.lives (place_of (actor w e)) < life_of (actor w e) → ⊥
+actor_born rules w e h low =
+    let life = w.lives (place_of e.node) in
+    let a = h.least (place_of e.node) in
+    let p : place_of (actor w e) ≡ place_of e.node = omega arith in
+    let l : life_of (actor w e) ≡ life = omega arith in
+    let q : w.lives (place_of (actor w e)) ≡ life = ap w.lives p in
+    omega arith
+
+named_step : (rules : Rules) (w : World) (e : Event) (c : Cause) (s : Step) → Effect (w.nodes (actor w e)) c s → AllNamed rules w → AllNamed rules (stepped w e (actor w e) s)
+unfolding stepped
+named_step rules w e c s effect h =
+    let name = actor w e in
+    let who = along (IsNamed name) (change_named name) effect.changes (h.who name) in
+    let sender : effect.sender.core.who ≡ name = sym (ap (λ (x : Node). x.core.who) effect.is) ∙ who in
+    let few = few_names rules w e h in
+    record {
+      who = λ other. split (other == name)
+          (λ t. let same : name ≡ other = grind (arith, nat_tests) in rw t (who ∙ same))
+          (λ f. rw f (h.who other));
+      least = h.least;
+      most = h.most;
+      senders = All-append SentByName w.letters s.letters h.senders
+          (All-weaker (LetterSays (w.nodes name) c effect.sender) SentByName (λ l x. let is = says_named (w.nodes name) effect.sender c l.to l.packet x.says in omega arith) s.letters effect.letters);
+      unborn = λ other low. split (other == name)
+          (λ t. absurd (let same : other ≡ name = grind (arith, nat_tests) in actor_born rules w e h (subst (λ n. w.lives (place_of n) < life_of n) same low)))
+          (λ f. rw f (h.unborn other low));
+    }
+
+-- one life more
+named_lives : (rules : Rules) (w : World) (place : ℕ) → (w.lives place == 16) ≡ false → (v : World) → v.nodes ≡ w.nodes → v.letters ≡ w.letters → v.lives ≡ set_at w.lives place (w.lives place + 1) → AllNamed rules w → AllNamed rules v
+named_lives rules w place more v nodes letters lives h =
+    let old = h.most place in
+    let few : w.lives place + 1 ≤ 16 = grind (arith, nat_tests) in
+    let at : (k : ℕ) → v.lives k ≡ set_at w.lives place (w.lives place + 1) k = λ k. ap (λ f. f k) lives in
+    let grows : (k : ℕ) → w.lives k ≤ v.lives k = λ k. split (k == place)
+    (λ t. let same : k ≡ place = grind (arith, nat_tests) in let e : v.lives k ≡ w.lives place + 1 = at k ∙ ap (λ (b : Bool). if b then w.lives place + 1 else w.lives k) t in let q = ap w.lives same in omega arith)
+    (λ f. let e : v.lives k ≡ w.lives k = at k ∙ ap (λ (b : Bool). if b then w.lives place + 1 else w.lives k) f in omega arith) in
+    record {
+      who = rw nodes h.who;
+      least = λ k. let a = h.least k in let b = grows k in omega arith;
+      most = λ k. split (k == place)
+          (λ t. let e : v.lives k ≡ w.lives place + 1 = at k ∙ ap (λ (b : Bool). if b then w.lives place + 1 else w.lives k) t in omega arith)
+          (λ f. let e : v.lives k ≡ w.lives k = at k ∙ ap (λ (b : Bool). if b then w.lives place + 1 else w.lives k) f in let m = h.most k in omega arith);
+      senders = rw letters h.senders;
+      unborn = λ name low. ap (λ f. f name) nodes ∙ h.unborn name (let b = grows (place_of name) in omega arith);
+    }
+
+pub each_named : (rules : Rules) → EachKeeps (AllNamed rules)
+unfolding unchanged
+each_named rules w e v (idles o idle) h = record { who = h.who; least = h.least; most = h.most; senders = h.senders; unborn = h.unborn }
+each_named rules w e v (stops runs) h = record { who = h.who; least = h.least; most = h.most; senders = h.senders; unborn = h.unborn }
+each_named rules w e v (returns place is left more) h = named_lives rules w place more v refl refl refl h
+each_named rules w e v (steps c s runs cause effect) h = named_step rules w e c s effect h
+
+-- ---- runs
+
+first_named : (rules : Rules) (name : ℕ) → IsNamed name (first_node rules name)
+first_named rules name = split (has rules.founders name) (λ t. rw t refl) (λ f. rw f refl)
+
+-- a founder has life 1
+founders_first : (rules : Rules) (name : ℕ) → MayFound rules → 1 < life_of name → has rules.founders name ≡ false
+founders_first rules name may high = split (has rules.founders name)
+    (λ t.
+    let long = may.names.places in
+    let place : place_of name < 16 = omega arith in
+    let first = may.first_lives (place_of name) (omega arith) in
+    let is : slice_index rules.founders (place_of name) ≡ life_of name = grind (arith, nat_tests) in
+    absurd (omega arith))
+    (λ f. f)
+
+pub start_named : (rules : Rules) → MayFound rules → AllNamed rules (start rules)
+start_named rules may = record {
+  who = first_named rules;
+  least = λ place. omega arith;
+  most = λ place. omega arith;
+  senders = All-nil SentByName;
+  unborn = λ name high. rw (founders_first rules name may high) refl;
+}
+
+pub run_named : (rules : Rules) (events : List Event) → MayFound rules → AllNamed rules (run rules events)
+run_named rules events may = runs_keep (AllNamed rules) (each_named rules) (start rules) events (start_named rules may)
+
+pub names_hold : NamesHold
+names_hold rules events may =
+    let h = run_named rules events may in
+    record { who = h.who; least = h.least; most = h.most; senders = λ number letter at. all_item SentByName (run rules events).letters number letter h.senders at; unborn = h.unborn }

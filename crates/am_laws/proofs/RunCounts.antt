@@ -1,0 +1,341 @@
+-- How high all numbers of a run are, event by event.
+use Rattle.std.proofs.Common.{◌≡◌, inl, inr, ⊎_elim, ℕ, ◌+◌, ◌-◌, ◌≤◌, ◌==◌, max, min, Bool, true, if◌then◌else◌, List, [], ◌∷◌, length, take, drop, Option, Some, None, refl, ap, ◌∙◌, subst, arith, length-append, length-drop}
+use Rattle.std.specs.Prelude.{All}
+use Rattle.std.proofs.lemmas.Bool.Decides.{nat_tests}
+use Rattle.std.proofs.lemmas.List.{length-take}
+use Rattle.std.proofs.lemmas.List.Elements.{All-nil, All-append, All-weaker}
+use Rattle.am_base.specs.declared.entry.Entry.{Entry}
+use Rattle.am_base.specs.Founding.{Rules}
+use Rattle.am_base.specs.Names.{has}
+use Rattle.am_base.specs.Lists.{row_of}
+use Rattle.am_packet.specs.declared.packet.Packet.{Packet}
+use Rattle.am_packet.specs.Boxes.{Letter}
+use Rattle.am_group.specs.declared.event.Event.{Event}
+use Rattle.am_group.specs.Journals.{letter_at}
+use Rattle.am_model.specs.Node.{Node, Ballot, top, told, set_at, founder, stranger}
+use Rattle.am_model.specs.Emit.{Step}
+use Rattle.am_model.specs.World.{World, start, first_node, grown, group_after, unchanged, stepped, happens, happen, run}
+use Rattle.am_model.specs.Claims.{heard_by}
+use Rattle.am_model.proofs.Greatest.{split}
+use Rattle.am_effects.specs.Causes.{Cause, hears}
+use Rattle.am_effects.specs.Letters.{MayWelcome, Says, request, spread, bcast, order, accept, ack, nack, hold, join_ask, welcome, leave_ask, gone, invite, vote, fetch, piece, result, hand_over, LetterSays}
+use Rattle.am_effects.specs.Effects.{Effect}
+use Rattle.am_effects.specs.Events.{actor, WasSentTo, IsCause, Happens, idles, stops, returns, steps}
+use Rattle.am_effects.proofs.Items.{all_item}
+use Rattle.am_effects.proofs.Events.{events_have_effects}
+use Rattle.am_laws.specs.Packets.{Bounds, up, UpTo}
+use Rattle.am_laws.specs.Numbers.{NumbersHold}
+use Rattle.am_laws.proofs.Counts.{IsKnown, VotesKnown, leads, Low, Behind, low_more}
+use Rattle.am_laws.proofs.Images.{blank_up, image_up}
+use Rattle.am_laws.proofs.ListImages.{WelcomeUp, ListUp, changes_list}
+use Rattle.am_laws.proofs.LetterCounts.{Sends, says_low, welcome_low}
+use Rattle.am_laws.proofs.EventCounts.{actor_low}
+
+-- ---- a group that accepts more
+
+votes_wider : (g k : ℕ) (ballot : Option Ballot) → g ≤ k → VotesKnown g ballot → VotesKnown k ballot
+votes_wider g k None low h = tt
+votes_wider g k (Some b) low h = λ name vote is. let v = h name vote is in omega arith
+
+low_wider : (b : Bounds) (g k : ℕ) (m : Node) → g ≤ k → Low b g m → Low b k m
+low_wider b g k m low h =
+    let a = h.listed in let c = h.began in let d = h.took in let e = h.trims in
+    let known : IsKnown k m.core.told m.core.acc (leads m) = ⊎_elim
+    (λ (x : (m.core.told ≤ g) × (m.core.acc ≤ g)). let t = x.0 in let u = x.1 in inl (omega arith, omega arith))
+    (λ (x : (leads m ≡ true) × (m.core.told ≤ max g m.core.acc)). let t = x.1 in inr (x.0, omega arith))
+    h.known in
+    record {
+      entries = h.entries;
+      rounds = h.rounds;
+      sends = h.sends;
+      quits = h.quits;
+      given = h.given;
+      accepted = h.accepted;
+      kept = h.kept;
+      listed = omega arith;
+      began = omega arith;
+      took = omega arith;
+      trims = omega arith;
+      reported = λ name. let r = h.reported name in omega arith;
+      votes = votes_wider g k m.ballot low h.votes;
+      known = known;
+    }
+
+behind_wider : (g k : ℕ) (m : Node) → g ≤ k → Behind g m → Behind k m
+behind_wider g k m low h = let t = h.told in let a = h.acc in record { told = omega arith; acc = omega arith }
+
+all_wider : (g k : ℕ) (xs : List ℕ) → g ≤ k → All (λ n. n ≤ g) xs → All (λ n. n ≤ k) xs
+all_wider g k xs low h = All-weaker (λ n. n ≤ g) (λ n. n ≤ k) (λ n le. omega arith) xs h
+
+up_wider : (b : Bounds) (g k : ℕ) (p : Packet) → g ≤ k → UpTo b g p → UpTo (up b) k p
+up_wider b g k p low h = let r = h.round in record {
+  round = omega arith;
+  numbers = all_wider b.lists (b.lists + 1) _ (omega arith) h.numbers;
+  accepted = all_wider g k _ low h.accepted;
+}
+
+-- ---- the group's list after a step
+
+record Grew (b : Bounds) (group : List Entry) (m : Node) : Type 0 where
+  more : length group ≤ length (group_after group m)
+  few : length (group_after group m) ≤ b.lists + 1
+  behind : Behind (length (group_after group m)) m
+
+-- it reaches what a leader has accepted
+grown_long : (g acc start many : ℕ) → start ≤ g → acc ≤ start + many → g + min (acc - g) (many - (g - start)) ≡ max g acc
+grown_long g acc start many h k = omega arith
+
+long_grown : (group : List Entry) (m : Node) → m.core.log.start ≤ length group → m.core.acc ≤ top m → length (grown group m.core) ≡ max (length group) m.core.acc
+long_grown group m h k =
+    let rest = drop (length group - m.core.log.start) m.core.log.entries in
+    let a = length-append group (take (m.core.acc - length group) rest) in
+    let c = length-take (m.core.acc - length group) rest in
+    let d = length-drop (length group - m.core.log.start) m.core.log.entries in
+    a ∙ ap (λ x. length group + x) (c ∙ ap (min (m.core.acc - length group)) d) ∙ grown_long (length group) m.core.acc m.core.log.start (length m.core.log.entries) h k
+
+grew : (b : Bounds) (group : List Entry) (m : Node) → length group ≤ b.lists → Low (up b) (length group) m → Grew b group m
+grew b group m few h = split (leads m)
+    (λ t.
+    let long : length (group_after group m) ≡ max (length group) m.core.acc = ap (λ (x : Bool). length (if x then grown group m.core else group)) t ∙ long_grown group m h.listed h.accepted in
+    let a = h.accepted in
+    let e = h.entries in
+    let told : m.core.told ≤ max (length group) m.core.acc = ⊎_elim
+    (λ (x : (m.core.told ≤ length group) × (m.core.acc ≤ length group)). let y = x.0 in omega arith)
+    (λ (x : (leads m ≡ true) × (m.core.told ≤ max (length group) m.core.acc)). x.1)
+    h.known in
+    record { more = omega arith; few = omega arith; behind = record { told = omega arith; acc = omega arith } })
+    (λ f.
+    let long : length (group_after group m) ≡ length group = ap (λ (x : Bool). length (if x then grown group m.core else group)) f in
+    let known : (m.core.told ≤ length group) × (m.core.acc ≤ length group) = ⊎_elim
+    (λ (x : (m.core.told ≤ length group) × (m.core.acc ≤ length group)). x)
+    (λ (x : (leads m ≡ true) × (m.core.told ≤ max (length group) m.core.acc)). let y = x.0 in absurd (cc))
+    h.known in
+    let t = known.0 in
+    let a = known.1 in
+    record { more = omega arith; few = omega arith; behind = record { told = omega arith; acc = omega arith } })
+
+-- ---- a world
+
+pub record AllLow (b : Bounds) (w : World) : Type 0 where
+  pub each : (name : ℕ) → Low b (length w.group) (w.nodes name)
+  pub behind : (name : ℕ) → Behind (length w.group) (w.nodes name)
+  pub images : (name : ℕ) → ListUp (w.nodes name)
+  pub letters : All (λ (l : Letter). UpTo b (length w.group) l.packet) w.letters
+  pub welcomes : All (λ (l : Letter). WelcomeUp l.packet) w.letters
+  pub group : length w.group ≤ b.lists
+
+-- what is so of worlds that have the nodes, the letters and the group list of another
+low_same : (b : Bounds) (w v : World) → v.nodes ≡ w.nodes → v.letters ≡ w.letters → v.group ≡ w.group → AllLow b w → AllLow (up b) v
+low_same b w v nodes letters group h =
+    let more = h.group in
+    record {
+      each = rw (nodes, group) (λ name. low_more b (length w.group) (w.nodes name) (h.each name));
+      behind = rw (nodes, group) h.behind;
+      images = rw nodes h.images;
+      letters = rw (letters, group) (All-weaker (λ (l : Letter). UpTo b (length w.group) l.packet) (λ (l : Letter). UpTo (up b) (length w.group) l.packet) (λ l x. up_wider b (length w.group) (length w.group) l.packet (omega arith) x) w.letters h.letters);
+      welcomes = rw letters h.welcomes;
+      group = rw group (omega arith);
+    }
+
+-- ---- the letters of a step
+
+welcomes_up : (m n : Node) (c : Cause) (to : List ℕ) (p : Packet) → n.core.log.start ≤ n.core.base → ListUp n → Says m c n to p → WelcomeUp p
+welcomes_up m n c to p from h (welcome s l may) = image_up n.core.log n.core.base from h
+welcomes_up m n c to p from h (request _ req body a f s) = tt
+welcomes_up m n c to p from h (spread _ req body a f s) = tt
+welcomes_up m n c to p from h (bcast _ number e l s) = tt
+welcomes_up m n c to p from h (order _ number from_ req v report body is l s) = tt
+welcomes_up m n c to p from h (accept _ poll l) = tt
+welcomes_up m n c to p from h (ack _ a) = tt
+welcomes_up m n c to p from h (nack _ a) = tt
+welcomes_up m n c to p from h (hold _ req l) = tt
+welcomes_up m n c to p from h (join_ask _ a) = tt
+welcomes_up m n c to p from h (leave_ask _ a l) = tt
+welcomes_up m n c to p from h (gone s l may) = tt
+welcomes_up m n c to p from h (invite _ may) = tt
+welcomes_up m n c to p from h (vote s v is) = tt
+welcomes_up m n c to p from h (fetch _ may) = tt
+welcomes_up m n c to p from h (piece s v stored number e is may at) = tt
+welcomes_up m n c to p from h (result _ number names is viewed may) = tt
+welcomes_up m n c to p from h (hand_over _ l leaves) = tt
+
+-- ---- a step
+
+set_same : (P : Node → Type 0) (nodes : ℕ → Node) (name : ℕ) (n : Node) → ((other : ℕ) → P (nodes other)) → P n → (other : ℕ) → P (set_at nodes name n other)
+set_same P nodes name n h k other = split (other == name) (λ t. rw t k) (λ f. rw f (h other))
+
+is_itself : (name : ℕ) → (name == name) ≡ true
+is_itself name = grind (arith, nat_tests)
+
+-- the node of the acting name after the event, by any bounds that hold before it
+abbrev RaisedBy : World → World → ℕ → ℕ → Type 0
+RaisedBy w v name number = (b : Bounds) → ((letter : Letter) → letter_at w.letters number ≡ Some letter → UpTo b (length w.group) letter.packet) → Low b (length w.group) (w.nodes name) → Low (up b) (length w.group) (v.nodes name)
+
+-- its sender is the node after the step, but for its status
+sender_low : (b : Bounds) (g : ℕ) (n sender : Node) → n ≡ record sender { status = n.status } → Low b g n → Low b g sender
+sender_low b g n sender is h = let k : Low b g (record sender { status = n.status }) = subst (Low b g) is h in k
+
+sender_behind : (g : ℕ) (n sender : Node) → n ≡ record sender { status = n.status } → Behind g n → Behind g sender
+sender_behind g n sender is h = let k : Behind g (record sender { status = n.status }) = subst (Behind g) is h in record { told = k.told; acc = k.acc }
+
+sender_list : (n sender : Node) → n ≡ record sender { status = n.status } → ListUp n → ListUp sender
+sender_list n sender is h = let k : ListUp (record sender { status = n.status }) = subst ListUp is h in k
+
+-- the packet that was heard
+was_heard : (w : World) (e : Event) (c : Cause) (p : Packet) → c ≡ hears p → IsCause w (actor w e) e.act c → WasSentTo w (actor w e) e.act p
+was_heard w e c p is cause = subst (IsCause w (actor w e) e.act) is cause
+
+heard_up : (b : Bounds) (w : World) (e : Event) (c : Cause) → AllLow b w → IsCause w (actor w e) e.act c → (p : Packet) → c ≡ hears p → WelcomeUp p
+heard_up b w e c h cause p is =
+    let was = was_heard w e c p is cause in
+    subst WelcomeUp was.is (all_item (λ (l : Letter). WelcomeUp l.packet) w.letters (heard_by e.act) was.letter h.welcomes was.there)
+
+low_stepped : (b : Bounds) (w : World) (e : Event) (c : Cause) (s : Step) → IsCause w (actor w e) e.act c → Effect (w.nodes (actor w e)) c s → RaisedBy w (stepped w e (actor w e) s) (actor w e) (heard_by e.act) → AllLow b w → AllLow (up b) (stepped w e (actor w e) s)
+unfolding stepped
+low_stepped b w e c s cause effect raised h =
+    let name = actor w e in
+    let m = w.nodes name in
+    let n = s.node in
+    let g = length w.group in
+    let k = length (group_after w.group n) in
+    let letters : (letter : Letter) → letter_at w.letters (heard_by e.act) ≡ Some letter → UpTo b g letter.packet =
+    λ letter at. all_item (λ (l : Letter). UpTo b g l.packet) w.letters (heard_by e.act) letter h.letters at in
+    let low : Low (up b) g n = rw (is_itself name) at (raised b letters (h.each name)) in
+    let grown : Grew b w.group n = grew b w.group n h.group low in
+    let list : ListUp n = changes_list m n (heard_up b w e c h cause) effect.changes (h.images name) in
+    let more = grown.more in
+    let wide : Low (up b) k n = low_wider (up b) g k n more low in
+    let sender = effect.sender in
+    let accepted = (h.behind name).acc in
+    let next : (j : ℕ) → MayWelcome m sender j → (row_of (told sender) j).joined ≤ k =
+    λ j may. welcome_low k m sender j (omega arith) (sender_behind k n sender effect.is grown.behind).acc (sender_list n sender effect.is list) may in
+    let sends : Sends (up b) k c m sender = record {
+      low = sender_low (up b) k n sender effect.is wide;
+      behind = sender_behind k n sender effect.is grown.behind;
+      group = grown.few;
+      next = next;
+      image = sender_list n sender effect.is list;
+    } in
+    record {
+      each = set_same (Low (up b) k) w.nodes name n (λ other. low_wider (up b) g k (w.nodes other) more (low_more b g (w.nodes other) (h.each other))) wide;
+      behind = set_same (Behind k) w.nodes name n (λ other. behind_wider g k (w.nodes other) more (h.behind other)) grown.behind;
+      images = set_same ListUp w.nodes name n h.images list;
+      letters = All-append (λ (l : Letter). UpTo (up b) k l.packet) w.letters s.letters
+          (All-weaker (λ (l : Letter). UpTo b g l.packet) (λ (l : Letter). UpTo (up b) k l.packet) (λ l x. up_wider b g k l.packet more x) w.letters h.letters)
+          (All-weaker (LetterSays m c sender) (λ (l : Letter). UpTo (up b) k l.packet) (λ l x. says_low (up b) k m sender c l.to l.packet sends x.says) s.letters effect.letters);
+      welcomes = All-append (λ (l : Letter). WelcomeUp l.packet) w.letters s.letters h.welcomes
+          (All-weaker (LetterSays m c sender) (λ (l : Letter). WelcomeUp l.packet) (λ l x. welcomes_up m sender c l.to l.packet sends.low.kept sends.image x.says) s.letters effect.letters);
+      group = grown.few;
+    }
+
+-- ---- each event
+
+low_event : (b : Bounds) (w : World) (e : Event) (v : World) → Happens w e v → RaisedBy w v (actor w e) (heard_by e.act) → AllLow b w → AllLow (up b) v
+unfolding unchanged
+low_event b w e v (idles o idle) raised h = low_same b w v refl refl refl h
+low_event b w e v (stops runs) raised h = low_same b w v refl refl refl h
+low_event b w e v (returns place is left more) raised h = low_same b w v refl refl refl h
+low_event b w e v (steps c s runs cause effect) raised h = low_stepped b w e c s cause effect raised h
+
+low_happens : (b : Bounds) (w : World) (e : Event) → AllLow b w → AllLow (up b) (happens w e)
+low_happens b w e h = low_event b w e (happens w e) (events_have_effects w e) (λ c letters low. actor_low c (length w.group) w e letters (h.behind (actor w e)) low) h
+
+-- ---- runs
+
+-- the bounds after so many events
+abbrev pub bounds_after : ℕ → Bounds → Bounds
+bounds_after many b = record { lists = b.lists + many; rounds = b.rounds + many; requests = b.requests + many }
+
+same_bounds : (b c : Bounds) (w : World) → b ≡ c → AllLow b w → AllLow c w
+same_bounds b c w is h = subst (λ x. AllLow x w) is h
+
+low_happen : (b : Bounds) (w : World) (events : List Event) → AllLow b w → AllLow (bounds_after (length events) b) (happen w events)
+unfolding happen
+low_happen b w [] h =
+    let z : (n : ℕ) → n ≡ n + 0 = λ n. omega arith in
+    same_bounds b _ w (λ i. record { lists = z b.lists i; rounds = z b.rounds i; requests = z b.requests i }) h
+low_happen b w (e ∷ es) h =
+    let z : (n : ℕ) → n + 1 + length es ≡ n + length (e ∷ es) = λ n. omega arith in
+    same_bounds _ _ _ (λ i. record { lists = z b.lists i; rounds = z b.rounds i; requests = z b.requests i }) (low_happen (up b) (happens w e) es (low_happens b w e h))
+
+-- ---- the start
+
+low_founder : (rules : Rules) (name : ℕ) → Low (record { lists = 1; rounds = 1; requests = 0 }) 1 (founder rules name)
+low_founder rules name = record {
+  entries = omega arith;
+  rounds = omega arith;
+  sends = omega arith;
+  quits = λ t. absurd (cc);
+  given = omega arith;
+  accepted = omega arith;
+  kept = omega arith;
+  listed = omega arith;
+  began = omega arith;
+  took = omega arith;
+  trims = omega arith;
+  reported = λ other. split (has rules.founders other) (λ t. rw t (omega arith)) (λ f. rw f (omega arith));
+  votes = tt;
+  known = inl (omega arith, omega arith);
+}
+
+low_stranger : (rules : Rules) (name : ℕ) → Low (record { lists = 1; rounds = 1; requests = 0 }) 1 (stranger rules name)
+low_stranger rules name = record {
+  entries = omega arith;
+  rounds = omega arith;
+  sends = omega arith;
+  quits = λ t. absurd (cc);
+  given = omega arith;
+  accepted = omega arith;
+  kept = omega arith;
+  listed = omega arith;
+  began = omega arith;
+  took = omega arith;
+  trims = omega arith;
+  reported = λ other. omega arith;
+  votes = tt;
+  known = inl (omega arith, omega arith);
+}
+
+first_of : (P : Node → Type 0) (rules : Rules) (name : ℕ) → P (founder rules name) → P (stranger rules name) → P (first_node rules name)
+first_of P rules name f g = split (has rules.founders name) (λ t. rw t f) (λ u. rw u g)
+
+low_start : (rules : Rules) → AllLow (record { lists = 1; rounds = 1; requests = 0 }) (start rules)
+low_start rules = record {
+  each = λ name. first_of (Low (record { lists = 1; rounds = 1; requests = 0 }) 1) rules name (low_founder rules name) (low_stranger rules name);
+  behind = λ name. first_of (Behind 1) rules name (record { told = omega arith; acc = omega arith }) (record { told = omega arith; acc = omega arith });
+  images = λ name. first_of ListUp rules name (blank_up 0) (blank_up 0);
+  letters = All-nil _;
+  welcomes = All-nil _;
+  group = omega arith;
+}
+
+pub run_low : (rules : Rules) (events : List Event) → AllLow (bounds_after (length events) (record { lists = 1; rounds = 1; requests = 0 })) (run rules events)
+run_low rules events = low_happen (record { lists = 1; rounds = 1; requests = 0 }) (start rules) events (low_start rules)
+
+pub numbers_hold : NumbersHold
+numbers_hold rules events =
+    let w = run rules events in
+    let h = run_low rules events in
+    let first : Bounds = record { lists = 1; rounds = 1; requests = 0 } in
+    record {
+      each = λ name. (let x = h.each name in let y = h.behind name in let t = x.entries in let r = x.rounds in let q = x.sends in record {
+        entries = omega arith;
+        round = omega arith;
+        requests = omega arith;
+        kept = x.kept;
+        given = x.given;
+        accepted = x.accepted;
+        told = y.told;
+        acc = y.acc;
+        base = x.trims;
+        start = x.began;
+      });
+      group = let g = h.group in omega arith;
+      letters = λ number letter at. (let x : UpTo (bounds_after (length events) first) (length w.group) letter.packet = all_item (λ (l : Letter). UpTo (bounds_after (length events) first) (length w.group) l.packet) w.letters number letter h.letters at in
+          let r = x.round in
+          record {
+            round = omega arith;
+            numbers = All-weaker (λ n. n ≤ 1 + length events) (λ n. n ≤ length events + 1) (λ n le. omega arith) _ x.numbers;
+            accepted = x.accepted;
+          });
+    }

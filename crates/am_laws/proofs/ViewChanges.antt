@@ -1,0 +1,348 @@
+-- What changes do to views, to lists and to ballots: an open ballot is above the view, and is what was promised.
+use Rattle.std.proofs.Common.{◌≡◌, ℕ, ◌+◌, ◌<◌, ◌==◌, ◌&&◌, ◌||◌, not, max, nat_lt, Bool, true, false, List, Option, Some, None, refl, sym, ap, ◌∙◌, subst, arith}
+use Rattle.std.proofs.lemmas.Bool.Decides.{nat_tests}
+use Rattle.am_base.specs.declared.outcome.Outcome.{Outcome}
+use Rattle.am_base.specs.declared.name.Stamp.{Stamp}
+use Rattle.am_base.specs.declared.image.Image.{Image}
+use Rattle.am_base.specs.declared.entry.Entry.{Entry}
+use Rattle.am_base.specs.declared.entry.Entry.TheVariants.{Data, Join, Leave, View}
+use Rattle.am_base.specs.Stamps.{stamp_lt, stamp_eq}
+use Rattle.am_base.specs.Lists.{Log, fits, fold, told_by}
+use Rattle.am_packet.specs.declared.packet.Packet.TheVariants as packet
+use Rattle.am_model.specs.declared.status.Status.{Status}
+use Rattle.am_model.specs.declared.status.Status.TheVariants as status
+use Rattle.am_model.specs.Node.{Node, Ballot, told, view, acts, is_sequencer, is_member, is_asking, pushed, trimmed}
+use Rattle.am_model.specs.Ballots.{Verdict, overtaken, need_of, left_in, trimmed_for, next_stamp}
+use Rattle.am_model.specs.Calls.{is_unfinished}
+use Rattle.am_model.specs.Receiving.{is_view}
+use Rattle.am_model.specs.Refresh.{refresh}
+use Rattle.am_model.specs.Hearing.{hears_member, hears_in_view, hears_sequencer}
+use Rattle.am_model.specs.Group.{has_log}
+use Rattle.am_model.proofs.Greatest.{split}
+use Rattle.am_effects.specs.Causes.{Cause}
+use Rattle.am_effects.specs.Looks.{HasOpen, Balloting, with_more, without_one, as_it_is, Looks, finds_itself_out, waits, fetches_from_best, finds_too_few, finds_no_room, decides}
+use Rattle.am_effects.specs.Changes.{Numbers, asked_send, own_send, asked_join, asked_leave, Fetches, without_ballot, for_ballot, MayBeWelcomed, Change, refreshes, settles, takes_report, admits, numbers, keeps_body, notes, stores, begins_list, departs, promises, opens, looks, fetches, stores_view, queues, collects, takes, asks_to_join, asks_to_leave, closes, Changes, unchanged, changed}
+use Rattle.am_effects.proofs.Tests.{or_first, or_second}
+use Rattle.am_effects.proofs.Says.{view_pushed}
+use Rattle.am_effects.proofs.Rests.{rests_refresh, rests_at_end, settle_is}
+use Rattle.am_laws.proofs.Stamps.{at_most, at_most_below, not_above, not_above_itself, same_stamp, equal_stamps, strictly}
+use Rattle.am_laws.proofs.ViewNames.{ViewNamed, HasNames, HeardNames, change_names, promised_named}
+use Rattle.am_laws.proofs.ViewSteps.{Goes, goes_to, goes_then, view_last, goes_view, goes_fit, goes_plain}
+
+-- ---- what ballots keep
+
+pub record IsOpen (who : ℕ) (promise v : Stamp) (b : Ballot) : Type 0 where
+  pub above : stamp_lt v b.stamp ≡ true
+  pub promised : promise ≡ b.stamp
+  pub own : b.stamp.by ≡ who
+
+abbrev pub OpenBallot : ℕ → Stamp → Stamp → Option Ballot → Type 0
+OpenBallot who promise v None = Unit {0}
+OpenBallot who promise v (Some b) = b.is_over ≡ false → IsOpen who promise v b
+
+-- by the parts of a node
+pub record IsBalloted (who : ℕ) (s : Status) (promise v : Stamp) (ballot : Option Ballot) : Type 0 where
+  pub high : stamp_lt promise v ≡ false
+  pub none : has_log s ≡ false → ballot ≡ None
+  pub opened : OpenBallot who promise v ballot
+
+abbrev pub Balloted : Node → Type 0
+Balloted m = IsBalloted m.core.who m.status m.core.promise (view m) m.ballot
+
+-- what a change does
+pub record Does (m n : Node) : Type 0 where
+  pub goes : has_log m.status ≡ true → Goes m.core.log n.core.log
+  pub log_ : has_log m.status ≡ true → has_log n.status ≡ true
+  pub balloted : Balloted n
+
+-- nothing of that changes
+does_same : (m n : Node) → n.core.who ≡ m.core.who → n.status ≡ m.status → n.core.promise ≡ m.core.promise → n.core.log ≡ m.core.log → n.ballot ≡ m.ballot → Balloted m → Does m n
+does_same m n who stays promise log ballot h = record {
+  goes = λ t. goes_to m.core.log n.core.log log;
+  log_ = λ t. ap has_log stays ∙ t;
+  balloted = rw (who, stays, promise, log, ballot) h;
+}
+
+-- an entry that is no View
+does_plain : (m n : Node) (e : Entry) → is_view e ≡ false → n.core.who ≡ m.core.who → has_log n.status ≡ true → n.core.promise ≡ m.core.promise → n.core.log ≡ (pushed m e).core.log → n.ballot ≡ m.ballot → Balloted m → Does m n
+does_plain m n e plain who stays promise log ballot h =
+    let v : view n ≡ view m = ap (λ (l : Log). (told_by l).view) log ∙ view_pushed m e plain in
+    record {
+      goes = λ t. goes_then m.core.log (pushed m e).core.log n.core.log (goes_plain m e plain) (goes_to (pushed m e).core.log n.core.log log);
+      log_ = λ t. stays;
+      balloted = record {
+        high = (λ i. stamp_lt (promise i) (v i)) ∙ h.high;
+        none = λ f. absurd (cc);
+        opened = subst (OpenBallot n.core.who n.core.promise (view n)) (sym ballot) (subst (λ (x : Stamp). OpenBallot n.core.who n.core.promise x m.ballot) (sym v) (subst (λ (p : Stamp). OpenBallot n.core.who p (view m) m.ballot) (sym promise) (subst (λ (k : ℕ). OpenBallot k m.core.promise (view m) m.ballot) (sym who) h.opened)));
+      };
+    }
+
+numbers_plain : (c : Cause) (m : Node) (e : Entry) → Numbers c m e → is_view e ≡ false
+numbers_plain c m e (asked_send s v report req body by known stays next) = refl
+numbers_plain c m e (own_send s is last) = refl
+numbers_plain c m e (asked_join s v is other fit) = refl
+numbers_plain c m e (asked_leave s v report is other known stays) = refl
+
+-- ---- who has a list
+
+pub log_of_member : (s : Status) → is_member s ≡ true → has_log s ≡ true
+log_of_member status.Stranger h = absurd (cc)
+log_of_member status.Asking h = absurd (cc)
+log_of_member status.Member h = refl
+log_of_member status.Departed h = absurd (cc)
+
+none_of_asking : (s : Status) → is_member s ≡ false → (is_member s || is_asking s) ≡ true → has_log s ≡ false
+none_of_asking status.Stranger f h = absurd (cc)
+none_of_asking status.Asking f h = refl
+none_of_asking status.Member f h = absurd (cc)
+none_of_asking status.Departed f h = absurd (cc)
+
+second : (a b : Bool) → (a && b) ≡ true → b ≡ true
+second true b h = h
+second false b h = absurd (cc)
+
+-- who is welcomed has no list, and no ballot
+welcomed_none : (m : Node) (s : ℕ) (v : Stamp) (base join : ℕ) (image : Image) → MayBeWelcomed m s v base join image → has_log m.status ≡ false
+welcomed_none m s v base join image may = none_of_asking m.status may.no_member (second (not (s == m.core.who)) (is_member m.status || is_asking m.status) may.asks)
+
+-- whoever has a ballot has a list
+ballot_log : (m : Node) (b : Ballot) → m.ballot ≡ Some b → Balloted m → has_log m.status ≡ true
+ballot_log m b is h = split (has_log m.status) (λ t. t) (λ f. absurd (let none = h.none f in cc))
+
+-- ---- promises
+
+overtaken_open : (who : ℕ) (promise v by : Stamp) (ballot : Option Ballot) → (by.by < 256) → promise.by < 256 → stamp_lt by promise ≡ false → OpenBallot who promise v ballot → OpenBallot who by v (overtaken by ballot)
+overtaken_open who promise v by None k l low h = tt
+overtaken_open who promise v by (Some b) k l low h = split (not b.is_over && stamp_lt b.stamp by)
+    (λ t. rw t (λ over. absurd (cc)))
+    (λ f. rw f (λ over.
+    let o = h over in
+    let stays : stamp_lt b.stamp by ≡ false = let g = rw over at f in g in
+    let up : stamp_lt promise by ≡ false = subst (λ (s : Stamp). stamp_lt s by ≡ false) (sym o.promised) stays in
+    let same : by ≡ promise = equal_stamps by promise k l low up in
+    record { above = o.above; promised = same ∙ o.promised; own = o.own }))
+
+none_overtaken : (by : Stamp) (ballot : Option Ballot) → ballot ≡ None → overtaken by ballot ≡ None
+none_overtaken by ballot is = ap (overtaken by) is
+
+next_above : (promise : Stamp) (who : ℕ) → stamp_lt promise (record { round = promise.round + 1; by = who }) ≡ true
+next_above promise who = let t : nat_lt promise.round (promise.round + 1) ≡ true = grind (arith, nat_tests) in rw t refl
+
+-- ---- looks at a ballot
+
+-- the ballot that is looked at is the open one, but for votes
+pub record LooksAt (m : Node) (b : Ballot) : Type 0 where
+  pub has_list : has_log m.status ≡ true
+  pub open_ : IsOpen m.core.who m.core.promise (view m) b
+
+of_open : (m : Node) (b : Ballot) → HasOpen m b → Balloted m → IsOpen m.core.who m.core.promise (view m) b
+of_open m b o h = subst (OpenBallot m.core.who m.core.promise (view m)) o.last h.opened o.open_
+
+pub looked_at : {c : Cause} (m : Node) (b : Ballot) → Balloting c m b → Balloted m → LooksAt m b
+looked_at m b (with_more old s v shown is by low high open_ same stays) h =
+    let o = of_open m old open_ h in
+    record { has_list = ballot_log m old open_.last h; open_ = record { above = o.above; promised = o.promised; own = o.own } }
+looked_at m b (without_one old name is open_ other) h =
+    let o = of_open m old open_ h in
+    record { has_list = ballot_log m old open_.last h; open_ = record { above = o.above; promised = o.promised; own = o.own } }
+looked_at m b (as_it_is old open_) h = record { has_list = ballot_log m old open_.last h; open_ = of_open m old open_ h }
+
+-- another answer, or an end
+does_look : (m : Node) (b : Ballot) (o : Outcome) (over : Bool) → LooksAt m b → Balloted m → Does m (record m { ballot = Some (record b { answer = o; is_over = over }) })
+does_look m b o over l h = record {
+  goes = λ t. goes_to m.core.log m.core.log refl;
+  log_ = λ t. t;
+  balloted = record {
+    high = h.high;
+    none = λ f. absurd (let t = l.has_list in cc);
+    opened = λ x. (let k = l.open_ in record { above = k.above; promised = k.promised; own = k.own });
+  };
+}
+
+look_does : (m : Node) (b : Ballot) (v : Verdict) → Looks m b v → LooksAt m b → Balloted m → Does m v.node
+look_does m b v (finds_itself_out x) l h = does_look m b _ true l h
+look_does m b v (waits x y) l h = does_look m b _ false l h
+look_does m b v (fetches_from_best x y z) l h = does_look m b _ false l h
+look_does m b v (finds_too_few x y) l h = does_look m b _ true l h
+look_does m b v (finds_no_room x) l h =
+    record { goes = λ t. goes_to m.core.log m.core.log refl; log_ = λ t. t; balloted = record { high = h.high; none = λ f. absurd (let t = l.has_list in cc); opened = λ x. absurd (cc) } }
+look_does m b v (decides may) l h =
+    let names = left_in b (need_of m b) in
+    let before = trimmed_for m b names in
+    let r = max b.resilience (told m).resilience in
+    let e = View b.stamp names r in
+    let o = l.open_ in
+    let same : view (pushed before e) ≡ b.stamp = view_last before b.stamp names r in
+    record {
+      goes = λ t. goes_view before b.stamp names r o.above;
+      log_ = λ t. t;
+      balloted = record {
+        high = subst (λ (s : Stamp). stamp_lt m.core.promise s ≡ false) (sym same) (subst (λ (p : Stamp). stamp_lt p b.stamp ≡ false) (sym o.promised) (not_above_itself b.stamp));
+        none = λ f. absurd (let t = l.has_list in cc);
+        opened = λ x. absurd (cc);
+      };
+    }
+
+-- ---- fetched entries
+
+unfinished_none : (who : ℕ) (promise v w : Stamp) (ballot : Option Ballot) → is_unfinished ballot ≡ false → OpenBallot who promise w ballot
+unfinished_none who promise v w None f = tt
+unfinished_none who promise v w (Some b) f = λ over. absurd (let g = rw over at f in cc)
+
+-- a View up to the promise, below an open ballot
+fetched_high : (m : Node) (s : ℕ) (v stamp : Stamp) (names : List ℕ) (resilience : ℕ) → m.core.promise ≡ v → stamp.by < 256 → HasNames m → Fetches m s v (View stamp names resilience) → Balloted m → (stamp_lt m.core.promise stamp ≡ false) × OpenBallot m.core.who m.core.promise stamp m.ballot
+fetched_high m s v stamp names resilience is few named (without_ballot none own past) h =
+    let low : stamp_lt v stamp ≡ false = or_first (stamp_lt v stamp) _ past in
+    (subst (λ (p : Stamp). stamp_lt p stamp ≡ false) (sym is) low, unfinished_none m.core.who m.core.promise stamp stamp m.ballot none)
+fetched_high m s v stamp names resilience is few named (for_ballot b open_ from past) h =
+    let low : stamp_lt v stamp ≡ false = or_first (stamp_lt v stamp) _ past in
+    let differs : stamp_eq stamp v ≡ false = or_second (stamp_lt v stamp) _ past in
+    let mine : v.by < 256 = let k = named.promise_ in let q = ap (λ (x : Stamp). x.by) is in omega arith in
+    let strict : stamp_lt stamp v ≡ true = strictly stamp v few mine low differs in
+    let o = of_open m b open_ h in
+    let above : stamp_lt stamp b.stamp ≡ true = subst (λ (x : Stamp). stamp_lt stamp x ≡ true) (sym is ∙ o.promised) strict in
+    let P : Option Ballot → Type 0 = OpenBallot m.core.who m.core.promise stamp in
+    (subst (λ (p : Stamp). stamp_lt p stamp ≡ false) (sym is) low, subst P (sym open_.last) (λ over. record { above = above; promised = o.promised; own = o.own }))
+
+does_fetch : (m : Node) (s : ℕ) (v : Stamp) (base : ℕ) (e : Entry) → m.core.promise ≡ v → ViewNamed e → HasNames m → has_log m.status ≡ true → Fetches m s v e → fits (told m) e ≡ true → Balloted m → Does m (pushed (trimmed m base) e)
+does_fetch m s v base (View stamp names resilience) is few named log from fit h =
+    let k = fetched_high m s v stamp names resilience is few named from h in
+    let same : view (pushed (trimmed m base) (View stamp names resilience)) ≡ stamp = view_last (trimmed m base) stamp names resilience in
+    record {
+      goes = λ t. goes_fit (trimmed m base) (View stamp names resilience) fit;
+      log_ = λ t. t;
+      balloted = record {
+        high = subst (λ (x : Stamp). stamp_lt m.core.promise x ≡ false) (sym same) k.0;
+        none = h.none;
+        opened = subst (λ (x : Stamp). OpenBallot m.core.who m.core.promise x m.ballot) (sym same) k.1;
+      };
+    }
+does_fetch m s v base (Data from_ req body) is few named log from fit h =
+    let d = does_plain (trimmed m base) (pushed (trimmed m base) (Data from_ req body)) (Data from_ req body) refl refl log refl refl refl h in record { goes = d.goes; log_ = d.log_; balloted = d.balloted }
+does_fetch m s v base (Join name) is few named log from fit h =
+    let d = does_plain (trimmed m base) (pushed (trimmed m base) (Join name)) (Join name) refl refl log refl refl refl h in record { goes = d.goes; log_ = d.log_; balloted = d.balloted }
+does_fetch m s v base (Leave name) is few named log from fit h =
+    let d = does_plain (trimmed m base) (pushed (trimmed m base) (Leave name)) (Leave name) refl refl log refl refl refl h in record { goes = d.goes; log_ = d.log_; balloted = d.balloted }
+
+-- the View of a Result is of another name
+other_open : (who : ℕ) (promise w v : Stamp) (ballot : Option Ballot) → promise ≡ v → (v.by == who) ≡ false → OpenBallot who promise w ballot → OpenBallot who promise v ballot
+other_open who promise w v None is other h = tt
+other_open who promise w v (Some b) is other h = λ over. absurd (
+    let o = h over in
+    let same : v.by ≡ who = ap (λ (s : Stamp). s.by) (sym is ∙ o.promised) ∙ o.own in
+    let t : (v.by == who) ≡ true = grind (arith, nat_tests) in
+    cc)
+
+does_result : (m : Node) (v : Stamp) (base : ℕ) (names : List ℕ) (resilience : ℕ) → m.core.promise ≡ v → (v.by == m.core.who) ≡ false → fits (told m) (View v names resilience) ≡ true → Balloted m → Does m (pushed (trimmed m base) (View v names resilience))
+does_result m v base names resilience is other fit h =
+    let same : view (pushed (trimmed m base) (View v names resilience)) ≡ v = view_last (trimmed m base) v names resilience in
+    record {
+      goes = λ t. goes_fit (trimmed m base) (View v names resilience) fit;
+      log_ = λ t. t;
+      balloted = record {
+        high = subst (λ (x : Stamp). stamp_lt m.core.promise x ≡ false) (sym same) (subst (λ (p : Stamp). stamp_lt p v ≡ false) (sym is) (not_above_itself v));
+        none = h.none;
+        opened = subst (λ (x : Stamp). OpenBallot m.core.who m.core.promise x m.ballot) (sym same) (other_open m.core.who m.core.promise (view m) v m.ballot is other h.opened);
+      };
+    }
+
+-- ---- each change
+
+first_of : (a b : Bool) → (a && b) ≡ true → a ≡ true
+first_of true b h = refl
+first_of false b h = absurd (cc)
+
+-- who acts has a list
+pub leads_member : (m : Node) → is_sequencer m ≡ true → is_member m.status ≡ true
+leads_member m h = first_of (is_member m.status) (stamp_eq m.core.promise (view m)) (first_of (acts m) ((view m).by == m.core.who) h)
+
+pub member_of : (m : Node) (s : ℕ) → (not (s == m.core.who) && is_member m.status) ≡ true → has_log m.status ≡ true
+member_of m s h = log_of_member m.status (second (not (s == m.core.who)) (is_member m.status) h)
+
+pub in_view_log : (m : Node) (s : ℕ) (v : Stamp) → hears_sequencer m s v ≡ true → has_log m.status ≡ true
+in_view_log m s v h = member_of m s (first_of (hears_member m s) (acts m && stamp_eq v (view m)) (first_of (hears_in_view m s v) (v.by == s) h))
+
+pub change_does : {c : Cause} {o : Outcome} → HeardNames c → (m n : Node) → Change c o m n → HasNames m → Balloted m → Does m n
+unfolding fold
+change_does heard m n refreshes k h = let r = rests_refresh m in does_same m (refresh m) r.rests.who r.rests.status r.rests.promise r.log r.rests.ballot h
+change_does heard m n settles k h = subst (Does m) (sym (settle_is m)) (does_same m _ refl refl refl refl refl h)
+change_does heard m n (takes_report s v report by may) k h = does_same m n refl refl refl refl refl h
+change_does heard m n (admits s v is leads fit) k h = does_same m n refl refl refl refl refl h
+change_does heard m n (numbers e leads room why) k h = does_plain m n e (numbers_plain _ m e why) refl (log_of_member m.status (leads_member m leads)) refl refl refl h
+change_does heard m n (keeps_body s v report req body is by) k h = does_same m n refl refl refl refl refl h
+change_does heard m n (notes s v base acc by from) k h = does_same m n refl refl refl refl refl h
+change_does heard m n (stores s v base acc number e by from plain may) k h = does_plain m n e plain refl (in_view_log m s v from) refl refl refl h
+change_does heard m n (begins_list s v base join image is o may) k h =
+    let without = welcomed_none m s v base join image may in
+    record {
+      goes = λ t. absurd (cc);
+      log_ = λ t. refl;
+      balloted = record {
+        high = may.view;
+        none = λ f. absurd (cc);
+        opened = subst (OpenBallot m.core.who v image.view) (sym (h.none without)) tt;
+      };
+    }
+change_does heard m n (departs s v number is by leaves) k h = record {
+  goes = λ t. goes_to m.core.log n.core.log refl;
+  log_ = λ t. refl;
+  balloted = record { high = h.high; none = λ f. absurd (cc); opened = h.opened };
+}
+change_does heard m n (promises v low why) k h = record {
+  goes = λ t. goes_to m.core.log n.core.log refl;
+  log_ = λ t. t;
+  balloted = record {
+    high = at_most (view m) m.core.promise v h.high low;
+    none = λ f. none_overtaken v m.ballot (h.none f);
+    opened = overtaken_open m.core.who m.core.promise (view m) v m.ballot (promised_named _ m v why heard) k.promise_ low h.opened;
+  };
+}
+change_does heard m n (opens least resilience by may) k h =
+    let next = next_stamp m in
+    let above = next_above m.core.promise m.core.who in
+    record {
+      goes = λ t. goes_to m.core.log n.core.log refl;
+      log_ = λ t. t;
+      balloted = record {
+        high = at_most (view m) m.core.promise next h.high (not_above m.core.promise next above);
+        none = λ f. absurd (let t = log_of_member m.status may.member in cc);
+        opened = λ over. record { above = at_most_below (view m) m.core.promise next h.high above; promised = refl; own = refl };
+      };
+    }
+change_does heard m n (looks b verdict over why look is) k h = look_does m b verdict look (looked_at m b why h) h
+change_does heard m n (fetches s v base number e is by promise below from may) k h =
+    does_fetch m s v base e (sym (same_stamp v m.core.promise promise)) (heard.pieces (packet.Piece s v base number e) is) k (member_of m s by) from may.fits h
+change_does heard m n (stores_view s v base number names resilience is by own other promise below may) k h = does_result m v base names resilience promise other may.fits h
+change_does heard m n (queues body is o member stays few) k h = does_same m n refl refl refl refl refl h
+change_does heard m n (collects req is) k h = does_same m n refl refl refl refl refl h
+change_does heard m n (takes e is o member some there) k h = does_same m n refl refl refl refl refl h
+change_does heard m n (asks_to_join is was) k h = record {
+  goes = λ t. absurd (let f = ap has_log was in cc);
+  log_ = λ t. absurd (let f = ap has_log was in cc);
+  balloted = record { high = h.high; none = λ f. h.none (ap has_log was); opened = h.opened };
+}
+change_does heard m n (asks_to_leave is was stays done) k h = does_same m n refl refl refl refl refl h
+change_does heard m n (closes leads leaves alone room) k h =
+    let p = pushed m (Leave m.core.who) in
+    let r = rests_at_end p in
+    does_plain m n (Leave m.core.who) refl r.rests.who refl r.rests.promise r.log r.rests.ballot h
+
+-- ---- a step
+
+pub record Gone (m n : Node) : Type 0 where
+  pub does : Does m n
+  pub names : HasNames n
+
+pub changes_do : {c : Cause} {o : Outcome} (m n : Node) → HeardNames c → Changes c o m n → HasNames m → Balloted m → Gone m n
+changes_do m n heard unchanged k h = record { does = does_same m m refl refl refl refl refl h; names = k }
+changes_do m n heard (changed {n = x} one more) k h =
+    let d = change_does heard m x one k h in
+    let r = changes_do x n heard more (change_names heard m x one k) d.balloted in
+    record {
+      does = record {
+        goes = λ t. goes_then m.core.log x.core.log n.core.log (d.goes t) (r.does.goes (d.log_ t));
+        log_ = λ t. r.does.log_ (d.log_ t);
+        balloted = r.does.balloted;
+      };
+      names = r.names;
+    }

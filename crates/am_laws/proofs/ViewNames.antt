@@ -1,0 +1,156 @@
+-- The names of the Views that stand in lists, and of ballots.
+use Rattle.std.proofs.Common.{◌≡◌, ℕ, ◌<◌, ◌&&◌, not, false, List, [], ◌∷◌, ◌++◌, Option, Some, None, sym, subst, arith}
+use Rattle.std.specs.Prelude.{All}
+use Rattle.std.proofs.lemmas.Bool.Decides.{nat_tests}
+use Rattle.std.proofs.lemmas.List.Elements.{All-nil, All-cons, All-append}
+use Rattle.am_base.specs.declared.outcome.Outcome.{Outcome}
+use Rattle.am_base.specs.declared.name.Stamp.{Stamp}
+use Rattle.am_base.specs.declared.entry.Entry.{Entry}
+use Rattle.am_base.specs.declared.entry.Entry.TheVariants.{Data, Join, Leave, View}
+use Rattle.am_base.specs.Stamps.{stamp_lt}
+use Rattle.am_packet.specs.declared.packet.Packet.{Packet}
+use Rattle.am_packet.specs.declared.packet.Packet.TheVariants as packet
+use Rattle.am_model.specs.Node.{Node, Ballot, pushed}
+use Rattle.am_model.specs.Ballots.{Verdict, overtaken}
+use Rattle.am_model.specs.Receiving.{is_view}
+use Rattle.am_model.specs.Refresh.{refresh, refresh_at_end}
+use Rattle.am_model.proofs.Greatest.{split}
+use Rattle.am_effects.specs.Causes.{Cause, hears}
+use Rattle.am_effects.specs.Looks.{HasOpen, Balloting, with_more, without_one, as_it_is, Looks, finds_itself_out, waits, fetches_from_best, finds_too_few, finds_no_room, decides}
+use Rattle.am_effects.specs.Letters.{Says, request, spread, bcast, order, accept, ack, nack, hold, join_ask, welcome, leave_ask, gone, invite, vote, fetch, piece, result, hand_over}
+use Rattle.am_effects.specs.Changes.{Promises, invited, overtaken as overtaken_by, told_result, Numbers, asked_send, own_send, asked_join, asked_leave, Change, refreshes, settles, takes_report, admits, numbers, keeps_body, notes, stores, begins_list, departs, promises, opens, looks, fetches, stores_view, queues, collects, takes, asks_to_join, asks_to_leave, closes}
+use Rattle.am_effects.proofs.Items.{all_get}
+use Rattle.am_effects.proofs.Rests.{rests_refresh, rests_at_end, settle_is}
+use Rattle.am_laws.specs.Packets.{sender_of, stamp_of}
+
+-- a View's stamp is of one of the 256 names
+abbrev pub ViewNamed : Entry → Type 0
+ViewNamed (View stamp names resilience) = stamp.by < 256
+ViewNamed _ = Unit {0}
+
+abbrev BallotNamed : Option Ballot → Type 0
+BallotNamed None = Unit {0}
+BallotNamed (Some b) = b.stamp.by < 256
+
+pub record AreNamed (who : ℕ) (promise : Stamp) (entries : List Entry) (ballot : Option Ballot) : Type 0 where
+  pub who_ : who < 256
+  pub promise_ : promise.by < 256
+  pub entries_ : All ViewNamed entries
+  pub ballot_ : BallotNamed ballot
+
+abbrev pub HasNames : Node → Type 0
+HasNames m = AreNamed m.core.who m.core.promise m.core.log.entries m.ballot
+
+-- what a Piece carries
+abbrev pub PieceNamed : Packet → Type 0
+PieceNamed (packet.Piece s v base number e) = ViewNamed e
+PieceNamed _ = Unit {0}
+
+pub record HeardNames (c : Cause) : Type 0 where
+  pub pieces : (p : Packet) → c ≡ hears p → PieceNamed p
+  pub senders : (p : Packet) → c ≡ hears p → sender_of p < 256
+  pub stamps : (p : Packet) → c ≡ hears p → (stamp_of p).by < 256
+
+no_view : (e : Entry) → is_view e ≡ false → ViewNamed e
+no_view (Data from req body) h = tt
+no_view (Join name) h = tt
+no_view (Leave name) h = tt
+no_view (View stamp names resilience) h = absurd (cc)
+
+numbers_no_view : (c : Cause) (m : Node) (e : Entry) → Numbers c m e → ViewNamed e
+numbers_no_view c m e (asked_send s v report req body by known stays next) = tt
+numbers_no_view c m e (own_send s is last) = tt
+numbers_no_view c m e (asked_join s v is other fit) = tt
+numbers_no_view c m e (asked_leave s v report is other known stays) = tt
+
+one_more : (m : Node) (e : Entry) → ViewNamed e → All ViewNamed m.core.log.entries → All ViewNamed (m.core.log.entries ++ e ∷ [])
+one_more m e is h = All-append ViewNamed m.core.log.entries (e ∷ []) h (All-cons ViewNamed e [] is (All-nil ViewNamed))
+
+pub names_pushed : (m : Node) (e : Entry) → ViewNamed e → HasNames m → HasNames (pushed m e)
+names_pushed m e is h = record { who_ = h.who_; promise_ = h.promise_; entries_ = one_more m e is h.entries_; ballot_ = h.ballot_ }
+
+ballot_overtaken : (by : Stamp) (ballot : Option Ballot) → BallotNamed ballot → BallotNamed (overtaken by ballot)
+ballot_overtaken by None h = tt
+ballot_overtaken by (Some b) h = split (not b.is_over && stamp_lt b.stamp by) (λ t. rw t h) (λ f. rw f h)
+
+open_named : (m : Node) (b : Ballot) → HasOpen m b → HasNames m → b.stamp.by < 256
+open_named m b open_ h = subst BallotNamed open_.last h.ballot_
+
+looked_named : {c : Cause} (m : Node) (b : Ballot) → Balloting c m b → HasNames m → b.stamp.by < 256
+looked_named m b (with_more old s v shown is by low high open_ same stays) h = open_named m old open_ h
+looked_named m b (without_one old name is open_ other) h = open_named m old open_ h
+looked_named m b (as_it_is old open_) h = open_named m old open_ h
+
+look_names : (m : Node) (b : Ballot) (v : Verdict) → Looks m b v → b.stamp.by < 256 → HasNames m → HasNames v.node
+look_names m b v (finds_itself_out x) k h = record { who_ = h.who_; promise_ = h.promise_; entries_ = h.entries_; ballot_ = k }
+look_names m b v (waits x y) k h = record { who_ = h.who_; promise_ = h.promise_; entries_ = h.entries_; ballot_ = k }
+look_names m b v (fetches_from_best x y z) k h = record { who_ = h.who_; promise_ = h.promise_; entries_ = h.entries_; ballot_ = k }
+look_names m b v (finds_too_few x y) k h = record { who_ = h.who_; promise_ = h.promise_; entries_ = h.entries_; ballot_ = k }
+look_names m b v (finds_no_room x) k h = record { who_ = h.who_; promise_ = h.promise_; entries_ = h.entries_; ballot_ = k }
+look_names m b v (decides may) k h = record { who_ = h.who_; promise_ = h.promise_; entries_ = one_more m _ k h.entries_; ballot_ = k }
+
+-- with the same name, list and ballot
+same_names : (m n : Node) → n.core.who ≡ m.core.who → n.core.promise ≡ m.core.promise → n.core.log ≡ m.core.log → n.ballot ≡ m.ballot → HasNames m → HasNames n
+same_names m n a p b c h = record {
+  who_ = rw a h.who_;
+  promise_ = rw p h.promise_;
+  entries_ = rw b h.entries_;
+  ballot_ = rw c h.ballot_;
+}
+
+pub promised_named : (c : Cause) (m : Node) (v : Stamp) → Promises c m v → HeardNames c → v.by < 256
+promised_named c m v (invited s _ is by own) heard = heard.stamps (packet.Invite s v) is
+promised_named c m v (overtaken_by s _ shown is by above) heard = heard.stamps (packet.Vote s v shown) is
+promised_named c m v (told_result s _ base number names resilience is by own other) heard = heard.stamps (packet.Result s v base number names resilience) is
+
+pub change_names : {c : Cause} {o : Outcome} → HeardNames c → (m n : Node) → Change c o m n → HasNames m → HasNames n
+change_names heard m n refreshes h = let r = rests_refresh m in same_names m (refresh m) r.rests.who r.rests.promise r.log r.rests.ballot h
+change_names heard m n settles h = subst HasNames (sym (settle_is m)) h
+change_names heard m n (takes_report s v report by may) h = h
+change_names heard m n (admits s v is leads fit) h = h
+change_names heard m n (numbers e leads room why) h = names_pushed m e (numbers_no_view _ m e why) h
+change_names heard m n (keeps_body s v report req body is by) h = h
+change_names heard m n (notes s v base acc by from) h = h
+change_names heard m n (stores s v base acc number e by from plain may) h = record { who_ = h.who_; promise_ = h.promise_; entries_ = one_more m e (no_view e plain) h.entries_; ballot_ = h.ballot_ }
+change_names heard m n (begins_list s v base join image is o may) h = record { who_ = h.who_; promise_ = heard.stamps (packet.Welcome s v base join image) is; entries_ = All-nil ViewNamed; ballot_ = h.ballot_ }
+change_names heard m n (departs s v number is by leaves) h = h
+change_names heard m n (promises v low why) h = record { who_ = h.who_; promise_ = promised_named _ m v why heard; entries_ = h.entries_; ballot_ = ballot_overtaken v m.ballot h.ballot_ }
+change_names heard m n (opens least resilience by may) h = record { who_ = h.who_; promise_ = h.who_; entries_ = h.entries_; ballot_ = h.who_ }
+change_names heard m n (looks b verdict over why look is) h = look_names m b verdict look (looked_named m b why h) h
+change_names heard m n (fetches s v base number e is by promise below from may) h = record { who_ = h.who_; promise_ = h.promise_; entries_ = one_more m e (heard.pieces (packet.Piece s v base number e) is) h.entries_; ballot_ = h.ballot_ }
+change_names heard m n (stores_view s v base number names resilience is by own other promise below may) h =
+    let few = heard.senders (packet.Result s v base number names resilience) is in
+    let same : v.by ≡ s = grind (arith, nat_tests) in
+    let low : v.by < 256 = omega arith in
+    record { who_ = h.who_; promise_ = h.promise_; entries_ = one_more m (View v names resilience) low h.entries_; ballot_ = h.ballot_ }
+change_names heard m n (queues body is o member stays few) h = h
+change_names heard m n (collects req is) h = h
+change_names heard m n (takes e is o member some there) h = h
+change_names heard m n (asks_to_join is was) h = h
+change_names heard m n (asks_to_leave is was stays done) h = h
+change_names heard m n (closes leads leaves alone room) h =
+    let p = pushed m (Leave m.core.who) in
+    let r = rests_at_end p in
+    let k = same_names p (refresh_at_end p) r.rests.who r.rests.promise r.log r.rests.ballot (names_pushed m (Leave m.core.who) tt h) in
+    record { who_ = k.who_; promise_ = k.promise_; entries_ = k.entries_; ballot_ = k.ballot_ }
+
+-- the entries that are served
+pub pieces_named : (m n : Node) (c : Cause) (to : List ℕ) (p : Packet) → HasNames n → Says m c n to p → PieceNamed p
+pieces_named m n c to p h (piece s v stored number e is may at) = all_get ViewNamed n.core.log.entries at.index e h.entries_ at.there
+pieces_named m n c to p h (request _ req body a f s) = tt
+pieces_named m n c to p h (spread _ req body a f s) = tt
+pieces_named m n c to p h (bcast _ number e l s) = tt
+pieces_named m n c to p h (order _ number from_ req v report body is l s) = tt
+pieces_named m n c to p h (accept _ poll l) = tt
+pieces_named m n c to p h (ack _ a) = tt
+pieces_named m n c to p h (nack _ a) = tt
+pieces_named m n c to p h (hold _ req l) = tt
+pieces_named m n c to p h (join_ask _ a) = tt
+pieces_named m n c to p h (welcome s l may) = tt
+pieces_named m n c to p h (leave_ask _ a l) = tt
+pieces_named m n c to p h (gone s l may) = tt
+pieces_named m n c to p h (invite _ may) = tt
+pieces_named m n c to p h (vote s v is) = tt
+pieces_named m n c to p h (fetch _ may) = tt
+pieces_named m n c to p h (result _ number names is viewed may) = tt
+pieces_named m n c to p h (hand_over _ l leaves) = tt

@@ -1,0 +1,138 @@
+-- What one change of a node does to its view and to the entries of its list.
+use Rattle.std.proofs.Common.{◌≡◌, ◌⊎◌, inl, inr, ⊎_elim, ℕ, zero, suc, ◌+◌, ◌-◌, ◌==◌, nat_le, true, false, List, [], ◌∷◌, length, Some, refl, sym, ap, ◌∙◌, subst, arith}
+use Rattle.am_base.specs.declared.name.Stamp.{Stamp}
+use Rattle.am_base.specs.declared.image.Image.{Image}
+use Rattle.am_base.specs.declared.entry.Entry.{Entry}
+use Rattle.am_base.specs.declared.entry.Entry.TheVariants.{Data, Join, Leave, View}
+use Rattle.am_base.specs.Names.{life_of}
+use Rattle.am_base.specs.Stamps.{stamp_lt}
+use Rattle.am_base.specs.Lists.{Log, at_place, after, fits, entry_at, told_by, with_entry}
+use Rattle.am_model.specs.Node.{Node, top, told, view, pushed}
+use Rattle.am_model.specs.Receiving.{is_view}
+use Rattle.am_model.proofs.Greatest.{split}
+use Rattle.am_effects.proofs.Items.{get_front, get_last}
+use Rattle.am_effects.proofs.Says.{told_pushed}
+use Rattle.am_effects.proofs.Ballots.{entry_is}
+use Rattle.am_laws.proofs.Stamps.{below, not_above}
+
+-- ---- lists
+
+-- an entry stays where it stands
+pub entry_stays : (log : Log) (e x : Entry) (number : ℕ) → entry_at log number ≡ Some x → entry_at (with_entry log e) number ≡ Some x
+entry_stays log e x zero h = absurd (cc)
+entry_stays log e x (suc before) h = split (nat_le log.start before)
+    (λ t. rw t (get_front log.entries (e ∷ []) (before - log.start) x (rw t at h)))
+    (λ f. absurd (let g = rw f at h in cc))
+
+pub entry_last : (m : Node) (e : Entry) → entry_at (pushed m e).core.log (top m + 1) ≡ Some e
+entry_last m e = entry_is (pushed m e).core.log (top m + 1) (length m.core.log.entries) (omega arith) ∙ get_last m.core.log.entries e
+
+-- ---- views
+
+-- the view, its number and its resilience
+pub record SameView (a b : Image) : Type 0 where
+  pub view : a.view ≡ b.view
+  pub number : a.view_number ≡ b.view_number
+  pub resilience : a.resilience ≡ b.resilience
+
+after_same : (image : Image) (number : ℕ) (e : Entry) → is_view e ≡ false → SameView (after image number e) image
+unfolding after
+after_same image number (Data from req body) f = split ((at_place image from).life == life_of from)
+    (λ t. rw t (record { view = refl; number = refl; resilience = refl }))
+    (λ g. rw g (record { view = refl; number = refl; resilience = refl }))
+after_same image number (Join name) f = record { view = refl; number = refl; resilience = refl }
+after_same image number (Leave name) f = split ((at_place image name).life == life_of name)
+    (λ t. rw t (record { view = refl; number = refl; resilience = refl }))
+    (λ g. rw g (record { view = refl; number = refl; resilience = refl }))
+after_same image number (View stamp names resilience) f = absurd (cc)
+
+after_view : (image : Image) (number : ℕ) (stamp : Stamp) (names : List ℕ) (resilience : ℕ)
+    → ((after image number (View stamp names resilience)).view ≡ stamp) × ((after image number (View stamp names resilience)).view_number ≡ number) × ((after image number (View stamp names resilience)).resilience ≡ resilience)
+unfolding after
+after_view image number stamp names resilience = (refl, refl, refl)
+
+-- the last View stands at its number
+pub record Stood (log : Log) : Type 0 where
+  pub names : List ℕ
+  pub there : entry_at log (told_by log).view_number ≡ Some (View (told_by log).view names (told_by log).resilience)
+
+-- what has become of a list: its entries stay, and its view stays, or is greater and stands in it
+pub record Goes (old new : Log) : Type 0 where
+  pub stays : (number : ℕ) (x : Entry) → entry_at old number ≡ Some x → entry_at new number ≡ Some x
+  pub view : SameView (told_by new) (told_by old) ⊎ ((stamp_lt (told_by old).view (told_by new).view ≡ true) × Stood new)
+
+goes_same : (log : Log) → Goes log log
+goes_same log = record { stays = λ number x h. h; view = inl (record { view = refl; number = refl; resilience = refl }) }
+
+pub goes_to : (old new : Log) → new ≡ old → Goes old new
+goes_to old new is = subst (Goes old) (sym is) (goes_same old)
+
+stood_on : (old new : Log) → ((number : ℕ) (x : Entry) → entry_at old number ≡ Some x → entry_at new number ≡ Some x) → SameView (told_by new) (told_by old) → Stood old → Stood new
+stood_on old new stays same h = record {
+  names = h.names;
+  there = ap (entry_at new) same.number ∙ stays (told_by old).view_number _ h.there ∙ (λ i. Some (View (sym same.view i) h.names (sym same.resilience i)));
+}
+
+pub goes_then : (a b c : Log) → Goes a b → Goes b c → Goes a c
+goes_then a b c h k = record {
+  stays = λ number x at. k.stays number x (h.stays number x at);
+  view = ⊎_elim
+      (λ (s : SameView (told_by c) (told_by b)). ⊎_elim
+      (λ (r : SameView (told_by b) (told_by a)). inl (record { view = s.view ∙ r.view; number = s.number ∙ r.number; resilience = s.resilience ∙ r.resilience }))
+      (λ (r : (stamp_lt (told_by a).view (told_by b).view ≡ true) × Stood b). inr (subst (λ (v : Stamp). stamp_lt (told_by a).view v ≡ true) (sym s.view) r.0, stood_on b c k.stays s r.1))
+      h.view)
+      (λ (s : (stamp_lt (told_by b).view (told_by c).view ≡ true) × Stood c). ⊎_elim
+      (λ (r : SameView (told_by b) (told_by a)). inr (subst (λ (v : Stamp). stamp_lt v (told_by c).view ≡ true) r.view s.0, s.1))
+      (λ (r : (stamp_lt (told_by a).view (told_by b).view ≡ true) × Stood b). inr (below (told_by a).view (told_by b).view (told_by c).view r.0 (not_above (told_by b).view (told_by c).view s.0), s.1))
+      h.view)
+      k.view;
+}
+
+-- ---- an entry more
+
+goes_other : (m : Node) (e : Entry) → is_view e ≡ false → Goes m.core.log (pushed m e).core.log
+goes_other m e plain =
+    let same = after_same (told m) (top m + 1) e plain in
+    let is = told_pushed m e in
+    record {
+      stays = λ number x h. entry_stays m.core.log e x number h;
+      view = inl (record {
+        view = ap (λ (i : Image). i.view) is ∙ same.view;
+        number = ap (λ (i : Image). i.view_number) is ∙ same.number;
+        resilience = ap (λ (i : Image). i.resilience) is ∙ same.resilience;
+      });
+    }
+
+-- the view that a View makes
+pub view_last : (m : Node) (stamp : Stamp) (names : List ℕ) (resilience : ℕ) → view (pushed m (View stamp names resilience)) ≡ stamp
+view_last m stamp names resilience = ap (λ (i : Image). i.view) (told_pushed m (View stamp names resilience)) ∙ (after_view (told m) (top m + 1) stamp names resilience).0
+
+pub goes_view : (m : Node) (stamp : Stamp) (names : List ℕ) (resilience : ℕ) → stamp_lt (view m) stamp ≡ true → Goes m.core.log (pushed m (View stamp names resilience)).core.log
+goes_view m stamp names resilience above =
+    let e = View stamp names resilience in
+    let is = told_pushed m e in
+    let new = after_view (told m) (top m + 1) stamp names resilience in
+    let v : view (pushed m e) ≡ stamp = ap (λ (i : Image). i.view) is ∙ new.0 in
+    let n : (told (pushed m e)).view_number ≡ top m + 1 = ap (λ (i : Image). i.view_number) is ∙ new.1 in
+    let r : (told (pushed m e)).resilience ≡ resilience = ap (λ (i : Image). i.resilience) is ∙ new.2 in
+    record {
+      stays = λ number x h. entry_stays m.core.log e x number h;
+      view = inr (
+        subst (λ (s : Stamp). stamp_lt (view m) s ≡ true) (sym v) above,
+        record {
+          names = names;
+          there = ap (entry_at (pushed m e).core.log) n ∙ entry_last m e ∙ (λ i. Some (View (sym v i) names (sym r i)));
+        },
+      );
+    }
+
+-- any entry that fits
+pub goes_fit : (m : Node) (e : Entry) → fits (told m) e ≡ true → Goes m.core.log (pushed m e).core.log
+unfolding fits
+goes_fit m (Data from req body) fit = goes_other m (Data from req body) refl
+goes_fit m (Join name) fit = goes_other m (Join name) refl
+goes_fit m (Leave name) fit = goes_other m (Leave name) refl
+goes_fit m (View stamp names resilience) fit = goes_view m stamp names resilience (split (stamp_lt (view m) stamp) (λ t. t) (λ f. absurd (let g = rw f at fit in cc)))
+
+pub goes_plain : (m : Node) (e : Entry) → is_view e ≡ false → Goes m.core.log (pushed m e).core.log
+goes_plain m e plain = goes_other m e plain

@@ -1,0 +1,319 @@
+-- A view is noted once, and its View stands at its number.
+use Rattle.std.proofs.Common.{◌≡◌, ◌⊎◌, inl, inr, ⊎_elim, ℕ, zero, suc, ◌<◌, ◌==◌, ◌&&◌, not, Bool, true, false, if◌then◌else◌, List, [], ◌∷◌, ◌++◌, length, Some, slice_get, refl, sym, ap, ◌∙◌, subst, arith}
+use Rattle.std.specs.Prelude.{All}
+use Rattle.std.proofs.lemmas.Bool.Decides.{nat_tests}
+use Rattle.std.proofs.lemmas.List.Elements.{All-nil, All-cons, All-append, All-weaker}
+use Rattle.am_base.specs.declared.name.Stamp.{Stamp}
+use Rattle.am_base.specs.declared.entry.Entry.TheVariants.{View}
+use Rattle.am_base.specs.Founding.{Rules, MayFound}
+use Rattle.am_base.specs.Names.{has}
+use Rattle.am_base.specs.Stamps.{stamp_lt, stamp_eq}
+use Rattle.am_base.specs.Lists.{entry_at, fold, after}
+use Rattle.am_packet.specs.declared.packet.Packet.{Packet}
+use Rattle.am_packet.specs.Boxes.{Letter}
+use Rattle.am_group.specs.declared.event.Event.{Event}
+use Rattle.am_model.specs.Node.{Node, told, view, set_at, is_member, founder, stranger, lowest_or_first, founders_view}
+use Rattle.am_model.specs.Emit.{Step}
+use Rattle.am_model.specs.Group.{has_log}
+use Rattle.am_model.specs.World.{Decided, World, start, first_node, founders_decided, last_view, decides, views_after, unchanged, stepped, run}
+use Rattle.am_model.specs.Claims.{heard_by}
+use Rattle.am_model.proofs.Greatest.{split}
+use Rattle.am_effects.specs.Causes.{Cause}
+use Rattle.am_effects.specs.Letters.{Says, request, spread, bcast, order, accept, ack, nack, hold, join_ask, welcome, leave_ask, gone, invite, vote, fetch, piece, result, hand_over, LetterSays}
+use Rattle.am_effects.specs.Effects.{Effect}
+use Rattle.am_effects.specs.Events.{actor, WasSentTo, IsCause, idles, stops, returns, steps}
+use Rattle.am_effects.proofs.Items.{all_get, all_item}
+use Rattle.am_effects.proofs.Runs.{EachKeeps, runs_keep}
+use Rattle.am_laws.specs.Packets.{sender_of, stamp_of}
+use Rattle.am_laws.specs.Views.{ViewsHold}
+use Rattle.am_laws.proofs.Named.{AllNamed, each_named, few_names, start_named}
+use Rattle.am_laws.proofs.Stamps.{at_most, not_above, not_above_itself}
+use Rattle.am_laws.proofs.ViewNames.{ViewNamed, HasNames, HeardNames, PieceNamed, pieces_named}
+use Rattle.am_laws.proofs.ViewSteps.{Goes, Stood, SameView}
+use Rattle.am_laws.proofs.ViewChanges.{Balloted, Does, log_of_member, changes_do}
+use Rattle.am_laws.proofs.Founders.{first_founder}
+
+-- ---- what is so of a world
+
+-- a name's node
+pub record NodeKept (m : Node) : Type 0 where
+  pub names : HasNames m
+  pub balloted : Balloted m
+
+-- a noted view
+pub record IsNoted (nodes : ℕ → Node) (v : Decided) : Type 0 where
+  pub by : v.stamp.by < 256
+  pub log_ : has_log (nodes v.stamp.by).status ≡ true
+  pub low : stamp_lt (view (nodes v.stamp.by)) v.stamp ≡ false
+  pub names : List ℕ
+  pub there : entry_at (nodes v.stamp.by).core.log v.number ≡ Some (View v.stamp names v.resilience)
+
+abbrev PieceLetter : Letter → Type 0
+PieceLetter l = PieceNamed l.packet
+
+abbrev StampLetter : Letter → Type 0
+StampLetter l = (stamp_of l.packet).by < 256
+
+pub record AllViews (rules : Rules) (w : World) : Type 0 where
+  pub named : AllNamed rules w
+  pub each : (name : ℕ) → name < 256 → NodeKept (w.nodes name)
+  pub pieces : All PieceLetter w.letters
+  pub stamps : All StampLetter w.letters
+  pub noted : All (IsNoted w.nodes) w.views
+  pub once : (i j : ℕ) (u v : Decided) → slice_get w.views i ≡ Some u → slice_get w.views j ≡ Some v → u.stamp ≡ v.stamp → i ≡ j
+
+-- ---- a step
+
+pub heard_names : (rules : Rules) (w : World) (e : Event) (c : Cause) → AllViews rules w → IsCause w (actor w e) e.act c → HeardNames c
+heard_names rules w e c h cause = record {
+  pieces = λ p is. (let was : WasSentTo w (actor w e) e.act p = subst (IsCause w (actor w e) e.act) is cause in
+      subst PieceNamed was.is (all_item PieceLetter w.letters (heard_by e.act) was.letter h.pieces was.there));
+  senders = λ p is. (let was : WasSentTo w (actor w e) e.act p = subst (IsCause w (actor w e) e.act) is cause in
+      subst (λ (x : Packet). sender_of x < 256) was.is (all_item (λ (l : Letter). sender_of l.packet < 256) w.letters (heard_by e.act) was.letter h.named.senders was.there));
+  stamps = λ p is. (let was : WasSentTo w (actor w e) e.act p = subst (IsCause w (actor w e) e.act) is cause in
+      subst (λ (x : Packet). (stamp_of x).by < 256) was.is (all_item StampLetter w.letters (heard_by e.act) was.letter h.stamps was.there));
+}
+
+-- the view doesn't fall
+view_rises : (m n : Node) → Goes m.core.log n.core.log → stamp_lt (view n) (view m) ≡ false
+view_rises m n g = ⊎_elim
+    (λ (s : SameView (told n) (told m)). subst (λ (v : Stamp). stamp_lt v (view m) ≡ false) (sym s.view) (not_above_itself (view m)))
+    (λ (s : (stamp_lt (view m) (view n) ≡ true) × Stood n.core.log). not_above (view m) (view n) s.0)
+    g.view
+
+-- what was noted stays noted
+still_noted : (nodes : ℕ → Node) (name : ℕ) (n : Node) (v : Decided) → Does (nodes name) n → IsNoted nodes v → IsNoted (set_at nodes name n) v
+still_noted nodes name n v d h = split (v.stamp.by == name)
+    (λ t.
+    let m = nodes name in
+    let same : v.stamp.by ≡ name = grind (arith, nat_tests) in
+    let log_m : has_log m.status ≡ true = subst (λ k. has_log (nodes k).status ≡ true) same h.log_ in
+    let low_m : stamp_lt (view m) v.stamp ≡ false = subst (λ k. stamp_lt (view (nodes k)) v.stamp ≡ false) same h.low in
+    let there_m : entry_at m.core.log v.number ≡ Some (View v.stamp h.names v.resilience) = subst (λ k. entry_at (nodes k).core.log v.number ≡ Some (View v.stamp h.names v.resilience)) same h.there in
+    let g = d.goes log_m in
+    record {
+      by = h.by;
+      log_ = rw t (d.log_ log_m);
+      low = rw t (at_most v.stamp (view m) (view n) low_m (view_rises m n g));
+      names = h.names;
+      there = rw t (g.stays v.number _ there_m);
+    })
+    (λ f. record { by = h.by; log_ = rw f h.log_; low = rw f h.low; names = h.names; there = rw f h.there })
+
+same_is_equal : (v : Stamp) → stamp_eq v v ≡ true
+same_is_equal v = let r : (v.round == v.round) ≡ true = grind (arith, nat_tests) in let n : (v.by == v.by) ≡ true = grind (arith, nat_tests) in rw (r, n) refl
+
+-- a decided view stands, and is greater
+record IsNew (m n : Node) : Type 0 where
+  own : (view n).by ≡ n.core.who
+  log_ : has_log m.status ≡ true
+  above : stamp_lt (view m) (view n) ≡ true
+  stood : Stood n.core.log
+
+both : (a b : Bool) → (a && b) ≡ true → (a ≡ true) × (b ≡ true)
+both true b h = (refl, h)
+both false b h = absurd (cc)
+
+is_new : (m n : Node) → Does m n → decides m n ≡ true → IsNew m n
+is_new m n d h =
+    let a = both (is_member m.status) _ h in
+    let b = both ((view n).by == n.core.who) (not (stamp_eq (view m) (view n))) a.1 in
+    let own_ = b.0 in
+    let log_m = log_of_member m.status a.0 in
+    let g = d.goes log_m in
+    ⊎_elim
+    (λ (s : SameView (told n) (told m)). absurd (
+    let e : stamp_eq (view m) (view n) ≡ true = ap (λ (v : Stamp). stamp_eq (view m) v) s.view ∙ same_is_equal (view m) in
+    let x = rw e at b.1 in cc))
+    (λ (s : (stamp_lt (view m) (view n) ≡ true) × Stood n.core.log). record { own = grind (arith, nat_tests); log_ = log_m; above = s.0; stood = s.1 })
+    g.view
+
+-- ---- indexes
+
+at_end : {A : Type 0} (xs : List A) (y x : A) (k : ℕ) → slice_get (xs ++ y ∷ []) k ≡ Some x → (slice_get xs k ≡ Some x) ⊎ ((k ≡ length xs) × (y ≡ x))
+at_end [] y x zero h = inr (refl, cc)
+at_end [] y x (suc k) h = absurd (cc)
+at_end (z ∷ xs) y x zero h = inl h
+at_end (z ∷ xs) y x (suc k) h = ⊎_elim
+    (λ (a : slice_get xs k ≡ Some x). inl a)
+    (λ (a : (k ≡ length xs) × (y ≡ x)). inr (ap suc a.0, a.1))
+    (at_end xs y x k h)
+
+abbrev Once : List Decided → Type 0
+Once views = (i j : ℕ) (u v : Decided) → slice_get views i ≡ Some u → slice_get views j ≡ Some v → u.stamp ≡ v.stamp → i ≡ j
+
+-- one more, of a stamp that no other has
+once_more : (views : List Decided) (new : Decided) → ((k : ℕ) (u : Decided) → slice_get views k ≡ Some u → u.stamp ≡ new.stamp → ⊥) → Once views → Once (views ++ new ∷ [])
+once_more views new differs h i j u v a b e = ⊎_elim
+    (λ (p : slice_get views i ≡ Some u). ⊎_elim
+    (λ (q : slice_get views j ≡ Some v). h i j u v p q e)
+    (λ (q : (j ≡ length views) × (new ≡ v)). absurd (differs i u p (e ∙ ap (λ (d : Decided). d.stamp) (sym q.1))))
+    (at_end views new v j b))
+    (λ (p : (i ≡ length views) × (new ≡ u)). ⊎_elim
+    (λ (q : slice_get views j ≡ Some v). absurd (differs j v q (sym e ∙ ap (λ (d : Decided). d.stamp) (sym p.1))))
+    (λ (q : (j ≡ length views) × (new ≡ v)). p.0 ∙ sym q.0)
+    (at_end views new v j b))
+    (at_end views new u i a)
+
+-- ---- a step of a world
+
+is_itself : (name : ℕ) → (name == name) ≡ true
+is_itself name = grind (arith, nat_tests)
+
+-- the views after a step
+record Noted (nodes : ℕ → Node) (views : List Decided) : Type 0 where
+  noted : All (IsNoted nodes) views
+  once : Once views
+
+noted_after : (nodes : ℕ → Node) (name : ℕ) (n : Node) (views : List Decided) → name < 256 → n.core.who ≡ name → Does (nodes name) n → All (IsNoted nodes) views → Once views → Noted (set_at nodes name n) (views_after views (nodes name) n)
+noted_after nodes name n views few who d h once =
+    let m = nodes name in
+    let old = All-weaker (IsNoted nodes) (IsNoted (set_at nodes name n)) (λ v x. still_noted nodes name n v d x) views h in
+    split (decides m n)
+    (λ t.
+    let new = is_new m n d t in
+    let by : (view n).by ≡ name = new.own ∙ who in
+    let at : set_at nodes name n (view n).by ≡ n = ap (set_at nodes name n) by ∙ ap (λ (b : Bool). if b then n else nodes name) (is_itself name) in
+    let there : IsNoted (set_at nodes name n) (last_view n) = record {
+      by = omega arith;
+      log_ = ap (λ (x : Node). has_log x.status) at ∙ d.log_ new.log_;
+      low = ap (λ (x : Node). stamp_lt (view x) (view n)) at ∙ not_above_itself (view n);
+      names = new.stood.names;
+      there = ap (λ (x : Node). entry_at x.core.log (told n).view_number) at ∙ new.stood.there;
+    } in
+    let differs : (k : ℕ) (u : Decided) → slice_get views k ≡ Some u → u.stamp ≡ view n → ⊥ =
+    λ k u g e. (let o = all_get (IsNoted nodes) views k u h g in
+    let here : u.stamp.by ≡ name = ap (λ (s : Stamp). s.by) e ∙ by in
+    let low : stamp_lt (view m) u.stamp ≡ false = subst (λ x. stamp_lt (view (nodes x)) u.stamp ≡ false) here o.low in
+    let low_ : stamp_lt (view m) (view n) ≡ false = subst (λ (s : Stamp). stamp_lt (view m) s ≡ false) e low in
+    let above = new.above in
+    cc) in
+    rw t (record {
+      noted = All-append (IsNoted (set_at nodes name n)) views (last_view n ∷ []) old (All-cons (IsNoted (set_at nodes name n)) (last_view n) [] there (All-nil _));
+      once = once_more views (last_view n) differs once;
+    }))
+    (λ f. rw f (record { noted = old; once = once }))
+
+-- the sender's parts are the node's
+sender_names : (n sender : Node) → n ≡ record sender { status = n.status } → HasNames n → HasNames sender
+sender_names n sender is h = let k : HasNames (record sender { status = n.status }) = subst HasNames is h in k
+
+pub says_stamp : (m n : Node) (c : Cause) (to : List ℕ) (p : Packet) → Says m c n to p → stamp_of p ≡ n.core.promise
+says_stamp m n c to p (request _ req body a f s) = refl
+says_stamp m n c to p (spread _ req body a f s) = refl
+says_stamp m n c to p (bcast _ number e l s) = refl
+says_stamp m n c to p (order _ number from_ req v report body is l s) = refl
+says_stamp m n c to p (accept _ poll l) = refl
+says_stamp m n c to p (ack _ a) = refl
+says_stamp m n c to p (nack _ a) = refl
+says_stamp m n c to p (hold _ req l) = refl
+says_stamp m n c to p (join_ask _ a) = refl
+says_stamp m n c to p (welcome s l may) = refl
+says_stamp m n c to p (leave_ask _ a l) = refl
+says_stamp m n c to p (gone s l may) = refl
+says_stamp m n c to p (invite _ may) = refl
+says_stamp m n c to p (vote s v is) = refl
+says_stamp m n c to p (fetch _ may) = refl
+says_stamp m n c to p (piece s v stored number e is may at) = refl
+says_stamp m n c to p (result _ number names is viewed may) = refl
+says_stamp m n c to p (hand_over _ l leaves) = refl
+
+views_step : (rules : Rules) (w : World) (e : Event) (c : Cause) (s : Step) → IsCause w (actor w e) e.act c → Effect (w.nodes (actor w e)) c s → AllNamed rules (stepped w e (actor w e) s) → AllViews rules w → AllViews rules (stepped w e (actor w e) s)
+unfolding stepped
+views_step rules w e c s cause effect named h =
+    let name = actor w e in
+    let m = w.nodes name in
+    let n = s.node in
+    let few = few_names rules w e h.named in
+    let kept = h.each name few in
+    let g = changes_do m n (heard_names rules w e c h cause) effect.changes kept.names kept.balloted in
+    let who : n.core.who ≡ name = ap (λ (b : Bool). (if b then n else m).core.who) (sym (is_itself name)) ∙ named.who name in
+    let after = noted_after w.nodes name n w.views few who g.does h.noted h.once in
+    let sender = effect.sender in
+    let names = sender_names n sender effect.is g.names in
+    record {
+      named = named;
+      each = λ other low. split (other == name)
+          (λ t. rw t (record { names = g.names; balloted = g.does.balloted }))
+          (λ f. rw f (h.each other low));
+      pieces = All-append PieceLetter w.letters s.letters h.pieces
+          (All-weaker (LetterSays m c sender) PieceLetter (λ l x. pieces_named m sender c l.to l.packet names x.says) s.letters effect.letters);
+      stamps = All-append StampLetter w.letters s.letters h.stamps
+          (All-weaker (LetterSays m c sender) StampLetter (λ l x. subst (λ (v : Stamp). v.by < 256) (sym (says_stamp m sender c l.to l.packet x.says)) names.promise_) s.letters effect.letters);
+      noted = after.noted;
+      once = after.once;
+    }
+
+views_same : (rules : Rules) (w v : World) → v.nodes ≡ w.nodes → v.letters ≡ w.letters → v.views ≡ w.views → AllNamed rules v → AllViews rules w → AllViews rules v
+views_same rules w v nodes letters views named h = record {
+  named = named;
+  each = rw nodes h.each;
+  pieces = rw letters h.pieces;
+  stamps = rw letters h.stamps;
+  noted = rw (nodes, views) h.noted;
+  once = rw views h.once;
+}
+
+pub each_views : (rules : Rules) → EachKeeps (AllViews rules)
+unfolding unchanged
+each_views rules w e v (idles o idle) h = views_same rules w v refl refl refl (each_named rules w e v (idles o idle) h.named) h
+each_views rules w e v (stops runs) h = views_same rules w v refl refl refl (each_named rules w e v (stops runs) h.named) h
+each_views rules w e v (returns place is left more) h = views_same rules w v refl refl refl (each_named rules w e v (returns place is left more) h.named) h
+each_views rules w e v (steps c s runs cause effect) h = views_step rules w e c s cause effect (each_named rules w e v (steps c s runs cause effect) h.named) h
+
+-- ---- the start
+
+kept_founder : (rules : Rules) (name : ℕ) → name < 256 → MayFound rules → NodeKept (founder rules name)
+unfolding fold after
+kept_founder rules name few may =
+    let first = first_founder rules may in
+    let low = first.few in
+    record {
+      names = record { who_ = few; promise_ = omega arith; entries_ = All-cons ViewNamed (founders_view rules) [] (omega arith) (All-nil ViewNamed); ballot_ = tt };
+      balloted = record { high = not_above_itself (record { round = 1; by = lowest_or_first rules.founders }); none = λ f. refl; opened = tt };
+    }
+
+kept_stranger : (rules : Rules) (name : ℕ) → name < 256 → NodeKept (stranger rules name)
+unfolding fold
+kept_stranger rules name few = record {
+  names = record { who_ = few; promise_ = omega arith; entries_ = All-nil ViewNamed; ballot_ = tt };
+  balloted = record { high = refl; none = λ f. refl; opened = tt };
+}
+
+only_one : (views : Decided) → Once (views ∷ [])
+only_one d zero zero u v a b e = refl
+only_one d zero (suc j) u v a b e = absurd (cc)
+only_one d (suc i) zero u v a b e = absurd (cc)
+only_one d (suc i) (suc j) u v a b e = absurd (cc)
+
+founding_noted : (rules : Rules) → MayFound rules → IsNoted (first_node rules) (founders_decided rules)
+unfolding fold after
+founding_noted rules may =
+    let first = first_founder rules may in
+    let low = first.few in
+    record {
+      by = omega arith;
+      log_ = rw first.founds refl;
+      low = rw first.founds (not_above_itself (record { round = 1; by = lowest_or_first rules.founders }));
+      names = rules.founders;
+      there = rw first.founds refl;
+    }
+
+pub views_start : (rules : Rules) → MayFound rules → AllViews rules (start rules)
+views_start rules may = record {
+  named = start_named rules may;
+  each = λ name few. split (has rules.founders name) (λ t. rw t (kept_founder rules name few may)) (λ f. rw f (kept_stranger rules name few));
+  pieces = All-nil PieceLetter;
+  stamps = All-nil StampLetter;
+  noted = All-cons (IsNoted (first_node rules)) (founders_decided rules) [] (founding_noted rules may) (All-nil (IsNoted (first_node rules)));
+  once = only_one (founders_decided rules);
+}
+
+pub views_hold : ViewsHold
+views_hold rules events may =
+    let w = run rules events in
+    let h = runs_keep (AllViews rules) (each_views rules) (start rules) events (views_start rules may) in
+    record {
+      once = h.once;
+      stand = λ i v at. (let x = all_get (IsNoted w.nodes) w.views i v h.noted at in record { names = x.names; there = x.there });
+    }

@@ -1,0 +1,42 @@
+//! What every run of the whole definitions keeps, proved on the definitions alone.
+#![tactic(auto)]
+
+ghost use Rattle.am_laws.specs.Begins.{RunsBegin, FrontBegins};
+ghost use Rattle.am_laws.specs.Blank.{BlankHolds};
+ghost use Rattle.am_laws.specs.GivenUp.{OnlyStoppedGivenUp};
+ghost use Rattle.am_laws.specs.Named.{NamesHold};
+ghost use Rattle.am_laws.specs.Numbers.{NumbersHold};
+ghost use Rattle.am_laws.specs.Views.{ViewsHold};
+
+/// What a run has so far stays: the records, the letters and the group list of its first events begin the run's, and so do those of its
+/// lawful front.
+pub fn runs_begin()
+    ensures runs { RunsBegin }
+    ensures front { FrontBegins }
+{}
+
+/// Each view is noted once, and its View stands at its number in its coordinator's list from then on.
+pub fn views_are_noted_once()
+    ensures { ViewsHold }
+{}
+
+/// A ballot gives up only names that have stopped.
+pub fn only_stopped_names_are_given_up()
+    ensures { OnlyStoppedGivenUp }
+{}
+
+/// Each node has its name, lives are 1 to 16, letters come from names, and a life that hasn't begun is a stranger that has done nothing.
+pub fn names_stay()
+    ensures { NamesHold }
+{}
+
+/// After k events no list has more than k + 1 entries and no promise a round above k + 1; no node has queued more than k sends; what a
+/// node has accepted, trimmed and begun at is within the group's list; and letters tell of nothing above that.
+pub fn numbers_are_bounded()
+    ensures { NumbersHold }
+{}
+
+/// A name that is neither a member nor has departed has an empty list from nought on, has accepted nothing, and has begun no ballot.
+pub fn lists_begin_blank()
+    ensures { BlankHolds }
+{}

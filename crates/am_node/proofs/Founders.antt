@@ -1,0 +1,168 @@
+-- How a node begins.
+use Rattle.std.proofs.Common.{◌≡◌, ℕ, zero, suc, ◌+◌, ◌<◌, ◌≤◌, ◌==◌, ◌&&◌, List, [], ◌∷◌, length, map, get_or, slice_index, unwrap_or, Option, Some, None, Bool, true, false, nat_lt, nat_le, refl, sym, ◌∙◌, ap, subst, arith, if◌then◌else◌}
+use Rattle.std.specs.Prelude.{EachIndex, slice_index_or, replicate}
+use Rattle.std.proofs.lemmas.Bool.Decides.{nat_tests}
+use Rattle.std.proofs.lemmas.List.{get_or-replicate, get_or_past, length-map}
+use Rattle.std.proofs.Math.ListN.{get_or-map}
+use Rattle.am_base.specs.declared.image.Report.{Report}
+use Rattle.am_base.specs.declared.image.Row.{Row}
+use Rattle.am_base.specs.Founding.{Rules, MayFound}
+use Rattle.am_base.specs.Names.{place_of, life_of, name_at, has, size, names_from, first_of, by_place}
+use Rattle.am_base.specs.Stamps.{stamp_eq}
+use Rattle.am_base.specs.Lists.{top_of, told_by, blank, blank_row, member_life, members_of, viewed, fold, after, fits}
+use Rattle.am_base.proofs.Places.{by_place_all, get_or-by_place, length-by_place}
+use Rattle.am_core.specs.Cores.{CoreState}
+use Rattle.am_core.proofs.Folds.{split}
+use Rattle.am_fronts.specs.Reports.{no_report, no_reports, reported}
+use Rattle.am_fronts.specs.Refresh.{MayLead}
+use Rattle.am_model.specs.Node.{Node, Ballot, members, stranger, founder, founders_view, founding_stamp, lowest_or_first, is_member, is_sequencer}
+use Rattle.am_handlers.specs.Keeps.{NodeKeeps}
+use Rattle.am_handlers.proofs.Due.{due_first}
+use Rattle.am_handlers.proofs.Keeping.{keeps_steady, may_lead}
+
+-- a node that nothing has happened to
+pub stranger_keeps : (rules : Rules) (who : ℕ) → NodeKeeps (stranger rules who)
+unfolding fold
+stranger_keeps rules who = record {
+  own = omega arith;
+  leads = λ is. absurd (cc);
+  promised = refl;
+  blank = λ none. refl;
+  ballot = λ b is. absurd (cc);
+  settled = λ leaves. absurd (cc);
+  due = due_first _ _ 1 (omega arith);
+  unsent = λ none. omega arith;
+}
+
+-- ---- founders
+
+-- the first name of a set that isn't empty, whose places count from one on
+lowest_is : (p : ℕ) (set : List ℕ) → 0 < size set → (k : ℕ) × (k < length set) × (0 < get_or set k 0) × (first_of (names_from p set) ≡ Some (name_at (p + k) (get_or set k 0)))
+lowest_is p [] some = absurd (omega arith)
+lowest_is p (zero ∷ lives) some =
+    let h = lowest_is (p + 1) lives some in
+    let z : (p + 1) + h.0 ≡ p + suc h.0 = omega arith in
+    (suc h.0, omega arith, h.2, h.3 ∙ ap (λ n. Some (name_at n (get_or lives h.0 0))) z)
+lowest_is p (suc before ∷ lives) some = let z : p ≡ p + 0 = omega arith in (0, omega arith, omega arith, ap (λ n. Some (name_at n (suc before))) z)
+
+-- the lowest founder is one
+pub lowest_founds : (rules : Rules) → MayFound rules → has rules.founders (lowest_or_first rules.founders) ≡ true
+lowest_founds rules may =
+    let h = lowest_is 0 rules.founders may.somebody in
+    let within = h.1 in
+    let above = h.2 in
+    let most : get_or rules.founders h.0 0 ≤ 1 = may.first_lives h.0 h.1 in
+    let one : get_or rules.founders h.0 0 ≡ 1 = omega arith in
+    let places = may.names.places in
+    let name : name_at (0 + h.0) 1 ≡ h.0 = omega arith in
+    let is : lowest_or_first rules.founders ≡ h.0 = ap (λ o. unwrap_or o 0) (h.3 ∙ ap (λ l. Some (name_at (0 + h.0) l)) one) ∙ name in
+    let place : place_of h.0 ≡ h.0 = omega arith in
+    let life : life_of h.0 ≡ 1 = omega arith in
+    let there : (get_or rules.founders (place_of h.0) 0 == life_of h.0) ≡ true = let e = ap (λ k. get_or rules.founders k 0) place ∙ one ∙ sym life in grind (arith, nat_tests) in
+    subst (λ n. has rules.founders n ≡ true) (sym is) there
+
+-- the founders' View fits where nothing stands
+pub founders_fit : (rules : Rules) → MayFound rules → fits blank (founders_view rules) ≡ true
+unfolding fits
+founders_fit rules may =
+    let there = lowest_founds rules may in
+    let low : nat_le 0 rules.resilience ≡ true = grind (arith, nat_tests) in
+    rw (there, low) refl
+
+blank_at : (place : ℕ) → slice_index_or (replicate 16 blank_row) place blank_row ≡ blank_row
+blank_at place = split (nat_lt place 16)
+    (λ t. get_or-replicate 16 place blank_row blank_row (grind (arith, nat_tests)))
+    (λ f. get_or_past (replicate 16 blank_row) place blank_row (grind (arith, nat_tests)))
+
+founders_row : List ℕ → ℕ → Row
+founders_row founders place = viewed true 1 (slice_index founders place) blank_row
+
+life_back : (life : ℕ) → member_life (viewed true 1 life blank_row) ≡ life
+life_back life = split (life == 0) (λ t. rw t (grind (arith, nat_tests))) (λ f. rw f refl)
+
+-- the founders are the members
+pub founders_members : (rules : Rules) (who : ℕ) → MayFound rules → members (founder rules who) ≡ rules.founders
+unfolding fold after
+founders_members rules who may =
+    let g : ℕ → Row = λ place. viewed true 1 (slice_index rules.founders place) blank_row in
+    let rows : members (founder rules who) ≡ map member_life (by_place g) = λ i. map member_life (by_place (λ place. viewed true 1 (slice_index rules.founders place) (blank_at place i))) in
+    rows
+    ∙ by_place_all (slice_index rules.founders) (map member_life (by_place g)) 0 (length-map (by_place g) member_life ∙ length-by_place g)
+    (λ k low. get_or-map member_life (by_place g) k blank_row ∙ ap member_life (get_or-by_place g k blank_row low) ∙ life_back (slice_index rules.founders k))
+    ∙ sym (by_place_all (slice_index rules.founders) rules.founders 0 may.names.places (λ k low. refl))
+
+pub founder_keeps : (rules : Rules) (who : ℕ) → MayFound rules → has rules.founders who ≡ true → NodeKeeps (founder rules who)
+unfolding fold after
+founder_keeps rules who may there = record {
+  own = rw there (omega arith);
+  leads = λ is. ap (λ set. has set who) (founders_members rules who may) ∙ there;
+  promised = grind (arith, nat_tests);
+  blank = λ none. absurd (cc);
+  ballot = λ b is. absurd (cc);
+  settled = λ leaves. absurd (cc);
+  due = due_first _ _ 1 (omega arith);
+  unsent = λ none. omega arith;
+}
+
+-- parts with the core, the reports, the status, the sends and the ballot of a node
+pub keeps_as : (m n : Node) → n.core ≡ m.core → (n.reports n.core.who).taken ≤ n.core.taken → n.status ≡ m.status → n.ballot ≡ m.ballot → n.leaving ≡ m.leaving → n.sends ≡ m.sends → NodeKeeps m → NodeKeeps n
+keeps_as m n core own status ballot leaving sends keeps =
+    keeps_steady m n (record {
+      who = ap (λ (c : CoreState). c.who) core;
+      promise = ap (λ (c : CoreState). c.promise) core;
+      told = ap (λ (c : CoreState). told_by c.log) core;
+      top = ap (λ (c : CoreState). top_of c.log) core;
+      status = status;
+      ballot = ballot;
+      leaving = leaving;
+      sends = sends;
+    }) keeps own
+
+-- ---- what each founder has reported
+
+abbrev pub FirstReports : List ℕ → (ℕ → Report) → ℕ → Type 0
+FirstReports founders reports high = (name : ℕ) → reports name ≡ (if nat_lt name high && has founders name then record { stored = 1; taken = 0 } else no_report)
+
+first : Report
+first = record { stored = 1; taken = 0 }
+
+pub first_none : (founders : List ℕ) (reports : ℕ → Report) → reports ≡ no_reports → FirstReports founders reports 0
+first_none founders reports is = λ name.
+    let low : nat_lt name 0 ≡ false = grind (arith, nat_tests) in
+    ap (λ (r : ℕ → Report). r name) is ∙ rw low refl
+
+pub first_more : (founders : List ℕ) (reports new : ℕ → Report) (high : ℕ) → FirstReports founders reports high → new ≡ (if has founders high then reported reports high (record { stored = 1; taken = 0 }) else reports) → FirstReports founders new (high + 1)
+first_more founders reports new high before is = λ name.
+    let past : nat_lt high high ≡ false = grind (arith, nat_tests) in
+    let zero : reports high ≡ no_report = before high ∙ rw past refl in
+    let next : nat_lt high (high + 1) ≡ true = grind (arith, nat_tests) in
+    ap (λ (r : ℕ → Report). r name) is ∙ split (name == high)
+    (λ e.
+    let same : name ≡ high = grind (arith, nat_tests) in
+    subst (λ n. (if has founders high then reported reports high (record { stored = 1; taken = 0 }) else reports) n ≡ (if nat_lt n (high + 1) && has founders n then record { stored = 1; taken = 0 } else no_report)) (sym same)
+    (split (has founders high)
+    (λ t. let own : (high == high) ≡ true = grind (arith, nat_tests) in rw (t, next, own, zero) refl)
+    (λ f. rw (f, next) zero)))
+    (λ f.
+    let same : nat_lt name high ≡ nat_lt name (high + 1) = split (nat_lt name high) (λ t. let u : nat_lt name (high + 1) ≡ true = grind (arith, nat_tests) in rw (t, u) refl) (λ n. let u : nat_lt name (high + 1) ≡ false = grind (arith, nat_tests) in rw (n, u) refl) in
+    split (has founders high)
+    (λ t. rw (t, f) (before name ∙ ap (λ b. if b && has founders name then record { stored = 1; taken = 0 } else no_report) same))
+    (λ n. rw n (before name ∙ ap (λ b. if b && has founders name then record { stored = 1; taken = 0 } else no_report) same)))
+
+none_above : (founders : List ℕ) (name : ℕ) → EachIndex founders (λ place. slice_index founders place ≤ 1) → 256 ≤ name → has founders name ≡ false
+none_above founders name lives high = split (nat_lt (place_of name) (length founders))
+    (λ t. let low : slice_index founders (place_of name) ≤ 1 = lives (place_of name) (grind (arith, nat_tests)) in grind (arith, nat_tests))
+    (λ f. let past : slice_index founders (place_of name) ≡ 0 = get_or_past founders (place_of name) 0 (grind (arith, nat_tests)) in grind (arith, nat_tests))
+
+pub first_all : (founders : List ℕ) (reports : ℕ → Report) (high : ℕ) → high ≡ 256 → EachIndex founders (λ place. slice_index founders place ≤ 1) → FirstReports founders reports high → reports ≡ (λ name. if has founders name then record { stored = 1; taken = 0 } else no_report)
+first_all founders reports high all lives each =
+    let at : (name : ℕ) → reports name ≡ (if has founders name then record { stored = 1; taken = 0 } else no_report) = λ name.
+    split (nat_lt name high)
+    (λ t. each name ∙ rw t refl)
+    (λ f. let no = none_above founders name lives (grind (arith, nat_tests)) in each name ∙ rw (f, no) refl) in
+    λ k name. at name k
+
+pub own_first : (founders : List ℕ) (reports : ℕ → Report) (who taken : ℕ) → reports ≡ (λ name. if has founders name then record { stored = 1; taken = 0 } else no_report) → (reports who).taken ≤ taken
+own_first founders reports who taken is =
+    let zero : (reports who).taken ≡ 0 = ap (λ (r : ℕ → Report). (r who).taken) is ∙ split (has founders who) (λ t. rw t refl) (λ f. rw f refl) in
+    omega arith

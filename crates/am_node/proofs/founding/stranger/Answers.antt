@@ -1,0 +1,11 @@
+use Rattle.std.proofs.Common.{refl, ap, ℕ, arith}
+use Rattle.am_base.specs.declared.image.Report.{Report}
+use Rattle.am_handlers.specs.Parts.{node_of}
+use Rattle.am_model.specs.Node.{stranger}
+use Rattle.am_node.proofs.Founders.{stranger_keeps, keeps_as}
+use Rattle.am_node.proofs.founding.stranger.Goals as goal
+
+pub invariant_of-result : goal.invariant_of-result
+invariant_of-result c =
+    let own = ap (λ (r : ℕ → Report). (r c.in_ok-core.core.who).taken) c.new-3.ensures in
+    record { keeps = keeps_as (stranger c.args.founding.now c.args.name) _ c.in_ok-core.ensures.value (omega arith) refl refl refl c.new.ensures (stranger_keeps c.args.founding.now c.args.name) }

@@ -1,0 +1,133 @@
+ghost use Rattle.std.specs.Prelude.{◌≡◌, ◌≤◌, EachIndex, slice_index, true, IfOk, if◌then◌else◌};
+ghost use Rattle.am_base.specs.Founding.{MayFound};
+ghost use Rattle.am_base.specs.Names.{has};
+ghost use Rattle.am_fronts.specs.Reports.{reports_of, reported, no_report};
+ghost use Rattle.am_model.specs.Node.{founder, stranger, founders_view, founding_stamp};
+ghost use Rattle.am_handlers.specs.Parts.{node_of};
+
+use am_base::entry::Entry;
+use am_base::founding::Founding;
+use am_base::image::Report;
+use am_base::name::{Name, Stamp};
+use am_base::names::Names;
+use am_bodies::Pool;
+use am_core::log::Log;
+use am_core::state::Core;
+use am_fronts::fronts::Fronts;
+use am_handlers::parts::Parts;
+use am_history::history::History;
+use am_model::status::Status;
+use am_sender::Sender;
+use std::alloc::{AllocError, Global};
+
+/// The stamp of the founders' view.
+pub fn founding_stamp(founding: &Founding) -> Stamp
+    ensures { result ≡ founding_stamp founding.now }
+{
+    Stamp {
+        round: 1,
+        by: founding.founders().lowest().unwrap_or(Name::of_byte(0)),
+    }
+}
+
+/// The first entry of the list.
+pub fn founders_view(founding: &Founding) -> Entry
+    ensures value { result ≡ founders_view founding.now }
+    ensures within { MayFound founding.now }
+{
+    let founders = founding.founders();
+    Entry::View {
+        stamp: founding_stamp(founding),
+        members: founders,
+        resilience: founding.resilience(),
+    }
+}
+
+/// The core of a name that no one has seen.
+fn blank(alloc: Global, name: Name, founding: &Founding) -> Result<Core<History>, AllocError>
+    ensures value { IfOk result (λ core. core ≡ (stranger founding.now name).core) }
+{
+    let log = History::new(alloc, founding.window())?;
+    Ok(Core {
+        who: name,
+        rules: *founding,
+        log,
+        promise: Stamp::default(),
+        told: 0,
+        acc: 0,
+        taken: 0,
+        start: 0,
+    })
+}
+
+/// The parts of a name that no one has seen.
+pub fn stranger(alloc: Global, name: Name, founding: &Founding) -> Result<Parts, AllocError>
+    ensures { IfOk result (λ p. node_of p ≡ stranger founding.now name) }
+{
+    let core = blank(alloc, name, founding)?;
+    Ok(Parts {
+        core,
+        status: Status::Stranger,
+        leaving: false,
+        sender: Sender::new(),
+        pool: Pool::new(),
+        fronts: Fronts::new(),
+        ballot: None,
+    })
+}
+
+/// A founder has stored the founders' View.
+fn report_first(fronts: &mut Fronts, founders: Names, name: Name)
+    ensures { reports_of fronts.new ≡ (if has founders name then reported (reports_of fronts.old) name (record { stored = 1; taken = 0 }) else reports_of fronts.old) }
+{
+    if founders.has(name) {
+        let report = Report {
+            stored: 1,
+            taken: 0,
+        };
+        fronts.report(name, report);
+    }
+}
+
+/// What is reported at first: each founder has stored the founders' View.
+fn first_reports(founders: Names) -> Fronts
+    requires { EachIndex founders (λ place. slice_index founders place ≤ 1) }
+    ensures { reports_of result ≡ (λ name. if has founders name then record { stored = 1; taken = 0 } else no_report) }
+{
+    let mut fronts = Fronts::new();
+    for byte in 0..256u16 {
+        report_first(&mut fronts, founders, Name::of_byte(byte as u8));
+    }
+    fronts
+}
+
+/// The core of a founder.
+fn founded(alloc: Global, name: Name, founding: &Founding) -> Result<Core<History>, AllocError>
+    ensures { IfOk result (λ core. core ≡ (founder founding.now name).core) }
+{
+    let mut core = blank(alloc, name, founding)?;
+    core.push(founders_view(founding));
+    core.promise = founding_stamp(founding);
+    core.told = 1;
+    core.acc = 1;
+    core.start = 1;
+    Ok(core)
+}
+
+/// The parts of a founder.
+pub fn founder(alloc: Global, name: Name, founding: &Founding) -> Result<Parts, AllocError>
+    requires { has founding.now.founders name ≡ true }
+    ensures { IfOk result (λ p. node_of p ≡ founder founding.now name) }
+{
+    let fronts = first_reports(founding.founders());
+    let core = founded(alloc, name, founding)?;
+    Ok(Parts {
+        core,
+        status: Status::Member,
+        leaving: false,
+        sender: Sender::new(),
+        pool: Pool::new(),
+        fronts,
+        ballot: None,
+    })
+}

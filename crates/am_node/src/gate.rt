@@ -1,0 +1,76 @@
+ghost use Rattle.std.specs.Prelude.{◌≡◌};
+ghost use Rattle.am_model.specs.Hearing.{hears_member, hears_asking, hears_in_view, hears_as_sequencer, hears_sequencer};
+ghost use Rattle.am_handlers.specs.Parts.{node_of};
+ghost use Rattle.am_node.specs.Heard.{is_heard};
+
+use am_base::name::{Name, Stamp};
+use am_core::log::Log;
+use am_handlers::parts::Parts;
+use am_model::status::Status;
+use am_packet::packet::Packet;
+
+/// Whether a member hears another name's packet.
+fn hears_member(parts: &Parts, from: Name) -> bool
+    ensures { result ≡ hears_member (node_of parts.now) from }
+{
+    from != parts.core.who && parts.status == Status::Member
+}
+
+/// Whether a member, or a node that asks to join, hears another name's packet.
+fn hears_asking(parts: &Parts, from: Name) -> bool
+    ensures { result ≡ hears_asking (node_of parts.now) from }
+{
+    from != parts.core.who && (parts.status == Status::Member || parts.status == Status::Asking)
+}
+
+/// Whether a packet is one of the view in which the node acts.
+fn hears_in_view(parts: &Parts, from: Name, stamp: Stamp) -> bool
+    ensures { result ≡ hears_in_view (node_of parts.now) from stamp }
+{
+    let view = parts.core.log.view();
+    hears_member(parts, from) && parts.acts() && stamp.round == view.round && stamp.by == view.by
+}
+
+/// Whether a packet is one for the sequencer.
+fn hears_as_sequencer(parts: &Parts, from: Name, stamp: Stamp) -> bool
+    ensures { result ≡ hears_as_sequencer (node_of parts.now) from stamp }
+{
+    hears_in_view(parts, from, stamp) && parts.is_sequencer()
+}
+
+/// Whether a packet is one of the sequencer.
+fn hears_sequencer(parts: &Parts, from: Name, stamp: Stamp) -> bool
+    ensures { result ≡ hears_sequencer (node_of parts.now) from stamp }
+{
+    hears_in_view(parts, from, stamp) && stamp.by == from
+}
+
+/// Whether a packet is heard, by its kind.
+pub fn is_heard(parts: &Parts, packet: &Packet) -> bool
+    ensures { result ≡ is_heard (node_of parts.now) packet.now }
+{
+    match packet {
+        Packet::Request { sender, stamp, .. }
+        | Packet::Ack { sender, stamp, .. }
+        | Packet::Nack { sender, stamp, .. } => hears_as_sequencer(parts, *sender, *stamp),
+        Packet::Spread { sender, stamp, .. } => hears_in_view(parts, *sender, *stamp),
+        Packet::Bcast { sender, stamp, .. }
+        | Packet::Order { sender, stamp, .. }
+        | Packet::Accept { sender, stamp, .. }
+        | Packet::Hold { sender, stamp, .. }
+        | Packet::HandOver { sender, stamp } => hears_sequencer(parts, *sender, *stamp),
+        Packet::JoinAsk { sender, .. } | Packet::LeaveAsk { sender, .. } => {
+            hears_member(parts, *sender) && parts.is_sequencer()
+        }
+        Packet::Welcome { sender, stamp, .. } | Packet::Invite { sender, stamp } => {
+            hears_asking(parts, *sender) && stamp.by == *sender
+        }
+        Packet::Result { sender, stamp, .. } => {
+            hears_member(parts, *sender) && stamp.by == *sender
+        }
+        Packet::Gone { sender, .. }
+        | Packet::Vote { sender, .. }
+        | Packet::Fetch { sender, .. }
+        | Packet::Piece { sender, .. } => hears_member(parts, *sender),
+    }
+}

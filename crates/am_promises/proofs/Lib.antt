@@ -1,0 +1,4 @@
+pub mod Stamps
+pub mod Changes
+pub mod Runs
+pub mod Ballots

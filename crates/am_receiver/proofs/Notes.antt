@@ -1,0 +1,23 @@
+-- What a member notes of the sequencer's fronts, and what stays.
+use Rattle.std.proofs.Common.{◌≡◌, ℕ, refl}
+use Rattle.am_core.specs.Cores.{CoreState, Keeps}
+use Rattle.am_model.specs.Node.{Node}
+use Rattle.am_model.specs.Receiving.{noted}
+use Rattle.am_model.specs.Ends.{IsEndOf}
+use Rattle.am_handlers.specs.Keeps.{NodeKeeps, IsSteady}
+use Rattle.am_handlers.proofs.Doing.{core_changes}
+use Rattle.am_handlers.proofs.Ends.{end_self}
+use Rattle.am_handlers.proofs.Keeping.{keeps_steady, end_steady, end_keeps, steady_then}
+use Rattle.am_receiver.specs.Pieces.{note}
+
+pub noted_end : (m : Node) (core : CoreState) (base acc : ℕ) → m.core.base ≡ m.core.log.start → Keeps (note base acc) m.core core → IsEndOf (noted m base acc) (record m { core = core })
+noted_end m core base acc kept keeps = core_changes (note base acc) m core keeps m (end_self m kept)
+
+noted_steady : (m : Node) (base acc : ℕ) → IsSteady m (noted m base acc)
+noted_steady m base acc = record { who = refl; promise = refl; told = refl; top = refl; status = refl; ballot = refl; leaving = refl; sends = refl }
+
+pub end_noted_steady : (m n : Node) (base acc : ℕ) → IsEndOf (noted m base acc) n → IsSteady m n
+end_noted_steady m n base acc end = steady_then m (noted m base acc) n (noted_steady m base acc) (end_steady (noted m base acc) n end)
+
+pub end_noted_keeps : (m n : Node) (base acc : ℕ) → IsEndOf (noted m base acc) n → NodeKeeps m → NodeKeeps n
+end_noted_keeps m n base acc end keeps = end_keeps (noted m base acc) n end (keeps_steady m (noted m base acc) (noted_steady m base acc) keeps keeps.own)

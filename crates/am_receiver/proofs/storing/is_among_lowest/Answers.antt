@@ -1,0 +1,14 @@
+use Rattle.std.proofs.Common.{arith}
+use Rattle.std.proofs.lemmas.Bool.Decides.{nat_tests}
+use Rattle.am_receiver.proofs.Lowest.{among_lowest}
+use Rattle.am_receiver.proofs.storing.is_among_lowest.Goals as goal
+
+pub returns-then-has : goal.returns-then-has
+returns-then-has c =
+    let e = among_lowest c.args.set c.args.name c.args.count c.lives_below-lower.ensures.set in
+    rw e (grind (arith, nat_tests))
+
+pub returns-else-has : goal.returns-else-has
+returns-else-has c =
+    let e = among_lowest c.args.set c.args.name c.args.count c.lives_below-lower.ensures.set in
+    rw e (grind (arith, nat_tests))

@@ -1,0 +1,10 @@
+pub mod Orders
+pub mod Sets
+pub mod Views
+pub mod Nodes
+pub mod Verdicts
+pub mod Promises
+pub mod Replying
+pub mod VoteRows
+pub mod Pieces
+pub mod Serves

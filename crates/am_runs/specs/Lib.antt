@@ -1,2 +1,0 @@
-pub mod FirstClaims
-pub mod FirstKept

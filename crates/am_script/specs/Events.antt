@@ -1,0 +1,125 @@
+-- Events of a script.
+use Rattle.std.specs.Prelude.{ℕ, ◌+◌, List, [], ◌∷◌, if◌then◌else◌, Option, Some, None, is_some, Ok, Err, codes, bytes_eq}
+use Rattle.std.specs.Option.{ok_or}
+use Rattle.serde_json.specs.Data.{Data, Items, no_items, item}
+use Rattle.serde_json.specs.Find.{as_array, as_object}
+use Rattle.am_base.specs.Names.{name_at}
+use Rattle.am_group.specs.declared.event.Act.{Act}
+use Rattle.am_group.specs.declared.event.Act.TheVariants as act
+use Rattle.am_group.specs.declared.event.Event.{Event}
+use Rattle.am_script.specs.declared.key.Key.{Key}
+use Rattle.am_script.specs.declared.key.Key.TheVariants as key
+use Rattle.am_script.specs.declared.kind.Kind.{Kind}
+use Rattle.am_script.specs.declared.kind.Kind.TheVariants.{Send, Done, Take, Join, State, Leave, Reset, Ask, GiveUp, Stop, Tick, Hear, Cut, Return}
+use Rattle.am_script.specs.declared.refusal.ScriptRefusal.TheVariants.{Unknown, BadValue}
+use Rattle.am_script.specs.Keys.{has_only}
+use Rattle.am_script.specs.Refusals.{Read, ◌>>=◌}
+use Rattle.am_script.specs.Values.{text_in, number_in, number_or, body_from}
+
+-- the kind of an event by its word
+unfoldable pub kind_of : List ℕ → Option Kind
+kind_of word =
+    if bytes_eq word (codes "send") then Some Send
+    else if bytes_eq word (codes "done") then Some Done
+    else if bytes_eq word (codes "take") then Some Take
+    else if bytes_eq word (codes "join") then Some Join
+    else if bytes_eq word (codes "state") then Some State
+    else if bytes_eq word (codes "leave") then Some Leave
+    else if bytes_eq word (codes "reset") then Some Reset
+    else if bytes_eq word (codes "ask") then Some Ask
+    else if bytes_eq word (codes "giveup") then Some GiveUp
+    else if bytes_eq word (codes "stop") then Some Stop
+    else if bytes_eq word (codes "tick") then Some Tick
+    else if bytes_eq word (codes "hear") then Some Hear
+    else if bytes_eq word (codes "cut") then Some Cut
+    else if bytes_eq word (codes "return") then Some Return
+    else None
+
+-- the keys of an event of a kind
+abbrev pub keys_of : Kind → List Key
+keys_of Send = key.Do ∷ key.Node ∷ key.Body ∷ []
+keys_of Done = key.Do ∷ key.Node ∷ key.Req ∷ []
+keys_of Take = key.Do ∷ key.Node ∷ []
+keys_of Join = key.Do ∷ key.Node ∷ []
+keys_of State = key.Do ∷ key.Node ∷ []
+keys_of Leave = key.Do ∷ key.Node ∷ []
+keys_of Reset = key.Do ∷ key.Node ∷ key.Least ∷ key.Resilience ∷ []
+keys_of Ask = key.Do ∷ key.Node ∷ key.Round ∷ []
+keys_of GiveUp = key.Do ∷ key.Node ∷ key.Name ∷ key.Life ∷ []
+keys_of Stop = key.Do ∷ key.Node ∷ []
+keys_of Tick = key.Do ∷ key.Node ∷ []
+keys_of Hear = key.Do ∷ key.Node ∷ key.Packet ∷ []
+keys_of Cut = key.Do ∷ key.Node ∷ key.Packet ∷ key.Keep ∷ []
+keys_of Return = key.Do ∷ key.Node ∷ []
+
+-- the kind of an event, which is read before all else
+unfoldable pub kind_in : ℕ → Data → Read Kind
+kind_in place d = text_in key.Do place d >>= λ word. ok_or (kind_of word) (BadValue key.Do place)
+
+-- the acts that have arguments
+unfoldable pub send_in : ℕ → Data → Read Act
+send_in place d = do
+  text ← text_in key.Body place d
+  body ← body_from place text
+  Ok (act.Send body)
+
+-- a reset keeps the resilience that is said, or else the founding's
+unfoldable pub reset_in : ℕ → ℕ → Data → Read Act
+reset_in founding place d = do
+  least ← number_in key.Least place 1 16 d
+  resilience ← number_or founding key.Resilience place 0 15 d
+  Ok (act.Reset least resilience)
+
+-- the life of the name that is given up is 1 where it isn't said
+unfoldable pub give_up_in : ℕ → Data → Read Act
+give_up_in place d = do
+  seat ← number_in key.Name place 0 15 d
+  life ← number_or 1 key.Life place 1 16 d
+  Ok (act.GiveUp (name_at seat life))
+
+unfoldable pub cut_in : ℕ → Data → Read Act
+cut_in place d = do
+  packet ← number_in key.Packet place 1 2000000000 d
+  keep ← number_in key.Keep place 0 1152 d
+  Ok (act.Cut packet keep)
+
+-- the act of an event of a kind, of a founding of this resilience
+unfoldable pub act_in : Kind → ℕ → ℕ → Data → Read Act
+act_in Send founding place d = send_in place d
+act_in Done founding place d = number_in key.Req place 1 2000000000 d >>= λ req. Ok (act.Done req)
+act_in Take founding place d = Ok act.Take
+act_in Join founding place d = Ok act.Join
+act_in State founding place d = Ok act.State
+act_in Leave founding place d = Ok act.Leave
+act_in Reset founding place d = reset_in founding place d
+act_in Ask founding place d = number_in key.Round place 1 2000000000 d >>= λ round. Ok (act.Ask round)
+act_in GiveUp founding place d = give_up_in place d
+act_in Stop founding place d = Ok act.Stop
+act_in Tick founding place d = Ok act.Tick
+act_in Hear founding place d = number_in key.Packet place 1 2000000000 d >>= λ packet. Ok (act.Hear packet)
+act_in Cut founding place d = cut_in place d
+act_in Return founding place d = Ok act.Return
+
+-- an event of a kind: first another key, then the place that acts, then the act
+unfoldable pub event_as : Kind → ℕ → ℕ → Data → Read Event
+event_as kind founding place d =
+    if has_only (keys_of kind) d
+    then (number_in key.Node place 0 15 d >>= λ node. act_in kind founding place d >>= λ done. Ok (record { node = node; act = done }))
+    else Err (Unknown place)
+
+-- an event
+unfoldable pub event_from : ℕ → ℕ → Data → Read Event
+event_from founding place d =
+    if is_some (as_object d)
+    then (kind_in place d >>= λ kind. event_as kind founding place d)
+    else Err (BadValue key.Events place)
+
+-- events in order, the first of which has this number
+abbrev pub each_event : ℕ → ℕ → Items → Read (List Event)
+each_event founding place no_items = Ok []
+each_event founding place (item d ds) =
+    event_from founding place d >>= λ event. each_event founding (place + 1) ds >>= λ events. Ok (event ∷ events)
+
+-- an array of any number of events, which are counted from 1
+unfoldable pub events_from : ℕ → Data → Read (List Event)
+events_from founding d = ok_or (as_array d) (BadValue key.Events 0) >>= each_event founding 1

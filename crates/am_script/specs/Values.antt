@@ -1,0 +1,58 @@
+-- Values at keys of an object, each of its kind and within its limits. A place is the number of an event, or 0.
+use Rattle.std.specs.Prelude.{ℕ, ◌/◌, ◌%◌, ◌==◌, ◌&&◌, ◌||◌, nat_le, List, length, Bool, if◌then◌else◌, Result, Ok, Err, option_and_then}
+use Rattle.std.specs.List.{list_all}
+use Rattle.std.specs.Option.{option_map_or, ok_or}
+use Rattle.hex.specs.Hex.{decode_of}
+use Rattle.serde_json.specs.Data.{Data}
+use Rattle.serde_json.specs.Find.{as_bool, as_str, as_number, as_u64}
+use Rattle.am_script.specs.declared.key.Key.{Key}
+use Rattle.am_script.specs.declared.key.Key.TheVariants.{Body}
+use Rattle.am_script.specs.declared.refusal.ScriptRefusal.TheVariants.{Missing, BadValue, OutOfRange}
+use Rattle.am_script.specs.Keys.{value_at}
+use Rattle.am_script.specs.Refusals.{Read, ◌>>=◌}
+
+-- the value at a key that must be there
+abbrev pub value_in : Key → ℕ → Data → Read Data
+value_in key place d = ok_or (value_at key d) (Missing key place)
+
+-- the text at a key
+abbrev pub text_in : Key → ℕ → Data → Read (List ℕ)
+text_in key place d = value_in key place d >>= λ v. ok_or (as_str v) (BadValue key place)
+
+-- a whole number within its limits
+unfoldable pub number_from : Key → ℕ → ℕ → ℕ → Data → Read ℕ
+number_from key place least most d =
+    ok_or (option_and_then as_u64 (as_number d)) (BadValue key place) >>= λ n.
+    if nat_le least n && nat_le n most then Ok n else Err (OutOfRange key place n least most)
+
+-- the number at a key that must be there
+abbrev pub number_in : Key → ℕ → ℕ → ℕ → Data → Read ℕ
+number_in key place least most d = value_in key place d >>= number_from key place least most
+
+-- the number at a key, or else another
+abbrev pub number_or : ℕ → Key → ℕ → ℕ → ℕ → Data → Read ℕ
+number_or otherwise key place least most d = option_map_or (number_from key place least most) (value_at key d) (Ok otherwise)
+
+-- whether there is true at a key; where the key isn't there, it is as is said
+abbrev pub flag_or : Bool → Key → ℕ → Data → Read Bool
+flag_or otherwise key place d = option_map_or (λ v. ok_or (as_bool v) (BadValue key place)) (value_at key d) (Ok otherwise)
+
+-- a digit 0 to 9 or a to f
+abbrev pub is_digit : ℕ → Bool
+is_digit c = (nat_le 48 c && nat_le c 57) || (nat_le 97 c && nat_le c 102)
+
+-- the text is pairs of such digits
+abbrev pub are_pairs : List ℕ → Bool
+are_pairs text = (length text % 2 == 0) && list_all is_digit text
+
+-- the bytes that such pairs are
+abbrev pub bytes_in : {E : Type 0} → ℕ → Result (List ℕ) E → Read (List ℕ)
+bytes_in place (Ok bytes) = Ok bytes
+bytes_in place (Err e) = Err (BadValue Body place)
+
+-- the bytes of a text of pairs of digits, at most 1,024 pairs
+unfoldable pub body_from : ℕ → List ℕ → Read (List ℕ)
+body_from place text =
+    if are_pairs text
+    then (if nat_le (length text / 2) 1024 then bytes_in place (decode_of text) else Err (OutOfRange Body place (length text / 2) 0 1024))
+    else Err (BadValue Body place)

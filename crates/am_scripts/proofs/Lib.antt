@@ -1,3 +1,0 @@
-pub mod Outside
-pub mod Lists
-pub mod Scripts

@@ -1,5 +1,0 @@
-use Rattle.am_sequencer.proofs.Tellings.{others_told}
-use Rattle.am_sequencer.proofs.letters.others.Goals as goal
-
-pub returns : goal.returns
-returns g c = others_told _ _ _ _ _ c.core.view_is c.top.ensures.value c.members_after.ensures c.without.ensures

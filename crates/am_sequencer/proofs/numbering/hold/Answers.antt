@@ -1,5 +1,0 @@
-use Rattle.am_sequencer.proofs.Tellings.{hold_told}
-use Rattle.am_sequencer.proofs.numbering.hold.Goals as goal
-
-pub returns-clause-value : goal.returns-clause-value
-returns-clause-value g c = hold_told _ _ _ _ _ c.core.view_is c.base.ensures.value c.top.ensures.value

@@ -1,0 +1,12 @@
+use Rattle.std.proofs.Common.{◌≡◌, ◌+◌, ◌-◌, ◌≤◌, [], length, take}
+use Rattle.am_model.specs.Node.{only_name}
+use Rattle.am_model.specs.Emit.{put_all}
+use Rattle.am_sequencer.specs.Pieces.{bcast_from}
+use Rattle.am_sequencer.proofs.Served.{kept_above}
+use Rattle.am_sequencer.proofs.serving.put_entries.Given as goal
+
+abbrev pub invariant-loop-before : goal.invariant-loop-before
+invariant-loop-before g l = record {
+  letters : l.out ≡ put_all (bcast_from l.core) (only_name l.to) (l.stored + 1) (take (l.before - l.stored) (kept_above l.core.log l.stored)) [];
+  few : length l.out ≤ l.before - l.stored;
+}

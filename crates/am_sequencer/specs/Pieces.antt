@@ -1,0 +1,22 @@
+-- Pieces of the sequencer's rows.
+use Rattle.std.specs.Prelude.{ℕ, List, Bool, nat_lt, if◌then◌else◌}
+use Rattle.am_base.specs.declared.entry.Entry.{Entry}
+use Rattle.am_base.specs.declared.entry.Entry.TheVariants.{Data}
+use Rattle.am_base.specs.declared.outcome.Outcome.TheVariants as said
+use Rattle.am_packet.specs.declared.packet.Packet.{Packet}
+use Rattle.am_packet.specs.declared.packet.Packet.TheVariants.{Bcast}
+use Rattle.am_core.specs.Cores.{CoreState}
+use Rattle.am_model.specs.Node.{Node}
+use Rattle.am_model.specs.Emit.{Plan, quiet, bcast_of, order_of}
+
+-- the end of a step whose report is taken, and before which so much was accepted
+abbrev pub following : ℕ → Node → Plan
+following before m = record (quiet m said.Noted) { outcome = λ n. if nat_lt before n.core.acc then said.Accepted n.core.acc else said.Noted }
+
+-- the packet of a numbered send: its number alone where everybody has its body
+abbrev pub data_told : ℕ → ℕ → ℕ → List ℕ → Bool → Node → Packet
+data_told number from req body by_order n = if by_order then order_of n number from req else bcast_of n number (Data from req body)
+
+-- a numbered entry, with the fronts of a core
+abbrev pub bcast_from : CoreState → ℕ → Entry → Packet
+bcast_from c number e = Bcast c.who c.promise c.base c.acc number e

@@ -1,0 +1,5 @@
+pub mod Acts
+pub mod Going
+pub mod Names
+pub mod Rounds
+pub mod Ways

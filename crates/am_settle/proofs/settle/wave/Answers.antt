@@ -1,0 +1,22 @@
+use Rattle.std.proofs.Common.{◌<◌, ◌≤◌, length, arith}
+use Rattle.std.proofs.lemmas.Result.{err_from_is_err_and}
+use Rattle.am_world.specs.Runs.{replay}
+use Rattle.am_settle.proofs.Ways.{waved, wave_stuck, wave_done}
+use Rattle.am_settle.proofs.settle.wave.Goals as goal
+
+pub loop-number-preserved : goal.loop-number-preserved
+loop-number-preserved c =
+    let low : c.loop-number.number < length (replay c.args.world.now).letters = omega (arith, c.letter_count-last.ensures, c.loop-number-test.true) in
+    waved c.args.after c.loop-number.number c.args.world.now c.loop-number.world c.hear_all.new.world low c.loop-number.invariant c.in_ok-hear_all.ensures.ok
+
+pub returns-in_err-hear_all-clause-err : goal.returns-in_err-hear_all-clause-err
+returns-in_err-hear_all-clause-err c =
+    let low : c.loop-number.number < length (replay c.args.world.now).letters = omega (arith, c.letter_count-last.ensures, c.loop-number-test.true) in
+    let p = err_from_is_err_and c.from_residual.result c.from_residual.ensures.1 in
+    rw (p.1, p.2)
+    (wave_stuck c.args.after c.loop-number.number c.args.world.now c.loop-number.world c.hear_all.new.world c.in_err-hear_all.field-0.0 low c.loop-number.invariant c.in_err-hear_all.ensures.err)
+
+pub returns-clause-ok : goal.returns-clause-ok
+returns-clause-ok c =
+    let high : length (replay c.args.world.now).letters ≤ c.loop-number.number = omega (arith, c.letter_count-last.ensures, c.loop-number-test.false) in
+    wave_done c.args.after c.loop-number.number c.args.world.now c.loop-number.world high c.loop-number.invariant

@@ -1,0 +1,43 @@
+-- How far a world has come with the events of a schedule.
+use Rattle.std.specs.Prelude.{◌≡◌, ℕ, ◌+◌, ◌<◌, List, [], ◌∷◌, ◌++◌, length, take, Bool, not, if◌then◌else◌}
+use Rattle.am_packet.specs.Boxes.{Letter}
+use Rattle.am_group.specs.declared.event.Act.{Act}
+use Rattle.am_group.specs.declared.event.Event.{Event}
+use Rattle.am_group.specs.Addressed.{is_for}
+use Rattle.am_model.specs.World.{World, current, is_stopped}
+use Rattle.am_model.specs.Settle.{Settling, event_at, round}
+use Rattle.am_world.specs.Runs.{Play}
+use Rattle.am_world.specs.declared.world.WorldRefusal.{WorldRefusal}
+use Rattle.am_world.specs.declared.world.WorldRefusal.TheVariants.{Spent}
+
+-- a place whose current name hasn't stopped
+abbrev pub is_running : World → ℕ → Bool
+is_running w place = not (is_stopped w (current w place))
+
+-- for whose current name a letter is
+abbrev pub is_meant : World → Letter → ℕ → Bool
+is_meant w letter place = is_for letter (current w place)
+
+-- an act of one place, where it passes
+abbrev pub act_at : Bool → Act → ℕ → List Event
+act_at passes act place = if passes then event_at place act ∷ [] else []
+
+-- a world, with nothing done yet
+abbrev pub unsettled : World → Settling
+unsettled w = record { world = w; events = [] }
+
+-- the events of one round
+unfoldable pub round_events : World → List Event
+round_events w = (round (unsettled w)).events
+
+-- the world did these events more, or a beginning of them
+abbrev pub Did : List Event → Play → Play → Type 0
+Did events old new = new ≡ record old { events = old.events ++ events }
+
+abbrev pub DidSome : List Event → Play → Play → Type 0
+DidSome events old new = (count : ℕ) × Did (take count events) old new
+
+-- it did a beginning of them, and no more by this refusal: Spent where a run of all would have too many events
+pub record Stuck (events : List Event) (old new : Play) (refusal : WorldRefusal) : Type 0 where
+  pub some : DidSome events old new
+  pub spent : refusal ≡ Spent → 100000 < length old.events + length events

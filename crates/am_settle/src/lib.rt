@@ -1,0 +1,6 @@
+//! The lossless schedule: rounds in which everybody ticks, and hears what comes of it in five waves.
+#![tactic(auto)]
+
+pub mod settle;
+#[cfg(test)]
+mod tests;

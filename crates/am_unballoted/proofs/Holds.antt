@@ -1,0 +1,76 @@
+-- What holds of each run in which nobody began a ballot.
+use Rattle.std.proofs.Common.{◌≡◌, ◌≢◌, ℕ, ◌+◌, true, List, [], Some, refl, sym, ◌∙◌, subst, arith}
+use Rattle.am_base.specs.declared.entry.Entry.{Entry}
+use Rattle.am_base.specs.declared.entry.Entry.TheVariants.{Data, Join}
+use Rattle.am_base.specs.Founding.{Rules}
+use Rattle.am_base.specs.Lists.{blank, AllFit}
+use Rattle.am_group.specs.Journals.{item_at}
+use Rattle.am_group.specs.Deliveries.{deliveries}
+use Rattle.am_model.specs.World.{World, run}
+use Rattle.am_model.specs.Group.{accepted_sends, has_log}
+use Rattle.am_model.specs.Claims.{BeginsAt, UnballotedHolds}
+use Rattle.am_model.proofs.Greatest.{split}
+use Rattle.am_chain_lists.proofs.Members.{good_begins}
+use Rattle.am_chain_lists.proofs.Prefixes.{begins_take}
+use Rattle.am_orders.proofs.Turns.{senders_in_order, send_stands_once}
+use Rattle.am_bounded.proofs.Runs.{bounded_holds}
+use Rattle.am_sent.proofs.Runs.{sent_holds}
+use Rattle.am_effects.proofs.Items.{all_get}
+use Rattle.am_unballoted.proofs.Lists.{item_taken}
+use Rattle.am_unballoted.proofs.Kept.{first_of, At}
+use Rattle.am_unballoted.proofs.Worlds.{StandsAt, Kept, WorldOk}
+use Rattle.am_unballoted.proofs.Steps.{nil_of}
+use Rattle.am_unballoted.proofs.Runs.{world_ok}
+
+-- what is accepted stands in the group's list
+in_group : (rules : Rules) (list : List Entry) (acc : ℕ) (w : World) (number : ℕ) (e : Entry) → Kept rules list acc w → At list acc number e → item_at w.group number ≡ Some e
+in_group rules list acc w number e h a = subst (λ g. item_at g number ≡ Some e) (sym h.group) (item_taken acc list number e a.low a.there)
+
+-- who was given something has a list
+given_log : (rules : Rules) (list : List Entry) (acc : ℕ) (w : World) (name : ℕ) → Kept rules list acc w → deliveries w.records name ≢ [] → has_log (w.nodes name).status ≡ true
+given_log rules list acc w name h some = split (has_log (w.nodes name).status) (λ t. t)
+    (λ f.
+    let b = (h.each name).status.blank f in
+    let b0 = b.0 in
+    let b1 = b.1 in
+    let count = (h.given name).count in
+    absurd (some (nil_of (deliveries w.records name) (omega arith))))
+
+begins_there : (rules : Rules) (list : List Entry) (acc : ℕ) (w : World) (name : ℕ) → Kept rules list acc w → has_log (w.nodes name).status ≡ true → BeginsAt rules w name (w.nodes name).core.start
+begins_there rules list acc w name h log =
+    let b = (h.each name).status.begins log in
+    record {
+      founder = b.founder;
+      joiner = λ f. (h.welcomed name f ∙ rw log refl, in_group rules list acc w (w.nodes name).core.start (Join name) h (b.joiner f));
+    }
+
+group_fits : (rules : Rules) (w : World) → WorldOk rules w → AllFit blank 1 w.group
+group_fits rules w h =
+    let m = w.nodes (first_of rules) in
+    subst (AllFit blank 1) (sym h.kept.group) (good_begins (begins_take m.core.acc m.core.log.entries) h.first.base.good).fit
+
+pub unballoted_holds : UnballotedHolds
+unballoted_holds rules events may none =
+    let w = run rules events in
+    let h = world_ok rules events may none in
+    let m = w.nodes (first_of rules) in
+    let list = m.core.log.entries in
+    let acc = m.core.acc in
+    let fit = group_fits rules w h in
+    record {
+      segment = record {
+        each = λ name some. (
+          (w.nodes name).core.start,
+          begins_there rules list acc w name h.kept (given_log rules list acc w name h.kept some),
+          λ k number e is. (let g = (h.kept.given name).each k number e is in (g.0, in_group rules list acc w ((w.nodes name).core.start + k) e h.kept g.1)),
+        );
+      };
+      once = record {
+        each = λ k s is.
+            let a = all_get (StandsAt list acc) (accepted_sends w.records) k s h.kept.accepted is in
+            send_stands_once w fit s.name s.req s.number a.0 (in_group rules list acc w s.number (Data s.name s.req a.0) h.kept a.1);
+      };
+      sent = sent_holds rules events may;
+      senders_order = senders_in_order w fit;
+      bounded = bounded_holds rules events may;
+    }

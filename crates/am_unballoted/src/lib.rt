@@ -1,0 +1,16 @@
+//! Runs in which nobody began a ballot, whoever stops: what holds of each of them, proved on the definitions alone.
+#![tactic(auto)]
+
+ghost use Rattle.am_model.specs.Claims.{UnballotedHolds, UnballotedMoves};
+
+/// Each name is given a gapless segment of the group's list, which has each accepted send once, and only what was sent before, each
+/// sender's requests in turn; and no node keeps more than the bound.
+pub fn runs_without_a_ballot_hold()
+    ensures { UnballotedHolds }
+{}
+
+/// Each event moves the group by its record alone: its name takes what the record gave out, and then the list grows and a name is
+/// admitted.
+pub fn runs_without_a_ballot_move()
+    ensures { UnballotedMoves }
+{}

@@ -1,0 +1,79 @@
+-- A run without events.
+use Rattle.std.proofs.Common.{◌≡◌, ℕ, ◌<◌, ◌≤◌, true, false, if◌then◌else◌, [], length, map, slice_index, refl, sym, ap, ◌∙◌, inl, inr, arith}
+use Rattle.std.proofs.lemmas.List.{get_or_past}
+use Rattle.std.proofs.lemmas.List.FromFn.{get_or-map-range_with_len, length-map-range_with_len}
+use Rattle.std.proofs.lemmas.Bool.{cases_lt}
+use Rattle.std.proofs.lemmas.Bool.Decides.{nat_tests}
+use Rattle.std.specs.List.{range_with_len}
+use Rattle.am_base.specs.Names.{has, place_of, life_of}
+use Rattle.am_base.specs.Lists.{fold, after}
+use Rattle.am_base.specs.Founding.{Rules, MayFound}
+use Rattle.am_base.specs.Stamps.{stamp_lt}
+use Rattle.am_model.specs.declared.status.Status.TheVariants.{Member}
+use Rattle.am_model.specs.Node.{founder, stranger, founding_stamp}
+use Rattle.am_model.specs.World.{first_node}
+use Rattle.am_model.proofs.Greatest.{split}
+use Rattle.am_watch.specs.Watching as kept
+use Rattle.am_watch.specs.Watching.{unseen, standing, first_standing, first_view, begun}
+use Rattle.am_watch.specs.Watches.{standing_of, Each, BeginningIsWatched}
+use Rattle.am_watch.proofs.Order.{lt_self}
+
+founder_shown : (rules : Rules) (name : ℕ) → standing_of (founder rules name) ≡ record { status = (founder rules name).status; view = (first_view rules).stamp; start = 1; from = 0 }
+unfolding fold after
+founder_shown rules name = refl
+
+stranger_shown : (rules : Rules) (name : ℕ) → standing_of (stranger rules name) ≡ unseen
+unfolding fold
+stranger_shown rules name = refl
+
+first_shown : (rules : Rules) (name : ℕ) → first_standing rules name ≡ standing_of (first_node rules name)
+first_shown rules name = split (has rules.founders name)
+    (λ t. rw t (sym (founder_shown rules name)))
+    (λ t. rw t (sym (stranger_shown rules name)))
+
+nobody_else : (rules : Rules) (name : ℕ) → MayFound rules → 256 ≤ name → has rules.founders name ≡ false
+nobody_else rules name may high = split (has rules.founders name)
+    (λ t.
+    let is : slice_index rules.founders (place_of name) ≡ life_of name = grind (arith, nat_tests) in
+    let places = may.names.places in
+    let low : place_of name < length rules.founders = omega arith in
+    let most : slice_index rules.founders (place_of name) ≤ 1 = may.first_lives (place_of name) low in
+    absurd (omega arith))
+    (λ t. t)
+
+standing_first : (rules : Rules) (name : ℕ) → MayFound rules → standing (begun rules) name ≡ standing_of (first_node rules name)
+standing_first rules name may = elim (cases_lt name 256) [
+  | inl low ↦ get_or-map-range_with_len (first_standing rules) 0 256 name name unseen low (omega arith) ∙ first_shown rules name
+  | inr high ↦ (
+      let long = length-map-range_with_len (first_standing rules) 0 256 in
+      let past : standing (begun rules) name ≡ unseen = get_or_past (map (first_standing rules) (range_with_len 0 256)) name unseen (omega arith) in
+      past ∙ ap (λ b. if b then record { status = Member; view = founding_stamp rules; start = 1; from = 0 } else unseen) (sym (nobody_else rules name may high)) ∙ first_shown rules name)
+]
+
+begins_within : (rules : Rules) (name : ℕ) → (first_node rules name).core.log.start ≤ 1
+begins_within rules name = split (has rules.founders name) (λ t. rw t (omega arith)) (λ t. rw t (omega arith))
+
+lawful_first : (rules : Rules) → kept.is_lawful (begun rules) (first_view rules) ≡ true
+unfolding kept.is_lawful
+lawful_first rules = grind (arith, nat_tests)
+
+pub beginning_is_watched : BeginningIsWatched
+unfolding Each
+beginning_is_watched rules may = record {
+  sees = record {
+    names = λ name. standing_first rules name may;
+    places = length-map-range_with_len (first_standing rules) 0 256;
+    stopped = refl;
+    within = λ name. begins_within rules name;
+    more = [];
+    goes_on = refl;
+  };
+  due = refl;
+  noted = tt;
+  pending = let e : stamp_lt (founding_stamp rules) (founding_stamp rules) ≡ false = lt_self (founding_stamp rules) in rw e refl;
+  rest = tt;
+  complete = refl;
+  count = refl;
+  broken = refl;
+  lawful = λ h. lawful_first rules;
+}

@@ -1,0 +1,58 @@
+-- What is kept says who stored a view, who lags, and who is lost, as the world does.
+use Rattle.std.proofs.Common.{◌≡◌, ℕ, ◌+◌, min, Bool, false, not, ◌&&◌, ◌||◌, ◌==◌, nat_le, nat_lt, List, take, count_by, slice_index_or, sym, ap, ◌∙◌}
+use Rattle.std.proofs.lemmas.List.{take-append-le}
+use Rattle.std.proofs.lemmas.List.Folds.{list_any-append}
+use Rattle.std.specs.List.{list_any}
+use Rattle.am_base.specs.declared.name.Stamp.{Stamp}
+use Rattle.am_base.specs.declared.entry.Entry.{Entry}
+use Rattle.am_base.specs.Names.{has, size, names_of}
+use Rattle.am_base.specs.Stamps.{stamp_lt}
+use Rattle.am_model.specs.World.{World, has_departed}
+use Rattle.am_model.specs.Lawful as law
+use Rattle.am_model.specs.Lawful.{is_view_of}
+use Rattle.am_watch.specs.declared.views.DecidedView.{DecidedView}
+use Rattle.am_watch.specs.declared.views.Standing.{Standing}
+use Rattle.am_watch.specs.declared.views.Pending.{Pending}
+use Rattle.am_watch.specs.Watching as kept
+use Rattle.am_watch.specs.Watching.{Watching, standing, is_by, number_of}
+use Rattle.am_watch.specs.Watches.{decided_of, Sees, IsNoted, Each}
+use Rattle.am_watch.proofs.Folds.{IsKept, each_of}
+use Rattle.am_watch.proofs.Numbers.{number_by}
+
+-- the group list up to where a name's list begins
+begin_is : (k : Watching) (w : World) (group : List Entry) (name : ℕ) → Sees k w group → take (w.nodes name).core.log.start w.group ≡ take (w.nodes name).core.log.start group
+begin_is k w group name sees = ap (take (w.nodes name).core.log.start) sees.goes_on ∙ take-append-le (w.nodes name).core.log.start group sees.more (sees.within name)
+
+stored_one : (k : Watching) (w : World) (group : List Entry) (v : Pending) (name : ℕ) → Sees k w group → IsNoted w group v → kept.has_stored k v name ≡ law.has_stored w v.view.stamp name
+stored_one k w group v name sees noted =
+    let p = is_view_of v.view.stamp in
+    let n = w.nodes name in
+    let from : is_by v.number_in_group (standing k name).from ≡ list_any p (take n.core.log.start w.group) = ap (λ o. is_by o (standing k name).from) noted.placed ∙ ap (λ (m : Standing). is_by (number_of v.view.stamp 1 group) m.from) (sees.names name) ∙ number_by v.view.stamp n.core.log.start group ∙ ap (list_any p) (sym (begin_is k w group name sees)) in
+    ap (λ b. b || slice_index_or v.stored name false) from ∙ ap (λ b. list_any p (take n.core.log.start w.group) || b) (noted.stored name) ∙ sym (list_any-append p (take n.core.log.start w.group) n.core.log.entries)
+
+pub stored_is : (k : Watching) (w : World) (group : List Entry) (v : Pending) → Sees k w group → IsNoted w group v → kept.has_stored k v ≡ law.has_stored w v.view.stamp
+stored_is k w group v sees noted = λ i name. stored_one k w group v name sees noted i
+
+pub lags_is : (k : Watching) (w : World) (group : List Entry) (v : Stamp) → Sees k w group → kept.lags k v ≡ law.lags w v
+lags_is k w group v sees = λ i name. (ap (λ gone. not (list_any (λ other. other == name) gone) && (not (has_departed (standing k name).status) && stamp_lt (standing k name).view v)) sees.stopped
+    ∙ ap (λ (m : Standing). not (list_any (λ other. other == name) w.stopped) && (not (has_departed m.status) && stamp_lt m.view v)) (sees.names name)) i
+
+pub complete_is : (k : Watching) (w : World) (group : List Entry) (v : Pending) → Sees k w group → IsNoted w group v → kept.is_complete k v ≡ law.is_complete w (decided_of v.view)
+unfolding kept.is_complete law.is_complete
+complete_is k w group v sees noted =
+    let names = names_of v.view.members in
+    let need = min (v.view.resilience + 1) (size v.view.members) in
+    ap (λ (f : ℕ → Bool). nat_le need (count_by f names) && not (list_any (kept.lags k v.view.stamp) names)) (stored_is k w group v sees noted)
+    ∙ ap (λ (f : ℕ → Bool). nat_le need (count_by (law.has_stored w v.view.stamp) names) && not (list_any f names)) (lags_is k w group v.view.stamp sees)
+
+pub each_kept : (k : Watching) (w : World) (group : List Entry) (vs : List Pending) → Sees k w group → Each (IsNoted w group) vs → Each (IsKept k w) vs
+each_kept k w group vs sees noted = each_of (IsNoted w group) (IsKept k w) (λ v h. record { is = complete_is k w group v sees h }) vs noted
+
+lost_is : (k : Watching) (w : World) (group : List Entry) (v : DecidedView) → Sees k w group → kept.is_lost k v ≡ law.is_lost w (decided_of v)
+lost_is k w group v sees = λ i name. ap (λ (m : Standing). (has v.members name || nat_lt v.number m.start) && not (has_departed m.status)) (sees.names name) i
+
+pub lawful_is : (k : Watching) (w : World) (group : List Entry) (v : DecidedView) → Sees k w group → kept.is_lawful k v ≡ law.is_lawful w (decided_of v)
+unfolding kept.is_lawful law.is_lawful
+lawful_is k w group v sees =
+    ap (λ (f : ℕ → Bool). nat_le (count_by f k.stopped) v.resilience) (lost_is k w group v sees)
+    ∙ ap (λ gone. nat_le (count_by (law.is_lost w (decided_of v)) gone) v.resilience) sees.stopped

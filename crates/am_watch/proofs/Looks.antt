@@ -1,0 +1,124 @@
+-- The end of an event: where it is looked for a greater complete view, and where nothing changed that views ask for.
+use Rattle.std.proofs.Common.{◌≡◌, ℕ, ◌+◌, Bool, true, false, ◌&&◌, if◌then◌else◌, List, [], ◌∷◌, map, filter, Option, Some, None, refl, sym, ap, ◌∙◌, subst}
+use Rattle.am_base.specs.declared.entry.Entry.{Entry}
+use Rattle.am_base.specs.Stamps.{stamp_lt}
+use Rattle.am_model.specs.World.{Decided, World}
+use Rattle.am_model.specs.Lawful as law
+use Rattle.am_model.specs.Lawful.{Watch}
+use Rattle.am_model.proofs.Greatest.{split}
+use Rattle.am_watch.specs.declared.views.DecidedView.{DecidedView}
+use Rattle.am_watch.specs.declared.views.Pending.{Pending}
+use Rattle.am_watch.specs.Watching as kept
+use Rattle.am_watch.specs.Watching.{Watching, greater, greatest, is_above, ended, looked, passed}
+use Rattle.am_watch.specs.Watches.{decided_of, comes_after, Each, Sees, IsNoted, WatchesUpTo, after}
+use Rattle.am_watch.proofs.Folds.{IsUpTo, IsLeft, up_self, up_greatest, each_of, each_filter, map_filter, each_left, greatest_is, greatest_above, filter_above}
+use Rattle.am_watch.proofs.Complete.{each_kept, lawful_is}
+
+-- what is kept when an event is almost over
+pub record IsReady (group : List Entry) (k : Watching) (s : Watch) (w : World) : Type 0 where
+  pub sees : Sees k w group
+  pub noted : Each (IsNoted w group) k.pending
+  pub pending : map (λ v. decided_of v.view) k.pending ≡ filter (comes_after s.complete.stamp) w.views
+  pub complete : decided_of k.complete ≡ s.complete
+  pub count : k.count ≡ s.count
+  pub broken : k.broken ≡ s.broken
+
+best_is : (group : List Entry) (k : Watching) (s : Watch) (w : World) → IsReady group k s w → decided_of (greatest k k.complete k.pending) ≡ law.greatest_complete w s.complete w.views
+best_is group k s w r =
+    greatest_is k w k.complete k.pending (each_kept k w group k.pending r.sees r.noted)
+    ∙ ap (law.greatest_complete w (decided_of k.complete)) r.pending
+    ∙ ap (λ best. law.greatest_complete w best (filter (comes_after s.complete.stamp) w.views)) r.complete
+    ∙ greatest_above w s.complete.stamp s.complete w.views (up_self s.complete.stamp)
+
+-- ---- whether it broke
+
+broken_cases : (k : Watching) (w : World) (v : DecidedView) (count : ℕ) (broken : Option ℕ) → k.count ≡ count → kept.is_lawful k v ≡ law.is_lawful w (decided_of v) → kept.broken_now k v broken ≡ law.broken_now w (decided_of v) (count + 1) broken
+broken_cases k w v count (Some at) h g = refl
+broken_cases k w v count None h g = ap (λ b. if b then None else Some (k.count + 1)) g ∙ ap (λ c. if law.is_lawful w (decided_of v) then None else Some (c + 1)) h
+
+some_none : {G : Type 0} (n : ℕ) → Some n ≡ None → G
+some_none n h = absurd (cc)
+
+lawful_cases : (k : Watching) (v : DecidedView) (broken : Option ℕ) → kept.broken_now k v broken ≡ None → kept.is_lawful k v ≡ true
+lawful_cases k v (Some at) h = some_none at h
+lawful_cases k v None h = split (kept.is_lawful k v)
+    (λ t. t)
+    (λ t. let e : Some (k.count + 1) ≡ None = rw t at h in some_none (k.count + 1) e)
+
+-- ---- looked
+
+same_complete : (k : Watching) (best : DecidedView) (v : Pending) → kept.is_complete (ended k best) v ≡ kept.is_complete k v
+unfolding kept.is_complete
+same_complete k best v = refl
+
+same_lawful : (k : Watching) (best v : DecidedView) → kept.is_lawful (ended k best) v ≡ kept.is_lawful k v
+unfolding kept.is_lawful
+same_lawful k best v = refl
+
+left_over : (group : List Entry) (k : Watching) (s : Watch) (w : World) → IsReady group k s w
+    → let best = greatest k k.complete k.pending in map (λ v. decided_of v.view) (filter (is_above best.stamp) k.pending) ≡ filter (comes_after (law.greatest_complete w s.complete w.views).stamp) w.views
+left_over group k s w r =
+    let best = greatest k k.complete k.pending in
+    let up : IsUpTo s.complete.stamp best.stamp = subst (λ (v : Decided). IsUpTo v.stamp best.stamp) r.complete (up_greatest k k.complete k.pending) in
+    map_filter (λ (v : Pending). decided_of v.view) (comes_after best.stamp) k.pending
+    ∙ ap (filter (comes_after best.stamp)) r.pending
+    ∙ filter_above s.complete.stamp best.stamp w.views up
+    ∙ ap (λ (v : Decided). filter (comes_after v.stamp) w.views) (best_is group k s w r)
+
+pub looks : (group : List Entry) (k : Watching) (s : Watch) (w : World) → IsReady group k s w → WatchesUpTo group (looked k) (after s w)
+unfolding looked
+looks group k s w r =
+    let best = greatest k k.complete k.pending in
+    let is = best_is group k s w r in
+    record {
+      sees = record { names = r.sees.names; places = r.sees.places; stopped = r.sees.stopped; within = r.sees.within; more = r.sees.more; goes_on = r.sees.goes_on };
+      due = refl;
+      noted = each_of _ (IsNoted w group) (λ v h. h.0) _ (each_filter (IsNoted w group) (is_above best.stamp) k.pending r.noted);
+      pending = left_over group k s w r;
+      rest = each_of _ (λ v. kept.is_complete (ended k best) v ≡ false) (λ v h. same_complete k best v ∙ h.0.waits h.1) _ (each_filter (IsLeft k best.stamp) (is_above best.stamp) k.pending (each_left k k.complete k.pending));
+      complete = is;
+      count = ap (λ c. c + 1) r.count;
+      broken = ap (kept.broken_now k best) r.broken ∙ broken_cases k w best s.count s.broken r.count (lawful_is k w group best r.sees) ∙ ap (λ v. law.broken_now w v (s.count + 1) s.broken) is;
+      lawful = λ h. same_lawful k best best ∙ lawful_cases k best k.broken h;
+    }
+
+-- ---- passed
+
+stays : (k : Watching) (best : DecidedView) (vs : List Pending) → Each (λ v. kept.is_complete k v ≡ false) vs → greatest k best vs ≡ best
+unfolding greatest Each
+stays k best [] h = refl
+stays k best (v ∷ vs) (h, hs) =
+    let e : greater k best v ≡ best = either (stamp_lt best.stamp v.view.stamp) (kept.is_complete k v) v.view best h in
+    ap (λ b. greatest k b vs) e ∙ stays k best vs hs
+  where
+    either : (a b : Bool) (x y : DecidedView) → b ≡ false → (if a && b then x else y) ≡ y
+    either true b x y h = rw h refl
+    either false b x y h = refl
+
+passed_complete : (k : Watching) (v : Pending) → kept.is_complete (passed k) v ≡ kept.is_complete k v
+unfolding kept.is_complete
+passed_complete k v = refl
+
+passed_lawful : (k : Watching) (v : DecidedView) → kept.is_lawful (passed k) v ≡ kept.is_lawful k v
+unfolding kept.is_lawful
+passed_lawful k v = refl
+
+unbroken : (w : World) (v : Decided) (count : ℕ) (broken : Option ℕ) → (broken ≡ None → law.is_lawful w v ≡ true) → broken ≡ law.broken_now w v count broken
+unbroken w v count (Some at) h = refl
+unbroken w v count None h = let t = h refl in rw t refl
+
+pub passes : (group : List Entry) (k : Watching) (s : Watch) (w : World) → IsReady group k s w → k.is_due ≡ false → Each (λ v. kept.is_complete k v ≡ false) k.pending → (k.broken ≡ None → kept.is_lawful k k.complete ≡ true) → WatchesUpTo group (passed k) (after s w)
+passes group k s w r due rest lawful =
+    let is : decided_of k.complete ≡ law.greatest_complete w s.complete w.views = ap decided_of (sym (stays k k.complete k.pending rest)) ∙ best_is group k s w r in
+    let same : s.complete ≡ law.greatest_complete w s.complete w.views = sym r.complete ∙ is in
+    record {
+      sees = record { names = r.sees.names; places = r.sees.places; stopped = r.sees.stopped; within = r.sees.within; more = r.sees.more; goes_on = r.sees.goes_on };
+      due = due;
+      noted = r.noted;
+      pending = r.pending ∙ ap (λ (v : Decided). filter (comes_after v.stamp) w.views) same;
+      rest = each_of (λ v. kept.is_complete k v ≡ false) (λ v. kept.is_complete (passed k) v ≡ false) (λ v h. passed_complete k v ∙ h) k.pending rest;
+      complete = is;
+      count = ap (λ c. c + 1) r.count;
+      broken = r.broken ∙ unbroken w (law.greatest_complete w s.complete w.views) (s.count + 1) s.broken (λ h. ap (law.is_lawful w) (sym is) ∙ sym (lawful_is k w group k.complete r.sees) ∙ lawful (r.broken ∙ h));
+      lawful = λ h. passed_lawful k k.complete ∙ lawful h;
+    }

@@ -1,0 +1,35 @@
+-- Whether one of a set's names passes a test, place by place.
+use Rattle.std.proofs.Common.{◌≡◌, ℕ, ◌+◌, ◌<◌, ◌≤◌, Bool, false, ◌&&◌, ◌||◌, nat_lt, List, ◌∷◌, length, drop, slice_index, slice_index_or, ap}
+use Rattle.std.specs.List.{list_any}
+use Rattle.std.proofs.lemmas.List.{drop_more, at_drop_all}
+use Rattle.am_base.specs.Names.{names_from, name_at}
+use Rattle.am_model.proofs.Greatest.{split}
+use Rattle.am_fronts.proofs.ReportLaws.{names_more, names_end}
+use Rattle.am_watch.specs.declared.views.DecidedView.{DecidedView}
+use Rattle.am_watch.specs.declared.views.Pending.{Pending}
+use Rattle.am_watch.specs.Watching.{Watching, greater, greatest}
+
+pub any_more : (p : ℕ → Bool) (set : List ℕ) (place : ℕ) → place < length set → list_any p (names_from place (drop place set)) ≡ ((nat_lt 0 (slice_index set place) && p (name_at place (slice_index set place))) || list_any p (names_from (place + 1) (drop (place + 1) set)))
+any_more p set place h =
+    let name = name_at place (slice_index set place) in
+    let rest = names_from (place + 1) (drop (place + 1) set) in
+    split (nat_lt 0 (slice_index set place))
+    (λ t. let e : names_from place (drop place set) ≡ name ∷ rest = rw t at (names_more set place h) in rw t (ap (list_any p) e))
+    (λ t. let e : names_from place (drop place set) ≡ rest = rw t at (names_more set place h) in rw t (ap (list_any p) e))
+
+pub any_end : (p : ℕ → Bool) (set : List ℕ) (place : ℕ) → length set ≤ place → list_any p (names_from place (drop place set)) ≡ false
+any_end p set place h = ap (list_any p) (names_end set place h)
+
+pub ruleset any_laws = (any_more, any_end)
+
+-- ---- the greatest complete view, one after another
+
+pub greatest_more : (k : Watching) (best : DecidedView) (vs : List Pending) (i : ℕ) (d : Pending) → i < length vs → greatest k best (drop i vs) ≡ greatest k (greater k best (slice_index_or vs i d)) (drop (i + 1) vs)
+unfolding greatest
+greatest_more k best vs i d h = ap (greatest k best) (drop_more vs i d h)
+
+pub greatest_end : (k : Watching) (best : DecidedView) (vs : List Pending) (i : ℕ) → length vs ≤ i → greatest k best (drop i vs) ≡ best
+unfolding greatest
+greatest_end k best vs i h = at_drop_all (greatest k best) vs i h
+
+pub ruleset greatest_laws = (greatest_more, greatest_end)

@@ -1,0 +1,39 @@
+-- Stamps in order.
+use Rattle.std.proofs.Common.{◌≡◌, ℕ, Bool, true, false, nat_lt, ◌&&◌, ◌||◌, ◌==◌, refl, arith}
+use Rattle.std.proofs.lemmas.Bool.Decides.{nat_tests}
+use Rattle.am_base.specs.declared.name.Stamp.{Stamp}
+use Rattle.am_base.specs.Names.{rank_of}
+use Rattle.am_base.specs.Stamps.{stamp_lt, stamp_eq}
+
+-- by the first number, then by the second
+abbrev pub pair_lt : ℕ → ℕ → ℕ → ℕ → Bool
+pair_lt a b c d = nat_lt a c || ((a == c) && nat_lt b d)
+
+pair_trans : (a b c d e f : ℕ) → pair_lt a b c d ≡ true → pair_lt c d e f ≡ true → pair_lt a b e f ≡ true
+pair_trans a b c d e f g h = grind (arith, nat_tests)
+
+pair_self : (a b : ℕ) → pair_lt a b a b ≡ false
+pair_self a b = grind (arith, nat_tests)
+
+pub lt_trans : (a b c : Stamp) → stamp_lt a b ≡ true → stamp_lt b c ≡ true → stamp_lt a c ≡ true
+lt_trans a b c g h = pair_trans a.round (rank_of a.by) b.round (rank_of b.by) c.round (rank_of c.by) g h
+
+pub lt_self : (a : Stamp) → stamp_lt a a ≡ false
+lt_self a = pair_self a.round (rank_of a.by)
+
+same_number : (a b : ℕ) → (a == b) ≡ true → a ≡ b
+same_number a b h = grind (arith, nat_tests)
+
+and_first : (a b : Bool) → (a && b) ≡ true → a ≡ true
+and_first true b h = refl
+and_first false b h = h
+
+and_second : (a b : Bool) → (a && b) ≡ true → b ≡ true
+and_second true b h = h
+and_second false b h = absurd (cc)
+
+same_parts : (a b : Stamp) → a.round ≡ b.round → a.by ≡ b.by → a ≡ b
+same_parts a b h g = λ i. record { round = h i; by = g i }
+
+pub same_stamp : (a b : Stamp) → stamp_eq a b ≡ true → a ≡ b
+same_stamp a b h = same_parts a b (same_number a.round b.round (and_first _ _ h)) (same_number a.by b.by (and_second _ _ h))

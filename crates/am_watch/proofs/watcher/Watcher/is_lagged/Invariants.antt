@@ -1,0 +1,9 @@
+use Rattle.std.proofs.Common.{◌≡◌, drop}
+use Rattle.std.specs.List.{list_any}
+use Rattle.am_base.specs.Names.{names_of, names_from}
+use Rattle.am_watch.specs.Watching.{lags}
+use Rattle.am_watch.specs.Watchers.{watching_of}
+use Rattle.am_watch.proofs.watcher.Watcher.is_lagged.Given as goal
+
+abbrev pub invariant-loop-place : goal.invariant-loop-place
+invariant-loop-place l = list_any (lags (watching_of l.self) l.v.view.stamp) (names_from l.place (drop l.place l.lives)) ≡ list_any (lags (watching_of l.self) l.v.view.stamp) (names_of l.lives)

@@ -1,0 +1,7 @@
+use Rattle.std.proofs.Common.{rules}
+use Rattle.std.proofs.lemmas.Fn.{filter_same}
+use Rattle.am_watch.specs.Watching.{is_above}
+use Rattle.am_watch.proofs.watcher.keep_above.Goals as goal
+
+pub returns : goal.returns
+returns c = filter_same _ (is_above c.args.stamp) _ (λ v b f k. search rules) _ _ c.retain.ensures.filtered

@@ -1,0 +1,213 @@
+-- What is kept of a run to say whether it is lawful, event by event: of each name what its node shows, who stopped, and of each
+-- view that may still become the greatest complete one who stored it. Only the views above that one are looked at, and only
+-- where an event changed something that they ask for.
+use Rattle.std.specs.Prelude.{ℕ, ◌+◌, min, List, [], ◌∷◌, ◌++◌, map, filter, replicate, Option, Some, None, Bool, true, false, not, ◌&&◌, ◌||◌, ◌==◌, nat_lt, nat_le, if◌then◌else◌, slice_index_or, slice_set, count_by}
+use Rattle.std.specs.List.{list_any, range_with_len}
+use Rattle.am_base.specs.declared.name.Stamp.{Stamp}
+use Rattle.am_base.specs.declared.entry.Entry.{Entry}
+use Rattle.am_base.specs.declared.entry.Entry.TheVariants.{Data, Join, Leave, View}
+use Rattle.am_base.specs.Names.{has, size, names_of}
+use Rattle.am_base.specs.Stamps.{stamp_lt, stamp_eq, no_stamp}
+use Rattle.am_base.specs.Founding.{Rules}
+use Rattle.am_model.specs.declared.status.Status.TheVariants.{Stranger, Member}
+use Rattle.am_model.specs.Node.{is_member, founding_stamp}
+use Rattle.am_model.specs.World.{has_departed}
+use Rattle.am_model.specs.Lawful.{is_view_of}
+use Rattle.am_watch.specs.declared.views.DecidedView.{DecidedView}
+use Rattle.am_watch.specs.declared.views.Standing.{Standing}
+use Rattle.am_watch.specs.declared.views.Pending.{Pending}
+
+-- what a name shows before its first step
+abbrev pub unseen : Standing
+unseen = record { status = Stranger; view = no_stamp; start = 0; from = 0 }
+
+-- what is known of each name, who stopped, the views above the greatest complete one, whether a View was stored in this event,
+-- the greatest complete view, how many events there were, and the number of the first after which the run wasn't lawful
+pub record Watching : Type 0 where
+  pub names : List Standing
+  pub stopped : List ℕ
+  pub pending : List Pending
+  pub is_due : Bool
+  pub complete : DecidedView
+  pub count : ℕ
+  pub broken : Option ℕ
+
+abbrev pub standing : Watching → ℕ → Standing
+standing k name = slice_index_or k.names name unseen
+
+abbrev pub has_stopped : Watching → ℕ → Bool
+has_stopped k name = list_any (λ other. other == name) k.stopped
+
+-- ---- complete
+
+-- a number that may be there is at most this one
+abbrev pub is_by : Option ℕ → ℕ → Bool
+is_by None from = false
+is_by (Some number) from = nat_le number from
+
+-- the View stands in the group list where the name's list began, or in what it stored since
+abbrev pub has_stored : Watching → Pending → ℕ → Bool
+has_stored k v name = is_by v.number_in_group (standing k name).from || slice_index_or v.stored name false
+
+abbrev pub lags : Watching → Stamp → ℕ → Bool
+lags k v name = not (has_stopped k name) && (not (has_departed (standing k name).status) && stamp_lt (standing k name).view v)
+
+unfoldable pub is_complete : Watching → Pending → Bool
+is_complete k v =
+    nat_le (min (v.view.resilience + 1) (size v.view.members)) (count_by (has_stored k v) (names_of v.view.members))
+    && not (list_any (lags k v.view.stamp) (names_of v.view.members))
+
+-- the greater of a view and of another that is complete
+abbrev pub greater : Watching → DecidedView → Pending → DecidedView
+greater k best v = if stamp_lt best.stamp v.view.stamp && is_complete k v then v.view else best
+
+unfoldable pub greatest : Watching → DecidedView → List Pending → DecidedView
+greatest k best [] = best
+greatest k best (v ∷ vs) = greatest k (greater k best v) vs
+
+-- ---- lawful
+
+-- a stopped name that counts and hadn't departed
+abbrev pub is_lost : Watching → DecidedView → ℕ → Bool
+is_lost k v name = (has v.members name || nat_lt v.number (standing k name).start) && not (has_departed (standing k name).status)
+
+unfoldable pub is_lawful : Watching → DecidedView → Bool
+is_lawful k v = nat_le (count_by (is_lost k v) k.stopped) v.resilience
+
+abbrev pub broken_now : Watching → DecidedView → Option ℕ → Option ℕ
+broken_now k best (Some count) = Some count
+broken_now k best None = if is_lawful k best then None else Some (k.count + 1)
+
+-- ---- after an event
+
+-- it comes after another view
+abbrev pub is_above : Stamp → Pending → Bool
+is_above stamp v = stamp_lt stamp v.view.stamp
+
+-- an event is over, and this is the greatest complete view
+abbrev pub ended : Watching → DecidedView → Watching
+ended k best = record k { pending = filter (is_above best.stamp) k.pending; is_due = false; complete = best; count = k.count + 1; broken = broken_now k best k.broken }
+
+-- an event is over after which a view may have become complete, or somebody was lost
+unfoldable pub looked : Watching → Watching
+looked k = ended k (greatest k k.complete k.pending)
+
+-- one that changes nothing of that
+abbrev pub passed : Watching → Watching
+passed k = record k { count = k.count + 1 }
+
+-- a name stops
+abbrev pub stopped : Watching → ℕ → Watching
+stopped k name = looked (record k { stopped = k.stopped ++ name ∷ [] })
+
+-- ---- a name's step
+
+-- a member decided a view in this step: it stored a View of its own stamp
+abbrev pub decides : Standing → ℕ → Standing → Bool
+decides before name after = is_member before.status && ((after.view.by == name) && not (stamp_eq before.view after.view))
+
+-- a view that nobody has stored
+abbrev pub unstored : DecidedView → Pending
+unstored view = record { view = view; stored = replicate 256 false; number_in_group = None }
+
+-- the view that the name decided, if it did
+abbrev pub decided : Watching → ℕ → Standing → DecidedView → List Pending
+decided k name after view = if decides (standing k name) name after && stamp_lt k.complete.stamp view.stamp then unstored view ∷ [] else []
+
+abbrev pub with_decided : Watching → ℕ → Standing → DecidedView → Watching
+with_decided k name after view = record k { pending = k.pending ++ decided k name after view }
+
+-- the name stored the View of this stamp
+abbrev pub stored_by : ℕ → Stamp → Pending → Pending
+stored_by name stamp v = if stamp_eq stamp v.view.stamp then record v { stored = slice_set v.stored name true } else v
+
+-- the name stored an entry
+abbrev pub noted_entry : ℕ → Entry → List Pending → List Pending
+noted_entry name (Data from req body) pending = pending
+noted_entry name (Join joiner) pending = pending
+noted_entry name (Leave leaver) pending = pending
+noted_entry name (View stamp members resilience) pending = map (stored_by name stamp) pending
+
+-- the views that may become complete, once the name stored these entries
+unfoldable pub noted : ℕ → List Entry → List Pending → List Pending
+noted name [] pending = pending
+noted name (e ∷ es) pending = noted name es (noted_entry name e pending)
+
+abbrev pub is_view : Entry → Bool
+is_view (Data from req body) = false
+is_view (Join name) = false
+is_view (Leave name) = false
+is_view (View stamp members resilience) = true
+
+-- a name stored an entry, and several
+abbrev pub with_entry : Watching → ℕ → Entry → Watching
+with_entry k name e = record k { pending = noted_entry name e k.pending; is_due = k.is_due || is_view e }
+
+abbrev pub with_entries : Watching → ℕ → List Entry → Watching
+with_entries k name entries = record k { pending = noted name entries k.pending; is_due = k.is_due || list_any is_view entries }
+
+-- the two are alike in what views ask for
+abbrev pub same_flag : Bool → Bool → Bool
+same_flag true b = b
+same_flag false b = not b
+
+abbrev pub is_alike : Standing → Standing → Bool
+is_alike before after = stamp_eq before.view after.view && (same_flag (has_departed before.status) (has_departed after.status) && ((before.from == after.from) && (before.start == after.start)))
+
+-- what the name shows now
+abbrev pub with_standing : Watching → ℕ → Standing → Watching
+with_standing k name after = record k { names = slice_set k.names name after }
+
+-- a name's step is over
+unfoldable pub finished : Watching → ℕ → Standing → Watching
+finished k name after =
+    if is_alike (standing k name) after && not k.is_due then passed (with_standing k name after)
+    else looked (with_standing k name after)
+
+-- a name did a step: what it shows after that, the view in which its list ends, and the entries that it stored
+abbrev pub stepped : Watching → ℕ → Standing → DecidedView → List Entry → Watching
+stepped k name after view entries = finished (with_entries (with_decided k name after view) name entries) name after
+
+-- ---- the group list
+
+-- the number of the first View of this stamp in a list whose first entry has this number
+unfoldable pub number_of : Stamp → ℕ → List Entry → Option ℕ
+number_of stamp number [] = None
+number_of stamp number (e ∷ es) = if is_view_of stamp e then Some number else number_of stamp (number + 1) es
+
+abbrev pub or_else : Option ℕ → Option ℕ → Option ℕ
+or_else None b = b
+or_else (Some a) b = Some a
+
+-- the group list goes on by these entries, the first of which has this number
+abbrev pub placed : ℕ → List Entry → Pending → Pending
+placed number more v = record v { number_in_group = or_else v.number_in_group (number_of v.view.stamp number more) }
+
+-- by a View of this stamp alone
+abbrev pub placed_by : ℕ → Stamp → Pending → Pending
+placed_by number stamp v = record v { number_in_group = or_else v.number_in_group (if stamp_eq stamp v.view.stamp then Some number else None) }
+
+abbrev pub accepted : Watching → ℕ → List Entry → Watching
+accepted k number more = record k { pending = map (placed number more) k.pending }
+
+-- ---- the beginning
+
+-- what a name shows before anything happened
+abbrev pub first_standing : Rules → ℕ → Standing
+first_standing rules name = if has rules.founders name then record { status = Member; view = founding_stamp rules; start = 1; from = 0 } else unseen
+
+-- the founders' view
+abbrev pub first_view : Rules → DecidedView
+first_view rules = record { number = 1; stamp = founding_stamp rules; members = rules.founders; resilience = rules.resilience }
+
+-- what is kept of a run without events
+abbrev pub begun : Rules → Watching
+begun rules = record {
+  names = map (first_standing rules) (range_with_len 0 256);
+  stopped = [];
+  pending = [];
+  is_due = false;
+  complete = first_view rules;
+  count = 0;
+  broken = None;
+}

@@ -1,0 +1,203 @@
+ghost use Rattle.std.specs.Prelude.{◌≡◌, map, if◌then◌else◌};
+ghost use Rattle.am_base.specs.Stamps.{stamp_eq};
+ghost use Rattle.am_model.specs.Node.{is_member, founding_stamp};
+ghost use Rattle.am_model.specs.World.{has_departed};
+ghost use Rattle.am_watch.specs.Watching.{unseen, first_standing, first_view, same_flag, is_alike, decides, unstored, stored_by, or_else, placed_by};
+
+use am_base::founding::Founding;
+use am_base::name::{Name, Stamp};
+use am_base::names::Names;
+use am_model::status::Status;
+
+/// A view that a name decided.
+#[derive(Clone, Copy, Debug)]
+pub struct DecidedView {
+    /// The number of its View in the list of the name that decided it.
+    pub number: u32,
+    /// Its stamp.
+    pub stamp: Stamp,
+    /// Its members.
+    pub members: Names,
+    /// Its resilience, 0 to 15.
+    pub resilience: u8,
+}
+
+/// What a name's node shows.
+#[derive(Clone, Copy, Debug)]
+pub struct Standing {
+    /// How it stands to the group.
+    pub status: Status,
+    /// The stamp of its list's last View.
+    pub view: Stamp,
+    /// The number of its own Join, 1 for a founder, 0 where it has no list.
+    pub start: u32,
+    /// How many entries the group had accepted where its list begins.
+    pub from: u32,
+}
+
+/// A view that isn't complete: who stored its View in a list of its own, and where that stands in the group list.
+#[derive(Drop, Debug)]
+pub struct Pending {
+    /// The view.
+    pub view: DecidedView,
+    /// For each of the 256 names, whether its View stands among the entries that the name stored.
+    pub stored: [bool; 256],
+    /// The number of its View in the group list, where it stands there.
+    pub number_in_group: Option<u32>,
+}
+
+fn is_member(status: Status) -> bool
+    ensures { result ≡ is_member status }
+{
+    match status {
+        Status::Stranger => false,
+        Status::Asking => false,
+        Status::Member => true,
+        Status::Departed => false,
+    }
+}
+
+/// Whether a name of this status has left.
+pub fn has_departed(status: Status) -> bool
+    ensures { result ≡ has_departed status }
+{
+    match status {
+        Status::Stranger => false,
+        Status::Asking => false,
+        Status::Member => false,
+        Status::Departed => true,
+    }
+}
+
+fn is_same_flag(a: bool, b: bool) -> bool
+    ensures { result ≡ same_flag a b }
+{
+    if a { b } else { !b }
+}
+
+fn is_same_stamp(a: &Stamp, b: &Stamp) -> bool
+    ensures { result ≡ stamp_eq a.now b.now }
+{
+    a.round == b.round && a.by == b.by
+}
+
+/// What a name shows before its first step.
+pub fn unseen() -> Standing
+    ensures { result ≡ unseen }
+{
+    Standing {
+        status: Status::Stranger,
+        view: Stamp {
+            round: 0,
+            by: Name::of_byte(0),
+        },
+        start: 0,
+        from: 0,
+    }
+}
+
+fn founding_stamp(founding: &Founding) -> Stamp
+    ensures { result ≡ founding_stamp founding.now }
+{
+    Stamp {
+        round: 1,
+        by: founding.founders().lowest().unwrap_or(Name::of_byte(0)),
+    }
+}
+
+/// What a name shows before anything happened.
+pub fn first_standing(founding: &Founding, name: Name) -> Standing
+    ensures { result ≡ first_standing founding.now name }
+{
+    if !founding.founders().has(name) {
+        return unseen();
+    }
+    Standing {
+        status: Status::Member,
+        view: founding_stamp(founding),
+        start: 1,
+        from: 0,
+    }
+}
+
+/// The founders' view.
+pub fn first_view(founding: &Founding) -> DecidedView
+    ensures { result ≡ first_view founding.now }
+{
+    DecidedView {
+        number: 1,
+        stamp: founding_stamp(founding),
+        members: founding.founders(),
+        resilience: founding.resilience(),
+    }
+}
+
+/// Whether two standings are alike in what views ask for.
+pub fn is_alike(before: &Standing, after: &Standing) -> bool
+    ensures { result ≡ is_alike before.now after.now }
+{
+    is_same_stamp(&before.view, &after.view)
+        && is_same_flag(has_departed(before.status), has_departed(after.status))
+        && before.from == after.from
+        && before.start == after.start
+}
+
+/// Whether the name decided a view in this step.
+pub fn decides(before: &Standing, name: Name, after: &Standing) -> bool
+    ensures { result ≡ decides before.now name after.now }
+{
+    is_member(before.status) && after.view.by == name && !is_same_stamp(&before.view, &after.view)
+}
+
+/// A view that nobody has stored.
+pub fn unstored(view: &DecidedView) -> Pending
+    ensures { result ≡ unstored view.now }
+{
+    Pending {
+        view: *view,
+        stored: [false; 256],
+        number_in_group: None,
+    }
+}
+
+fn store(v: &mut Pending, name: Name, stamp: &Stamp)
+    ensures { v.new ≡ stored_by name stamp.now v.old }
+{
+    if is_same_stamp(stamp, &v.view.stamp) {
+        v.stored[usize::from(name.get())] = true;
+    }
+}
+
+/// The name stored the View of this stamp.
+pub fn store_in_each(pending: &mut [Pending], name: Name, stamp: &Stamp)
+    ensures { pending.new ≡ map (stored_by name stamp.now) pending.old }
+{
+    for v in pending.iter_mut() {
+        store(v, name, stamp);
+    }
+}
+
+fn number_after(known: Option<u32>, is_it: bool, number: u32) -> Option<u32>
+    ensures { result ≡ or_else known (if is_it then Some number else None) }
+{
+    match known {
+        Some(known) => Some(known),
+        None => { if is_it { Some(number) } else { None } }
+    }
+}
+
+fn place(v: &mut Pending, number: u32, stamp: &Stamp)
+    ensures { v.new ≡ placed_by number stamp.now v.old }
+{
+    let is_it = is_same_stamp(stamp, &v.view.stamp);
+    v.number_in_group = number_after(v.number_in_group, is_it, number);
+}
+
+/// The group list goes on by the View of this stamp, which has this number.
+pub fn place_in_each(pending: &mut [Pending], number: u32, stamp: &Stamp)
+    ensures { pending.new ≡ map (placed_by number stamp.now) pending.old }
+{
+    for v in pending.iter_mut() {
+        place(v, number, stamp);
+    }
+}

@@ -1,0 +1,102 @@
+-- A name's step only adds entries to its list.
+use Rattle.std.proofs.Common.{◌≡◌, ℕ, ◌<◌, ◌≤◌, ◌==◌, Bool, true, false, if◌then◌else◌, List, [], ◌++◌, length, drop, refl, sym, ap, ◌∙◌, subst, arith}
+use Rattle.std.specs.Prelude.{All}
+use Rattle.std.proofs.lemmas.List.{append-nil}
+use Rattle.std.proofs.Math.Seq.{drop-append_seam}
+use Rattle.std.proofs.lemmas.Bool.Decides.{nat_tests}
+use Rattle.am_base.specs.Founding.{Rules, MayFound}
+use Rattle.am_base.specs.Names.{has}
+use Rattle.am_packet.specs.declared.packet.Packet.{Packet}
+use Rattle.am_packet.specs.declared.packet.Packet.TheVariants as packet
+use Rattle.am_group.specs.declared.event.Event.{Event}
+use Rattle.am_model.specs.Node.{Node}
+use Rattle.am_model.specs.Emit.{Step}
+use Rattle.am_model.specs.Group.{has_log}
+use Rattle.am_model.specs.World.{World, start, first_node, unchanged, stepped, run}
+use Rattle.am_model.specs.Claims.{heard_by}
+use Rattle.am_model.proofs.Greatest.{split}
+use Rattle.am_effects.specs.Causes.{Cause}
+use Rattle.am_effects.specs.Effects.{Effect}
+use Rattle.am_effects.specs.Events.{actor, WasSentTo, IsCause, idles, stops, returns, steps}
+use Rattle.am_effects.proofs.Runs.{along, EachKeeps, runs_keep}
+use Rattle.am_laws.specs.Packets.{accepted_of}
+use Rattle.am_laws.specs.Numbers.{NodeNumbers}
+use Rattle.am_laws.proofs.Named.{AllNamed, few_names, each_named}
+use Rattle.am_laws.proofs.RunCounts.{numbers_hold}
+use Rattle.am_laws.proofs.Views.{AllViews, heard_names, each_views, views_start}
+use Rattle.am_watched.specs.Lists.{ListsGoOn}
+use Rattle.am_watched.proofs.Chains.{IsLonger, changes_longer, HeardLow, change_begins, changes_stay}
+
+-- without a list there are no entries
+abbrev pub IsBare : Node → Type 0
+IsBare m = has_log m.status ≡ false → m.core.log.entries ≡ []
+
+pub record AllLists (rules : Rules) (w : World) : Type 0 where
+  pub views : AllViews rules w
+  pub bare : (name : ℕ) → name < 256 → IsBare (w.nodes name)
+
+-- what a step adds
+pub step_longer : (rules : Rules) (w : World) (e : Event) (c : Cause) (s : Step) → IsCause w (actor w e) e.act c → Effect (w.nodes (actor w e)) c s → AllLists rules w → IsLonger (w.nodes (actor w e)) s.node
+step_longer rules w e c s cause effect h =
+    let m = w.nodes (actor w e) in
+    let few = few_names rules w e h.views.named in
+    let kept = h.views.each (actor w e) few in
+    changes_longer m m s.node (heard_names rules w e c h.views cause) effect.changes kept.names kept.balloted (record { bare = h.bare (actor w e) few; more = []; is = sym (append-nil m.core.log.entries) })
+
+pub each_lists : (rules : Rules) → EachKeeps (AllLists rules)
+unfolding unchanged stepped
+each_lists rules w e v (idles o idle) h = record { views = each_views rules w e v (idles o idle) h.views; bare = h.bare }
+each_lists rules w e v (stops runs) h = record { views = each_views rules w e v (stops runs) h.views; bare = h.bare }
+each_lists rules w e v (returns place is left more) h = record { views = each_views rules w e v (returns place is left more) h.views; bare = h.bare }
+each_lists rules w e v (steps c s runs cause effect) h = record {
+  views = each_views rules w e v (steps c s runs cause effect) h.views;
+  bare = λ other few. split (other == actor w e)
+      (λ t. rw t (step_longer rules w e c s cause effect h).bare)
+      (λ f. rw f (h.bare other few));
+}
+
+bare_first : (rules : Rules) (name : ℕ) → IsBare (first_node rules name)
+bare_first rules name = split (has rules.founders name)
+    (λ t. rw t (λ f. absurd (cc)))
+    (λ f. rw f (λ g. refl))
+
+pub lists_start : (rules : Rules) → MayFound rules → AllLists rules (start rules)
+lists_start rules may = record { views = views_start rules may; bare = λ name few. bare_first rules name }
+
+pub run_lists : (rules : Rules) (events : List Event) → MayFound rules → AllLists rules (run rules events)
+run_lists rules events may = runs_keep (AllLists rules) (each_lists rules) (start rules) events (lists_start rules may)
+
+-- a Welcome tells of what the group has accepted
+heard_low : (rules : Rules) (events : List Event) (e : Event) (c : Cause) → IsCause (run rules events) (actor (run rules events) e) e.act c → HeardLow c (length (run rules events).group)
+heard_low rules events e c cause = record {
+  welcome = λ s v base join image is.
+      (let w = run rules events in
+      let p = packet.Welcome s v base join image in
+      let was : WasSentTo w (actor w e) e.act p = subst (IsCause w (actor w e) e.act) is cause in
+      let low = ((numbers_hold rules events).letters (heard_by e.act) was.letter was.there).accepted in
+      let here : All (λ n. n ≤ length w.group) (accepted_of p) = subst (λ (x : Packet). All (λ n. n ≤ length w.group) (accepted_of x)) was.is low in
+      here 0 0 (omega arith));
+}
+
+is_itself : (name : ℕ) → (name == name) ≡ true
+is_itself name = grind (arith, nat_tests)
+
+pub lists_go_on : ListsGoOn
+unfolding stepped
+lists_go_on rules events e c s may runs cause effect =
+    let w = run rules events in
+    let name = actor w e in
+    let m = w.nodes name in
+    let n = s.node in
+    let h = run_lists rules events may in
+    let longer = step_longer rules w e c s cause effect h in
+    let named : AllNamed rules (stepped w e name s) = each_named rules w e (stepped w e name s) (steps c s runs cause effect) h.views.named in
+    let low : NodeNumbers (length events) (length w.group) m = (numbers_hold rules events).each name in
+    let first : m.core.log.start ≤ length w.group = let a = low.kept in let b = low.base in omega arith in
+    record {
+      within = few_names rules w e h.views.named;
+      own = ap (λ (b : Bool). (if b then n else m).core.who) (sym (is_itself name)) ∙ named.who name;
+      adds = longer.is ∙ ap (λ more. m.core.log.entries ++ more) (sym (ap (drop (length m.core.log.entries)) longer.is ∙ drop-append_seam m.core.log.entries longer.more));
+      begins = along (λ (x : Node). x.core.log.start ≤ length w.group) (change_begins (length w.group) (heard_low rules events e c cause)) effect.changes first;
+      stays = λ t. (let kept = h.views.each name (few_names rules w e h.views.named) in changes_stay m n (heard_names rules w e c h.views cause) effect.changes kept.names kept.balloted t);
+    }

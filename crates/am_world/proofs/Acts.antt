@@ -1,0 +1,215 @@
+-- A name's node does a step.
+use Rattle.std.proofs.Common.{◌≡◌, ℕ, ◌+◌, ◌-◌, ◌<◌, ◌≤◌, ◌==◌, max, Bool, true, false, if◌then◌else◌, List, [], ◌∷◌, ◌++◌, length, take, drop, Ok, Some, slice_get, slice_set, refl, sym, ap, ◌∙◌, subst, arith, length-append, length-drop}
+use Rattle.std.proofs.lemmas.List.{length-take, length-set, drop-drop}
+use Rattle.std.proofs.lemmas.Bool.Decides.{nat_tests}
+use Rattle.am_base.specs.declared.entry.Entry.{Entry}
+use Rattle.am_base.specs.declared.image.Image.{Image}
+use Rattle.am_base.specs.declared.name.Stamp.{Stamp}
+use Rattle.am_base.specs.declared.outcome.Outcome.{Outcome}
+use Rattle.am_base.specs.declared.event.NodeEvent.{NodeEvent}
+use Rattle.am_base.specs.Founding.{Rules}
+use Rattle.am_base.specs.Names.{place_of}
+use Rattle.am_packet.specs.Boxes.{Letter}
+use Rattle.am_core.specs.Cores.{CoreState, IsInOrder}
+use Rattle.am_core.proofs.Ends.{end-told, end-top}
+use Rattle.am_group.specs.declared.event.Event.{Event}
+use Rattle.am_group.specs.declared.event.Record.{Record}
+use Rattle.am_model.specs.Node as protocol
+use Rattle.am_model.specs.Node.{top, view, set_at}
+use Rattle.am_model.specs.Step.{step, row}
+use Rattle.am_model.specs.World as model
+use Rattle.am_model.specs.World.{happens, current, stepped, grown, group_after, record_of}
+use Rattle.am_model.specs.Ends.{IsEndOf, ComesTo, Does}
+use Rattle.am_node.specs.declared.node.Node.{Node}
+use Rattle.am_node.specs.Stands.{state_of}
+use Rattle.am_node.specs.Nodes.{HasNumbersLeft}
+use Rattle.am_world.specs.Runs.{Play, replay, after, AreNodes, AreLives, AreFlags, IsRun, play_of, Answers}
+use Rattle.am_world.specs.Asked.{comes}
+use Rattle.am_world.specs.Moves.{IsReadyAt, StepsAt}
+use Rattle.am_ends.proofs.Hearing.{ends_step_alike}
+use Rattle.am_laws.specs.Numbers.{NodeNumbers}
+use Rattle.am_world.proofs.Numbers.{low, trimmed_low}
+use Rattle.am_group.proofs.Places.{get_some}
+use Rattle.am_world.proofs.Spots.{get_set_here, get_set_other}
+use Rattle.am_world.proofs.Comes.{place_now}
+use Rattle.am_world.proofs.Begins.{Keeps}
+use Rattle.am_world.proofs.Goes.{IsRecorded, Follows, goes_on, shows_at, replay_after}
+
+-- ---- the end of a node
+
+pub end_view : (all m : protocol.Node) → IsEndOf all m → view m ≡ view all
+end_view all m is = ap (λ (i : Image). i.view) (end-told all.core.log m.core.log is.stands.kept)
+
+pub end_high : (all m : protocol.Node) → IsEndOf all m → top m ≡ top all
+end_high all m is = end-top all.core.log m.core.log is.stands.kept
+
+pub end_who : (all m : protocol.Node) → IsEndOf all m → m.core.who ≡ all.core.who
+end_who all m is = ap (λ (n : protocol.Node). n.core.who) is.same
+
+pub end_base : (all m : protocol.Node) → IsEndOf all m → m.core.base ≡ all.core.base
+end_base all m is = ap (λ (n : protocol.Node). n.core.base) is.same
+
+pub end_accepted : (all m : protocol.Node) → IsEndOf all m → m.core.acc ≡ all.core.acc
+end_accepted all m is = ap (λ (n : protocol.Node). n.core.acc) is.same
+
+-- the group list grows the same by a node and by its end, where that isn't trimmed beyond the group list
+grown_end : (group : List Entry) (all m : protocol.Node) → IsEndOf all m → m.core.base ≤ length group → grown group m.core ≡ grown group all.core
+grown_end group all m is base_low =
+    let kept = is.stands.kept in
+    let base = is.stands.base in
+    let lowest = kept.low in
+    let at : (m.core.log.start - all.core.log.start) + (length group - m.core.log.start) ≡ length group - all.core.log.start = omega arith in
+    let rest : drop (length group - m.core.log.start) m.core.log.entries ≡ drop (length group - all.core.log.start) all.core.log.entries = ap (drop (length group - m.core.log.start)) kept.entries ∙ drop-drop (length group - m.core.log.start) (m.core.log.start - all.core.log.start) all.core.log.entries ∙ ap (λ k. drop k all.core.log.entries) at in
+    ap (λ a. group ++ take (a - length group) (drop (length group - m.core.log.start) m.core.log.entries)) (end_accepted all m is) ∙ ap (λ es. group ++ take (all.core.acc - length group) es) rest
+
+if_same : {A : Type 0} (b : Bool) (x y z : A) → x ≡ y → (if b then x else z) ≡ (if b then y else z)
+if_same b x y z e = ap (λ v. if b then v else z) e
+
+pub group_end : (group : List Entry) (all m : protocol.Node) → IsEndOf all m → m.core.base ≤ length group → group_after group m ≡ group_after group all
+group_end group all m is base_low =
+    if_same ((view m).by == m.core.who) (grown group m.core) (grown group all.core) group (grown_end group all m is base_low)
+    ∙ ap (λ k. if k == m.core.who then grown group all.core else group) (ap (λ (s : Stamp). s.by) (end_view all m is))
+    ∙ ap (λ k. if (view all).by == k then grown group all.core else group) (end_who all m is)
+
+grown_short : (group : List Entry) (core : CoreState) (most : ℕ) → length group ≤ most → core.acc ≤ most → length (grown group core) ≤ most
+grown_short group core most g a = simp (length-append, length-take, length-drop) (omega arith)
+
+pub group_short : (group : List Entry) (m : protocol.Node) (most : ℕ) → length group ≤ most → m.core.acc ≤ most → length (group_after group m) ≤ most
+group_short group m most g a = go ((view m).by == m.core.who)
+  where
+    go : (b : Bool) → length (if b then grown group m.core else group) ≤ most
+    go true = grown_short group m.core most g a
+    go false = g
+
+-- what the end does, all of it does
+pub step_end : (all m n : protocol.Node) (what : NodeEvent) (outcome : Outcome) (letters : List Letter) → IsEndOf all m → IsInOrder m.core → Does (λ k. row k what) m outcome letters n → ComesTo (step all what) outcome letters n
+unfolding step
+step_end all m n what outcome letters is order does =
+    let s = ends_step_alike all m what is order in
+    record { node = s.node n does.node; answer = does.answer ∙ sym s.answer; sent = does.sent ∙ sym s.sent }
+
+-- ---- before the step
+
+-- the world after it
+abbrev pub next_world : model.World → Event → NodeEvent → model.World
+next_world w e what = comes w e (Ok what)
+
+next_node : (w : model.World) (e : Event) (what : NodeEvent) → (next_world w e what).nodes (current w (place_of e.node)) ≡ (step (w.nodes (current w (place_of e.node))) what).node
+unfolding stepped
+next_node w e what = let same : (current w (place_of e.node) == current w (place_of e.node)) ≡ true = grind (arith, nat_tests) in rw same refl
+
+numbers_left : (events accepted : ℕ) (all m : protocol.Node) → events < 100000 → NodeNumbers events accepted all → IsEndOf all m → HasNumbersLeft m
+numbers_left events accepted all m few lows is =
+    let high = end_high all m is in
+    let round = ap (λ (n : protocol.Node). n.core.promise.round) is.same in
+    let last = ap (λ (n : protocol.Node). n.sends.last) is.same in
+    let a = lows.entries in let b = lows.round in let c = lows.requests in
+    record { entries = omega arith; rounds = omega arith; requests = omega arith }
+
+-- what a step comes to is low, and isn't trimmed beyond the group list
+pub next_low : (p : Play) (e : Event) (what : NodeEvent) (n : protocol.Node) → happens (replay p) e ≡ next_world (replay p) e what → IsEndOf (step ((replay p).nodes (current (replay p) (place_of e.node))) what).node n → IsInOrder n.core → (n.core.base ≤ length (replay p).group) × (n.core.acc ≤ length p.events + 2)
+next_low p e what n is end order =
+    let w = replay p in
+    let name = current w (place_of e.node) in
+    let s = (step (w.nodes name) what).node in
+    let now : (replay (after p e)).nodes name ≡ s = ap (λ (v : model.World). v.nodes name) (replay_after p e ∙ is) ∙ next_node w e what in
+    let base = end_base s n end in
+    let here : (happens w e).nodes name ≡ s = ap (λ (v : model.World). v.nodes name) is ∙ next_node w e what in
+    let trimmed : s.core.base ≤ length w.group = subst (λ (m : protocol.Node). m.core.base ≤ length w.group) here (trimmed_low p.rules p.events e) in
+    let l = length-append p.events (e ∷ []) in
+    let high = end_high s n end in
+    let stored = (subst (NodeNumbers (length (p.events ++ e ∷ [])) (length (replay (after p e)).group)) now (low p.rules (p.events ++ e ∷ []) name)).entries in
+    let accepted = order.accepted in
+    (omega arith, omega arith)
+
+pub ready_at : (p : Play) (first : Rules) (nodes : List Node) (lives : List ℕ) (flags : List Bool) (records : List Record) (group : List Entry) (e : Event) (what : NodeEvent) (name stored room : ℕ)
+    → play_of first records ≡ p → IsRun (play_of first records) nodes lives flags records group → length p.events < 100000
+    → name ≡ current (replay p) (place_of e.node) → happens (replay p) e ≡ next_world (replay p) e what
+    → stored ≡ length group → max (length p.events + 2) stored ≤ room → IsReadyAt nodes (place_of name) what stored room
+ready_at p first nodes lives flags records group e what name stored room view ok few here is all_stored has_room = λ n at.
+    let w = replay p in
+    let place = place_of e.node in
+    let within : place < 16 = omega arith in
+    let was = shows_at p first nodes lives flags records group view ok in
+    let placed : place_of name ≡ place = ap place_of here ∙ place_now place (w.lives place) within in
+    let stands = was.standing.each place n (ap (slice_get nodes) (sym placed) ∙ at) in
+    let agreed = ap length was.agreed in
+    record {
+      numbers = numbers_left (length p.events) (length w.group) (w.nodes (current w place)) (state_of n) few (low p.rules p.events (current w place)) stands.0;
+      grows = λ outcome letters m does order.
+          let done = step_end (w.nodes (current w place)) (state_of n) m what outcome letters stands.0 stands.1 does in
+          let lows = next_low p e what m is done.node order in
+          let base = lows.0 in
+          let accepted = lows.1 in
+          (omega arith, omega arith);
+    }
+
+-- ---- after it
+
+nodes_step : (w : model.World) (e : Event) (what : NodeEvent) (nodes more : List Node) (place : ℕ) (n : Node) → place < 16 → place ≡ place_of e.node → more ≡ slice_set nodes place n → Keeps (step (w.nodes (current w place)) what).node (state_of n) → AreNodes nodes w → AreNodes more (next_world w e what)
+unfolding stepped
+nodes_step w e what nodes more place n within here placed kept h =
+    let count = h.count in
+    record {
+      count = ap length placed ∙ length-set nodes place n ∙ count;
+      each = λ i k at. go i k (ap (λ ns. slice_get ns i) (sym placed) ∙ at) (i == place) refl;
+    }
+  where
+    go : (i : ℕ) (k : Node) → slice_get (slice_set nodes place n) i ≡ Some k → (b : Bool) → (i == place) ≡ b → Keeps ((next_world w e what).nodes (current w i)) (state_of k)
+    go i k at true t =
+        let same_place : i ≡ place = grind (arith, nat_tests) in
+        let count = h.count in
+        let same : n ≡ k = get_set_here nodes place n k (omega arith) (ap (slice_get (slice_set nodes place n)) (sym same_place) ∙ at) in
+        let all : (next_world w e what).nodes (current w i) ≡ (step (w.nodes (current w place)) what).node = ap (λ j. (next_world w e what).nodes (current w j)) (same_place ∙ here) ∙ next_node w e what ∙ ap (λ j. (step (w.nodes (current w j)) what).node) (sym here) in
+        subst (λ m. Keeps m (state_of k)) (sym all) (subst (λ (x : Node). Keeps (step (w.nodes (current w place)) what).node (state_of x)) same kept)
+    go i k at false f =
+        let other : i ≡ place → ⊥ = grind (arith, nat_tests) in
+        let old = sym (get_set_other nodes place i n other) ∙ at in
+        let count = h.count in
+        let inside = get_some nodes i k old in
+        let apart : (current w i == current w (place_of e.node)) ≡ false = grind (arith, nat_tests) in
+        rw apart (h.each i k old)
+
+follows_step : (w : model.World) (e : Event) (what : NodeEvent) (outcome : Outcome) (letters : List Letter) → happens w e ≡ next_world w e what → outcome ≡ (step (w.nodes (current w (place_of e.node))) what).outcome → letters ≡ (step (w.nodes (current w (place_of e.node))) what).letters → Follows w (next_world w e what) e outcome letters
+unfolding stepped
+follows_step w e what outcome letters is answer sent = record {
+  happens_ = is;
+  records = ap (λ o. w.records ++ record_of w e o (step (w.nodes (current w (place_of e.node))) what).letters ∷ []) (sym answer) ∙ ap (λ ls. w.records ++ record_of w e outcome ls ∷ []) (sym sent);
+  letters_ = ap (λ ls. w.letters ++ ls) (sym sent);
+}
+
+lives_step : (w : model.World) (e : Event) (what : NodeEvent) (lives : List ℕ) → AreLives lives w → AreLives lives (next_world w e what)
+unfolding stepped
+lives_step w e what lives h = record { count = h.count; each = h.each; within = h.within }
+
+flags_step : (w : model.World) (e : Event) (what : NodeEvent) (flags : List Bool) → AreFlags flags w → AreFlags flags (next_world w e what)
+unfolding stepped
+flags_step w e what flags h = record { count = h.count; each = h.each }
+
+group_step : (w : model.World) (e : Event) (what : NodeEvent) → (next_world w e what).group ≡ group_after w.group (step (w.nodes (current w (place_of e.node))) what).node
+unfolding stepped
+group_step w e what = refl
+
+pub act_goes_on : (p : Play) (first founding : Rules) (nodes more : List Node) (lives : List ℕ) (flags : List Bool) (records pushed : List Record) (group longer : List Entry) (e : Event) (what : NodeEvent) (outcome : Outcome) (letters : List Letter) (name : ℕ)
+    → play_of first records ≡ p → IsRun (play_of first records) nodes lives flags records group → length p.events < 100000
+    → name ≡ current (replay p) (place_of e.node) → StepsAt nodes more group longer (place_of name) what outcome letters
+    → IsRecorded (replay p) e outcome letters first founding records pushed → happens (replay p) e ≡ next_world (replay p) e what
+    → IsRun (play_of founding pushed) more lives flags pushed longer × Answers p e outcome
+act_goes_on p first founding nodes more lives flags records pushed group longer e what outcome letters name view ok few here steps recorded is =
+    let w = replay p in
+    let place = place_of e.node in
+    let within : place < 16 = omega arith in
+    let was = shows_at p first nodes lives flags records group view ok in
+    let short : length group ≤ 1 + length p.events = subst (λ (q : Play). length group ≤ 1 + length q.events) view ok.short in
+    let placed : place_of name ≡ place = ap place_of here ∙ place_now place (w.lives place) within in
+    let m = w.nodes (current w place) in
+    let new = state_of steps.next in
+    let stands = was.standing.each place steps.before (ap (slice_get nodes) (sym placed) ∙ steps.there) in
+    let done = step_end m (state_of steps.before) new what outcome letters stands.0 stands.1 steps.does in
+    let lows = next_low p e what new is done.node steps.order in
+    let base_low : new.core.base ≤ length group = subst (λ g. new.core.base ≤ length g) (sym was.agreed) lows.0 in
+    goes_on p first founding nodes more lives lives flags flags records pushed group longer e outcome letters (next_world w e what) view ok few recorded (follows_step w e what outcome letters is done.answer done.sent)
+    (nodes_step w e what nodes more place steps.next within refl (steps.placed ∙ ap (λ k. slice_set nodes k steps.next) placed) (done.node, steps.order) was.standing)
+    (lives_step w e what lives was.living) (flags_step w e what flags was.stopped)
+    (steps.grows ∙ group_end group (step m what).node new done.node base_low ∙ ap (λ g. group_after g (step m what).node) was.agreed ∙ sym (group_step w e what))
+    (subst (λ g. length g ≤ 2 + length p.events) (sym steps.grows) (group_short group new (2 + length p.events) (omega arith) (let a = lows.1 in omega arith)))

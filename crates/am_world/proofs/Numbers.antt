@@ -1,0 +1,24 @@
+-- What the laws of runs say, as a world asks for it.
+use Rattle.std.proofs.Common.{◌≤◌, ℕ, List, length}
+use Rattle.am_base.specs.Founding.{Rules}
+use Rattle.am_packet.specs.Boxes.{Letter}
+use Rattle.am_group.specs.declared.event.Event.{Event}
+use Rattle.am_model.specs.World.{run, happens}
+use Rattle.am_effects.specs.Events.{actor}
+use Rattle.am_laws.specs.Numbers.{NodeNumbers}
+use Rattle.am_laws.specs.Packets.{UpTo}
+use Rattle.am_laws.proofs.EventCounts.{actor_low}
+use Rattle.am_laws.proofs.RunCounts.{bounds_after, run_low, numbers_hold}
+use Rattle.am_effects.proofs.Items.{all_item}
+
+-- how high a node's numbers are after so many events
+pub low : (rules : Rules) (events : List Event) (name : ℕ) → NodeNumbers (length events) (length (run rules events).group) ((run rules events).nodes name)
+low rules events name = (numbers_hold rules events).each name
+
+-- after an event the acting name's node has trimmed nothing that the group list lacked before it
+pub trimmed_low : (rules : Rules) (events : List Event) (e : Event) → ((happens (run rules events) e).nodes (actor (run rules events) e)).core.base ≤ length (run rules events).group
+trimmed_low rules events e =
+    let w = run rules events in
+    let b = bounds_after (length events) (record { lists = 1; rounds = 1; requests = 0 }) in
+    let all = run_low rules events in
+    (actor_low b (length w.group) w e (λ letter at. all_item (λ (l : Letter). UpTo b (length w.group) l.packet) w.letters _ letter all.letters at) (all.behind (actor w e)) (all.each (actor w e))).trims

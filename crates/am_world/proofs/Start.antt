@@ -1,0 +1,240 @@
+-- Where a node's list begins after a step: where it did, or at the base that a Welcome told.
+use Rattle.std.proofs.Common.{◌≡◌, ℕ, ◌≤◌, ◌==◌, ◌&&◌, ◌||◌, not, Bool, true, false, if◌then◌else◌, List, None, refl, sym, ap, ◌∙◌, subst, arith}
+use Rattle.std.proofs.lemmas.Bool.Decides.{nat_tests}
+use Rattle.am_base.specs.declared.outcome.Outcome.{Outcome}
+use Rattle.am_base.specs.declared.name.Stamp.{Stamp}
+use Rattle.am_base.specs.declared.image.Image.{Image}
+use Rattle.am_base.specs.Founding.{Rules, MayFound}
+use Rattle.am_base.specs.Stamps.{stamp_eq}
+use Rattle.am_base.specs.Lists.{Log}
+use Rattle.am_packet.specs.declared.packet.Packet.{Packet}
+use Rattle.am_packet.specs.declared.packet.Packet.TheVariants as packet
+use Rattle.am_group.specs.declared.event.Event.{Event}
+use Rattle.am_core.specs.Cores.{accept, pass_over}
+use Rattle.am_model.specs.declared.status.Status.{Status}
+use Rattle.am_model.specs.declared.status.Status.TheVariants as status
+use Rattle.am_model.specs.Node.{Node, Ballot, view, is_sequencer, is_member, is_asking}
+use Rattle.am_model.specs.Ballots.{Verdict}
+use Rattle.am_model.specs.Refresh.{refresh, settle}
+use Rattle.am_model.specs.Emit.{Step}
+use Rattle.am_model.specs.Group.{has_log}
+use Rattle.am_model.specs.World.{World, run, happens, stepped, unchanged}
+use Rattle.am_model.proofs.Greatest.{split, and_both}
+use Rattle.am_effects.specs.Causes.{Cause, calls, hears, refuses, BringsFronts, with_entry, with_number, alone}
+use Rattle.am_effects.specs.Looks.{BeginsBy, by_reset, by_hand_over, Balloting, with_more, without_one, as_it_is, Looks, finds_itself_out, waits, fetches_from_best, finds_too_few, finds_no_room, decides}
+use Rattle.am_effects.specs.Changes.{whole_entry, by_number, Promises, invited, overtaken, told_result, Change, refreshes, settles, takes_report, admits, numbers, keeps_body, notes, stores, begins_list, departs, promises, opens, looks, fetches, stores_view, queues, collects, takes, asks_to_join, asks_to_leave, closes, Changes}
+use Rattle.am_effects.specs.Events.{actor, Happens, idles, stops, returns, steps}
+use Rattle.am_effects.proofs.Events.{events_have_effects}
+use Rattle.am_effects.proofs.Rests.{rests_refresh, settle_is}
+use Rattle.am_effects.proofs.Runs.{along}
+use Rattle.am_laws.specs.Blank.{IsBlank}
+use Rattle.am_laws.proofs.Blank.{blank_holds}
+use Rattle.am_laws.proofs.ViewChanges.{leads_member, log_of_member, member_of}
+use Rattle.am_watch.specs.Watches.{standing_of}
+use Rattle.am_watched.proofs.Chains.{HeardLow, change_begins}
+use Rattle.am_watched.proofs.Lists.{lists_go_on}
+use Rattle.am_world.specs.Watched.{begins}
+
+-- ---- by another cause than a Welcome no list begins
+
+abbrev IsNoWelcome : Cause → Type 0
+IsNoWelcome c = (s : ℕ) (v : Stamp) (base join : ℕ) (image : Image) → c ≡ hears (packet.Welcome s v base join image) → ⊥
+
+look_status : (m : Node) (b : Ballot) (v : Verdict) → Looks m b v → v.node.status ≡ m.status
+look_status m b v (finds_itself_out x) = refl
+look_status m b v (waits x y) = refl
+look_status m b v (fetches_from_best x y z) = refl
+look_status m b v (finds_too_few x y) = refl
+look_status m b v (finds_no_room x) = refl
+look_status m b v (decides may) = refl
+
+abbrev HasNone : Node → Type 0
+HasNone m = has_log m.status ≡ false
+
+change_none : {c : Cause} {o : Outcome} → IsNoWelcome c → (x y : Node) → Change c o x y → HasNone x → HasNone y
+change_none other x y refreshes h = ap has_log (rests_refresh x).rests.status ∙ h
+change_none other x y settles h = ap (λ (n : Node). has_log n.status) (settle_is x) ∙ h
+change_none other x y (takes_report s v report by may) h = h
+change_none other x y (admits s v is leads fit) h = h
+change_none other x y (numbers e leads room why) h = h
+change_none other x y (keeps_body s v report req body is by) h = h
+change_none other x y (notes s v base acc by from) h = h
+change_none other x y (stores s v base acc number e by from plain may) h = h
+change_none other x y (begins_list s v base join image is o may) h = absurd (other s v base join image is)
+change_none other x y (departs s v number is by leaves) h = absurd (let t = member_of x s by in cc)
+change_none other x y (promises v low why) h = h
+change_none other x y (opens least resilience by may) h = h
+change_none other x y (looks b verdict over why look is) h = ap has_log (look_status x b verdict look) ∙ h
+change_none other x y (fetches s v base number e is by promise below from may) h = h
+change_none other x y (stores_view s v base number names resilience is by own unlike promise below may) h = h
+change_none other x y (queues body is o member stays few) h = h
+change_none other x y (collects req is) h = h
+change_none other x y (takes e is o member some there) h = h
+change_none other x y (asks_to_join is was) h = refl
+change_none other x y (asks_to_leave is was stays done) h = h
+change_none other x y (closes leads leaves last room) h = absurd (let t = log_of_member x.status (leads_member x leads) in cc)
+
+-- ---- by a Welcome it begins at its base, and its node doesn't lead in that step
+
+module _ (s : ℕ) (v : Stamp) (base join : ℕ) (image : Image) where
+  abbrev welcome_ : Cause
+  welcome_ = hears (packet.Welcome s v base join image)
+
+  no_fronts : {c : Cause} {by : ℕ} {at : Stamp} {low high : ℕ} → BringsFronts c by at low high → c ≡ welcome_ → ⊥
+  no_fronts (with_entry _ _ _ _ _ _) h = cc
+  no_fronts (with_number _ _ _ _ _ _ _) h = cc
+  no_fronts (alone _ _ _ _ _ _) h = cc
+
+  no_promise : {c : Cause} {m : Node} {at : Stamp} → Promises c m at → c ≡ welcome_ → ⊥
+  no_promise (invited _ _ is _ _) h = cc
+  no_promise (overtaken _ _ _ is _ _) h = cc
+  no_promise (told_result _ _ _ _ _ _ is _ _ _) h = cc
+
+  no_ballot : {c : Cause} {m : Node} → BeginsBy m c → c ≡ welcome_ → ⊥
+  no_ballot (by_reset _ _) h = cc
+  no_ballot (by_hand_over _ _ _) h = cc
+
+  no_look : {c : Cause} {m : Node} {b : Ballot} → Balloting c m b → c ≡ welcome_ → m.ballot ≡ None → ⊥
+  no_look (with_more _ _ _ _ is _ _ _ _ _ _) h none = cc
+  no_look (without_one _ _ is _ _) h none = cc
+  no_look (as_it_is _ open_) h none = let last = open_.last in cc
+
+  abbrev Begun : Node → Type 0
+  Begun m = (m.core.base ≡ m.core.log.start) × (m.ballot ≡ None) × (is_sequencer m ≡ false) × (is_member m.status ≡ false → m.core.log.start ≡ 0)
+
+  refresh_begun : (m : Node) → Begun m → Begun (refresh m)
+  unfolding refresh accept pass_over
+  refresh_begun m h = rw h.2 h
+
+  not_true : (b : Bool) → not b ≡ true → b ≡ false
+  not_true true h = absurd (cc)
+  not_true false h = refl
+
+  -- nobody begins a list by a Welcome of its own name
+  not_own : (who by : ℕ) (promise : Stamp) → (by == who) ≡ false → (promise.by == by) ≡ true → (seen : Stamp) (member : Bool)
+      → ((member && stamp_eq promise seen) && (seen.by == who)) ≡ false
+  not_own who by promise other own seen member = split ((member && stamp_eq promise seen) && (seen.by == who))
+      (λ t. absurd (
+      let both = and_both (member && stamp_eq promise seen) (seen.by == who) t in
+      let same = and_both member (stamp_eq promise seen) both.0 in
+      let named = and_both (promise.round == seen.round) (promise.by == seen.by) same.1 in
+      let a : promise.by ≡ seen.by = let z = named.1 in grind (arith, nat_tests) in
+      let b : seen.by ≡ who = let z = both.1 in grind (arith, nat_tests) in
+      let c : promise.by ≡ by = grind (arith, nat_tests) in
+      let d : (by == who) ≡ true = grind (arith, nat_tests) in
+      cc))
+      (λ f. f)
+
+  change_begun : {c : Cause} {o : Outcome} → c ≡ welcome_ → (x y : Node) → Change c o x y → Begun x → Begun y
+  change_begun w x y refreshes h = refresh_begun x h
+  change_begun w x y settles h = subst Begun (sym (settle_is x)) h
+  change_begun w x y (takes_report s1 v1 report by may) h = h
+  change_begun w x y (admits s1 v1 is leads fit) h = absurd (let f = h.2 in cc)
+  change_begun w x y (numbers e leads room why) h = absurd (let f = h.2 in cc)
+  change_begun w x y (keeps_body s1 v1 report req body is by) h = h
+  change_begun w x y (notes s1 v1 low acc by from) h = absurd (no_fronts by w)
+  change_begun w x y (stores s1 v1 low acc number e (whole_entry _ is) from plain may) h = absurd (cc)
+  change_begun w x y (stores s1 v1 low acc number e (by_number _ _ _ is _) from plain may) h = absurd (cc)
+  change_begun w x y (begins_list s1 v1 low join1 image1 is o may) h =
+      let other = not_true (s1 == x.core.who) (and_both (not (s1 == x.core.who)) (is_member x.status || is_asking x.status) may.asks).0 in
+      (refl, h.1, not_own x.core.who s1 v1 other may.own (view y) true, λ f. absurd (cc))
+  change_begun w x y (departs s1 v1 number is by leaves) h = absurd (cc)
+  change_begun w x y (promises v1 low why) h = absurd (no_promise why w)
+  change_begun w x y (opens least resilience by may) h = absurd (no_ballot by w)
+  change_begun w x y (looks b verdict over why look is) h = absurd (no_look why w h.1)
+  change_begun w x y (fetches s1 v1 low number e is by promise below from may) h = absurd (cc)
+  change_begun w x y (stores_view s1 v1 low number names resilience is by own unlike promise below may) h = absurd (cc)
+  change_begun w x y (queues body is o member stays few) h = h
+  change_begun w x y (collects req is) h = h
+  change_begun w x y (takes e is o member some there) h = h
+  change_begun w x y (asks_to_join is was) h = absurd (cc)
+  change_begun w x y (asks_to_leave is was stays done) h = h
+  change_begun w x y (closes leads leaves last room) h = absurd (let f = h.2 in cc)
+
+-- ---- a step
+
+abbrev BeginsAt : Node → Node → Type 0
+BeginsAt m n = n.core.log.start ≡ (if begins (standing_of m) n.status then n.core.base else m.core.log.start)
+
+-- a list that was there begins where it did
+there_begins : (m n : Node) → has_log m.status ≡ true → n.core.log.start ≡ m.core.log.start → BeginsAt m n
+there_begins m n t same = rw t same
+
+-- without one it begins at its base, if it begins
+none_begins : (m n : Node) → has_log m.status ≡ false → m.core.log.start ≡ 0
+    → (is_member n.status ≡ true → n.core.log.start ≡ n.core.base) → (is_member n.status ≡ false → n.core.log.start ≡ 0) → BeginsAt m n
+none_begins m n f zero there none = rw f (split (is_member n.status)
+    (λ t. rw t (there t))
+    (λ u. rw u (none u ∙ sym zero)))
+
+-- a Welcome is heard, or it is something else
+data Kind (c : Cause) : Type 0 where
+  welcome : (s : ℕ) (v : Stamp) (base join : ℕ) (image : Image) → c ≡ hears (packet.Welcome s v base join image) → Kind c
+  other : IsNoWelcome c → Kind c
+
+packet_kind : (p : Packet) → Kind (hears p)
+packet_kind (packet.Welcome s v base join image) = welcome s v base join image refl
+packet_kind _ = other (λ s v base join image h. cc)
+
+kind : (c : Cause) → Kind c
+kind (hears p) = packet_kind p
+kind (calls event) = other (λ s v base join image h. cc)
+kind refuses = other (λ s v base join image h. cc)
+
+never_leads : (m : Node) → has_log m.status ≡ false → is_sequencer m ≡ false
+never_leads m none = split (is_sequencer m) (λ t. absurd (let log = log_of_member m.status (leads_member m t) in cc)) (λ f. f)
+
+begins_by : {c : Cause} {o : Outcome} (m n : Node) → Kind c → Changes c o m n → has_log m.status ≡ false → IsBlank m → BeginsAt m n
+begins_by m n (welcome s v base join image is) changes none blank_ =
+    let zero : m.core.log.start ≡ 0 = ap (λ (l : Log). l.start) blank_.log in
+    let first : Begun s v base join image m = (blank_.base ∙ sym zero, blank_.ballot, never_leads m none, λ f. zero) in
+    let h : Begun s v base join image n = along (Begun s v base join image) (change_begun s v base join image is) changes first in
+    none_begins m n none zero (λ t. sym h.0) h.3
+begins_by {c = c} m n (other none_heard) changes none blank_ =
+    let zero : m.core.log.start ≡ 0 = ap (λ (l : Log). l.start) blank_.log in
+    let heard : HeardLow c 0 = record { welcome = λ s v base join image is. absurd (none_heard s v base join image is) } in
+    let low : n.core.log.start ≤ 0 = along (λ (x : Node). x.core.log.start ≤ 0) (change_begins 0 heard) changes (omega arith) in
+    let still : HasNone n = along HasNone (change_none none_heard) changes none in
+    none_begins m n none zero (λ t. absurd (let log = log_of_member n.status t in cc)) (λ f. omega arith)
+
+-- ---- in a run
+
+is_itself : (name : ℕ) → (name == name) ≡ true
+is_itself name = grind (arith, nat_tests)
+
+no_begin : (s : Status) → (not (has_log s) && is_member s) ≡ false
+no_begin status.Stranger = refl
+no_begin status.Asking = refl
+no_begin status.Member = refl
+no_begin status.Departed = refl
+
+-- where the node is as it was
+begins_same : (m : Node) → BeginsAt m m
+begins_same m = rw (no_begin m.status) refl
+
+begins_in : (rules : Rules) (events : List Event) (e : Event) (v : World) → MayFound rules → Happens (run rules events) e v
+    → BeginsAt ((run rules events).nodes (actor (run rules events) e)) (v.nodes (actor (run rules events) e))
+unfolding stepped unchanged
+begins_in rules events e _ may (idles o idle) = begins_same ((run rules events).nodes (actor (run rules events) e))
+begins_in rules events e _ may (stops running) = begins_same ((run rules events).nodes (actor (run rules events) e))
+begins_in rules events e _ may (returns place at gone few) = begins_same ((run rules events).nodes (actor (run rules events) e))
+begins_in rules events e _ may (steps c s running cause effect) =
+    let w = run rules events in
+    let name = actor w e in
+    let m = w.nodes name in
+    let adds = lists_go_on rules events e c s may running cause effect in
+    rw (is_itself name) (split (has_log m.status)
+    (λ t. there_begins m s.node t (adds.stays t))
+    (λ f. begins_by m s.node (kind c) effect.changes f (blank_holds rules events name may adds.within f)))
+
+-- where the list of a name's node begins once it did a step
+pub step_begins : (rules : Rules) (events : List Event) (e : Event) (s : Step) → MayFound rules
+    → happens (run rules events) e ≡ stepped (run rules events) e (actor (run rules events) e) s
+    → BeginsAt ((run rules events).nodes (actor (run rules events) e)) s.node
+unfolding stepped
+step_begins rules events e s may is =
+    let w = run rules events in
+    let name = actor w e in
+    let h : BeginsAt (w.nodes name) ((stepped w e name s).nodes name) =
+    begins_in rules events e (stepped w e name s) may (subst (Happens w e) is (events_have_effects w e)) in
+    rw (is_itself name) at h

@@ -1,0 +1,85 @@
+-- A name stops.
+use Rattle.std.proofs.Common.{◌≡◌, ℕ, zero, suc, ◌+◌, ◌<◌, ◌≤◌, ◌==◌, ◌||◌, Bool, true, false, List, [], ◌∷◌, ◌++◌, length, slice_set, slice_index_or, refl, append-nil, sym, ap, ◌∙◌, subst, arith}
+use Rattle.std.specs.List.{list_any}
+use Rattle.std.proofs.lemmas.List.{length-set}
+use Rattle.std.proofs.lemmas.Bool.Decides.{nat_tests}
+use Rattle.am_base.specs.declared.entry.Entry.{Entry}
+use Rattle.am_base.specs.declared.outcome.Outcome.TheVariants as said
+use Rattle.am_base.specs.Founding.{Rules}
+use Rattle.am_base.specs.Names.{place_of}
+use Rattle.am_group.specs.declared.event.Event.{Event}
+use Rattle.am_group.specs.declared.event.Record.{Record}
+use Rattle.am_model.specs.World as model
+use Rattle.am_model.specs.World.{happens, current, is_stopped, unchanged}
+use Rattle.am_node.specs.declared.node.Node.{Node}
+use Rattle.am_world.specs.Runs.{Play, replay, AreLives, AreFlags, IsRun, play_of, Answers}
+use Rattle.am_world.specs.Asked.{answered}
+use Rattle.am_world.proofs.Goes.{IsRecorded, goes_on, shows_at}
+
+same_suc : (a b : ℕ) → (suc a == suc b) ≡ (a == b)
+same_suc a b = grind (arith, nat_tests)
+
+-- one flag more
+pub flag_set : (flags : List Bool) (name j : ℕ) → name < length flags → slice_index_or (slice_set flags name true) j false ≡ ((name == j) || slice_index_or flags j false)
+flag_set [] name j h = absurd (omega arith)
+flag_set (b ∷ flags) zero zero h = refl
+flag_set (b ∷ flags) zero (suc j) h = let other : (0 == suc j) ≡ false = grind (arith, nat_tests) in rw other refl
+flag_set (b ∷ flags) (suc name) zero h = let other : (suc name == 0) ≡ false = grind (arith, nat_tests) in rw other refl
+flag_set (b ∷ flags) (suc name) (suc j) h = flag_set flags name j (omega arith) ∙ ap (λ t. t || slice_index_or flags j false) (sym (same_suc name j))
+
+any_or : (a b c : Bool) → (a || (b || c)) ≡ (b || (a || c))
+any_or true true c = refl
+any_or true false c = refl
+any_or false b c = refl
+
+-- one name more that has stopped
+pub any_more : (names : List ℕ) (name j : ℕ) → list_any (λ x. x == j) (names ++ name ∷ []) ≡ ((name == j) || list_any (λ x. x == j) names)
+any_more [] name j = refl
+any_more (x ∷ names) name j = ap (λ b. (x == j) || b) (any_more names name j) ∙ any_or (x == j) (name == j) (list_any (λ y. y == j) names)
+
+-- the world with one name more that has stopped
+abbrev pub stopping : model.World → ℕ → model.World
+stopping w name = record w { stopped = w.stopped ++ name ∷ [] }
+
+pub flags_more : (w : model.World) (name : ℕ) (flags : List Bool) → name < 256 → AreFlags flags w → AreFlags (slice_set flags name true) (stopping w name)
+flags_more w name flags within h =
+    let count = h.count in
+    record {
+      count = length-set flags name true ∙ count;
+      each = λ j. flag_set flags name j (omega arith) ∙ ap (λ b. (name == j) || b) (h.each j) ∙ sym (any_more w.stopped name j);
+    }
+
+-- and where it had stopped before
+pub flags_again : (w : model.World) (name : ℕ) (flags : List Bool) → name < 256 → is_stopped w name ≡ true → AreFlags flags w → AreFlags (slice_set flags name true) w
+flags_again w name flags within is h =
+    let count = h.count in
+    record {
+      count = length-set flags name true ∙ count;
+      each = λ j. flag_set flags name j (omega arith) ∙ by_case j (name == j) refl;
+    }
+  where
+    by_case : (j : ℕ) (b : Bool) → (name == j) ≡ b → (b || slice_index_or flags j false) ≡ is_stopped w j
+    by_case j true e = let here : name ≡ j = grind (arith, nat_tests) in sym is ∙ ap (is_stopped w) here
+    by_case j false e = h.each j
+
+pub name_within : (w : model.World) (lives : List ℕ) (place : ℕ) → place < 16 → AreLives lives w → current w place < 256
+name_within w lives place within h = let most = (h.within place within).1 in omega arith
+
+pub stop_goes_on : (p : Play) (first founding : Rules) (nodes : List Node) (lives : List ℕ) (flags : List Bool) (records pushed : List Record) (group : List Entry) (e : Event) (name at : ℕ)
+    → play_of first records ≡ p → IsRun (play_of first records) nodes lives flags records group → length p.events < 100000
+    → name ≡ current (replay p) (place_of e.node) → at ≡ name
+    → IsRecorded (replay p) e said.Stopped [] first founding records pushed → happens (replay p) e ≡ answered (replay p) e said.Stopped
+    → IsRun (play_of founding pushed) nodes lives (slice_set flags at true) pushed group × Answers p e said.Stopped
+unfolding unchanged
+stop_goes_on p first founding nodes lives flags records pushed group e name at view ok few here there recorded is =
+    let w = replay p in
+    let now = current w (place_of e.node) in
+    let was = shows_at p first nodes lives flags records group view ok in
+    let short : length group ≤ 1 + length p.events = subst (λ (q : Play). length group ≤ 1 + length q.events) view ok.short in
+    let within : place_of e.node < 16 = omega arith in
+    let more = flags_more w now flags (name_within w lives (place_of e.node) within was.living) was.stopped in
+    goes_on p first founding nodes nodes lives lives flags (slice_set flags at true) records pushed group group e said.Stopped [] (unchanged (stopping w now) e said.Stopped) view ok few recorded
+    (record { happens_ = is; records = refl; letters_ = sym (append-nil w.letters) })
+    (record { count = was.standing.count; each = was.standing.each }) (record { count = was.living.count; each = was.living.each; within = was.living.within })
+    (subst (λ k. AreFlags (slice_set flags k true) (unchanged (stopping w now) e said.Stopped)) (sym (there ∙ here)) (record { count = more.count; each = more.each }))
+    was.agreed (omega arith)

@@ -1,0 +1,90 @@
+-- What is so of a name's step in every run, as the world tells its watcher of it.
+use Rattle.std.proofs.Common.{◌≡◌, ℕ, ◌+◌, ◌<◌, ◌≤◌, ◌==◌, ◌&&◌, ◌||◌, not, Bool, true, false, if◌then◌else◌, List, [], ◌∷◌, ◌++◌, length, refl, sym, ap, ◌∙◌, subst, arith}
+use Rattle.std.specs.List.{list_any}
+use Rattle.std.proofs.lemmas.Bool.Decides.{nat_tests}
+use Rattle.am_base.specs.declared.name.Stamp.{Stamp}
+use Rattle.am_base.specs.declared.event.NodeEvent.{NodeEvent}
+use Rattle.am_base.specs.Founding.{Rules, MayFound}
+use Rattle.am_base.specs.Names.{place_of}
+use Rattle.am_base.specs.Stamps.{stamp_eq}
+use Rattle.am_group.specs.declared.event.Event.{Event}
+use Rattle.am_model.specs.Node.{Node, view, is_member}
+use Rattle.am_model.specs.Step.{step}
+use Rattle.am_model.specs.World.{World, run, happens, stepped, unchanged, lives_on, decides}
+use Rattle.am_model.specs.Lawful.{is_view_of}
+use Rattle.am_effects.specs.Events.{actor, Happens, idles, stops, returns, steps}
+use Rattle.am_effects.proofs.Events.{events_have_effects}
+use Rattle.am_laws.proofs.Named.{few_names, names_hold}
+use Rattle.am_laws.proofs.RunCounts.{numbers_hold}
+use Rattle.am_watch.specs.Watches.{IsNew, standing_of, view_of}
+use Rattle.am_watched.specs.Lists.{AddsEntries}
+use Rattle.am_watched.proofs.Lists.{run_lists, lists_go_on}
+use Rattle.am_watched.proofs.New.{decided_are_new}
+use Rattle.am_world.specs.Watched.{begins, stored_of}
+use Rattle.am_world.proofs.Start.{step_begins}
+use Rattle.am_world.proofs.StoredSteps.{step_adds, told_is}
+
+-- where the list of a name's node begins after a step
+pub begins_at : (rules : Rules) (events : List Event) (e : Event) (what : NodeEvent) → MayFound rules
+    → let w = run rules events in let m = w.nodes (actor w e) in let n = (step m what).node in
+    happens w e ≡ stepped w e (actor w e) (step m what) → n.core.log.start ≡ (if begins (standing_of m) n.status then n.core.base else m.core.log.start)
+begins_at rules events e what may is =
+    let w = run rules events in
+    step_begins rules events e (step (w.nodes (actor w e)) what) may is
+
+-- which Views stand in it
+pub stores : (rules : Rules) (events : List Event) (e : Event) (what : NodeEvent) → MayFound rules
+    → let w = run rules events in let name = actor w e in let m = w.nodes name in let n = (step m what).node in
+    happens w e ≡ stepped w e name (step m what)
+    → (v : Stamp) → list_any (is_view_of v) n.core.log.entries ≡ (list_any (is_view_of v) m.core.log.entries || list_any (is_view_of v) (stored_of name (standing_of m) (standing_of n) (view_of n) what))
+stores rules events e what may is v =
+    let w = run rules events in
+    let name = actor w e in
+    let h = run_lists rules events may in
+    let few = few_names rules w e h.views.named in
+    told_is name (w.nodes name) (step (w.nodes name) what).node what v (step_adds name (w.nodes name) what ((names_hold rules events may).who name) (h.views.each name few).balloted (h.bare name few))
+
+-- ---- its name, where its list begins, and a view that it decided
+
+pub record StepFacts (w v : World) (name : ℕ) : Type 0 where
+  pub own : (v.nodes name).core.who ≡ name
+  pub begins_ : (v.nodes name).core.log.start ≤ length w.group
+  pub new : decides (w.nodes name) (v.nodes name) ≡ true → IsNew w (view (v.nodes name))
+
+is_itself : (name : ℕ) → (name == name) ≡ true
+is_itself name = grind (arith, nat_tests)
+
+same_stamp : (s : Stamp) → stamp_eq s s ≡ true
+same_stamp s = grind (arith, nat_tests)
+
+never : (b c : Bool) → (b && (c && not true)) ≡ true → ⊥
+never true true h = cc
+never true false h = cc
+never false c h = cc
+
+-- where the name's node is as it was
+facts_same : (rules : Rules) (events : List Event) (e : Event) (v : World) → MayFound rules → v.nodes ≡ (run rules events).nodes → StepFacts (run rules events) v (actor (run rules events) e)
+facts_same rules events e v may same =
+    let w = run rules events in
+    let name = actor w e in
+    let low = (numbers_hold rules events).each name in
+    let first : (w.nodes name).core.log.start ≤ length w.group = let a = low.kept in let b = low.base in omega arith in
+    let P : Node → Type 0 = λ m. (m.core.who ≡ name) × (m.core.log.start ≤ length w.group) × (decides (w.nodes name) m ≡ true → IsNew w (view m)) in
+    let old : P (w.nodes name) = ((names_hold rules events may).who name, first, λ t. absurd (never _ _ (rw (same_stamp (view (w.nodes name))) at t))) in
+    let now : P (v.nodes name) = subst P (sym (ap (λ ns. ns name) same)) old in
+    record { own = now.0; begins_ = now.1; new = now.2 }
+
+facts : (rules : Rules) (events : List Event) (e : Event) (v : World) → MayFound rules → happens (run rules events) e ≡ v → Happens (run rules events) e v → StepFacts (run rules events) v (actor (run rules events) e)
+unfolding stepped unchanged
+facts rules events e _ may is (idles o idle) = facts_same rules events e (unchanged (run rules events) e o) may refl
+facts rules events e _ may is (stops running) = facts_same rules events e _ may refl
+facts rules events e _ may is (returns place at gone few) = facts_same rules events e _ may refl
+facts rules events e _ may is (steps c s running cause effect) =
+    let w = run rules events in
+    let name = actor w e in
+    let adds = lists_go_on rules events e c s may running cause effect in
+    let new = decided_are_new rules events e c s may running cause effect in
+    record { own = rw (is_itself name) adds.own; begins_ = rw (is_itself name) adds.begins; new = rw (is_itself name) new }
+
+pub step_facts : (rules : Rules) (events : List Event) (e : Event) (v : World) → MayFound rules → happens (run rules events) e ≡ v → StepFacts (run rules events) v (actor (run rules events) e)
+step_facts rules events e v may is = facts rules events e v may is (subst (Happens (run rules events) e) is (events_have_effects (run rules events) e))

@@ -1,0 +1,158 @@
+-- Which Views a step of any cause adds to a node's list, and that these are what a watcher is told.
+use Rattle.std.proofs.Common.{◌≡◌, ℕ, ◌&&◌, ◌||◌, not, if◌then◌else◌, Bool, true, false, List, [], ◌∷◌, ◌++◌, Option, Some, None, Ok, Err, refl, sym, ap, ◌∙◌, arith}
+use Rattle.std.specs.List.{list_any}
+use Rattle.std.proofs.lemmas.Bool.Decides.{nat_tests}
+use Rattle.std.proofs.lemmas.List.Folds.{list_any-append}
+use Rattle.am_base.specs.declared.outcome.Outcome.{Outcome}
+use Rattle.am_base.specs.declared.name.Stamp.{Stamp}
+use Rattle.am_base.specs.declared.entry.Entry.{Entry}
+use Rattle.am_base.specs.declared.event.NodeEvent.{NodeEvent}
+use Rattle.am_base.specs.declared.event.NodeEvent.TheVariants as does
+use Rattle.am_base.specs.Stamps.{stamp_eq}
+use Rattle.am_packet.specs.declared.packet.Packet.{Packet}
+use Rattle.am_packet.specs.declared.packet.Packet.TheVariants.{Request, Spread, Bcast, Order, Accept, Ack, Nack, Hold, JoinAsk, Welcome, LeaveAsk, Gone, Invite, Vote, Fetch, Piece, Result, HandOver}
+use Rattle.am_codec.specs.Reading.{Read, reading, cause_of}
+use Rattle.am_model.specs.declared.status.Status.{Status}
+use Rattle.am_model.specs.declared.status.Status.TheVariants as status
+use Rattle.am_model.specs.Node.{Node, Ballot, view, is_member}
+use Rattle.am_model.specs.Emit.{Step, finish}
+use Rattle.am_model.specs.Hearing.{hear_row}
+use Rattle.am_model.specs.Step.{read_row, step, row, hear, refused}
+use Rattle.am_model.specs.Group.{has_log}
+use Rattle.am_laws.proofs.ViewChanges.{log_of_member}
+use Rattle.am_model.specs.Lawful.{is_view_of}
+use Rattle.am_model.proofs.Greatest.{split}
+use Rattle.am_effects.specs.Causes.{Cause, hears, refuses}
+use Rattle.am_effects.specs.Effects.{Effect}
+use Rattle.am_effects.proofs.Hearing.{steps_have_effects, hearing_has_effects, refusing_has_effects}
+use Rattle.am_laws.proofs.ViewChanges.{Balloted, OpenBallot}
+use Rattle.am_watch.specs.Watching.{decides}
+use Rattle.am_watch.specs.Watches.{standing_of, view_of}
+use Rattle.am_watched.proofs.Lists.{IsBare}
+use Rattle.am_world.specs.Watched.{begins, one_of, piece_in, fetched_from, fetched, last_view, stored_of}
+use Rattle.am_world.proofs.StoredViews.{has_view, or_none, IsAbove, BringsNone, Walked, still, more, new, walked}
+use Rattle.am_world.proofs.StoredPieces.{any_of, Adds, none, last, began, StepAdds, finish_adds, differs, piece_adds, result_adds}
+
+-- ---- what brings no View
+
+above_opened : (who : ℕ) (promise v : Stamp) (ballot : Option Ballot) → OpenBallot who promise v ballot → IsAbove v ballot
+above_opened who promise v None h = tt
+above_opened who promise v (Some b) h = λ over. (h over).above
+
+walk_adds : {c : Cause} {o : Outcome} (name : ℕ) (m n : Node) → IsBare m → Walked c o m n → Adds name [] m n.status n.core.log
+walk_adds name m n bare (still h) = none h.views h.same
+walk_adds name m n bare (more h) = last h.views h.above h.member (λ f v. refl)
+walk_adds name m n bare (new h) = began h.views (λ v. ap (list_any (is_view_of v)) (bare h.bare)) h.bare (ap is_member h.member)
+
+-- what may bring a View: a Piece and a Result
+abbrev may_bring : Cause → Bool
+may_bring (hears (Piece s v base number e)) = true
+may_bring (hears (Result s v base number names resilience)) = true
+may_bring _ = false
+
+brings_none : (c : Cause) → may_bring c ≡ false → BringsNone c
+brings_none c f = record {
+  pieces = λ s v base number e is. (let t = ap may_bring is in cc);
+  results = λ s v base number names resilience is. (let t = ap may_bring is in cc);
+}
+
+plain_adds : (name : ℕ) (m : Node) (c : Cause) (s : Step) → may_bring c ≡ false → Balloted m → IsBare m → Effect m c s → StepAdds name [] m s
+plain_adds name m c s plain kept bare effect = walk_adds name m s.node bare (walked m s.node (brings_none c plain) kept.high (above_opened m.core.who m.core.promise (view m) m.ballot kept.opened) effect.changes)
+
+-- ---- each cause
+
+packet_adds : (name : ℕ) (m : Node) (p : Packet) → may_bring (hears p) ≡ false → Balloted m → IsBare m → StepAdds name [] m (hear m p)
+packet_adds name m p plain kept bare = plain_adds name m (hears p) (hear m p) plain kept bare (hearing_has_effects m p)
+
+hear_adds : (name : ℕ) (m : Node) (p : Packet) → m.core.who ≡ name → Balloted m → IsBare m → StepAdds name (one_of (piece_in p)) m (hear m p)
+unfolding hear
+hear_adds name m (Request s v report req body) who kept bare = packet_adds name m _ refl kept bare
+hear_adds name m (Spread s v report req body) who kept bare = packet_adds name m _ refl kept bare
+hear_adds name m (Bcast s v base acc number e) who kept bare = packet_adds name m _ refl kept bare
+hear_adds name m (Order s v base acc number from req) who kept bare = packet_adds name m _ refl kept bare
+hear_adds name m (Accept s v base acc high poll) who kept bare = packet_adds name m _ refl kept bare
+hear_adds name m (Ack s v report) who kept bare = packet_adds name m _ refl kept bare
+hear_adds name m (Nack s v report) who kept bare = packet_adds name m _ refl kept bare
+hear_adds name m (Hold s v base high req) who kept bare = packet_adds name m _ refl kept bare
+hear_adds name m (JoinAsk s v) who kept bare = packet_adds name m _ refl kept bare
+hear_adds name m (Welcome s v base join image) who kept bare = packet_adds name m _ refl kept bare
+hear_adds name m (LeaveAsk s v report) who kept bare = packet_adds name m _ refl kept bare
+hear_adds name m (Gone s v number) who kept bare = packet_adds name m _ refl kept bare
+hear_adds name m (Invite s v) who kept bare = packet_adds name m _ refl kept bare
+hear_adds name m (Vote s v vote) who kept bare = packet_adds name m _ refl kept bare
+hear_adds name m (Fetch s v stored) who kept bare = packet_adds name m _ refl kept bare
+hear_adds name m (Piece s v base number e) who kept bare = finish_adds name (e ∷ []) m (hear_row m (Piece s v base number e)) (piece_adds name m s v base number e who kept)
+hear_adds name m (Result s v base number names resilience) who kept bare = finish_adds name [] m (hear_row m (Result s v base number names resilience)) (result_adds name m s v base number names resilience)
+hear_adds name m (HandOver s v) who kept bare = packet_adds name m _ refl kept bare
+
+read_adds : (name : ℕ) (m : Node) (r : Read Packet) → m.core.who ≡ name → Balloted m → IsBare m → StepAdds name (one_of (fetched_from r)) m (finish m (read_row m r))
+unfolding hear refused
+read_adds name m (Ok p) who kept bare = hear_adds name m p who kept bare
+read_adds name m (Err refusal) who kept bare = plain_adds name m refuses (refused m (cause_of refusal)) refl kept bare (refusing_has_effects m (cause_of refusal))
+
+pub step_adds : (name : ℕ) (m : Node) (what : NodeEvent) → m.core.who ≡ name → Balloted m → IsBare m → StepAdds name (one_of (fetched what)) m (step m what)
+unfolding step row
+step_adds name m (does.Send body) who kept bare = plain_adds name m _ (step m (does.Send body)) refl kept bare (steps_have_effects m (does.Send body))
+step_adds name m (does.Done req) who kept bare = plain_adds name m _ (step m (does.Done req)) refl kept bare (steps_have_effects m (does.Done req))
+step_adds name m does.Take who kept bare = plain_adds name m _ (step m does.Take) refl kept bare (steps_have_effects m does.Take)
+step_adds name m does.Join who kept bare = plain_adds name m _ (step m does.Join) refl kept bare (steps_have_effects m does.Join)
+step_adds name m does.State who kept bare = plain_adds name m _ (step m does.State) refl kept bare (steps_have_effects m does.State)
+step_adds name m does.Leave who kept bare = plain_adds name m _ (step m does.Leave) refl kept bare (steps_have_effects m does.Leave)
+step_adds name m (does.Reset least resilience) who kept bare = plain_adds name m _ (step m (does.Reset least resilience)) refl kept bare (steps_have_effects m (does.Reset least resilience))
+step_adds name m (does.Ask round) who kept bare = plain_adds name m _ (step m (does.Ask round)) refl kept bare (steps_have_effects m (does.Ask round))
+step_adds name m (does.GiveUp other) who kept bare = plain_adds name m _ (step m (does.GiveUp other)) refl kept bare (steps_have_effects m (does.GiveUp other))
+step_adds name m does.Tick who kept bare = plain_adds name m _ (step m does.Tick) refl kept bare (steps_have_effects m does.Tick)
+step_adds name m (does.Hear bytes) who kept bare = read_adds name m (reading bytes) who kept bare
+
+-- ---- what is told
+
+or_true : (a b : Bool) → b ≡ true → (a || b) ≡ true
+or_true true b h = refl
+or_true false b h = h
+
+first_true : (a b : Bool) → a ≡ true → (a || b) ≡ true
+first_true true b h = refl
+first_true false b h = absurd (cc)
+
+both_false : (a b : Bool) → a ≡ false → b ≡ false → (a || b) ≡ false
+both_false true b h k = absurd (cc)
+both_false false b h k = k
+
+not_begun : (a b : Bool) → (b ≡ true → a ≡ true) → (not a && b) ≡ false
+not_begun true b h = refl
+not_begun false true h = absurd (let t = h refl in cc)
+not_begun false false h = refl
+
+just_begun : (a b : Bool) → a ≡ false → b ≡ true → (not a && b) ≡ true
+just_begun true b h k = absurd (cc)
+just_begun false b h k = k
+
+itself : (a : Stamp) → stamp_eq a a ≡ true
+itself a = grind (arith, nat_tests)
+
+-- the Views of what is told are those that were added
+pub told_is : (name : ℕ) (m n : Node) (what : NodeEvent) (v : Stamp) → Adds name (one_of (fetched what)) m n.status n.core.log
+    → has_view n.core.log v ≡ (has_view m.core.log v || any_of (stored_of name (standing_of m) (standing_of n) (view_of n) what) v)
+told_is name m n what v (none views same) =
+    let old = has_view m.core.log v in
+    let told : Bool → List Entry = λ b. if b then [] else (if decides (standing_of m) name (standing_of n) then one_of (fetched what) else []) ++ last_view (view_of n) ∷ [] in
+    let is : (begins (standing_of m) n.status || stamp_eq (view m) (view n)) ≡ true = or_true (begins (standing_of m) n.status) _ (ap (stamp_eq (view m)) same ∙ itself (view m)) in
+    views v ∙ sym (or_none old) ∙ ap (λ b. old || any_of (told b) v) (sym is)
+told_is name m n what v (last views above member absorbed) =
+    let old = has_view m.core.log v in
+    let es = one_of (fetched what) in
+    let l = last_view (view_of n) in
+    let same = stamp_eq (view n) v in
+    let with_ : Bool → List Entry = λ d. (if d then es else []) ++ l ∷ [] in
+    let d = decides (standing_of m) name (standing_of n) in
+    let told : Bool → List Entry = λ b. if b then [] else with_ d in
+    let is : (begins (standing_of m) n.status || stamp_eq (view m) (view n)) ≡ false = both_false (begins (standing_of m) n.status) _ (not_begun (has_log m.status) (is_member n.status) (λ t. log_of_member m.status (member t))) (differs (view m) (view n) above) in
+    let all : (any_of es v || same) ≡ any_of (with_ d) v = split d
+    (λ t. ap (λ b. any_of es v || b) (sym (or_none same)) ∙ sym (list_any-append (is_view_of v) es (l ∷ [])) ∙ ap (λ b. any_of (with_ b) v) (sym t))
+    (λ f. absorbed f v ∙ sym (or_none same) ∙ ap (λ b. any_of (with_ b) v) (sym f)) in
+    views v ∙ ap (λ b. old || b) all ∙ ap (λ b. old || any_of (told b) v) (sym is)
+told_is name m n what v (began views bare was is_) =
+    let old = has_view m.core.log v in
+    let told : Bool → List Entry = λ b. if b then [] else (if decides (standing_of m) name (standing_of n) then one_of (fetched what) else []) ++ last_view (view_of n) ∷ [] in
+    let is : (begins (standing_of m) n.status || stamp_eq (view m) (view n)) ≡ true = first_true (begins (standing_of m) n.status) _ (just_begun (has_log m.status) (is_member n.status) was is_) in
+    views v ∙ sym (bare v) ∙ sym (or_none old) ∙ ap (λ b. old || any_of (told b) v) (sym is)

@@ -1,0 +1,414 @@
+-- Which Views the changes of a step add to a node's list.
+use Rattle.std.proofs.Common.{◌≡◌, ℕ, ◌+◌, ◌≤◌, ◌==◌, ◌&&◌, ◌||◌, not, nat_lt, Bool, true, false, List, [], ◌∷◌, length, Option, Some, None, refl, sym, ap, ◌∙◌, subst, arith, length-append}
+use Rattle.std.specs.List.{list_any}
+use Rattle.std.proofs.lemmas.Bool.Decides.{nat_tests}
+use Rattle.std.proofs.lemmas.List.Folds.{list_any-append}
+use Rattle.am_base.specs.declared.outcome.Outcome.{Outcome}
+use Rattle.am_base.specs.declared.outcome.Outcome.TheVariants as said
+use Rattle.am_base.specs.declared.name.Stamp.{Stamp}
+use Rattle.am_base.specs.declared.image.Image.{Image}
+use Rattle.am_base.specs.declared.entry.Entry.{Entry}
+use Rattle.am_base.specs.declared.entry.Entry.TheVariants.{Data, Join, Leave, View}
+use Rattle.am_base.specs.Stamps.{stamp_lt, stamp_eq}
+use Rattle.am_base.specs.Lists.{Log, told_by}
+use Rattle.am_packet.specs.declared.packet.Packet.TheVariants as packet
+use Rattle.am_model.specs.declared.status.Status.TheVariants as status
+use Rattle.am_model.specs.Node.{Node, Ballot, top, told, view, acts, is_sequencer, is_member, pushed}
+use Rattle.am_model.specs.Ballots.{Verdict, overtaken, need_of, left_in, trimmed_for, next_stamp}
+use Rattle.am_model.specs.Refresh.{refresh, settle, refresh_at_end}
+use Rattle.am_model.specs.Receiving.{is_view}
+use Rattle.am_model.specs.Joining.{begun}
+use Rattle.am_model.specs.Group.{has_log}
+use Rattle.am_model.specs.Lawful.{is_view_of}
+use Rattle.am_model.proofs.Greatest.{split, and_both}
+use Rattle.am_effects.specs.Causes.{Cause, hears}
+use Rattle.am_effects.specs.Looks.{HasOpen, Balloting, with_more, without_one, as_it_is, Looks, finds_itself_out, waits, fetches_from_best, finds_too_few, finds_no_room, decides, BeginsBy, by_reset, by_hand_over}
+use Rattle.am_effects.specs.Changes.{Promises, invited, overtaken as overtaken_by, told_result, Numbers, asked_send, own_send, asked_join, asked_leave, MayBeWelcomed, Change, refreshes, settles, takes_report, admits, numbers, keeps_body, notes, stores, begins_list, departs, promises, opens, looks, fetches, stores_view, queues, collects, takes, asks_to_join, asks_to_leave, closes, Changes}
+use Rattle.am_effects.proofs.Tests.{not_true}
+use Rattle.am_effects.proofs.Rests.{rests_refresh, rests_at_end, settle_is}
+use Rattle.am_effects.proofs.Says.{told_pushed, view_pushed}
+use Rattle.am_effects.proofs.Ballots.{viewed}
+use Rattle.am_effects.proofs.Runs.{along}
+use Rattle.am_laws.proofs.Stamps.{at_most, at_most_below, not_above, same_stamp}
+use Rattle.am_watched.proofs.Chains.{welcomed_none}
+
+-- the View of this stamp stands in a list
+abbrev pub has_view : Log → Stamp → Bool
+has_view log v = list_any (is_view_of v) log.entries
+
+abbrev pub view_in : Log → Stamp
+view_in log = (told_by log).view
+
+-- ---- one entry more
+
+pub or_none : (b : Bool) → (b || false) ≡ b
+or_none true = refl
+or_none false = refl
+
+pub or_swaps : (a b c : Bool) → ((a || b) || c) ≡ (a || (b || c))
+or_swaps true b c = refl
+or_swaps false b c = refl
+
+plain_is_none : (v : Stamp) (e : Entry) → is_view e ≡ false → is_view_of v e ≡ false
+plain_is_none v (Data from req body) f = refl
+plain_is_none v (Join name) f = refl
+plain_is_none v (Leave name) f = refl
+plain_is_none v (View stamp names resilience) f = absurd (cc)
+
+pub has_view_more : (m : Node) (e : Entry) (v : Stamp) → has_view (pushed m e).core.log v ≡ (has_view m.core.log v || is_view_of v e)
+has_view_more m e v = list_any-append (is_view_of v) m.core.log.entries (e ∷ []) ∙ ap (λ b. has_view m.core.log v || b) (or_none (is_view_of v e))
+
+pub has_view_plain : (m : Node) (e : Entry) (v : Stamp) → is_view e ≡ false → has_view (pushed m e).core.log v ≡ has_view m.core.log v
+has_view_plain m e v plain = has_view_more m e v ∙ ap (λ b. has_view m.core.log v || b) (plain_is_none v e plain) ∙ or_none (has_view m.core.log v)
+
+pub view_of_pushed : (m : Node) (stamp : Stamp) (names : List ℕ) (resilience : ℕ) → view (pushed m (View stamp names resilience)) ≡ stamp
+view_of_pushed m stamp names resilience = ap (λ (i : Image). i.view) (told_pushed m (View stamp names resilience)) ∙ (viewed (told m) (top m + 1) stamp names resilience).1
+
+numbers_plain : (c : Cause) (m : Node) (e : Entry) → Numbers c m e → is_view e ≡ false
+numbers_plain c m e (asked_send s v report req body by known stays next) = refl
+numbers_plain c m e (own_send s is last) = refl
+numbers_plain c m e (asked_join s v is other fit) = refl
+numbers_plain c m e (asked_leave s v report is other known stays) = refl
+
+-- ---- what the changes have done so far
+
+-- an open ballot is above this view
+abbrev pub IsAbove : Stamp → Option Ballot → Type 0
+IsAbove v None = Unit {0}
+IsAbove v (Some b) = b.is_over ≡ false → stamp_lt v b.stamp ≡ true
+
+-- no View more
+pub record Still (m x : Node) : Type 0 where
+  pub views : (v : Stamp) → has_view x.core.log v ≡ has_view m.core.log v
+  pub same : view x ≡ view m
+  pub high : stamp_lt x.core.promise (view x) ≡ false
+  pub opened : IsAbove (view x) x.ballot
+  pub member : is_member x.status ≡ true → is_member m.status ≡ true
+  pub bare : has_log x.status ≡ false → has_log m.status ≡ false
+
+-- a decided View more, and that is what the step answers
+pub record OneMore (o : Outcome) (m x : Node) : Type 0 where
+  pub views : (v : Stamp) → has_view x.core.log v ≡ (has_view m.core.log v || stamp_eq (view x) v)
+  pub above : stamp_lt (view m) (view x) ≡ true
+  pub member : is_member x.status ≡ true → is_member m.status ≡ true
+  pub number : ℕ
+  pub names : List ℕ
+  pub is : o ≡ said.Decided number names
+  pub low : number ≤ top x
+
+-- a list has begun, without a View
+pub record Begun (c : Cause) (o : Outcome) (m x : Node) : Type 0 where
+  pub views : (v : Stamp) → has_view x.core.log v ≡ false
+  pub bare : has_log m.status ≡ false
+  pub member : x.status ≡ status.Member
+  pub other : (x.core.promise.by == x.core.who) ≡ false
+  pub from : ℕ
+  pub stamp : Stamp
+  pub base : ℕ
+  pub join : ℕ
+  pub image : Image
+  pub heard : c ≡ hears (packet.Welcome from stamp base join image)
+  pub is : o ≡ said.Welcomed join
+
+pub data Walked (c : Cause) (o : Outcome) (m x : Node) : Type 0 where
+  still : Still m x → Walked c o m x
+  more : OneMore o m x → Walked c o m x
+  new : Begun c o m x → Walked c o m x
+
+-- what brings no View
+pub record BringsNone (c : Cause) : Type 0 where
+  pub pieces : (s : ℕ) (v : Stamp) (base number : ℕ) (e : Entry) → c ≡ hears (packet.Piece s v base number e) → ⊥
+  pub results : (s : ℕ) (v : Stamp) (base number : ℕ) (names : List ℕ) (resilience : ℕ) → c ≡ hears (packet.Result s v base number names resilience) → ⊥
+
+-- ---- no View more
+
+still_same : (m x y : Node) → y.status ≡ x.status → y.core.promise ≡ x.core.promise → y.core.log ≡ x.core.log → y.ballot ≡ x.ballot → Still m x → Still m y
+still_same m x y stays promise log ballot h = record {
+  views = λ v. ap (λ (l : Log). has_view l v) log ∙ h.views v;
+  same = ap view_in log ∙ h.same;
+  high = (λ i. stamp_lt (promise i) (view_in (log i))) ∙ h.high;
+  opened = subst (IsAbove (view y)) (sym ballot) (subst (λ (l : Log). IsAbove (view_in l) x.ballot) (sym log) h.opened);
+  member = λ t. h.member (ap is_member (sym stays) ∙ t);
+  bare = λ f. h.bare (ap has_log (sym stays) ∙ f);
+}
+
+still_plain : (m x y : Node) (e : Entry) → is_view e ≡ false → y.status ≡ x.status → y.core.promise ≡ x.core.promise → y.core.log ≡ (pushed x e).core.log → y.ballot ≡ x.ballot → Still m x → Still m y
+still_plain m x y e plain stays promise log ballot h =
+    let p = pushed x e in
+    let k : Still m p = record {
+      views = λ v. has_view_plain x e v plain ∙ h.views v;
+      same = view_pushed x e plain ∙ h.same;
+      high = ap (λ (v : Stamp). stamp_lt x.core.promise v) (view_pushed x e plain) ∙ h.high;
+      opened = subst (λ (v : Stamp). IsAbove v x.ballot) (sym (view_pushed x e plain)) h.opened;
+      member = h.member;
+      bare = h.bare;
+    } in
+    still_same m p y stays promise log ballot k
+
+departed : (m x y : Node) → y.core ≡ x.core → y.ballot ≡ x.ballot → y.status ≡ status.Departed → Still m x → Still m y
+departed m x y core ballot gone h = record {
+  views = λ v. ap (λ k. has_view k.log v) core ∙ h.views v;
+  same = ap (λ k. view_in k.log) core ∙ h.same;
+  high = ap (λ k. stamp_lt k.promise (view_in k.log)) core ∙ h.high;
+  opened = subst (IsAbove (view y)) (sym ballot) (subst (λ k. IsAbove (view_in k.log) x.ballot) (sym core) h.opened);
+  member = λ t. absurd (let u = ap is_member gone in cc);
+  bare = λ f. absurd (let u = ap has_log gone in cc);
+}
+
+above_overtaken : (v by : Stamp) (ballot : Option Ballot) → IsAbove v ballot → IsAbove v (overtaken by ballot)
+above_overtaken v by None h = tt
+above_overtaken v by (Some b) h = split (not b.is_over && stamp_lt b.stamp by)
+    (λ t. rw t (λ over. absurd (cc)))
+    (λ f. rw f h)
+
+next_above : (promise : Stamp) (who : ℕ) → stamp_lt promise (record { round = promise.round + 1; by = who }) ≡ true
+next_above promise who = let t : nat_lt promise.round (promise.round + 1) ≡ true = grind (arith, nat_tests) in rw t refl
+
+above_last : (m x : Node) (b : Ballot) → HasOpen x b → Still m x → stamp_lt (view x) b.stamp ≡ true
+above_last m x b o h = subst (IsAbove (view x)) o.last h.opened o.open_
+
+above_looked : {c : Cause} (m x : Node) (b : Ballot) → Balloting c x b → Still m x → stamp_lt (view x) b.stamp ≡ true
+above_looked m x b (with_more old s v shown is by low high open_ same stays) h = above_last m x old open_ h
+above_looked m x b (without_one old name is open_ other) h = above_last m x old open_ h
+above_looked m x b (as_it_is old open_) h = above_last m x old open_ h
+
+still_ballot : (m x y : Node) → y.status ≡ x.status → y.core.promise ≡ x.core.promise → y.core.log ≡ x.core.log → IsAbove (view x) y.ballot → Still m x → Still m y
+still_ballot m x y stays promise log opened h = record {
+  views = λ v. ap (λ (l : Log). has_view l v) log ∙ h.views v;
+  same = ap view_in log ∙ h.same;
+  high = (λ i. stamp_lt (promise i) (view_in (log i))) ∙ h.high;
+  opened = subst (λ (l : Log). IsAbove (view_in l) y.ballot) (sym log) opened;
+  member = λ t. h.member (ap is_member (sym stays) ∙ t);
+  bare = λ f. h.bare (ap has_log (sym stays) ∙ f);
+}
+
+look_still : {c : Cause} (o : Outcome) (m x : Node) (b : Ballot) (v : Verdict) → Looks x b v → o ≡ v.outcome → stamp_lt (view x) b.stamp ≡ true → Still m x → Walked c o m v.node
+look_still o m x b v (finds_itself_out y) is up h = still (still_ballot m x v.node refl refl refl (λ over. absurd (cc)) h)
+look_still o m x b v (waits y z) is up h = still (still_ballot m x v.node refl refl refl (λ over. up) h)
+look_still o m x b v (fetches_from_best y z u) is up h = still (still_ballot m x v.node refl refl refl (λ over. up) h)
+look_still o m x b v (finds_too_few y z) is up h = still (still_ballot m x v.node refl refl refl (λ over. absurd (cc)) h)
+look_still o m x b v (finds_no_room y) is up h = still (still_ballot m x v.node refl refl refl (λ over. absurd (cc)) h)
+look_still o m x b v (decides may) is up h =
+    let names = left_in b (need_of x b) in
+    let t = trimmed_for x b names in
+    let stamp : view v.node ≡ b.stamp = view_of_pushed t b.stamp names _ in
+    more (record {
+      views = λ s. has_view_more t _ s ∙ (λ i. h.views s i || stamp_eq (sym stamp i) s);
+      above = (λ i. stamp_lt (sym h.same i) (stamp i)) ∙ up;
+      member = h.member;
+      number = top x + 1;
+      names = names;
+      is = is;
+      low = simp length-append (omega arith);
+    })
+
+welcomed_still : {c : Cause} {o : Outcome} (m x : Node) (s : ℕ) (v : Stamp) (base join : ℕ) (image : Image) → c ≡ hears (packet.Welcome s v base join image) → o ≡ said.Welcomed join → MayBeWelcomed x s v base join image → Still m x → Walked c o m (begun x v base join image)
+welcomed_still m x s v base join image is o may h =
+    let asks = may.asks in
+    let other = not_true (s == x.core.who) (and_both (not (s == x.core.who)) _ asks).0 in
+    let own : v.by ≡ s = let t = may.own in grind (arith, nat_tests) in
+    new (record {
+      views = λ w. refl;
+      bare = h.bare (welcomed_none x s v base join image may);
+      member = refl;
+      other = ap (λ (k : ℕ). k == x.core.who) own ∙ other;
+      from = s;
+      stamp = v;
+      base = base;
+      join = join;
+      image = image;
+      heard = is;
+      is = o;
+    })
+
+change_still : {c : Cause} {o : Outcome} (m x y : Node) → BringsNone c → Change c o x y → Still m x → Walked c o m y
+change_still m x y brings refreshes h = let r = rests_refresh x in still (still_same m x (refresh x) r.rests.status r.rests.promise r.log r.rests.ballot h)
+change_still m x y brings settles h = let e = settle_is x in still (still_same m x (settle x) (ap (λ (n : Node). n.status) e) (ap (λ (n : Node). n.core.promise) e) (ap (λ (n : Node). n.core.log) e) (ap (λ (n : Node). n.ballot) e) h)
+change_still m x y brings (takes_report s v report by may) h = still (still_same m x y refl refl refl refl h)
+change_still m x y brings (admits s v is leads fit) h = still (still_same m x y refl refl refl refl h)
+change_still {c} m x y brings (numbers e leads room why) h = still (still_plain m x y e (numbers_plain c x e why) refl refl refl refl h)
+change_still m x y brings (keeps_body s v report req body is by) h = still (still_same m x y refl refl refl refl h)
+change_still m x y brings (notes s v base acc by from) h = still (still_same m x y refl refl refl refl h)
+change_still m x y brings (stores s v base acc number e by from plain may) h = still (still_plain m x y e plain refl refl refl refl h)
+change_still m x y brings (begins_list s v base join image is o may) h = welcomed_still m x s v base join image is o may h
+change_still m x y brings (departs s v number is by leaves) h = still (departed m x y refl refl refl h)
+change_still m x y brings (promises v low why) h = still (record {
+  views = h.views;
+  same = h.same;
+  high = at_most (view x) x.core.promise v h.high low;
+  opened = above_overtaken (view x) v x.ballot h.opened;
+  member = h.member;
+  bare = h.bare;
+})
+change_still m x y brings (opens least resilience by may) h =
+    let up = at_most_below (view x) x.core.promise (next_stamp x) h.high (next_above x.core.promise x.core.who) in
+    still (record {
+      views = h.views;
+      same = h.same;
+      high = not_above (view x) (next_stamp x) up;
+      opened = λ over. up;
+      member = h.member;
+      bare = h.bare;
+    })
+change_still {c} {o} m x y brings (looks b verdict over why look is) h = look_still o m x b verdict look is (above_looked m x b why h) h
+change_still m x y brings (fetches s v base number e is by promise below from may) h = absurd (brings.pieces s v base number e is)
+change_still m x y brings (stores_view s v base number names resilience is by own other promise below may) h = absurd (brings.results s v base number names resilience is)
+change_still m x y brings (queues body is o member stays few) h = still (still_same m x y refl refl refl refl h)
+change_still m x y brings (collects req is) h = still (still_same m x y refl refl refl refl h)
+change_still m x y brings (takes e is o member some there) h = still (still_same m x y refl refl refl refl h)
+change_still m x y brings (asks_to_join is was) h = still (record {
+  views = h.views;
+  same = h.same;
+  high = h.high;
+  opened = h.opened;
+  member = λ t. absurd (cc);
+  bare = λ f. h.bare (ap has_log was);
+})
+change_still m x y brings (asks_to_leave is was stays done) h = still (still_same m x y refl refl refl refl h)
+change_still m x y brings (closes leads leaves alone room) h =
+    let p = pushed x (Leave x.core.who) in
+    let r = rests_at_end p in
+    let k = still_plain m x (refresh_at_end p) (Leave x.core.who) refl r.rests.status r.rests.promise r.log r.rests.ballot h in
+    still (departed m (refresh_at_end p) y refl refl refl k)
+
+-- ---- a View more
+
+more_same : (o : Outcome) (m x y : Node) → (is_member y.status ≡ true → is_member x.status ≡ true) → y.core.log ≡ x.core.log → OneMore o m x → OneMore o m y
+more_same o m x y stays log h = record {
+  views = λ v. ap (λ (l : Log). has_view l v) log ∙ h.views v ∙ ap (λ (l : Log). has_view m.core.log v || stamp_eq (view_in l) v) (sym log);
+  above = ap (λ (l : Log). stamp_lt (view m) (view_in l)) log ∙ h.above;
+  member = λ t. h.member (stays t);
+  number = h.number;
+  names = h.names;
+  is = h.is;
+  low = subst (λ (l : Log). h.number ≤ l.start + length l.entries) (sym log) h.low;
+}
+
+more_plain : (o : Outcome) (m x y : Node) (e : Entry) → is_view e ≡ false → (is_member y.status ≡ true → is_member x.status ≡ true) → y.core.log ≡ (pushed x e).core.log → OneMore o m x → OneMore o m y
+more_plain o m x y e plain stays log h =
+    let p = pushed x e in
+    let k : OneMore o m p = record {
+      views = λ v. has_view_plain x e v plain ∙ h.views v ∙ ap (λ (u : Stamp). has_view m.core.log v || stamp_eq u v) (sym (view_pushed x e plain));
+      above = ap (λ (u : Stamp). stamp_lt (view m) u) (view_pushed x e plain) ∙ h.above;
+      member = h.member;
+      number = h.number;
+      names = h.names;
+      is = h.is;
+      low = let l = h.low in simp length-append (omega arith);
+    } in
+    more_same o m p y stays log k
+
+look_more : (o : Outcome) (m x : Node) (b : Ballot) (v : Verdict) → Looks x b v → o ≡ v.outcome → OneMore o m x → OneMore o m v.node
+look_more o m x b v (finds_itself_out y) is h = more_same o m x v.node (λ t. t) refl h
+look_more o m x b v (waits y z) is h = more_same o m x v.node (λ t. t) refl h
+look_more o m x b v (fetches_from_best y z u) is h = more_same o m x v.node (λ t. t) refl h
+look_more o m x b v (finds_too_few y z) is h = more_same o m x v.node (λ t. t) refl h
+look_more o m x b v (finds_no_room y) is h = more_same o m x v.node (λ t. t) refl h
+look_more o m x b v (decides may) is h = absurd (
+    let first = h.is in
+    let same : h.number ≡ top x + 1 = cc in
+    let low = h.low in
+    omega arith)
+
+change_more : {c : Cause} {o : Outcome} (m x y : Node) → BringsNone c → Change c o x y → OneMore o m x → OneMore o m y
+change_more {c} {o} m x y brings refreshes h = let r = rests_refresh x in more_same o m x (refresh x) (λ t. ap is_member (sym r.rests.status) ∙ t) r.log h
+change_more {c} {o} m x y brings settles h = let e = settle_is x in more_same o m x (settle x) (λ t. ap (λ (n : Node). is_member n.status) (sym e) ∙ t) (ap (λ (n : Node). n.core.log) e) h
+change_more {c} {o} m x y brings (takes_report s v report by may) h = more_same o m x y (λ t. t) refl h
+change_more {c} {o} m x y brings (admits s v is leads fit) h = more_same o m x y (λ t. t) refl h
+change_more {c} {o} m x y brings (numbers e leads room why) h = more_plain o m x y e (numbers_plain c x e why) (λ t. t) refl h
+change_more {c} {o} m x y brings (keeps_body s v report req body is by) h = more_same o m x y (λ t. t) refl h
+change_more {c} {o} m x y brings (notes s v base acc by from) h = more_same o m x y (λ t. t) refl h
+change_more {c} {o} m x y brings (stores s v base acc number e by from plain may) h = more_plain o m x y e plain (λ t. t) refl h
+change_more {c} {o} m x y brings (begins_list s v base join image is says may) h = absurd (let first = h.is in cc)
+change_more {c} {o} m x y brings (departs s v number is by leaves) h = more_same o m x y (λ t. absurd (cc)) refl h
+change_more {c} {o} m x y brings (promises v low why) h = more_same o m x y (λ t. t) refl h
+change_more {c} {o} m x y brings (opens least resilience by may) h = more_same o m x y (λ t. t) refl h
+change_more {c} {o} m x y brings (looks b verdict over why look is) h = look_more o m x b verdict look is h
+change_more {c} {o} m x y brings (fetches s v base number e is by promise below from may) h = absurd (brings.pieces s v base number e is)
+change_more {c} {o} m x y brings (stores_view s v base number names resilience is by own other promise below may) h = absurd (brings.results s v base number names resilience is)
+change_more {c} {o} m x y brings (queues body is says member stays few) h = more_same o m x y (λ t. t) refl h
+change_more {c} {o} m x y brings (collects req is) h = more_same o m x y (λ t. t) refl h
+change_more {c} {o} m x y brings (takes e is says member some there) h = more_same o m x y (λ t. t) refl h
+change_more {c} {o} m x y brings (asks_to_join is was) h = more_same o m x y (λ t. absurd (cc)) refl h
+change_more {c} {o} m x y brings (asks_to_leave is was stays done) h = more_same o m x y (λ t. t) refl h
+change_more {c} {o} m x y brings (closes leads leaves alone room) h =
+    let p = pushed x (Leave x.core.who) in
+    let r = rests_at_end p in
+    more_plain o m x y (Leave x.core.who) refl (λ t. absurd (cc)) r.log h
+
+-- ---- a list that has begun
+
+new_same : (c : Cause) (o : Outcome) (m x y : Node) → y.core.who ≡ x.core.who → y.status ≡ x.status → y.core.promise ≡ x.core.promise → ((v : Stamp) → has_view y.core.log v ≡ has_view x.core.log v) → Begun c o m x → Begun c o m y
+new_same c o m x y who stays promise log h = record {
+  views = λ v. log v ∙ h.views v;
+  bare = h.bare;
+  member = stays ∙ h.member;
+  other = (λ i. (promise i).by == who i) ∙ h.other;
+  from = h.from;
+  stamp = h.stamp;
+  base = h.base;
+  join = h.join;
+  image = h.image;
+  heard = h.heard;
+  is = h.is;
+}
+
+look_new : (c : Cause) (o : Outcome) (m x : Node) (b : Ballot) (v : Verdict) → Looks x b v → o ≡ v.outcome → Begun c o m x → Begun c o m v.node
+look_new c o m x b v (finds_itself_out y) is h = absurd (let first = h.is in cc)
+look_new c o m x b v (waits y z) is h = absurd (let first = h.is in cc)
+look_new c o m x b v (fetches_from_best y z u) is h = absurd (let first = h.is in cc)
+look_new c o m x b v (finds_too_few y z) is h = absurd (let first = h.is in cc)
+look_new c o m x b v (finds_no_room y) is h = absurd (let first = h.is in cc)
+look_new c o m x b v (decides may) is h = absurd (let first = h.is in cc)
+
+promises_new : {A : Type 0} (c : Cause) (o : Outcome) (m x : Node) (v : Stamp) → Promises c x v → Begun c o m x → A
+promises_new c o m x v (invited s u is by own) h = absurd (let first = h.heard in cc)
+promises_new c o m x v (overtaken_by s u vote is by up) h = absurd (let first = h.heard in cc)
+promises_new c o m x v (told_result s u base number names resilience is by own other) h = absurd (let first = h.heard in cc)
+
+opens_new : {A : Type 0} (c : Cause) (o : Outcome) (m x : Node) → BeginsBy x c → Begun c o m x → A
+opens_new c o m x (by_reset least resilience) h = absurd (let first = h.heard in cc)
+opens_new c o m x (by_hand_over s v from) h = absurd (let first = h.heard in cc)
+
+-- it doesn't lead
+leads_new : {A : Type 0} (c : Cause) (o : Outcome) (m x : Node) → is_sequencer x ≡ true → Begun c o m x → A
+leads_new c o m x leads h = absurd (
+    let a = and_both (acts x) ((view x).by == x.core.who) leads in
+    let b = and_both (is_member x.status) (stamp_eq x.core.promise (view x)) a.0 in
+    let same = same_stamp x.core.promise (view x) b.1 in
+    let mine : (x.core.promise.by == x.core.who) ≡ true = ap (λ (s : Stamp). s.by == x.core.who) same ∙ a.1 in
+    let other = h.other in
+    cc)
+
+change_new : {c : Cause} {o : Outcome} (m x y : Node) → BringsNone c → Change c o x y → Begun c o m x → Begun c o m y
+change_new {c} {o} m x y brings refreshes h = let r = rests_refresh x in new_same c o m x (refresh x) r.rests.who r.rests.status r.rests.promise (λ v. ap (λ (l : Log). has_view l v) r.log) h
+change_new {c} {o} m x y brings settles h = let e = settle_is x in new_same c o m x (settle x) (ap (λ (n : Node). n.core.who) e) (ap (λ (n : Node). n.status) e) (ap (λ (n : Node). n.core.promise) e) (λ v. ap (λ (n : Node). has_view n.core.log v) e) h
+change_new {c} {o} m x y brings (takes_report s v report by may) h = new_same c o m x y refl refl refl (λ v. refl) h
+change_new {c} {o} m x y brings (admits s v is leads fit) h = new_same c o m x y refl refl refl (λ v. refl) h
+change_new {c} {o} m x y brings (numbers e leads room why) h = new_same c o m x y refl refl refl (λ v. has_view_plain x e v (numbers_plain c x e why)) h
+change_new {c} {o} m x y brings (keeps_body s v report req body is by) h = new_same c o m x y refl refl refl (λ v. refl) h
+change_new {c} {o} m x y brings (notes s v base acc by from) h = new_same c o m x y refl refl refl (λ v. refl) h
+change_new {c} {o} m x y brings (stores s v base acc number e by from plain may) h = new_same c o m x y refl refl refl (λ u. has_view_plain x e u plain) h
+change_new {c} {o} m x y brings (begins_list s v base join image is says may) h = absurd (let t = ap is_member h.member in let f = may.no_member in cc)
+change_new {c} {o} m x y brings (departs s v number is by leaves) h = absurd (let first = h.heard in cc)
+change_new {c} {o} m x y brings (promises v low why) h = promises_new c o m x v why h
+change_new {c} {o} m x y brings (opens least resilience by may) h = opens_new c o m x by h
+change_new {c} {o} m x y brings (looks b verdict over why look is) h = look_new c o m x b verdict look is h
+change_new {c} {o} m x y brings (fetches s v base number e is by promise below from may) h = absurd (brings.pieces s v base number e is)
+change_new {c} {o} m x y brings (stores_view s v base number names resilience is by own other promise below may) h = absurd (brings.results s v base number names resilience is)
+change_new {c} {o} m x y brings (queues body is says member stays few) h = new_same c o m x y refl refl refl (λ v. refl) h
+change_new {c} {o} m x y brings (collects req is) h = new_same c o m x y refl refl refl (λ v. refl) h
+change_new {c} {o} m x y brings (takes e is says member some there) h = new_same c o m x y refl refl refl (λ v. refl) h
+change_new {c} {o} m x y brings (asks_to_join is was) h = absurd (let t = h.member in cc)
+change_new {c} {o} m x y brings (asks_to_leave is was stays done) h = new_same c o m x y refl refl refl (λ v. refl) h
+change_new {c} {o} m x y brings (closes leads leaves alone room) h = leads_new c o m x leads h
+
+-- ---- all of them
+
+change_walked : {c : Cause} {o : Outcome} (m x y : Node) → BringsNone c → Change c o x y → Walked c o m x → Walked c o m y
+change_walked m x y brings one (still h) = change_still m x y brings one h
+change_walked m x y brings one (more h) = more (change_more m x y brings one h)
+change_walked m x y brings one (new h) = new (change_new m x y brings one h)
+
+pub walked : {c : Cause} {o : Outcome} (m n : Node) → BringsNone c → stamp_lt m.core.promise (view m) ≡ false → IsAbove (view m) m.ballot → Changes c o m n → Walked c o m n
+walked {c} {o} m n brings high opened all = along (Walked c o m) (λ x y one h. change_walked m x y brings one h) all (still (record { views = λ v. refl; same = refl; high = high; opened = opened; member = λ t. t; bare = λ f. f }))

@@ -1,0 +1,96 @@
+-- What a watcher is told, one after another.
+use Rattle.std.proofs.Common.{◌≡◌, ℕ, ◌+◌, ◌-◌, ◌<◌, ◌≤◌, ◌||◌, Bool, true, false, List, [], ◌∷◌, ◌++◌, length, take, drop, map, slice_index_or, get_or, if◌then◌else◌, Option, Some, None, refl, sym, ap, ◌∙◌, arith}
+use Rattle.std.proofs.lemmas.List.{get_or-drop, length-take, take_more, take_all}
+use Rattle.std.proofs.Common.{length-drop}
+use Rattle.am_base.specs.declared.entry.Entry.{Entry}
+use Rattle.am_watch.specs.declared.views.Pending.{Pending}
+use Rattle.am_watch.specs.Watching.{Watching, noted, with_entry, with_entries, with_decided, finished, standing, accepted, placed, number_of, or_else}
+use Rattle.am_base.specs.declared.event.NodeEvent.{NodeEvent}
+use Rattle.am_model.specs.Node.{Node}
+use Rattle.am_watch.specs.declared.views.DecidedView.{DecidedView}
+use Rattle.am_watch.specs.declared.views.Standing.{Standing}
+use Rattle.am_watch.specs.Watches.{view_of}
+use Rattle.am_world.specs.Watched.{standing_after, stored_of, told_step}
+use Rattle.am_watch.proofs.Steps.{entries_go_on, accepted_goes_on}
+
+or_none : (b : Bool) → (b || false) ≡ b
+or_none true = refl
+or_none false = refl
+
+-- nothing was stored, or one entry
+pub entries_none : (k : Watching) (name : ℕ) → with_entries k name [] ≡ k
+unfolding noted
+entries_none k name = ap (λ b. record k { is_due = b }) (or_none k.is_due)
+
+pub entries_one : (k : Watching) (name : ℕ) (e : Entry) → with_entries k name (e ∷ []) ≡ with_entry k name e
+entries_one k name e = entries_go_on k name [] e ∙ ap (λ q. with_entry q name e) (entries_none k name)
+
+pub ruleset entry_laws = (entries_none, entries_one)
+
+-- the last View of those that were stored
+pub views_more : (k stored : Watching) (name : ℕ) (begun same : Bool) (earlier found : List Entry) (last e : Entry) → begun ≡ false → same ≡ false → found ≡ earlier → e ≡ last → stored ≡ with_entries k name found
+    → with_entry stored name e ≡ with_entries k name (if begun || same then [] else earlier ++ last ∷ [])
+views_more k stored name begun same earlier found last e begins_no other is ends was =
+    let neither : (begun || same) ≡ false = ap (λ b. b || same) begins_no ∙ other in
+    ap (λ q. with_entry q name e) (was ∙ ap (with_entries k name) is) ∙ ap (with_entry (with_entries k name earlier) name) ends ∙ sym (entries_go_on k name earlier last)
+    ∙ ap (λ b. with_entries k name (if b then [] else earlier ++ last ∷ [])) (sym neither)
+
+pub views_none : (k : Watching) (name : ℕ) (b : Bool) (es : List Entry) → b ≡ true → k ≡ with_entries k name (if b then [] else es)
+views_none k name b es is = rw is (sym (entries_none k name))
+
+-- ---- the group list
+
+placed_none : (number : ℕ) (v : Pending) → placed number [] v ≡ v
+unfolding number_of
+placed_none number v = ap (λ n. record v { number_in_group = n }) (or_same v.number_in_group)
+  where
+    or_same : (n : Option ℕ) → or_else n None ≡ n
+    or_same None = refl
+    or_same (Some x) = refl
+
+map_same : (f : Pending → Pending) → ((v : Pending) → f v ≡ v) → (vs : List Pending) → map f vs ≡ vs
+map_same f h [] = refl
+map_same f h (v ∷ vs) = ap (λ x. x ∷ map f vs) (h v) ∙ ap (λ xs. v ∷ xs) (map_same f h vs)
+
+pub accepted_none : (k : Watching) (number : ℕ) → accepted k number [] ≡ k
+accepted_none k number = ap (λ ps. record k { pending = ps }) (map_same (placed number []) (placed_none number) k.pending)
+
+-- up to a number of the list, above what was known
+abbrev pub part : List Entry → ℕ → ℕ → List Entry
+part group known index = take (index - known) (drop known group)
+
+pub accepted_start : (k : Watching) (number : ℕ) (group : List Entry) (known : ℕ) → k ≡ accepted k number (part group known known)
+accepted_start k number group known = let none : known - known ≡ 0 = omega arith in rw none (sym (accepted_none k number))
+
+pub accepted_next : (k now : Watching) (group : List Entry) (known index : ℕ) (e : Entry) → known ≤ index → index < length group → e ≡ get_or group index e → now ≡ accepted k (known + 1) (part group known index) → accepted now (index + 1) (e ∷ []) ≡ accepted k (known + 1) (part group known (index + 1))
+accepted_next k now group known index e low high is was =
+    let rest = drop known group in
+    let i = index - known in
+    let long : length (part group known index) ≡ i = simp (length-take, length-drop) (omega arith) in
+    let number : index + 1 ≡ (known + 1) + length (part group known index) = omega arith in
+    let one_more : index + 1 - known ≡ i + 1 = omega arith in
+    let at : known + i ≡ index = omega arith in
+    let there : get_or rest i e ≡ e = get_or-drop known group i e ∙ ap (λ j. get_or group j e) at ∙ sym is in
+    let within : i < length rest = simp length-drop (omega arith) in
+    ap (λ q. accepted q (index + 1) (e ∷ [])) was ∙ ap (λ n. accepted (accepted k (known + 1) (part group known index)) n (e ∷ [])) number
+    ∙ sym (accepted_goes_on k (known + 1) (part group known index) (e ∷ []))
+    ∙ ap (accepted k (known + 1)) (sym (ap (λ j. take j rest) one_more ∙ take_more rest i e within ∙ ap (λ x. take i rest ++ x ∷ []) there))
+
+pub accepted_all : (k : Watching) (group : List Entry) (known index : ℕ) → length group ≤ index → accepted k (known + 1) (part group known index) ≡ accepted k (known + 1) (drop known group)
+accepted_all k group known index high = ap (accepted k (known + 1)) (take_all (index - known) (drop known group) (simp length-drop (omega arith)))
+
+-- ---- a step
+
+abbrev told : Watching → ℕ → Node → NodeEvent → ℕ → List Entry → Standing → Standing → DecidedView → Watching
+told k name n what number more before after v = accepted (finished (with_entries (with_decided k name after v) name (stored_of name before after v what)) name after) number more
+
+pub noted_is : (k decided_ stored_ finished_ new : Watching) (name : ℕ) (n : Node) (what : NodeEvent) (number : ℕ) (more : List Entry) (before after : Standing) (v : DecidedView)
+    → before ≡ standing k name → after ≡ standing_after before n → v ≡ view_of n
+    → decided_ ≡ with_decided k name after v → stored_ ≡ with_entries decided_ name (stored_of name before after v what) → finished_ ≡ finished stored_ name after → new ≡ accepted finished_ number more
+    → new ≡ told_step k name n what number more
+unfolding told_step
+noted_is k decided_ stored_ finished_ new name n what number more before after v was stands ends d s f a =
+    a ∙ ap (λ q. accepted q number more) (f ∙ ap (λ q. finished q name after) (s ∙ ap (λ q. with_entries q name (stored_of name before after v what)) d))
+    ∙ ap (λ x. told k name n what number more before after x) ends
+    ∙ ap (λ x. told k name n what number more before x (view_of n)) stands
+    ∙ ap (λ x. told k name n what number more x (standing_after x n) (view_of n)) was

@@ -1,0 +1,28 @@
+use Rattle.std.proofs.Common.{[], ◌∷◌, ◌++◌, append_assoc, vec_len, sym, ap, ◌∙◌, arith}
+use Rattle.am_node.specs.Stands.{state_of}
+use Rattle.am_world.proofs.Grown.{between, next_between, all_between}
+use Rattle.am_world.proofs.nodes.add_accepted.Goals as goal
+
+pub loop-before-preserved : goal.loop-before-preserved
+loop-before-preserved c =
+    let core = (state_of c.args.node.now).core in
+    let old = c.args.group.now.items in
+    let had = vec_len c.args.group.now in
+    let before = c.loop-before.before in
+    let low = c.accepted-before-end.ensures.order.kept in
+    let base = c.requires.base in
+    let e = c.in-Some.entry.now in
+    let more = next_between core.log had before e (omega arith) (omega arith) (sym c.in-Some.ensures) in
+    record {
+      most = omega arith;
+      stored = omega arith;
+      room = c.push_reserved.ensures.capacity ∙ c.loop-before.invariant.room;
+      items = c.push_reserved.ensures.items ∙ ap (λ xs. xs ++ c.copied.result ∷ []) c.loop-before.invariant.items ∙ ap (λ x. (old ++ between core.log had before) ++ x ∷ []) c.copied.ensures ∙ append_assoc old (between core.log had before) (e ∷ []) ∙ ap (λ xs. old ++ xs) (sym more);
+    }
+
+pub returns : goal.returns
+returns c =
+    let core = (state_of c.args.node.now).core in
+    let old = c.args.group.now.items in
+    let most = c.loop-before.invariant.most in
+    c.loop-before.invariant.items ∙ ap (λ xs. old ++ xs) (all_between core.log old (vec_len c.args.group.now) c.loop-before.before core.acc (omega arith) most c.args.group.now.ok.0)

@@ -1,0 +1,12 @@
+use Rattle.std.proofs.Common.{◌≡◌, ◌≤◌, ◌++◌, max, vec_capacity, vec_len}
+use Rattle.am_node.specs.Stands.{state_of}
+use Rattle.am_world.proofs.Grown.{between}
+use Rattle.am_world.proofs.nodes.add_accepted.Given as goal
+
+abbrev pub invariant-loop-before : goal.invariant-loop-before
+invariant-loop-before l = record {
+  most : l.before ≤ max (vec_len l.fn.group) (state_of l.node).core.acc;
+  stored : vec_len l.group ≡ max (vec_len l.fn.group) l.before;
+  room : vec_capacity l.group ≡ vec_capacity l.fn.group;
+  items : l.group.items ≡ l.fn.group.items ++ between (state_of l.node).core.log (vec_len l.fn.group) l.before;
+}

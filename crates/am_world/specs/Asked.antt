@@ -1,0 +1,86 @@
+-- What an event asks of its name's node, or how it is answered without one.
+use Rattle.std.specs.Prelude.{◌≡◌, ℕ, ◌+◌, ◌≤◌, List, [], ◌∷◌, ◌++◌, take, Option, Some, None, Result, Ok, Err, Bool, false, ◌==◌, ◌||◌, if◌then◌else◌, slice_index_or}
+use Rattle.am_base.specs.declared.outcome.Outcome.{Outcome}
+use Rattle.am_base.specs.declared.outcome.Outcome.TheVariants as said
+use Rattle.am_base.specs.declared.event.NodeEvent.{NodeEvent}
+use Rattle.am_base.specs.declared.event.NodeEvent.TheVariants as does
+use Rattle.am_base.specs.Names.{place_of, life_of}
+use Rattle.am_packet.specs.Boxes.{Letter}
+use Rattle.am_codec.specs.Limits.{IsPacket}
+use Rattle.am_codec.specs.Spelling.{spelling}
+use Rattle.am_group.specs.declared.event.Act.{Act}
+use Rattle.am_group.specs.declared.event.Act.TheVariants as act
+use Rattle.am_group.specs.declared.event.Event.{Event}
+use Rattle.am_group.specs.Journals.{letter_at}
+use Rattle.am_group.specs.Addressed.{is_for}
+use Rattle.am_model.specs.Step.{step}
+use Rattle.am_model.specs.World.{World, current, unchanged, stepped, lives_on}
+
+-- whether a name has stopped, by the flags of all names
+abbrev pub flag_of : List Bool → ℕ → Bool
+flag_of flags name = slice_index_or flags name false
+
+-- a stopped name does nothing
+abbrev pub if_running : Bool → NodeEvent → Result NodeEvent Outcome
+if_running stopped what = if stopped then Err said.IsStopped else Ok what
+
+-- all of a packet, or only so many first bytes
+abbrev pub kept : Option ℕ → List ℕ → List ℕ
+kept None bytes = bytes
+kept (Some keep) bytes = take keep bytes
+
+abbrev pub hears : Option ℕ → ℕ → Bool → Option Letter → Result NodeEvent Outcome
+hears keep name stopped None = Err said.NoPacket
+hears keep name stopped (Some letter) = if is_for letter name then if_running stopped (does.Hear (kept keep (spelling letter.packet))) else Err said.NotAddressed
+
+abbrev pub gives_up : Bool → Bool → ℕ → Result NodeEvent Outcome
+gives_up stopped other_stopped other = if stopped then Err said.IsStopped else if other_stopped then Ok (does.GiveUp other) else Err said.NotStopped
+
+abbrev pub stops : Bool → Outcome
+stops stopped = if stopped then said.IsStopped else said.Stopped
+
+-- a place returns where its name has gone or stopped, sixteen lives at most
+abbrev pub returns : Bool → ℕ → Outcome
+returns gone life = if gone then (if life == 16 then said.NoLife else said.Returned (life + 1)) else said.Running life
+
+-- what an act asks of a name, where these letters were sent
+abbrev pub asked : List Letter → List Bool → Bool → ℕ → Act → Result NodeEvent Outcome
+asked letters flags departed name (act.Send body) = if_running (flag_of flags name) (does.Send body)
+asked letters flags departed name (act.Done req) = if_running (flag_of flags name) (does.Done req)
+asked letters flags departed name act.Take = if_running (flag_of flags name) does.Take
+asked letters flags departed name act.Join = if_running (flag_of flags name) does.Join
+asked letters flags departed name act.State = if_running (flag_of flags name) does.State
+asked letters flags departed name act.Leave = if_running (flag_of flags name) does.Leave
+asked letters flags departed name (act.Reset least resilience) = if_running (flag_of flags name) (does.Reset least resilience)
+asked letters flags departed name (act.Ask round) = if_running (flag_of flags name) (does.Ask round)
+asked letters flags departed name (act.GiveUp other) = gives_up (flag_of flags name) (flag_of flags other) other
+asked letters flags departed name act.Stop = Err (stops (flag_of flags name))
+asked letters flags departed name act.Tick = if_running (flag_of flags name) does.Tick
+asked letters flags departed name (act.Hear number) = hears None name (flag_of flags name) (letter_at letters number)
+asked letters flags departed name (act.Cut number keep) = hears (Some keep) name (flag_of flags name) (letter_at letters number)
+asked letters flags departed name act.Return = Err (returns (flag_of flags name || departed) (life_of name))
+
+-- the number of the packet that an act hears
+abbrev pub heard_number : Act → Option ℕ
+heard_number (act.Hear number) = Some number
+heard_number (act.Cut number keep) = Some number
+heard_number _ = None
+
+-- what an act hears is a packet's spelling
+abbrev pub SpellsPacket : List Letter → Act → Type 0
+SpellsPacket letters a = (number : ℕ) (letter : Letter) → heard_number a ≡ Some number → letter_at letters number ≡ Some letter → IsPacket letter.packet
+
+-- what comes of it
+abbrev pub answered : World → Event → Outcome → World
+answered w e said.Stopped = unchanged (record w { stopped = w.stopped ++ current w (place_of e.node) ∷ [] }) e said.Stopped
+answered w e (said.Returned life) = lives_on (unchanged w e (said.Returned life)) (place_of e.node)
+answered w e outcome = unchanged w e outcome
+
+abbrev pub comes : World → Event → Result NodeEvent Outcome → World
+comes w e (Ok what) = stepped w e (current w (place_of e.node)) (step (w.nodes (current w (place_of e.node))) what)
+comes w e (Err outcome) = answered w e outcome
+
+-- a place that returns has the next of its sixteen lives
+abbrev pub IsNextLife : ℕ → Outcome → Type 0
+IsNextLife name (said.Returned life) = (life ≡ life_of name + 1) × (life ≤ 16)
+IsNextLife name _ = Unit {0}

@@ -1,0 +1,142 @@
+ghost use Rattle.std.specs.Prelude.{◌≡◌, ◌||◌, Some, OnOk, IfOk, length, take, Ok, Err};
+ghost use Rattle.std.specs.Option.{option_copied};
+ghost use Rattle.am_base.specs.Names.{life_of};
+ghost use Rattle.am_packet.specs.Boxes as boxes;
+ghost use Rattle.am_codec.specs.Limits.{IsPacket};
+ghost use Rattle.am_codec.specs.Spelling.{spelling};
+ghost use Rattle.am_group.specs.Journals.{letters_of, letter_at};
+ghost use Rattle.am_world.specs.Asked as asks;
+ghost use Rattle.am_world.specs.Asked.{flag_of, if_running, kept, SpellsPacket};
+
+use am_base::body::PacketBytes;
+use am_base::event::NodeEvent;
+use am_base::name::Name;
+use am_base::outcome::Outcome;
+use am_group::addressed::is_for;
+use am_group::event::Act;
+use am_group::journal::Journal;
+use am_letter::letter::Letter;
+
+/// Whether a name has stopped.
+pub fn is_stopped(stopped: &[bool; 256], name: Name) -> bool
+    ensures { result ≡ flag_of stopped.now name }
+{
+    stopped[usize::from(name.get())]
+}
+
+fn if_running(stopped: bool, what: NodeEvent) -> Result<NodeEvent, Outcome>
+    ensures { result ≡ if_running stopped what }
+{
+    if stopped {
+        return Err(Outcome::IsStopped);
+    }
+    Ok(what)
+}
+
+/// The bytes, or only so many of the first of them.
+fn kept(bytes: &PacketBytes, keep: Option<u32>) -> PacketBytes
+    ensures { result ≡ kept keep bytes.now }
+{
+    match keep {
+        None => bytes.copied(),
+        Some(keep) => {
+            let all = bytes.bytes();
+            let count = all.len().min(keep as usize);
+            PacketBytes::of(&all[..count]).unwrap()
+        }
+    }
+}
+
+/// A name hears a letter, or only the first of its bytes.
+fn hears(
+    letter: Option<&Letter>,
+    keep: Option<u32>,
+    name: Name,
+    stopped: bool,
+) -> Result<NodeEvent, Outcome>
+    ensures value { result ≡ asks.hears keep name stopped (option_copied letter.entry) }
+    ensures packet { OnOk result ((l : boxes.Letter) → option_copied letter.entry ≡ Some l → IsPacket l.packet) }
+{
+    let Some(letter) = letter else {
+        return Err(Outcome::NoPacket);
+    };
+    if !is_for(letter, name) {
+        return Err(Outcome::NotAddressed);
+    }
+    if stopped {
+        return Err(Outcome::IsStopped);
+    }
+    Ok(NodeEvent::Hear(kept(letter.bytes(), keep)))
+}
+
+fn gives_up(stopped: &[bool; 256], name: Name, other: Name) -> Result<NodeEvent, Outcome>
+    ensures { result ≡ asks.gives_up (flag_of stopped.now name) (flag_of stopped.now other) other }
+{
+    if is_stopped(stopped, name) {
+        return Err(Outcome::IsStopped);
+    }
+    if is_stopped(stopped, other) {
+        return Ok(NodeEvent::GiveUp(other));
+    }
+    Err(Outcome::NotStopped)
+}
+
+fn stops(stopped: bool) -> Outcome
+    ensures { result ≡ asks.stops stopped }
+{
+    if stopped {
+        return Outcome::IsStopped;
+    }
+    Outcome::Stopped
+}
+
+fn returns(is_gone: bool, name: Name) -> Outcome
+    ensures { result ≡ asks.returns is_gone (life_of name) }
+{
+    let life = name.life();
+    if !is_gone {
+        return Outcome::Running { life };
+    }
+    if life == 16 {
+        return Outcome::NoLife;
+    }
+    Outcome::Returned { life: life + 1 }
+}
+
+/// What an act asks of a name's node, or how it is answered without one.
+pub fn asked(
+    journal: &Journal,
+    stopped: &[bool; 256],
+    has_departed: bool,
+    name: Name,
+    act: &Act,
+) -> Result<NodeEvent, Outcome>
+    ensures value { result ≡ asks.asked (letters_of journal.now.records) stopped.now has_departed name act.now }
+    ensures packet { OnOk result (SpellsPacket (letters_of journal.now.records) act.now) }
+{
+    let is_stopped = is_stopped(stopped, name);
+    match act {
+        Act::Send(body) => if_running(is_stopped, NodeEvent::Send(body.copied())),
+        Act::Done(req) => if_running(is_stopped, NodeEvent::Done(*req)),
+        Act::Take => if_running(is_stopped, NodeEvent::Take),
+        Act::Join => if_running(is_stopped, NodeEvent::Join),
+        Act::State => if_running(is_stopped, NodeEvent::State),
+        Act::Leave => if_running(is_stopped, NodeEvent::Leave),
+        Act::Reset { least, resilience } => if_running(
+            is_stopped,
+            NodeEvent::Reset {
+                least: *least,
+                resilience: *resilience,
+            },
+        ),
+        Act::Ask(round) => if_running(is_stopped, NodeEvent::Ask(*round)),
+        Act::GiveUp(other) => gives_up(stopped, name, *other),
+        Act::Stop => Err(stops(is_stopped)),
+        Act::Tick => if_running(is_stopped, NodeEvent::Tick),
+        Act::Hear(number) => hears(journal.packet(*number), None, name, is_stopped),
+        Act::Cut { packet, keep } => {
+            hears(journal.packet(*packet), Some(*keep), name, is_stopped)
+        }
+        Act::Return => Err(returns(is_stopped || has_departed, name)),
+    }
+}

@@ -1,0 +1,96 @@
+ghost use Rattle.std.specs.Prelude.{◌≡◌, ◌+◌, ◌-◌, ◌<◌, ◌≤◌, ◌++◌, [], length, max, take, drop, vec_len, vec_capacity, OnOk};
+ghost use Rattle.am_base.specs.Names.{place_of};
+ghost use Rattle.am_core.specs.Cores.{IsInOrder};
+ghost use Rattle.am_model.specs.Step.{row};
+ghost use Rattle.am_model.specs.World.{grown, group_after};
+ghost use Rattle.am_model.specs.Ends.{Does};
+ghost use Rattle.am_node.specs.Stands.{state_of};
+ghost use Rattle.am_world.specs.Moves.{IsReady, IsReadyAt, StepsAt};
+
+use am_base::NoMemory;
+use am_base::entry::Entry;
+use am_base::event::NodeEvent;
+use am_base::name::Name;
+use am_base::outcome::Outcome;
+use am_letter::letter::Letter;
+use am_letter::out_box::OutBox;
+use am_node::node::Node;
+
+/// Copies letters, for which there is room.
+pub fn copy_letters(letters: &[Letter], into: &mut Vec<Letter>)
+    requires { vec_len into.old + length letters.now ≤ vec_capacity into.old }
+    ensures { into.new.items ≡ into.old.items ++ letters.now }
+{
+    for letter in letters {
+        into.push_reserved(letter.copied());
+    }
+}
+
+/// Makes room for so many entries in all.
+pub fn make_room(group: &mut Vec<Entry>, most: usize) -> Result<(), NoMemory>
+    ensures items { group.new.items ≡ group.old.items }
+    ensures stored { vec_len group.new ≡ vec_len group.old }
+    ensures room { OnOk result (max most (vec_len group.new) ≤ vec_capacity group.new) }
+{
+    if group.len() < most {
+        group.reserve(most - group.len())?;
+    }
+    Ok(())
+}
+
+/// The list gets what a node has accepted beyond it.
+fn add_accepted(group: &mut Vec<Entry>, node: &Node)
+    requires base { (state_of node.now).core.base ≤ vec_len group.old }
+    requires room { max (state_of node.now).core.acc (vec_len group.old) ≤ vec_capacity group.old }
+    ensures { group.new.items ≡ grown group.old.items (state_of node.now).core }
+{
+    for before in group.len()..node.accepted() as usize {
+        match node.entry(before as u32 + 1) {
+            Some(entry) => group.push_reserved(entry.copied()),
+            None => unreachable!(),
+        }
+    }
+}
+
+/// The group list after a step of this node: a node in a view of its own adds to it.
+fn grow(group: &mut Vec<Entry>, node: &Node)
+    requires base { (state_of node.now).core.base ≤ vec_len group.old }
+    requires room { max (state_of node.now).core.acc (vec_len group.old) ≤ vec_capacity group.old }
+    ensures { group.new.items ≡ group_after group.old.items (state_of node.now) }
+{
+    if node.view().by == node.name() {
+        add_accepted(group, node);
+    }
+}
+
+/// A node does a step, and the group list grows by it.
+fn step_node(node: &mut Node, what: &NodeEvent, group: &mut Vec<Entry>, out: &mut OutBox) -> Outcome
+    requires ready { IsReady (state_of node.old) what.now (vec_len group.old) (vec_capacity group.old) }
+    requires empty { out.old ≡ [] }
+    ensures does { Does (λ k. row k what.now) (state_of node.old) result out.new (state_of node.new) }
+    ensures order { IsInOrder (state_of node.new).core }
+    ensures few { length out.new ≤ 9 }
+    ensures grows { group.new.items ≡ group_after group.old.items (state_of node.new) }
+{
+    let outcome = node.step(what, out);
+    let _accepted = node.accepted();
+    grow(group, node);
+    outcome
+}
+
+/// The place's node does a step, and the group list grows by it.
+pub fn step_at(
+    nodes: &mut [Node],
+    name: Name,
+    what: &NodeEvent,
+    group: &mut Vec<Entry>,
+    out: &mut OutBox,
+) -> Outcome
+    requires places { length nodes.old ≡ 16 }
+    requires ready { IsReadyAt nodes.old (place_of name) what.now (vec_len group.old) (vec_capacity group.old) }
+    requires empty { out.old ≡ [] }
+    ensures steps { StepsAt nodes.old nodes.new group.old.items group.new.items (place_of name) what.now result out.new }
+    ensures few { length out.new ≤ 9 }
+{
+    step_node(&mut nodes[usize::from(name.place())], what, group, out)
+}

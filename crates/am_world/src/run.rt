@@ -1,0 +1,285 @@
+ghost use Rattle.std.specs.Prelude.{◌≡◌, ◌+◌, ◌<◌, ◌≤◌, ◌++◌, ◌↔◌, [], length, IfOk};
+ghost use Rattle.am_base.specs.Founding.{MayFound};
+ghost use Rattle.am_base.specs.Names.{has, name_at, life_of};
+ghost use Rattle.am_model.specs.World.{first_node, record_of, start, has_departed};
+ghost use Rattle.am_model.specs.Ends.{IsEndOf};
+ghost use Rattle.am_node.specs.Stands.{state_of};
+ghost use Rattle.am_world.specs.Runs.{AreNodes, AreFirst, the_record};
+
+use crate::asked::{asked, is_stopped};
+use crate::nodes::{copy_letters, make_room, step_at};
+use am_base::NoMemory;
+use am_base::entry::Entry;
+use am_base::event::NodeEvent;
+use am_base::founding::Founding;
+use am_base::items::Items;
+use am_base::name::Name;
+use am_base::outcome::Outcome;
+use am_group::event::{By, Event, Part, Record};
+use am_group::journal::Journal;
+use am_letter::letter::Letter;
+use am_letter::out_box::OutBox;
+use am_model::status::Status;
+use am_node::founding::founders_view;
+use am_node::node::Node;
+use std::alloc::Global;
+use std::marker::Model;
+
+/// A life's first node: a founder's, or one that no one has seen.
+fn first_node(alloc: Global, name: Name, founding: &Founding) -> Result<Node, NoMemory>
+    ensures { IfOk result (λ n. state_of n ≡ first_node founding.now name) }
+{
+    if founding.founders().has(name) {
+        return Node::founder(alloc, name, founding);
+    }
+    Node::stranger(alloc, name, founding)
+}
+
+/// The sixteen nodes of a group to which nothing has happened.
+#[tactic(auto, using(crate::proofs::Begins::begins))]
+fn sixteen(alloc: Global, founding: &Founding) -> Result<Vec<Node>, NoMemory>
+    ensures { IfOk result (λ v. AreNodes v.items (start founding.now)) }
+{
+    let mut nodes = Vec::with_capacity(alloc, 16)?;
+    for place in 0..16u8 {
+        let node = first_node(alloc, Name::of_byte(place), founding)?;
+        nodes.push(node)?;
+    }
+    Ok(nodes)
+}
+
+fn new_record(event: &Event, life: u8, outcome: &Outcome, packets: Vec<Letter>) -> Record
+    ensures { result ≡ the_record event.now life outcome.now packets.items }
+{
+    Record {
+        event: event.copied(),
+        life,
+        by: By {
+            caller: 0,
+            call: 0,
+            part: Part::Call,
+        },
+        outcome: outcome.copied(),
+        packets: Items::of(packets),
+    }
+}
+
+fn has_departed(status: Status) -> bool
+    ensures { result ≡ has_departed status }
+{
+    match status {
+        Status::Departed => true,
+        Status::Stranger | Status::Asking | Status::Member => false,
+    }
+}
+
+/// A run of a group: sixteen places with the node of each one's current life, all packets that were sent, and the one
+/// group list. Contracts see it as its founding and the events that were done: all else is that of their run
+/// (docs/PROTOCOL.md, "Runs").
+#[derive(Drop)]
+pub struct Run {
+    alloc: Global,
+    nodes: Vec<Node>,
+    lives: [u8; 16],
+    stopped: [bool; 256],
+    journal: Journal,
+    group: Vec<Entry>,
+    out: OutBox,
+}
+
+impl Model for Run {
+    ghost use Rattle.am_world.specs.Runs.{Play, play_of, IsRun};
+
+    ghost Value = { Play };
+
+    ghost view = { λ w. play_of w.journal.founding w.journal.records };
+
+    ghost invariant = { λ w. IsRun (play_of w.journal.founding w.journal.records) w.nodes.items w.lives w.stopped w.journal.records w.group.items };
+}
+
+impl Run {
+    ghost use Rattle.std.specs.Prelude.{OnOk, OnErr, IfErr, Ok};
+    ghost use Rattle.am_base.specs.Names.{place_of};
+    ghost use Rattle.am_base.specs.declared.outcome.Outcome.TheVariants as said;
+    ghost use Rattle.am_group.specs.Journals.{letters_of};
+    ghost use Rattle.am_model.specs.World.{current, is_stopped, unchanged, happens};
+    ghost use Rattle.am_world.specs.Runs.{after, Answers, replay};
+    ghost use Rattle.am_world.specs.Asked.{answered, comes, IsNextLife};
+
+    /// The group of a founding, to which nothing has happened.
+    #[tactic(auto, using(crate::proofs::Begins::begins))]
+    pub fn new(alloc: Global, founding: &Founding) -> Result<Run, NoMemory>
+        ensures { IfOk result (λ w. w ≡ record { rules = founding.now; events = [] }) }
+    {
+        let nodes = sixteen(alloc, founding)?;
+        let _founders = founding.founders();
+        let mut group = Vec::new(alloc);
+        group.push(founders_view(founding))?;
+        Ok(Run {
+            alloc,
+            nodes,
+            lives: [1; 16],
+            stopped: [false; 256],
+            journal: Journal::new(alloc, founding),
+            group,
+            out: OutBox::new(),
+        })
+    }
+
+    /// How many events were done, 100,000 at most.
+    pub fn events(&self) -> usize
+        ensures value { result ≡ length self.now.events }
+        ensures few { result ≤ 100000 }
+    {
+        self.journal.records().len()
+    }
+
+    /// The records so far.
+    pub fn journal(&self) -> &Journal
+        ensures founding { result.now.founding ≡ self.now.rules }
+        ensures records { result.now.records ≡ (replay self.now).records }
+        ensures letters { letters_of result.now.records ≡ (replay self.now).letters }
+    {
+        &self.journal
+    }
+
+    /// The group list.
+    pub fn group(&self) -> &[Entry]
+        ensures value { result.now ≡ (replay self.now).group }
+        ensures few { length result.now ≤ 1 + length self.now.events }
+        ensures founded { MayFound self.now.rules }
+    {
+        self.group.as_slice()
+    }
+
+    /// The current name of a place.
+    pub fn name_at(&self, place: Name) -> Name
+        ensures { result ≡ current (replay self.now) (place_of place) }
+    {
+        let at = place.place();
+        let life = self.lives[usize::from(at)];
+        Name::of(at, life).unwrap()
+    }
+
+    /// The node of a place's current name. It keeps the end of its list.
+    pub fn node(&self, place: Name) -> &Node
+        ensures { IsEndOf ((replay self.now).nodes (current (replay self.now) (place_of place))) (state_of result.now) }
+    {
+        &self.nodes[usize::from(place.place())]
+    }
+
+    /// Records an event that changes no node.
+    fn pass(&mut self, event: &Event, name: Name, outcome: Outcome) -> Result<Outcome, NoMemory>
+        requires few { length self.old.events < 100000 }
+        requires name { name ≡ current (replay self.old) (place_of event.now.node) }
+        requires comes { happens (replay self.old) event.now ≡ unchanged (replay self.old) event.now outcome }
+        ensures ok { OnOk result (self.new ≡ after self.old event.now) }
+        ensures outcome { IfOk result (λ o. Answers self.old event.now o) }
+        ensures err { OnErr result (self.new ≡ self.old) }
+    {
+        self.journal.reserve()?;
+        self.journal.push(new_record(event, name.life(), &outcome, Vec::new(self.alloc)));
+        Ok(outcome)
+    }
+
+    /// Records that a name has stopped.
+    fn stop(&mut self, event: &Event, name: Name) -> Result<Outcome, NoMemory>
+        requires few { length self.old.events < 100000 }
+        requires name { name ≡ current (replay self.old) (place_of event.now.node) }
+        requires comes { happens (replay self.old) event.now ≡ answered (replay self.old) event.now said.Stopped }
+        ensures ok { OnOk result (self.new ≡ after self.old event.now) }
+        ensures outcome { IfOk result (λ o. Answers self.old event.now o) }
+        ensures err { OnErr result (self.new ≡ self.old) }
+    {
+        self.journal.reserve()?;
+        self.stopped[usize::from(name.get())] = true;
+        self.journal.push(new_record(event, name.life(), &Outcome::Stopped, Vec::new(self.alloc)));
+        Ok(Outcome::Stopped)
+    }
+
+    /// A place goes on with its next life: the node of the one before is let go, and a fresh one takes its place.
+    fn come_back(&mut self, event: &Event, name: Name, life: u8) -> Result<Outcome, NoMemory>
+        requires few { length self.old.events < 100000 }
+        requires name { name ≡ current (replay self.old) (place_of event.now.node) }
+        requires next { life ≡ life_of name + 1 }
+        requires most { life ≤ 16 }
+        requires comes { happens (replay self.old) event.now ≡ answered (replay self.old) event.now (said.Returned life) }
+        ensures ok { OnOk result (self.new ≡ after self.old event.now) }
+        ensures outcome { IfOk result (λ o. Answers self.old event.now o) }
+        ensures err { OnErr result (self.new ≡ self.old) }
+    {
+        self.journal.reserve()?;
+        let place = name.place();
+        let fresh = Node::stranger(
+            self.alloc,
+            Name::of(place, life).unwrap(),
+            self.journal.founding(),
+        )?;
+        self.nodes[usize::from(place)] = fresh;
+        self.lives[usize::from(place)] = life;
+        self.stopped[usize::from(name.get())] = true;
+        let outcome = Outcome::Returned { life };
+        self.journal.push(new_record(event, name.life(), &outcome, Vec::new(self.alloc)));
+        Ok(outcome)
+    }
+
+    /// Records an event that is no step of a node.
+    pub fn answer(
+        &mut self,
+        event: &Event,
+        name: Name,
+        outcome: Outcome,
+    ) -> Result<Outcome, NoMemory>
+        requires few { length self.old.events < 100000 }
+        requires name { name ≡ current (replay self.old) (place_of event.now.node) }
+        requires next { IsNextLife name outcome }
+        requires comes { happens (replay self.old) event.now ≡ answered (replay self.old) event.now outcome }
+        ensures ok { OnOk result (self.new ≡ after self.old event.now) }
+        ensures outcome { IfOk result (λ o. Answers self.old event.now o) }
+        ensures err { OnErr result (self.new ≡ self.old) }
+    {
+        match outcome {
+            Outcome::Stopped => self.stop(event, name),
+            Outcome::Returned { life } => self.come_back(event, name, life),
+            other => self.pass(event, name, other),
+        }
+    }
+
+    /// A name's node does a step.
+    pub fn act(&mut self, event: &Event, name: Name, what: &NodeEvent) -> Result<Outcome, NoMemory>
+        requires few { length self.old.events < 100000 }
+        requires name { name ≡ current (replay self.old) (place_of event.now.node) }
+        requires comes { happens (replay self.old) event.now ≡ comes (replay self.old) event.now (Ok what.now) }
+        ensures ok { OnOk result (self.new ≡ after self.old event.now) }
+        ensures outcome { IfOk result (λ o. Answers self.old event.now o) }
+        ensures err { OnErr result (self.new ≡ self.old) }
+    {
+        self.journal.reserve()?;
+        let mut packets = Vec::with_capacity(self.alloc, 9)?;
+        make_room(&mut self.group, self.journal.records().len() + 2)?;
+        self.out.clear();
+        let outcome = step_at(&mut self.nodes, name, what, &mut self.group, &mut self.out);
+        copy_letters(self.out.letters(), &mut packets);
+        packets.shrink_to_fit();
+        self.journal
+            .push(new_record(event, name.life(), &outcome, packets));
+        Ok(outcome)
+    }
+
+    /// What an event asks of its name's node, or how it is answered without one.
+    pub fn asked(&self, event: &Event) -> Result<NodeEvent, Outcome>
+        ensures comes { happens (replay self.now) event.now ≡ comes (replay self.now) event.now result }
+        ensures next { IfErr result (λ o. IsNextLife (current (replay self.now) (place_of event.now.node)) o) }
+    {
+        let name = self.name_at(event.node);
+        let has_departed = has_departed(self.node(event.node).status());
+        asked(&self.journal, &self.stopped, has_departed, name, &event.act)
+    }
+
+    /// Whether a name has stopped, by a Stop or because its place has a greater life.
+    pub fn is_stopped(&self, name: Name) -> bool
+        ensures { result ≡ is_stopped (replay self.now) name }
+    {
+        is_stopped(&self.stopped, name)
+    }
+}

@@ -1,0 +1,173 @@
+ghost use Rattle.std.specs.Prelude.{◌≡◌, ◌+◌, ◌<◌, ◌≤◌, ◌++◌, [], length, drop, if◌then◌else◌};
+ghost use Rattle.am_base.specs.Stamps.{stamp_eq};
+ghost use Rattle.am_model.specs.Group.{has_log};
+ghost use Rattle.am_model.specs.Node.{is_member};
+ghost use Rattle.am_node.specs.Stands.{state_of};
+ghost use Rattle.am_watch.specs.Watches.{view_of};
+ghost use Rattle.am_watch.specs.Watching.{is_view, stepped, accepted, with_entries};
+ghost use Rattle.am_watch.specs.Watchers.{watching_of, HasRoom};
+ghost use Rattle.am_world.specs.Watched.{fetched, begins, standing_after, one_of, stored_of, last_view, told_step};
+
+use am_base::entry::Entry;
+use am_base::event::NodeEvent;
+use am_base::name::{Name, Stamp};
+use am_codec::decode;
+use am_model::status::Status;
+use am_node::node::Node;
+use am_packet::packet::Packet;
+use am_watch::views::{DecidedView, Standing, decides};
+use am_watch::watcher::Watcher;
+
+/// Whether a name of this status has or had a list.
+pub fn has_log(status: Status) -> bool
+    ensures { result ≡ has_log status }
+{
+    match status {
+        Status::Member | Status::Departed => true,
+        Status::Stranger | Status::Asking => false,
+    }
+}
+
+fn is_member(status: Status) -> bool
+    ensures { result ≡ is_member status }
+{
+    status == Status::Member
+}
+
+/// Whether the name's list began in a step.
+fn begins(before: &Standing, after: Status) -> bool
+    ensures { result ≡ begins before.now after }
+{
+    !has_log(before.status) && is_member(after)
+}
+
+/// What a name's node shows after a step.
+fn standing_after(before: &Standing, node: &Node) -> Standing
+    ensures { result ≡ standing_after before.now (state_of node.now) }
+{
+    let status = node.status();
+    Standing {
+        status,
+        view: node.view(),
+        start: node.start(),
+        from: if begins(before, status) {
+            node.base()
+        } else {
+            before.from
+        },
+    }
+}
+
+/// The view in which the node's list ends.
+fn view_of(node: &Node) -> DecidedView
+    ensures { result ≡ view_of (state_of node.now) }
+{
+    DecidedView {
+        number: node.view_number(),
+        stamp: node.view(),
+        members: node.members(),
+        resilience: node.resilience(),
+    }
+}
+
+/// The View that made a view.
+fn last_view(view: &DecidedView) -> Entry
+    ensures { result ≡ last_view view.now }
+{
+    Entry::View {
+        stamp: view.stamp,
+        members: view.members,
+        resilience: view.resilience,
+    }
+}
+
+fn is_same_stamp(a: Stamp, b: Stamp) -> bool
+    ensures { result ≡ stamp_eq a b }
+{
+    a.round == b.round && a.by == b.by
+}
+
+/// The entry of a Piece, where an event brings one.
+fn fetched(what: &NodeEvent) -> Option<Entry>
+    ensures { result ≡ fetched what.now }
+{
+    let NodeEvent::Hear(bytes) = what else {
+        return None;
+    };
+    match decode(bytes.bytes()) {
+        Ok(Packet::Piece { entry, .. }) => Some(entry),
+        _ => None,
+    }
+}
+
+/// The watcher is told of an entry that a name stored, where there is one.
+#[tactic(auto, using(crate::proofs::Watches::entry_laws))]
+fn store_one(watcher: &mut Watcher, name: Name, found: Option<Entry>)
+    ensures { watching_of watcher.new ≡ with_entries (watching_of watcher.old) name (one_of found) }
+{
+    match found {
+        Some(entry) => watcher.store(name, &entry),
+        None => {}
+    }
+}
+
+/// What a name fetched, where it then decided a view.
+fn fetched_before(is_decided: bool, what: &NodeEvent) -> Option<Entry>
+    ensures { one_of result ≡ (if is_decided then one_of (fetched what.now) else []) }
+{
+    if is_decided { fetched(what) } else { None }
+}
+
+/// The watcher is told which Views a name stored in a step.
+fn store_views(
+    watcher: &mut Watcher,
+    name: Name,
+    before: &Standing,
+    after: &Standing,
+    view: &DecidedView,
+    what: &NodeEvent,
+)
+    ensures { watching_of watcher.new ≡ with_entries (watching_of watcher.old) name (stored_of name before.now after.now view.now what.now) }
+{
+    if begins(before, after.status) || is_same_stamp(before.view, after.view) {
+        return;
+    }
+    let earlier = fetched_before(decides(before, name, after), what);
+    store_one(watcher, name, earlier);
+    watcher.store(name, &last_view(view));
+}
+
+/// The watcher is told how the group list goes on above a number.
+fn accept_above(watcher: &mut Watcher, group: &[Entry], known: usize)
+    requires known { known ≤ length group.now }
+    requires few { length group.now ≤ 2000000000 }
+    ensures { watching_of watcher.new ≡ accepted (watching_of watcher.old) (known + 1) (drop known group.now) }
+{
+    for index in known..group.len() {
+        watcher.accept(index as u32 + 1, &group[index]);
+    }
+}
+
+/// The watcher is told of a name's step: of what its node shows then, the Views that it stored, and how the group list goes on.
+pub fn note_step(
+    watcher: &mut Watcher,
+    name: Name,
+    node: &Node,
+    what: &NodeEvent,
+    group: &[Entry],
+    known: usize,
+)
+    requires room { HasRoom watcher.old }
+    requires few { (watching_of watcher.old).count < 4294967295 }
+    requires known { known ≤ length group.now }
+    requires short { length group.now ≤ 2000000000 }
+    ensures { watching_of watcher.new ≡ told_step (watching_of watcher.old) name (state_of node.now) what.now (known + 1) (drop known group.now) }
+{
+    let before = watcher.standing(name);
+    let after = standing_after(&before, node);
+    let view = view_of(node);
+    watcher.decide(name, &after, &view);
+    store_views(watcher, name, &before, &after, &view, what);
+    watcher.finish(name, &after);
+    accept_above(watcher, group, known);
+}

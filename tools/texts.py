@@ -1,0 +1,45 @@
+"""Runs the program on scripts, and compares what it writes with the texts beside them.
+
+    python3 tools/texts.py PROGRAM FOLDER...
+
+Each FOLDER has scripts NAME.json, and beside each the text NAME.txt that `PROGRAM play < NAME.json` must write, with status 0
+and nothing on standard error. It prints the first line that differs of each script that fails, and how many passed.
+"""
+
+import pathlib
+import subprocess
+import sys
+
+
+def difference(program, script):
+    """What is wrong with the program's answer to a script; None where nothing is."""
+    want = script.with_suffix(".txt").read_bytes()
+    with script.open("rb") as words:
+        ran = subprocess.run([program, "play"], stdin=words, capture_output=True, timeout=600)
+    if ran.returncode != 0 or ran.stderr:
+        return f"status {ran.returncode}: {ran.stderr.decode(errors='replace').strip()}"
+    if ran.stdout == want:
+        return None
+    got, wanted = ran.stdout.split(b"\n"), want.split(b"\n")
+    at = next((k for k, pair in enumerate(zip(got, wanted)) if pair[0] != pair[1]), min(len(got), len(wanted)))
+    line = lambda lines: lines[at].decode(errors="replace") if at < len(lines) else "(no line)"
+    return f"line {at + 1}: {line(got)}\n    wanted: {line(wanted)}"
+
+
+def main():
+    program, folders = sys.argv[1], sys.argv[2:]
+    passed = failed = 0
+    for folder in folders:
+        for script in sorted(pathlib.Path(folder).glob("*.json")):
+            wrong = difference(program, script)
+            if wrong is None:
+                passed += 1
+            else:
+                failed += 1
+                print(f"{script}: {wrong}")
+    print(f"{passed} passed, {failed} failed")
+    sys.exit(1 if failed else 0)
+
+
+if __name__ == "__main__":
+    main()
