@@ -7,9 +7,9 @@ mod telling;
 
 use am_io::standard::{StdSink, StdSource};
 use simulate::{Status, simulate};
-use telling::line_of;
 use std::process::ExitCode;
 use std::{env, io};
+use telling::line_of;
 
 /// Does what the process's words ask for, from standard input to standard output.
 fn answer(rt: &HostRuntime) -> Status {
