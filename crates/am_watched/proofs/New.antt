@@ -118,7 +118,7 @@ says_known nodes m x c to p entries told own (order _ number from_ req v report 
 says_known nodes m x c to p entries told own (accept _ poll l) = tt
 says_known nodes m x c to p entries told own (ack _ a) = tt
 says_known nodes m x c to p entries told own (nack _ a) = tt
-says_known nodes m x c to p entries told own (hold _ req l) = tt
+says_known nodes m x c to p entries told own (hold _ s v report req body by l) = tt
 says_known nodes m x c to p entries told own (join_ask _ a) = tt
 says_known nodes m x c to p entries told own (welcome s l may) = tt
 says_known nodes m x c to p entries told own (leave_ask _ a l) = tt
