@@ -2,6 +2,7 @@
 -- whose reports count.
 use Rattle.std.proofs.Common.{◌≡◌, ◌≢◌, ◌⊎◌, inl, inr, ⊎_elim, ℕ, zero, suc, ◌+◌, ◌-◌, ◌<◌, ◌≤◌, ◌==◌, ◌&&◌, not, nat_lt, Bool, true, false, List, [], ◌∷◌, ◌++◌, length, take, Option, Some, None, slice_index, refl, sym, ap, ◌∙◌, subst, arith}
 use Rattle.std.proofs.lemmas.Bool.Decides.{nat_tests}
+use Rattle.std.proofs.lemmas.List.{get_or-replicate}
 use Rattle.am_base.specs.declared.entry.Entry.{Entry}
 use Rattle.am_base.specs.declared.entry.Entry.TheVariants.{Data, Join, Leave, View}
 use Rattle.am_base.specs.declared.name.Stamp.{Stamp}
@@ -9,11 +10,11 @@ use Rattle.am_base.specs.declared.image.Report.{Report}
 use Rattle.am_base.specs.declared.image.Row.{Row}
 use Rattle.am_base.specs.declared.image.Image.{Image}
 use Rattle.am_base.specs.Names.{place_of, life_of, name_at, has, size}
-use Rattle.am_base.specs.Lists.{Log, is_blank, at_place, with_row, member_life, members_of, members_at, viewed, after, fold, fits, top_of, image_at, told_by}
+use Rattle.am_base.specs.Lists.{Log, blank_row, blank, is_blank, at_place, with_row, member_life, members_of, members_at, viewed, after, fold, fits, top_of, image_at, told_by}
 use Rattle.am_core.specs.Cores.{CoreState, since_accepted}
 use Rattle.am_core.proofs.Ends.{image-top}
 use Rattle.am_core.proofs.Lives.{IsUsed, row_at, used_after, used_fold, life_after, member_at, member_row, unions_most, unions_least, unions_long}
-use Rattle.am_chain_lists.proofs.Rows.{In, mod16, row_set, blank_joined, row_view, in_after}
+use Rattle.am_chain_lists.proofs.Rows.{In, mod16, long_after, row_set, blank_joined, row_view, in_after}
 use Rattle.am_fronts.specs.Reports.{least_taken}
 use Rattle.am_fronts.proofs.Leaders.{least_in}
 use Rattle.am_model.proofs.Greatest.{split}
@@ -140,6 +141,18 @@ view_member image n stamp names resilience name long longer h given =
     let is = row_view image n stamp names resilience (place_of name) (mod16 name) in
     in_is (after image n (View stamp names resilience)) name longer
     (subst (λ (r : Row). In r (life_of name)) (sym is) (viewed_keeps (is_blank image) n (slice_index names (place_of name)) (life_of name) _ some given (is_in image name long h)))
+
+-- and the first View has who is in it
+pub first_member : (stamp : Stamp) (names : List ℕ) (resilience name : ℕ) → slice_index names (place_of name) ≡ life_of name → has (members_of (after blank 1 (View stamp names resilience))) name ≡ true
+first_member stamp names resilience name given =
+    let e = View stamp names resilience in
+    let some : (slice_index names (place_of name) == 0) ≡ false = grind (arith, nat_tests) in
+    let is = row_view blank 1 stamp names resilience (place_of name) (mod16 name) in
+    let first : In (viewed true 1 (slice_index names (place_of name)) (row_at blank (place_of name))) (life_of name) = rw some (record { joined = omega arith; left = refl; is = given }) in
+    in_is (after blank 1 e) name (long_after blank 1 e refl) (subst (λ (r : Row). In r (life_of name)) (sym is) first)
+
+pub used_blank : IsUsed blank
+used_blank = record { places = refl; unused = λ place low none. ap (λ (r : Row). r.life) (get_or-replicate 16 place blank_row blank_row low) }
 
 -- ---- whose reports count
 

@@ -23,3 +23,4 @@ pub mod LetterLimits
 pub mod RunLimits
 pub mod LeaderRows
 pub mod Taken
+pub mod TakenRuns

@@ -125,7 +125,7 @@ overtaken_open who promise v by (Some b) k l low h = split (not b.is_over && sta
 none_overtaken : (by : Stamp) (ballot : Option Ballot) → ballot ≡ None → overtaken by ballot ≡ None
 none_overtaken by ballot is = ap (overtaken by) is
 
-next_above : (promise : Stamp) (who : ℕ) → stamp_lt promise (record { round = promise.round + 1; by = who }) ≡ true
+pub next_above : (promise : Stamp) (who : ℕ) → stamp_lt promise (record { round = promise.round + 1; by = who }) ≡ true
 next_above promise who = let t : nat_lt promise.round (promise.round + 1) ≡ true = grind (arith, nat_tests) in rw t refl
 
 -- ---- looks at a ballot

@@ -100,7 +100,7 @@ still_noted nodes name n v d h = split (v.stamp.by == name)
     })
     (λ f. record { by = h.by; log_ = rw f h.log_; low = rw f h.low; names = h.names; there = rw f h.there })
 
-same_is_equal : (v : Stamp) → stamp_eq v v ≡ true
+pub same_is_equal : (v : Stamp) → stamp_eq v v ≡ true
 same_is_equal v = let r : (v.round == v.round) ≡ true = grind (arith, nat_tests) in let n : (v.by == v.by) ≡ true = grind (arith, nat_tests) in rw (r, n) refl
 
 -- a decided view stands, and is greater

@@ -7,6 +7,7 @@ ghost use Rattle.am_laws.specs.Bytes.{LettersArePackets, LettersAreRead, RunsAre
 ghost use Rattle.am_laws.specs.GivenUp.{OnlyStoppedGivenUp};
 ghost use Rattle.am_laws.specs.Named.{NamesHold};
 ghost use Rattle.am_laws.specs.Numbers.{NumbersHold};
+ghost use Rattle.am_laws.specs.Taken.{TakenHolds};
 ghost use Rattle.am_laws.specs.Views.{ViewsHold};
 
 /// What a run has so far stays: the records, the letters and the group list of its first events begin the run's, and so do those of its
@@ -48,4 +49,9 @@ pub fn letters_are_packets()
     ensures packets { LettersArePackets }
     ensures read { LettersAreRead }
     ensures bytes { RunsAreOfBytes }
+{}
+
+/// Nothing is trimmed that the node's own application hasn't taken.
+pub fn what_is_trimmed_was_taken()
+    ensures { TakenHolds }
 {}
