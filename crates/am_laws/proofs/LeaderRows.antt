@@ -1,6 +1,6 @@
 -- The rows of a list in which each Join fits what stands before it: the lives of a place never fall, and who leads stays among those
 -- whose reports count.
-use Rattle.std.proofs.Common.{◌≡◌, ◌≢◌, ◌⊎◌, inl, inr, ⊎_elim, ℕ, zero, suc, ◌+◌, ◌-◌, ◌<◌, ◌≤◌, ◌==◌, ◌&&◌, not, nat_lt, Bool, true, false, List, [], ◌∷◌, ◌++◌, length, take, Option, Some, None, slice_index, refl, sym, ap, ◌∙◌, subst, arith}
+use Rattle.std.proofs.Common.{◌≡◌, ◌≢◌, ⊎_elim, ℕ, zero, suc, ◌+◌, ◌-◌, ◌<◌, ◌≤◌, ◌==◌, ◌&&◌, not, nat_lt, Bool, true, false, List, [], ◌∷◌, ◌++◌, length, take, Some, slice_index, refl, sym, ap, ◌∙◌, subst, arith}
 use Rattle.std.proofs.lemmas.Bool.Decides.{nat_tests}
 use Rattle.std.proofs.lemmas.List.{get_or-replicate}
 use Rattle.am_base.specs.declared.entry.Entry.{Entry}
@@ -9,12 +9,11 @@ use Rattle.am_base.specs.declared.name.Stamp.{Stamp}
 use Rattle.am_base.specs.declared.image.Report.{Report}
 use Rattle.am_base.specs.declared.image.Row.{Row}
 use Rattle.am_base.specs.declared.image.Image.{Image}
-use Rattle.am_base.specs.Names.{place_of, life_of, name_at, has, size}
-use Rattle.am_base.specs.Lists.{Log, blank_row, blank, is_blank, at_place, with_row, member_life, members_of, members_at, viewed, after, fold, fits, top_of, image_at, told_by}
+use Rattle.am_base.specs.Names.{place_of, life_of, name_at, has}
+use Rattle.am_base.specs.Lists.{blank_row, blank, is_blank, at_place, with_row, member_life, members_of, members_at, viewed, after, fold, fits, top_of, image_at, told_by}
 use Rattle.am_core.specs.Cores.{CoreState, since_accepted}
-use Rattle.am_core.proofs.Ends.{image-top}
-use Rattle.am_core.proofs.Lives.{IsUsed, row_at, used_after, used_fold, life_after, member_at, member_row, unions_most, unions_least, unions_long}
-use Rattle.am_chain_lists.proofs.Rows.{In, mod16, long_after, row_set, blank_joined, row_view, in_after}
+use Rattle.am_core.proofs.Lives.{IsUsed, row_at, used_after, used_fold, life_after, member_at, unions_most, unions_least, unions_long}
+use Rattle.am_chain_lists.proofs.Rows.{In, mod16, long_after, row_set, blank_joined, row_view}
 use Rattle.am_fronts.specs.Reports.{least_taken}
 use Rattle.am_fronts.proofs.Leaders.{least_in}
 use Rattle.am_model.proofs.Greatest.{split}

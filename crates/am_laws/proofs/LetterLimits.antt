@@ -1,5 +1,5 @@
 -- What a letter tells is within its limits, where what its sender has is.
-use Rattle.std.proofs.Common.{◌≡◌, ℕ, zero, suc, ◌+◌, ◌-◌, ◌≤◌, nat_le, List, [], ◌∷◌, length, Option, Some, None, slice_get, refl, sym, ap, ◌∙◌, subst, arith}
+use Rattle.std.proofs.Common.{◌≡◌, ℕ, zero, suc, ◌-◌, ◌≤◌, nat_le, List, [], ◌∷◌, length, Option, Some, None, refl, subst, arith}
 use Rattle.std.specs.Prelude.{All}
 use Rattle.std.proofs.lemmas.List.Elements.{All-head, All-tail}
 use Rattle.am_base.specs.declared.entry.Entry.{Entry}
@@ -7,11 +7,10 @@ use Rattle.am_base.specs.declared.entry.Entry.TheVariants.{Data, Join, Leave, Vi
 use Rattle.am_base.specs.declared.image.Report.{Report}
 use Rattle.am_base.specs.Names.{IsSet}
 use Rattle.am_base.specs.Limits.{IsNumber, IsReport}
-use Rattle.am_base.specs.Lists.{Log, entry_at, told_by}
+use Rattle.am_base.specs.Lists.{Log, entry_at}
 use Rattle.am_packet.specs.declared.packet.Packet.{Packet}
 use Rattle.am_packet.specs.declared.packet.Packet.TheVariants as packet
 use Rattle.am_codec.specs.Limits.{IsPacket, IsWithin, HasParts}
-use Rattle.am_sender.specs.declared.OwnSend.{OwnSend}
 use Rattle.am_model.specs.Node.{Node, top, told}
 use Rattle.am_model.specs.Ticks.{viewed_by}
 use Rattle.am_model.proofs.Greatest.{split}
@@ -21,7 +20,7 @@ use Rattle.am_effects.proofs.Items.{all_get}
 use Rattle.am_laws.specs.Packets.{Bounds, UpTo, stamp_of}
 use Rattle.am_laws.proofs.Images.{told_up}
 use Rattle.am_laws.proofs.ListImages.{WelcomeUp, ListUp}
-use Rattle.am_laws.proofs.Limits.{EntryWithin, ImageWithin, AreNumbers, is_nobody, members_within, told_within, image_at_within, is_entry, is_image}
+use Rattle.am_laws.proofs.Limits.{EntryWithin, AreNumbers, is_nobody, members_within, told_within, image_at_within, is_entry, is_image}
 use Rattle.am_laws.proofs.NodeLimits.{SendWithin, Within, PacketWithin, req_brought}
 
 -- ---- what is sent

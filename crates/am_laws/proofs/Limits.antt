@@ -1,22 +1,22 @@
 -- Which rows, images and entries are within their limits.
-use Rattle.std.proofs.Common.{◌≡◌, ◌⊎◌, inl, inr, ℕ, zero, suc, ◌+◌, ◌-◌, ◌<◌, ◌≤◌, ◌==◌, ◌&&◌, not, nat_lt, Bool, true, false, List, [], ◌∷◌, length, take, map, set, get_or, slice_index, slice_index_or, Option, Some, None, refl, sym, ap, ◌∙◌, subst, arith}
+use Rattle.std.proofs.Common.{◌≡◌, ℕ, zero, suc, ◌+◌, ◌-◌, ◌<◌, ◌≤◌, ◌==◌, ◌&&◌, not, nat_lt, Bool, true, false, List, [], ◌∷◌, length, take, map, set, slice_index, slice_index_or, refl, ◌∙◌, arith}
 use Rattle.std.specs.Prelude.{All}
 use Rattle.std.specs.List.{range_with_len}
 use Rattle.std.proofs.lemmas.Bool.Decides.{nat_tests}
 use Rattle.std.proofs.lemmas.List.{length-map, length-set}
-use Rattle.std.proofs.lemmas.List.Elements.{All-nil, All-cons, All-head, All-tail, All-map, All-set, All-take, All-weaker, All-get_or, All-from_get_or, All-replicate}
+use Rattle.std.proofs.lemmas.List.Elements.{All-head, All-tail, All-map, All-set, All-take, All-weaker, All-get_or, All-from_get_or, All-replicate}
 use Rattle.am_base.specs.declared.entry.Entry.{Entry}
 use Rattle.am_base.specs.declared.entry.Entry.TheVariants.{Data, Join, Leave, View}
 use Rattle.am_base.specs.declared.image.Row.{Row}
 use Rattle.am_base.specs.declared.image.Image.{Image}
 use Rattle.am_base.specs.Names.{IsSet, nobody, place_of, life_of, name_at, by_place}
-use Rattle.am_base.specs.Limits.{IsRow, IsImage, IsEntry}
+use Rattle.am_base.specs.Limits.{IsImage, IsEntry}
 use Rattle.am_base.specs.Lists.{Log, blank_row, blank, is_blank, at_place, member_life, members_of, viewed, after, fold, image_at, told_by}
 use Rattle.am_codec.specs.Limits.{HasEntryParts}
 use Rattle.am_model.specs.Node.{name_where, those}
 use Rattle.am_model.proofs.Greatest.{split}
 use Rattle.am_laws.specs.Packets.{Bounds, up}
-use Rattle.am_laws.proofs.Images.{RowUp, ImageUp, all_places, up_at}
+use Rattle.am_laws.proofs.Images.{ImageUp, all_places, up_at}
 
 -- ---- sets
 

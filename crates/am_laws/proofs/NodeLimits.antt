@@ -1,5 +1,5 @@
 -- What a node has is within its limits, and each change keeps it so.
-use Rattle.std.proofs.Common.{◌≡◌, ◌⊎◌, inl, inr, ⊎_elim, ℕ, ◌+◌, ◌<◌, ◌≤◌, ◌==◌, ◌&&◌, ◌||◌, not, max, min, nat_lt, nat_le, Bool, true, false, if◌then◌else◌, List, [], ◌∷◌, ◌++◌, length, drop, find, filter, map, Option, Some, None, option_map, refl, sym, ap, ◌∙◌, subst, arith}
+use Rattle.std.proofs.Common.{◌≡◌, ℕ, ◌+◌, ◌<◌, ◌≤◌, ◌==◌, ◌&&◌, not, max, nat_le, false, if◌then◌else◌, List, [], ◌∷◌, length, drop, find, Option, Some, None, option_map, refl, sym, ap, subst, arith}
 use Rattle.std.specs.Prelude.{All}
 use Rattle.std.specs.List.{list_any}
 use Rattle.std.proofs.lemmas.Bool.Decides.{nat_tests}
@@ -19,16 +19,16 @@ use Rattle.am_packet.specs.declared.packet.Packet.TheVariants as packet
 use Rattle.am_sender.specs.declared.OwnSend.{OwnSend}
 use Rattle.am_sender.specs.Sends as own
 use Rattle.am_bodies.specs.declared.KeptBody.{KeptBody}
-use Rattle.am_bodies.specs.Bodies.{is_of, find_body, keep_body, with_body}
-use Rattle.am_model.specs.Node.{Node, Ballot, told, members, waiting, pushed}
-use Rattle.am_model.specs.Ballots.{Verdict, overtaken, own_vote, best_of, need_of, left_in, with_vote, without_voter}
+use Rattle.am_bodies.specs.Bodies.{is_of, find_body, keep_body}
+use Rattle.am_model.specs.Node.{Node, Ballot, told, waiting, pushed}
+use Rattle.am_model.specs.Ballots.{Verdict, overtaken, own_vote, best_of, need_of, left_in}
 use Rattle.am_model.specs.Receiving.{own_body, first_body, body_of, bodies_after}
 use Rattle.am_model.specs.Refresh.{refresh, accepted_at, settled_at, settled, settle, refresh_at_end}
 use Rattle.am_model.proofs.Greatest.{split}
 use Rattle.am_effects.specs.Causes.{Cause, calls, hears, BringsSend, by_request, by_spread}
 use Rattle.am_effects.specs.Looks.{HasOpen, Balloting, with_more, without_one, as_it_is, Looks, finds_itself_out, waits, fetches_from_best, finds_too_few, finds_no_room, decides}
-use Rattle.am_effects.specs.Changes.{Promises, Numbers, asked_send, own_send, asked_join, asked_leave, Carries, whole_entry, by_number, Change, Changes, unchanged, changed, refreshes, settles, takes_report, admits, numbers, keeps_body, notes, stores, begins_list, departs, promises, opens, looks, fetches, stores_view, queues, collects, takes, asks_to_join, asks_to_leave, closes}
-use Rattle.am_effects.proofs.Items.{all_get, all_find}
+use Rattle.am_effects.specs.Changes.{Numbers, asked_send, own_send, asked_join, asked_leave, Carries, whole_entry, by_number, Change, Changes, unchanged, changed, refreshes, settles, takes_report, admits, numbers, keeps_body, notes, stores, begins_list, departs, promises, opens, looks, fetches, stores_view, queues, collects, takes, asks_to_join, asks_to_leave, closes}
+use Rattle.am_effects.proofs.Items.{all_find}
 use Rattle.am_effects.proofs.Rests.{with_fronts, refresh_is, rests_refresh, rests_at_end, settle_is}
 use Rattle.am_laws.specs.Packets.{Bounds, up, sender_of}
 use Rattle.am_laws.proofs.Limits.{ImageWithin, EntryWithin, image_more, entry_more, members_within, told_within, set_those}
@@ -249,7 +249,7 @@ looked_within b c m x (with_more old s v shown is by low high open_ same stays) 
 looked_within b c m x (without_one old name is open_ other) from h =
     let k = open_within b m old open_ h in
     record { round = k.round; resilience = k.resilience; votes = vote_more old.votes name None (λ u e. absurd (cc)) k.votes }
-looked_within b c m x (as_it_is old open_) from h = open_within b m old open_ h
+looked_within b c m x (as_it_is old open_ on) from h = open_within b m old open_ h
 
 -- what is so of all votes is so of the best
 better_is : (P : Vote → Type 0) (best : Shown) (name : ℕ) (o : Option Vote) → P best.vote → ((v : Vote) → o ≡ Some v → P v) → P (better_of best name o).vote
@@ -278,16 +278,16 @@ look_within : (b : Bounds) (m : Node) (x : Ballot) (v : Verdict) → Looks m x v
 look_within b m x v look k h =
     let l : (y : Ballot) → y.stamp ≡ x.stamp → y.resilience ≡ x.resilience → y.votes ≡ x.votes → VotesWithin b y = λ y s r w. record { round = rw s k.round; resilience = rw r k.resilience; votes = rw w k.votes } in
     looked l look
-    where
-      looked : ((y : Ballot) → y.stamp ≡ x.stamp → y.resilience ≡ x.resilience → y.votes ≡ x.votes → VotesWithin b y) → {u : Verdict} → Looks m x u → Within b u.node
-      looked l (finds_itself_out y) = record { image = h.image; entries = h.entries; sends = h.sends; bodies = h.bodies; ballot = l _ refl refl refl }
-      looked l (waits y z) = record { image = h.image; entries = h.entries; sends = h.sends; bodies = h.bodies; ballot = l _ refl refl refl }
-      looked l (fetches_from_best y z w) = record { image = h.image; entries = h.entries; sends = h.sends; bodies = h.bodies; ballot = l _ refl refl refl }
-      looked l (finds_too_few y z) = record { image = h.image; entries = h.entries; sends = h.sends; bodies = h.bodies; ballot = l _ refl refl refl }
-      looked l (finds_no_room y) = record { image = h.image; entries = h.entries; sends = h.sends; bodies = h.bodies; ballot = l _ refl refl refl }
-      looked l (decides may) =
-          let p = pushed_within b m _ (view_within b m x k h) h in
-          record { image = p.image; entries = p.entries; sends = p.sends; bodies = p.bodies; ballot = l _ refl refl refl }
+  where
+    looked : ((y : Ballot) → y.stamp ≡ x.stamp → y.resilience ≡ x.resilience → y.votes ≡ x.votes → VotesWithin b y) → {u : Verdict} → Looks m x u → Within b u.node
+    looked l (finds_itself_out y) = record { image = h.image; entries = h.entries; sends = h.sends; bodies = h.bodies; ballot = l _ refl refl refl }
+    looked l (waits y z) = record { image = h.image; entries = h.entries; sends = h.sends; bodies = h.bodies; ballot = l _ refl refl refl }
+    looked l (fetches_from_best y z w) = record { image = h.image; entries = h.entries; sends = h.sends; bodies = h.bodies; ballot = l _ refl refl refl }
+    looked l (finds_too_few y z) = record { image = h.image; entries = h.entries; sends = h.sends; bodies = h.bodies; ballot = l _ refl refl refl }
+    looked l (finds_no_room y) = record { image = h.image; entries = h.entries; sends = h.sends; bodies = h.bodies; ballot = l _ refl refl refl }
+    looked l (decides may) =
+        let p = pushed_within b m _ (view_within b m x k h) h in
+        record { image = p.image; entries = p.entries; sends = p.sends; bodies = p.bodies; ballot = l _ refl refl refl }
 
 -- ---- what only rises
 

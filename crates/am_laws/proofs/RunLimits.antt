@@ -1,18 +1,15 @@
 -- Each letter of a run is a packet within its limits, so the run of packets is the run of bytes.
-use Rattle.std.proofs.Common.{◌≡◌, ℕ, ◌+◌, ◌<◌, ◌≤◌, ◌==◌, Bool, true, false, not, if◌then◌else◌, List, [], ◌∷◌, length, take, map, Option, Some, None, refl, sym, ap, ◌∙◌, subst, arith}
+use Rattle.std.proofs.Common.{◌≡◌, ℕ, ◌+◌, ◌<◌, ◌≤◌, ◌==◌, true, not, if◌then◌else◌, List, [], ◌∷◌, length, Option, Some, None, refl, ap, ◌∙◌, subst, arith}
 use Rattle.std.specs.Prelude.{All}
 use Rattle.std.proofs.lemmas.Bool.Decides.{nat_tests}
 use Rattle.std.proofs.lemmas.List.Elements.{All-nil, All-cons, All-head, All-tail, All-append, All-weaker}
 use Rattle.am_base.specs.declared.outcome.Outcome.TheVariants as said
-use Rattle.am_base.specs.declared.event.NodeEvent.{NodeEvent}
 use Rattle.am_base.specs.declared.event.NodeEvent.TheVariants as does
 use Rattle.am_base.specs.Founding.{Rules, MayFound}
-use Rattle.am_base.specs.Names.{place_of, has}
 use Rattle.am_base.specs.Lists.{top_of}
 use Rattle.am_packet.specs.declared.packet.Packet.{Packet}
 use Rattle.am_packet.specs.Boxes.{Letter}
 use Rattle.am_codec.specs.Limits.{IsPacket}
-use Rattle.am_codec.specs.Spelling.{spelling}
 use Rattle.am_codec.proofs.Again.{spelling_again}
 use Rattle.am_group.specs.declared.event.Act.{Act}
 use Rattle.am_group.specs.declared.event.Act.TheVariants as act
@@ -21,12 +18,10 @@ use Rattle.am_group.specs.Addressed.{is_for}
 use Rattle.am_group.specs.Journals.{letter_at}
 use Rattle.am_model.specs.Node.{Node, founder, stranger, founders_view}
 use Rattle.am_model.specs.Emit.{Step}
-use Rattle.am_model.specs.Step.{step, hear}
-use Rattle.am_model.specs.World.{World, start, current, is_stopped, unchanged, stepped, heard, hear_cut, acts_as, happens, happen, run}
+use Rattle.am_model.specs.World.{World, start, is_stopped, unchanged, stepped, heard, acts_as, happens, happen, run}
 use Rattle.am_model.specs.Claims.{heard_by}
 use Rattle.am_model.proofs.Bytes.{spelling_is_heard, cut_is_heard}
-use Rattle.am_model.proofs.Greatest.{split}
-use Rattle.am_effects.specs.Causes.{Cause, calls, hears}
+use Rattle.am_effects.specs.Causes.{Cause, hears}
 use Rattle.am_effects.specs.Letters.{LetterSays}
 use Rattle.am_effects.specs.Effects.{Effect}
 use Rattle.am_effects.specs.Events.{actor, WasSentTo, IsCall, IsCause, Happens, idles, stops, returns, steps}
@@ -40,8 +35,7 @@ use Rattle.am_laws.proofs.NodeLimits.{SendWithin, KeptWithin, Within, PacketWith
 use Rattle.am_laws.proofs.ListImages.{WelcomeUp, ListUp}
 use Rattle.am_laws.proofs.LetterLimits.{says_within, is_packet}
 use Rattle.am_laws.proofs.Named.{AllNamed, each_named, start_named}
-use Rattle.am_laws.proofs.RunCounts.{AllLow, low_happens, low_start, sender_list, set_same, bounds_after, same_bounds, first_of}
-use Rattle.am_laws.proofs.Founders.{first_founder}
+use Rattle.am_laws.proofs.RunCounts.{AllLow, low_happens, low_start, sender_list, set_same, bounds_after, first_of}
 
 -- ---- a world
 

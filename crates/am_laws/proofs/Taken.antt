@@ -1,10 +1,8 @@
 -- A node trims no more than its own application has taken: who leads is a member of its own list, so its own report counts.
-use Rattle.std.proofs.Common.{◌≡◌, ◌≢◌, ◌⊎◌, inl, inr, ⊎_elim, ℕ, zero, suc, ◌+◌, ◌-◌, ◌<◌, ◌≤◌, ◌==◌, ◌&&◌, ◌||◌, not, max, min, nat_lt, nat_le, Bool, true, false, if◌then◌else◌, List, [], ◌∷◌, ◌++◌, length, map, set, take, Option, Some, None, slice_index, unwrap_or, refl, sym, ap, ◌∙◌, subst, arith, length-append}
-use Rattle.std.specs.Prelude.{All}
+use Rattle.std.proofs.Common.{◌≡◌, ◌≢◌, ⊎_elim, ℕ, zero, suc, ◌+◌, ◌-◌, ◌<◌, ◌≤◌, ◌==◌, ◌&&◌, ◌||◌, not, max, min, nat_lt, nat_le, Bool, true, false, if◌then◌else◌, List, [], ◌∷◌, length, set, Option, Some, None, slice_index, unwrap_or, refl, sym, ap, ◌∙◌, subst, arith, length-append}
 use Rattle.std.proofs.lemmas.Bool.{cases_lt}
 use Rattle.std.proofs.lemmas.Bool.Decides.{nat_tests}
 use Rattle.std.proofs.lemmas.List.{map-set}
-use Rattle.std.proofs.lemmas.List.Elements.{All-nil, All-append, All-weaker}
 use Rattle.am_base.specs.declared.entry.Entry.{Entry}
 use Rattle.am_base.specs.declared.entry.Entry.TheVariants.{Data, Join, Leave, View}
 use Rattle.am_base.specs.declared.image.Vote.{Vote}
@@ -12,11 +10,10 @@ use Rattle.am_base.specs.declared.image.Report.{Report}
 use Rattle.am_base.specs.declared.image.Image.{Image}
 use Rattle.am_base.specs.declared.name.Stamp.{Stamp}
 use Rattle.am_base.specs.declared.outcome.Outcome.{Outcome}
-use Rattle.am_base.specs.Founding.{Rules, MayFound}
-use Rattle.am_base.specs.Names.{place_of, life_of, name_at, has, size, names_from, names_of, by_place}
+use Rattle.am_base.specs.Names.{place_of, life_of, name_at, has, size, names_from, names_of}
 use Rattle.am_base.specs.Stamps.{stamp_lt, stamp_eq}
 use Rattle.am_base.specs.Votes.{Shown, vote_lt, all_names, better_of, best_from}
-use Rattle.am_base.specs.Lists.{Log, member_life, top_of, told_by, image_at, members_at, members_of, row_of, at_place, after, fits, fold}
+use Rattle.am_base.specs.Lists.{Log, member_life, top_of, told_by, members_at, members_of, at_place, after, fits}
 use Rattle.am_base.proofs.Places.{slice_index-by_place, length-by_place}
 use Rattle.am_packet.specs.declared.packet.Packet.{Packet}
 use Rattle.am_packet.specs.declared.packet.Packet.TheVariants as packet
@@ -28,29 +25,26 @@ use Rattle.am_fronts.specs.Reports.{least_of, least_taken}
 use Rattle.am_fronts.specs.Refresh.{base_after, own_report, tell, go_on, let_go}
 use Rattle.am_fronts.proofs.Leaders.{least_in}
 use Rattle.am_fronts.proofs.ReportLaws.{count_cons}
-use Rattle.am_chain_lists.proofs.Rows.{In, Spares, mod16, long_after, in_after}
-use Rattle.am_model.specs.declared.status.Status.TheVariants as status
-use Rattle.am_model.specs.Node.{Node, Ballot, top, told, view, members, own_row, others, name_where, those, is_member, is_asking, acts, is_sequencer, waiting, pushed, trimmed, founder, stranger}
+use Rattle.am_chain_lists.proofs.Rows.{Spares, mod16, long_after, in_after}
+use Rattle.am_model.specs.Node.{Node, Ballot, top, told, view, members, others, name_where, those, is_member, is_asking, acts, is_sequencer, pushed, trimmed}
 use Rattle.am_model.specs.Refresh.{advance, lead, refresh, settle, refresh_at_end}
 use Rattle.am_model.specs.Ballots.{Verdict, overtaken, promised, next_stamp, own_vote, best_of, need_of, left_in, taken_by, trimmed_for}
 use Rattle.am_model.specs.Receiving.{is_view}
-use Rattle.am_model.specs.Resets.{is_view_past}
 use Rattle.am_model.specs.Sequencing.{is_unknown}
 use Rattle.am_model.specs.Sequencing as sequencing
 use Rattle.am_model.specs.Hearing.{hears_member, hears_asking, hears_sequencer, hears_in_view}
 use Rattle.am_model.specs.Group.{has_log}
 use Rattle.am_model.proofs.Greatest.{split, and_both}
 use Rattle.am_effects.specs.Causes.{Cause, hears}
-use Rattle.am_effects.specs.Looks.{view_of, HasLearned, HasOpen, Balloting, with_more, without_one, as_it_is, Looks, finds_itself_out, waits, fetches_from_best, finds_too_few, finds_no_room, decides}
-use Rattle.am_effects.specs.Changes.{Promises, invited, overtaken as overtaken_by, told_result, Numbers, asked_send, own_send, asked_join, asked_leave, Fetches, without_ballot, for_ballot, Change, Changes, unchanged as no_change, changed, refreshes, settles, takes_report, admits, numbers, keeps_body, notes, stores, begins_list, departs, promises, opens, looks, fetches, stores_view, queues, collects, takes, asks_to_join, asks_to_leave, closes}
+use Rattle.am_effects.specs.Looks.{HasOpen, Balloting, with_more, without_one, as_it_is, Looks, finds_itself_out, waits, fetches_from_best, finds_too_few, finds_no_room, decides}
+use Rattle.am_effects.specs.Changes.{Promises, invited, overtaken as overtaken_by, told_result, Numbers, asked_send, own_send, asked_join, asked_leave, Fetches, without_ballot, for_ballot, Change, refreshes, settles, takes_report, admits, numbers, keeps_body, notes, stores, begins_list, departs, promises, opens, looks, fetches, stores_view, queues, collects, takes, asks_to_join, asks_to_leave, closes}
 use Rattle.am_effects.proofs.Rests.{rests_refresh, rests_at_end, settle_is}
 use Rattle.am_effects.proofs.Statuses.{asking_log}
-use Rattle.am_effects.proofs.Says.{told_pushed, view_pushed, acts_pushed, leads_pushed}
-use Rattle.am_bounded.proofs.Kept.{HasItself, Keeps}
-use Rattle.am_bounded.proofs.Changes.{itself, kept_change}
+use Rattle.am_effects.proofs.Says.{told_pushed, view_pushed}
+use Rattle.am_bounded.proofs.Kept.{HasItself}
+use Rattle.am_bounded.proofs.Changes.{itself}
 use Rattle.am_laws.proofs.LeaderRows.{JoinFits, any_fits, JoinsFit, joins_push, is_in, in_is, data_member, view_member, least_within}
-use Rattle.am_laws.proofs.Stamps.{not_above, not_above_itself, at_most, at_most_below, same_stamp}
-use Rattle.am_laws.proofs.ViewNames.{HasNames, HeardNames, change_names}
+use Rattle.am_laws.proofs.Stamps.{not_above_itself, at_most_below, same_stamp}
 use Rattle.am_laws.proofs.ViewSteps.{view_last}
 use Rattle.am_laws.proofs.ViewChanges.{Balloted, next_above}
 use Rattle.am_laws.proofs.Views.{same_is_equal}
@@ -69,7 +63,7 @@ pub record Fronts (m : Node) : Type 0 where
   pub reported : (m.reports m.core.who).taken ≤ m.core.taken
 
 -- nobody has its own vote
-abbrev NoOwnVote : ℕ → Option Ballot → Type 0
+abbrev pub NoOwnVote : ℕ → Option Ballot → Type 0
 NoOwnVote who None = Unit {0}
 NoOwnVote who (Some b) = b.votes who ≡ None
 
@@ -83,7 +77,7 @@ abbrev pub WelcomeUsed : Packet → Type 0
 WelcomeUsed (packet.Welcome s v base join image) = IsUsed image
 WelcomeUsed _ = Unit {0}
 
-told_used : (m : Node) → Fronts m → IsUsed (told m)
+pub told_used : (m : Node) → Fronts m → IsUsed (told m)
 told_used m h = used_fold m.core.log.image (m.core.log.start + 1) m.core.log.entries (omega arith) h.used
 
 -- ---- an entry more
@@ -294,8 +288,8 @@ no_vote_overtaken who by (Some b) h = split (not b.is_over && stamp_lt b.stamp b
 open_vote : (m : Node) (b : Ballot) → HasOpen m b → NoOwnVote m.core.who m.ballot → b.votes m.core.who ≡ None
 open_vote m b o h = subst (NoOwnVote m.core.who) o.last h
 
-looked_vote : (c : Cause) (m : Node) (b : Ballot) → Balloting c m b → NoOwnVote m.core.who m.ballot → b.votes m.core.who ≡ None
-looked_vote c m b (as_it_is old open_) h = open_vote m old open_ h
+pub looked_vote : (c : Cause) (m : Node) (b : Ballot) → Balloting c m b → NoOwnVote m.core.who m.ballot → b.votes m.core.who ≡ None
+looked_vote c m b (as_it_is old open_ on) h = open_vote m old open_ h
 looked_vote c m b (with_more old s v shown is heard low high open_ same stays) h =
     let other = (and_both (not (s == m.core.who)) (is_member m.status) heard).0 in
     let flipped : (m.core.who == s) ≡ false = grind (arith, nat_tests) in
@@ -318,7 +312,7 @@ unfolding best_from
 own_best votes own vote best [] h none = h
 own_best votes own vote best (name ∷ names) h none = own_best votes own vote (better_of best name (votes name)) names (own_better own vote best name (votes name) h (λ same. ap votes same ∙ none)) none
 
-own_need : (m : Node) (b : Ballot) → ((best_of m b).by == m.core.who) ≡ true → b.votes m.core.who ≡ None → need_of m b ≡ members m
+pub own_need : (m : Node) (b : Ballot) → ((best_of m b).by == m.core.who) ≡ true → b.votes m.core.who ≡ None → need_of m b ≡ members m
 unfolding best_of OwnBest
 own_need m b own none =
     let same : (best_of m b).by ≡ m.core.who = grind (arith, nat_tests) in

@@ -1,5 +1,5 @@
 -- In each run no node trims more than its own application has taken.
-use Rattle.std.proofs.Common.{◌≡◌, ℕ, ◌+◌, ◌-◌, ◌<◌, ◌≤◌, ◌==◌, Bool, true, false, List, slice_index, refl, sym, ap, ◌∙◌, subst, arith}
+use Rattle.std.proofs.Common.{◌≡◌, ℕ, ◌+◌, ◌<◌, ◌==◌, true, List, slice_index, refl, subst, arith}
 use Rattle.std.specs.Prelude.{All}
 use Rattle.std.proofs.lemmas.Bool.Decides.{nat_tests}
 use Rattle.std.proofs.lemmas.List.Elements.{All-nil, All-append, All-weaker}
@@ -13,10 +13,10 @@ use Rattle.am_core.proofs.Lives.{used_fold}
 use Rattle.am_group.specs.declared.event.Event.{Event}
 use Rattle.am_model.specs.Node.{Node, founder, stranger, founding_stamp}
 use Rattle.am_model.specs.Emit.{Step}
-use Rattle.am_model.specs.World.{World, start, first_node, unchanged, stepped, run}
+use Rattle.am_model.specs.World.{World, start, unchanged, stepped, run}
 use Rattle.am_model.specs.Claims.{heard_by}
 use Rattle.am_model.proofs.Greatest.{split}
-use Rattle.am_effects.specs.Causes.{Cause, hears}
+use Rattle.am_effects.specs.Causes.{Cause}
 use Rattle.am_effects.specs.Letters.{Says, request, spread, bcast, order, accept, ack, nack, hold, join_ask, welcome, leave_ask, gone, invite, vote, fetch, piece, result, hand_over, LetterSays}
 use Rattle.am_effects.specs.Changes.{Changes, unchanged as no_change, changed}
 use Rattle.am_effects.specs.Effects.{Effect}
@@ -31,7 +31,7 @@ use Rattle.am_laws.proofs.LeaderRows.{JoinsFit, first_member, used_blank}
 use Rattle.am_laws.proofs.Named.{few_names}
 use Rattle.am_laws.proofs.ViewNames.{HasNames, HeardNames, change_names}
 use Rattle.am_laws.proofs.ViewChanges.{Balloted, change_does}
-use Rattle.am_laws.proofs.Views.{NodeKept, AllViews, heard_names, views_start}
+use Rattle.am_laws.proofs.Views.{heard_names, views_start}
 use Rattle.am_laws.proofs.Blank.{Blanked, change_blank, AllBlank, each_blank, first_blank}
 use Rattle.am_laws.proofs.Taken.{Fronts, Owned, WelcomeUsed, HeardUsed, change_owned}
 
@@ -88,7 +88,7 @@ pub record AllOwned (rules : Rules) (w : World) : Type 0 where
   pub each : (name : ℕ) → name < 256 → Owned (w.nodes name)
   pub letters : All UsedLetter w.letters
 
-heard_used : (rules : Rules) (w : World) (e : Event) (c : Cause) → AllOwned rules w → IsCause w (actor w e) e.act c → HeardUsed c
+pub heard_used : (rules : Rules) (w : World) (e : Event) (c : Cause) → AllOwned rules w → IsCause w (actor w e) e.act c → HeardUsed c
 heard_used rules w e c h cause p is =
     let was : WasSentTo w (actor w e) e.act p = subst (IsCause w (actor w e) e.act) is cause in
     subst WelcomeUsed was.is (all_item UsedLetter w.letters (heard_by e.act) was.letter h.letters was.there)
@@ -146,7 +146,7 @@ stranger_owned rules name = record {
   vote = tt;
 }
 
-owned_start : (rules : Rules) → MayFound rules → AllOwned rules (start rules)
+pub owned_start : (rules : Rules) → MayFound rules → AllOwned rules (start rules)
 owned_start rules may = record {
   blanks = record { views = views_start rules may; each = λ name low. first_blank rules name };
   kept = λ name. split (has rules.founders name) (λ t. rw t (kept_founder rules name)) (λ f. rw f (kept_stranger rules name));
