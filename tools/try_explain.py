@@ -1,13 +1,16 @@
 """Tries the program and tools/explain.py on scripts that are refused.
 
-    python3 tools/try_explain.py PROGRAM FOLDER
+    python3 tools/try_explain.py PROGRAM FOLDER COMMAND
 
 FOLDER has scripts NAME.json, and beside each NAME.cause, the line that `PROGRAM play < NAME.json` must write on standard error,
 with status 2 and nothing on standard output; and sentences.txt, a line `NAME: SENTENCE` with what tools/explain.py must say of
-each. Each cause must be there, and of each key every cause that it can have. It prints what fails, and how many passed.
+each. Each cause must be there, and of each key every cause that it can have. COMMAND, which is ./muoswyld, must write the line
+alone, and the sentence below it where standard error is a terminal. It prints what fails, and how many passed.
 """
 
+import os
 import pathlib
+import pty
 import re
 import subprocess
 import sys
@@ -47,8 +50,35 @@ def faults(program, script, sentences):
         yield f"'{said}' and not '{sentences.get(script.stem)}'"
 
 
+def at_a_terminal(command, script):
+    """What a command writes on standard error where that is a terminal, and its status."""
+    ours, theirs = pty.openpty()
+    with script.open("rb") as words:
+        ran = subprocess.run([command, "play"], stdin=words, stdout=subprocess.DEVNULL, stderr=theirs)
+    os.close(theirs)
+    said = b""
+    try:
+        while part := os.read(ours, 4096):
+            said += part
+    except OSError:
+        pass
+    os.close(ours)
+    return said.replace(b"\r\n", b"\n"), ran.returncode
+
+
+def faults_of_command(command, script, sentence):
+    """What is wrong with what ./muoswyld writes of a refusal."""
+    line = script.with_suffix(".cause").read_bytes()
+    with script.open("rb") as words:
+        ran = subprocess.run([command, "play"], stdin=words, capture_output=True)
+    if (ran.stdout, ran.stderr, ran.returncode) != (b"", line, 2):
+        yield f"{command} wrote {ran.stderr!r}, status {ran.returncode}"
+    if at_a_terminal(command, script) != (line + sentence.encode() + b"\n", 2):
+        yield f"{command} wrote {at_a_terminal(command, script)} at a terminal"
+
+
 def main():
-    program, folder = sys.argv[1], pathlib.Path(sys.argv[2])
+    program, folder, command = sys.argv[1], pathlib.Path(sys.argv[2]), sys.argv[3]
     lines = (folder / "sentences.txt").read_text().splitlines()
     sentences = dict(line.split(": ", 1) for line in lines)
     scripts = sorted(folder.glob("*.json"))
@@ -62,6 +92,9 @@ def main():
         seen |= {cause, covered(cause, sentences.get(script.stem, ""))}
     for absent in sorted(map(str, (set(wanted()) | set(range(1, 6))) - seen)):
         print(f"there is no script for {absent}")
+        failed += 1
+    for line in faults_of_command(command, scripts[0], sentences[scripts[0].stem]):
+        print(line)
         failed += 1
     if sorted(sentences) != [script.stem for script in scripts]:
         print("sentences.txt doesn't have a line for each script, in order")
