@@ -5,6 +5,7 @@ use am_base::name::Name;
 use am_base::names::Names;
 use am_base::outcome::Outcome;
 use am_group::event::{Act, Event};
+use std::process::Abort;
 use std::test::*;
 
 fn does(world: &mut World, place: u8, act: Act) -> Result<Outcome, Fail> {
@@ -80,7 +81,7 @@ fn a_place_has_sixteen_lives(rt: HostRuntime) -> Result<(), Fail> {
 }
 
 /// Does an event. Where there is no memory for it, all is as it was, and the event can be done again.
-fn does_at_last(rt: &HostRuntime, world: &mut World, place: u8, act: Act) -> Result<(), Fail> {
+fn does_at_last(rt: &impl Abort, world: &mut World, place: u8, act: Act) -> Result<(), Fail> {
     let event = Event {
         node: Name::of_byte(place),
         act,
