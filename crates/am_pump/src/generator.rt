@@ -1,0 +1,182 @@
+ghost use Rattle.std.specs.Prelude.{◌≡◌, ◌<◌, ◌≤◌};
+ghost use Rattle.rand_pcg.specs.Pcg.{pcg32};
+ghost use Rattle.am_pump.specs.Choices.{draw, drawn};
+ghost use Rattle.am_pump.specs.Generating.{generated_rules, turn_of, counting};
+
+use crate::chooser::Chooser;
+use crate::progress::Progress;
+use am_base::NoMemory;
+use am_base::body::Body;
+use am_base::founding::Founding;
+use am_base::name::Name;
+use am_base::names::Names;
+use am_base::outcome::Outcome;
+use am_group::event::{Act, Event};
+use am_world::world::{World, WorldRefusal};
+use rand_pcg::Lcg64Xsh32;
+use rand_pcg::rand_core::utils::NextWord;
+use std::alloc::Global;
+use std::array;
+use std::marker::Model;
+
+/// The most bytes of a body that is drawn.
+const MOST_DRAWN: usize = 512;
+
+/// What a place does at its turn.
+#[derive(Clone, Copy, PartialEq, Eq, Debug)]
+pub enum Turn {
+    /// It sends a body of a drawn size.
+    Send,
+    /// It asks what came of its next send.
+    Done,
+    /// It takes the next accepted entry.
+    Take,
+    /// Time passes.
+    Tick,
+    /// What the chooser says.
+    Choose,
+}
+
+/// What a number below 16 asks for.
+fn turn_of(number: u32) -> Turn
+    ensures { result ≡ turn_of number }
+{
+    match number {
+        0..=1 => Turn::Send,
+        2 => Turn::Done,
+        3..=5 => Turn::Take,
+        6 => Turn::Tick,
+        _ => Turn::Choose,
+    }
+}
+
+/// The next word modulo a number.
+fn draw(words: &mut Lcg64Xsh32, bound: u32) -> u32
+    requires { 0 < bound }
+    ensures value { result ≡ draw words.old bound }
+    ensures drawn { words.new ≡ drawn words.old }
+{
+    words.next_word() % bound
+}
+
+/// A body whose bytes count on from a number.
+fn counting(number: usize, size: usize) -> Body
+    requires number { number ≤ 100001 }
+    requires size { size ≤ 512 }
+    ensures { result ≡ counting number size }
+{
+    let bytes: [u8; MOST_DRAWN] = array::from_fn(|index| ((number + index) % 256) as u8);
+    match Body::of(&bytes[..size]) {
+        Some(body) => body,
+        None => unreachable!(),
+    }
+}
+
+/// Places 0 to 3 found the group of a generated run.
+fn founding() -> Founding
+    ensures { result ≡ generated_rules }
+{
+    match Founding::new(Names::of_mask(15), 1, 16, 256) {
+        Some(founding) => founding,
+        None => unreachable!(),
+    }
+}
+
+/// A run that goes on by the words of a seed.
+#[derive(Drop)]
+pub struct Generator {
+    world: World,
+    words: Lcg64Xsh32,
+    chooser: Chooser,
+    progress: [Progress; 4],
+    sent: [u32; 4],
+}
+
+impl Model for Generator {
+    ghost use Rattle.am_pump.specs.Generating.{Drive};
+    ghost use Rattle.am_pump.specs.Counts.{AreSent};
+    ghost use Rattle.am_world.specs.Runs.{replay};
+
+    ghost Value = { Drive };
+
+    ghost view = { λ g. record { play = g.world; words = g.words; luck = g.chooser; progress = g.progress } };
+
+    ghost invariant = { λ g. AreSent g.sent (replay g.world) };
+}
+
+impl Generator {
+    ghost use Rattle.std.specs.Prelude.{◌↔◌, OnOk, OnErr, IfOk, Err, length};
+    ghost use Rattle.am_pump.specs.Generating.{begun, act_at, turned, driven};
+    ghost use Rattle.am_world.specs.declared.world.WorldRefusal.TheVariants as refusals;
+
+    /// The run of a seed, to which nothing has happened.
+    pub fn new(alloc: Global, seed: u64) -> Result<Generator, NoMemory>
+        ensures { IfOk result (λ g. g ≡ begun seed) }
+    {
+        Ok(Generator {
+            world: World::new(alloc, &founding())?,
+            words: Lcg64Xsh32::new(seed, 1000),
+            chooser: Chooser::new(seed, 1001, 10, 5),
+            progress: [Progress::new(); 4],
+            sent: [0; 4],
+        })
+    }
+
+    /// What the chooser says for a place.
+    fn choose(&mut self, place: u8) -> Act
+        requires { place < 4 }
+        ensures act { result ≡ act_at self.old place Turn.Choose }
+        ensures turned { self.new ≡ turned self.old place Turn.Choose }
+    {
+        let at = usize::from(place);
+        let progress = self.progress[at];
+        let ahead = progress.ahead(self.world.journal(), Name::of_byte(place));
+        let choice = self.chooser.choose(ahead, progress.last);
+        self.progress[at] = progress.after(choice);
+        choice.act()
+    }
+
+    /// What a place does at its turn, where all is drawn that is to be drawn for it.
+    fn act(&mut self, place: u8, turn: Turn) -> Act
+        requires { place < 4 }
+        ensures act { result ≡ act_at self.old place turn }
+        ensures turned { self.new ≡ turned self.old place turn }
+    {
+        match turn {
+            Turn::Send => {
+                let number = self.world.journal().records().len() + 1;
+                let size = draw(&mut self.words, 513) as usize;
+                Act::Send(counting(number, size))
+            }
+            Turn::Done => Act::Done(self.sent[usize::from(place)] + 1),
+            Turn::Take => Act::Take,
+            Turn::Tick => Act::Tick,
+            Turn::Choose => self.choose(place),
+        }
+    }
+
+    /// Does the next event. After a refusal nothing more is done: NoMemory where there is no memory for it, and Spent exactly
+    /// where 100,000 events were done.
+    pub fn step(&mut self) -> Result<(), WorldRefusal>
+        ensures ok { OnOk result (self.new ≡ driven self.old) }
+        ensures spent { (result ≡ Err refusals.Spent) ↔ (length self.old.play.events ≡ 100000) }
+        ensures err { OnErr result (self.new.play ≡ self.old.play) }
+    {
+        let place = draw(&mut self.words, 4) as u8;
+        let turn = turn_of(draw(&mut self.words, 16));
+        let act = self.act(place, turn);
+        let node = Name::of_byte(place);
+        let outcome = self.world.step(&Event { node, act })?;
+        if matches!(outcome, Outcome::Sent { .. }) {
+            self.sent[usize::from(place)] += 1;
+        }
+        Ok(())
+    }
+
+    /// The group, after all that was done.
+    pub fn into_world(self) -> World
+        ensures { result ≡ self.play }
+    {
+        self.world
+    }
+}
