@@ -1,6 +1,7 @@
-//! The program: runs a script and prints what comes of it.
+//! The program: runs a script and prints what comes of it, or makes a run from two numbers and prints its summary.
 #![tactic(auto)]
 
+mod generating;
 mod playing;
 pub mod simulate;
 
@@ -33,7 +34,7 @@ fn answer(rt: &HostRuntime) -> Status {
 fn tell(rt: &impl Eprint, status: Status) -> io::Result<()> {
     match status {
         Status::Done => Ok(()),
-        Status::Usage => eprintln!(rt; "usage: play"),
+        Status::Usage => eprintln!(rt; "usage: play | gen --seed N --count N"),
         Status::BadScript(cause) => {
             let number = cause.number();
             let place = cause.place();

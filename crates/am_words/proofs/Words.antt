@@ -1,8 +1,9 @@
 -- Lists of one and of five words.
-use Rattle.std.proofs.Common.{◌≡◌, ◌≢◌, Bool, true, false, if◌then◌else◌, codes, ℕ, ◌+◌, ◌<◌, ◌≤◌, List, [], ◌∷◌, length, map, Bor, Option, Some, None, slice_index_or, refl, sym, ap, ◌∙◌, rules, arith}
+use Rattle.std.proofs.Common.{◌≡◌, ◌≢◌, Bool, true, false, if◌then◌else◌, codes, ℕ, ◌+◌, ◌<◌, ◌≤◌, List, [], ◌∷◌, length, map, Bor, Option, Some, None, slice_index_or, option_map, subst, refl, sym, ap, ◌∙◌, rules, arith}
 use Rattle.std.specs.Bool.{then_some}
 use Rattle.am_words.specs.declared.form.Form.TheVariants as form
-use Rattle.am_words.specs.Forms.{same, form_of}
+use Rattle.am_words.specs.declared.form.Numbers.{Numbers}
+use Rattle.am_words.specs.Forms.{same, form_of, gen_of, IsGen}
 
 abbrev texts : List (Bor (List ℕ)) → List (List ℕ)
 texts words = map (λ w. w.now) words
@@ -43,3 +44,21 @@ unfolding form_of
 play_form [] d b one is = absurd (omega arith)
 play_form (a ∷ []) d b one is = ap (λ t. then_some t form.Play) is ∙ then_if (same a.now (codes "play")) form.Play
 play_form (a ∷ c ∷ ws) d b one is = absurd (omega arith)
+
+not_play : (b : Bool) → IsGen (if b then Some form.Play else None) → ⊥
+not_play true is = is
+not_play false is = is
+
+-- words that are gen have numbers
+pub some_gen : (words : List (List ℕ)) → IsGen (form_of words) → gen_of words ≢ None
+unfolding form_of
+some_gen [] is none = is
+some_gen (a ∷ []) is none = not_play (same a (codes "play")) is
+some_gen (a ∷ b ∷ ws) is none = subst (λ n. IsGen (option_map form.Gen n)) none is
+
+-- and the form of these
+pub gen_form : (words : List (List ℕ)) (numbers : Numbers) → gen_of words ≡ Some numbers → form_of words ≡ Some (form.Gen numbers)
+unfolding form_of
+gen_form [] numbers is = absurd cc
+gen_form (a ∷ []) numbers is = absurd cc
+gen_form (a ∷ b ∷ ws) numbers is = ap (option_map form.Gen) is

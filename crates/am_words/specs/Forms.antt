@@ -56,3 +56,9 @@ gen_of words = numbers_in (texts_of words)
 unfoldable pub form_of : List (List ℕ) → Option Form
 form_of (word ∷ []) = if same word (codes "play") then Some form.Play else None
 form_of words = option_map form.Gen (gen_of words)
+
+-- the words are gen
+abbrev pub IsGen : Option Form → Type 0
+IsGen (Some (form.Gen numbers)) = Unit {0}
+IsGen (Some form.Play) = ⊥
+IsGen None = ⊥

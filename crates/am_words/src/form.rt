@@ -1,4 +1,4 @@
-ghost use Rattle.std.specs.Prelude.{◌≡◌, [], ◌∷◌, map, option_map};
+ghost use Rattle.std.specs.Prelude.{◌≡◌, ◌≤◌, [], ◌∷◌, map, IfSome};
 ghost use Rattle.std.specs.List.{list_all};
 ghost use Rattle.std.specs.Char.{is_ascii_digit};
 ghost use Rattle.am_words.specs.Forms.{form_of, number_of, numbers_of, has_options};
@@ -39,7 +39,8 @@ fn number_of(text: &str) -> Option<u64>
 
 /// The numbers that two texts write, of which the second is 1 to 100,000.
 pub(crate) fn numbers_of(seed: &str, count: &str) -> Option<Numbers>
-    ensures { result ≡ numbers_of seed.now count.now }
+    ensures value { result ≡ numbers_of seed.now count.now }
+    ensures few { IfSome result (λ numbers. numbers.count ≤ 100000) }
 {
     let seed = number_of(seed)?;
     let count = number_of(count)?;

@@ -1,6 +1,7 @@
-ghost use Rattle.std.specs.Prelude.{◌≡◌, ◌≢◌, map, option_map, None, Some, IfOk, IfErr};
+ghost use Rattle.std.specs.Prelude.{◌≡◌, ◌≢◌, ◌≤◌, map, option_map, None, Some, IfOk, IfErr};
 ghost use Rattle.clap.specs.Words.{kind_of};
-ghost use Rattle.am_words.specs.Forms.{gen_of, texts_of};
+ghost use Rattle.am_words.specs.declared.form.Form.TheVariants as form;
+ghost use Rattle.am_words.specs.Forms.{form_of, gen_of, texts_of, IsGen};
 
 use crate::form::{Numbers, numbers_of};
 use clap::error::ErrorKind;
@@ -27,10 +28,12 @@ fn texts<'a>(alloc: Global, words: &'a [&'a str]) -> Result<(Option<&'a str>, Op
     Ok((matches.get_str("seed"), matches.get_str("count")))
 }
 
-/// The numbers of the words of `gen`. It fails only for want of memory.
+/// The numbers of words that are `gen`. It fails only for want of memory.
+#[tactic(auto, using(crate::proofs::Words::some_gen, crate::proofs::Words::gen_form))]
 pub fn gen_numbers(alloc: Global, words: &[&str]) -> Result<Numbers, AllocError>
-    requires { gen_of (map (λ word. word.now) words.now) ≢ None }
-    ensures { IfOk result (λ numbers. gen_of (map (λ word. word.now) words.now) ≡ Some numbers) }
+    requires { IsGen (form_of (map (λ word. word.now) words.now)) }
+    ensures numbers { IfOk result (λ numbers. form_of (map (λ word. word.now) words.now) ≡ Some (form.Gen numbers)) }
+    ensures count { IfOk result (λ numbers. numbers.count ≤ 100000) }
 {
     let Ok((seed, count)) = texts(alloc, words) else {
         return Err(AllocError);
