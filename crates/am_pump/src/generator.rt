@@ -1,5 +1,5 @@
 ghost use Rattle.std.specs.Prelude.{◌≡◌, ◌<◌, ◌≤◌};
-ghost use Rattle.rand_pcg.specs.Pcg.{pcg32};
+ghost use Rattle.am_model.specs.Play.{is_sent};
 ghost use Rattle.am_pump.specs.Choices.{draw, drawn};
 ghost use Rattle.am_pump.specs.Generating.{generated_rules, turn_of, counting};
 
@@ -16,7 +16,6 @@ use am_world::world::{World, WorldRefusal};
 use rand_pcg::Lcg64Xsh32;
 use rand_pcg::rand_core::utils::NextWord;
 use std::alloc::Global;
-use std::array;
 use std::marker::Model;
 
 /// The most bytes of a body that is drawn.
@@ -65,14 +64,25 @@ fn counting(number: usize, size: usize) -> Body
     requires size { size ≤ 512 }
     ensures { result ≡ counting number size }
 {
-    let bytes: [u8; MOST_DRAWN] = array::from_fn(|index| ((number + index) % 256) as u8);
+    let mut bytes = [0; MOST_DRAWN];
+    for index in 0..size {
+        bytes[index] = ((number + index) % 256) as u8;
+    }
     match Body::of(&bytes[..size]) {
         Some(body) => body,
         None => unreachable!(),
     }
 }
 
+/// Whether a send was answered as sent.
+fn is_sent(outcome: &Outcome) -> bool
+    ensures { result ≡ is_sent outcome.now }
+{
+    matches!(outcome, Outcome::Sent { .. })
+}
+
 /// Places 0 to 3 found the group of a generated run.
+#[tactic(auto, using(crate::proofs::Rules::may_found))]
 fn founding() -> Founding
     ensures { result ≡ generated_rules }
 {
@@ -105,8 +115,10 @@ impl Model for Generator {
 }
 
 impl Generator {
-    ghost use Rattle.std.specs.Prelude.{◌↔◌, OnOk, OnErr, IfOk, Err, length};
-    ghost use Rattle.am_pump.specs.Generating.{begun, act_at, turned, driven};
+    ghost use Rattle.std.specs.Prelude.{OnOk, IfOk, IfErr, length};
+    ghost use Rattle.am_model.specs.Settle.{event_at};
+    ghost use Rattle.am_pump.specs.Generating.{begun, act_at, sent_by, turned, driven};
+    ghost use Rattle.am_world.specs.Runs.{after, replay};
     ghost use Rattle.am_world.specs.declared.world.WorldRefusal.TheVariants as refusals;
 
     /// The run of a seed, to which nothing has happened.
@@ -122,7 +134,19 @@ impl Generator {
         })
     }
 
+    /// How often a place was told that a send of its own stands in the list.
+    #[tactic(auto, using(crate::proofs::Drives::few_sent))]
+    fn sent_by(&self, place: u8) -> u32
+        requires { place < 4 }
+        ensures value { result ≡ sent_by (replay self.now.play) place }
+        ensures few { result ≤ 100000 }
+    {
+        let _few = self.world.journal().records().len();
+        self.sent[usize::from(place)]
+    }
+
     /// What the chooser says for a place.
+    #[tactic(auto, unfolding(crate::specs::Generating::act_at, crate::specs::Generating::turned))]
     fn choose(&mut self, place: u8) -> Act
         requires { place < 4 }
         ensures act { result ≡ act_at self.old place Turn.Choose }
@@ -136,41 +160,57 @@ impl Generator {
         choice.act()
     }
 
+    /// A place sends a body of a drawn size.
+    #[tactic(auto, unfolding(crate::specs::Generating::act_at, crate::specs::Generating::turned))]
+    fn send(&mut self, place: u8) -> Act
+        ensures act { result ≡ act_at self.old place Turn.Send }
+        ensures turned { self.new ≡ turned self.old place Turn.Send }
+    {
+        let number = self.world.journal().records().len() + 1;
+        let size = draw(&mut self.words, 513) as usize;
+        Act::Send(counting(number, size))
+    }
+
     /// What a place does at its turn, where all is drawn that is to be drawn for it.
+    #[tactic(auto, unfolding(crate::specs::Generating::act_at, crate::specs::Generating::turned))]
     fn act(&mut self, place: u8, turn: Turn) -> Act
         requires { place < 4 }
         ensures act { result ≡ act_at self.old place turn }
         ensures turned { self.new ≡ turned self.old place turn }
     {
         match turn {
-            Turn::Send => {
-                let number = self.world.journal().records().len() + 1;
-                let size = draw(&mut self.words, 513) as usize;
-                Act::Send(counting(number, size))
-            }
-            Turn::Done => Act::Done(self.sent[usize::from(place)] + 1),
+            Turn::Send => self.send(place),
+            Turn::Done => Act::Done(self.sent_by(place) + 1),
             Turn::Take => Act::Take,
             Turn::Tick => Act::Tick,
             Turn::Choose => self.choose(place),
         }
     }
 
-    /// Does the next event. After a refusal nothing more is done: NoMemory where there is no memory for it, and Spent exactly
-    /// where 100,000 events were done.
+    /// A place does an act.
+    fn happen(&mut self, place: u8, act: Act) -> Result<(), WorldRefusal>
+        requires { place < 4 }
+        ensures ok { OnOk result (self.new ≡ record self.old { play = after self.old.play (event_at place act) }) }
+        ensures spent { IfErr result (λ refusal. refusal ≡ refusals.Spent → length self.old.play.events ≡ 100000) }
+    {
+        let sent = self.sent_by(place);
+        let node = Name::of_byte(place);
+        let outcome = self.world.step(&Event { node, act })?;
+        self.sent[usize::from(place)] = sent + u32::from(is_sent(&outcome));
+        Ok(())
+    }
+
+    /// Does the next event. After a refusal nothing more is to be done: NoMemory where there is no memory for it, and Spent
+    /// only where 100,000 events were done.
+    #[tactic(auto, unfolding(crate::specs::Generating::driven))]
     pub fn step(&mut self) -> Result<(), WorldRefusal>
         ensures ok { OnOk result (self.new ≡ driven self.old) }
-        ensures spent { (result ≡ Err refusals.Spent) ↔ (length self.old.play.events ≡ 100000) }
-        ensures err { OnErr result (self.new.play ≡ self.old.play) }
+        ensures spent { IfErr result (λ refusal. refusal ≡ refusals.Spent → length self.old.play.events ≡ 100000) }
     {
         let place = draw(&mut self.words, 4) as u8;
         let turn = turn_of(draw(&mut self.words, 16));
         let act = self.act(place, turn);
-        let node = Name::of_byte(place);
-        let outcome = self.world.step(&Event { node, act })?;
-        if matches!(outcome, Outcome::Sent { .. }) {
-            self.sent[usize::from(place)] += 1;
-        }
-        Ok(())
+        self.happen(place, act)
     }
 
     /// The group, after all that was done.
