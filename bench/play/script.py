@@ -1,38 +1,28 @@
-"""Writes a script of 16 founders, 60 sends and 50,000 events of take, done and hear."""
+"""Writes a busy script: a group of four in which 1, 2 and 3 send in turn, and everybody hears and takes each entry.
 
+Usage: script.py EVENTS
+"""
 import json
-
-MEMBERS = range(16)
-SENDS = 60
-OTHERS = 50_000
+import sys
 
 
-def events():
-    for send in range(SENDS):
-        sender = 1 + send % 15
-        request, bcast = 2 * send + 1, 2 * send + 2
-        yield {"do": "send", "node": sender, "body": f"{send:02x}" * 256}
-        yield {"do": "hear", "node": 0, "packet": request}
-        for node in MEMBERS[1:]:
-            yield {"do": "hear", "node": node, "packet": bcast}
-        yield {"do": "done", "node": sender, "req": 1 + send // 15}
+def events(count):
+    """Events in turns of ten: a send, the sequencer hears it and tells all, each hears and takes it, the sender asks for it."""
+    made = []
+    letter = 0
+    turn = 0
+    while len(made) < count:
+        sender = 1 + turn % 3
+        made.append({"do": "send", "node": sender, "body": f"{turn:08x}"})
+        made.append({"do": "hear", "node": 0, "packet": letter + 1})
+        for node in (1, 2, 3):
+            made.append({"do": "hear", "node": node, "packet": letter + 2})
+        for node in (0, 1, 2, 3):
+            made.append({"do": "take", "node": node})
+        made.append({"do": "done", "node": sender, "req": 1 + turn // 3})
+        letter += 2
+        turn += 1
+    return made[:count]
 
 
-def others():
-    while True:
-        for packet in range(2, 2 * SENDS + 1, 2):
-            for node in MEMBERS:
-                yield {"do": "take", "node": node}
-                yield {"do": "hear", "node": node, "packet": packet}
-                yield {"do": "done", "node": node, "req": 1}
-
-
-def script():
-    told = list(events())
-    fill = others()
-    while len(told) < OTHERS + SENDS:
-        told.append(next(fill))
-    return {"play": {"founders": list(MEMBERS), "events": told}}
-
-
-print(json.dumps(script()))
+json.dump({"play": {"founders": [0, 1, 2, 3], "events": events(int(sys.argv[1]))}}, sys.stdout, separators=(",", ":"))

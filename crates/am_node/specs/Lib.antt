@@ -1,3 +1,4 @@
+pub mod Info
 pub mod Nodes
 pub mod Stands
 pub mod Heard

@@ -5,4 +5,5 @@ mod acting;
 pub mod founding;
 mod gate;
 mod hearing;
+pub mod info;
 pub mod node;

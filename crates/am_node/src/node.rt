@@ -1,5 +1,6 @@
 use crate::acting::on_event;
 use crate::founding;
+use crate::info::{self, BallotEnd, Info};
 use am_base::entry::Entry;
 use am_base::event::NodeEvent;
 use am_base::founding::Founding;
@@ -21,6 +22,7 @@ pub struct Node {
 
 impl Node {
     ghost use Rattle.std.specs.Prelude.{◌≡◌, ◌≤◌, [], length, true, false, IfOk};
+    ghost use Rattle.std.specs.Prelude.{option_map};
     ghost use Rattle.std.specs.Option.{option_copied};
     ghost use Rattle.am_base.specs.Names.{has};
     ghost use Rattle.am_base.specs.Lists.{entry_at};
@@ -28,6 +30,8 @@ impl Node {
     ghost use Rattle.am_model.specs.Node.{founder, stranger, top, told, view, members};
     ghost use Rattle.am_model.specs.Step.{row};
     ghost use Rattle.am_model.specs.Ends.{Tells, Does};
+    ghost use Rattle.am_sender.specs.Sends.{is_settled};
+    ghost use Rattle.am_node.specs.Info.{info_of, ballot_end, waited_for};
     ghost use Rattle.am_node.specs.Nodes.{HasNumbersLeft};
     ghost use Rattle.am_node.specs.Stands.{state_of};
 
@@ -60,6 +64,35 @@ impl Node {
         Ok(Node {
             parts: founding::stranger(alloc, name, founding)?,
         })
+    }
+
+    /// What it knows of itself and of its group.
+    pub fn info(&self) -> Info
+        ensures value { result ≡ info_of (state_of self.now) }
+        ensures tells { Tells info_of (state_of self.now) result }
+    {
+        info::info_of(&self.parts)
+    }
+
+    /// Whether its send of a request has its number, and isn't collected yet.
+    pub fn settled(&self, req: u32) -> bool
+        ensures { result ≡ is_settled req (state_of self.now).sends }
+    {
+        self.parts.sender.settled(req)
+    }
+
+    /// How its ballot of a round stands; None where its last ballot's round is lower, or it had none.
+    pub fn ballot(&self, round: u32) -> Option<BallotEnd>
+        ensures { result ≡ ballot_end round (state_of self.now).ballot }
+    {
+        info::ballot_end(&self.parts.ballot, round)
+    }
+
+    /// The names whose votes its ballot still wants; nobody where it has none, or it is over.
+    pub fn waits_for(&self) -> Names
+        ensures { result ≡ waited_for (state_of self.now).ballot }
+    {
+        info::waited_for(&self.parts.ballot)
     }
 
     /// Its name.

@@ -143,6 +143,14 @@ impl Run {
         &self.journal
     }
 
+    /// The records alone: all else is let go.
+    pub fn into_journal(self) -> Journal
+        ensures founding { result.founding ≡ self.rules }
+        ensures records { result.records ≡ (replay self).records }
+    {
+        self.journal
+    }
+
     /// The group list.
     pub fn group(&self) -> &[Entry]
         ensures value { result.now ≡ (replay self.now).group }

@@ -12,6 +12,7 @@ use am_base::name::Name;
 use am_base::outcome::Outcome;
 use am_group::event::Event;
 use am_group::journal::Journal;
+use am_node::info::Info;
 use am_node::node::Node;
 use am_watch::watcher::Watcher;
 use std::alloc::Global;
@@ -78,6 +79,7 @@ impl World {
     ghost use Rattle.am_model.specs.Group.{has_log};
     ghost use Rattle.am_model.specs.Lawful.{broken_at};
     ghost use Rattle.am_model.specs.Ends.{IsEndOf};
+    ghost use Rattle.am_node.specs.Info.{info_of};
     ghost use Rattle.am_node.specs.Stands.{state_of};
     ghost use Rattle.am_world.specs.Runs.{after, Answers, replay};
     ghost use Rattle.am_world.specs.Asked.{answered, comes, IsNextLife};
@@ -101,6 +103,14 @@ impl World {
         ensures letters { letters_of result.now.records ≡ (replay self.now).letters }
     {
         self.run.journal()
+    }
+
+    /// The records alone: all else is let go.
+    pub fn into_journal(self) -> Journal
+        ensures founding { result.founding ≡ self.rules }
+        ensures records { result.records ≡ (replay self).records }
+    {
+        self.run.into_journal()
     }
 
     /// The group list.
@@ -130,6 +140,13 @@ impl World {
         ensures { IsEndOf ((replay self.now).nodes (current (replay self.now) (place_of place))) (state_of result.now) }
     {
         self.run.node(place)
+    }
+
+    /// What the node of a place's current name knows of itself and of its group.
+    pub fn info(&self, place: Name) -> Info
+        ensures { result ≡ info_of ((replay self.now).nodes (current (replay self.now) (place_of place))) }
+    {
+        self.run.node(place).info()
     }
 
     /// Whether a name has or had a list: it is a member, or has left.

@@ -1,0 +1,145 @@
+ghost use Rattle.std.specs.Prelude.{◌≡◌, option_map};
+ghost use Rattle.am_ballots.specs.Kept.{ballot_of};
+ghost use Rattle.am_handlers.specs.Parts.{node_of};
+ghost use Rattle.am_node.specs.Info.{role_by, role_of, info_of, waited_in, waited_for, end_of, ballot_end};
+
+use am_ballots::ballot::Ballot;
+use am_base::name::Stamp;
+use am_base::names::Names;
+use am_base::outcome::Outcome;
+use am_core::log::Log;
+use am_handlers::parts::Parts;
+use am_model::status::Status;
+
+/// What a node is to its group.
+#[derive(Clone, Copy, PartialEq, Eq, Debug)]
+pub enum Role {
+    /// It has no list and has not asked for one.
+    Stranger,
+    /// It has asked to join.
+    Asking,
+    /// It has a list.
+    Member,
+    /// It numbers its group's entries.
+    Sequencer,
+    /// It has a ballot that isn't over.
+    Coordinator,
+    /// It has left.
+    Departed,
+}
+
+/// What a node knows of itself and of its group: the answer of GetInfoGroup (docs/PROTOCOL.md, "A node").
+#[derive(Clone, Copy, PartialEq, Eq, Debug)]
+pub struct Info {
+    /// What it is to its group.
+    pub role: Role,
+    /// The stamp of the last View of its list.
+    pub view: Stamp,
+    /// The members after its last entry.
+    pub members: Names,
+    /// The number up to which its list is trimmed.
+    pub base: u32,
+    /// The number up to which its application has taken entries.
+    pub taken: u32,
+    /// The number up to which it knows the list to be accepted.
+    pub accepted: u32,
+    /// The number of its last entry.
+    pub top: u32,
+    /// The greatest stamp that it has promised to follow.
+    pub promise: Stamp,
+}
+
+/// How a ballot stands.
+#[derive(Drop, Debug)]
+pub enum BallotEnd {
+    /// It isn't over; this was last decided on it.
+    Going(Outcome),
+    /// It ended with this.
+    Ended(Outcome),
+}
+
+fn role_by(status: Status) -> Role
+    ensures { result ≡ role_by status }
+{
+    match status {
+        Status::Stranger => Role::Stranger,
+        Status::Asking => Role::Asking,
+        Status::Member => Role::Member,
+        Status::Departed => Role::Departed,
+    }
+}
+
+fn role_of(parts: &Parts) -> Role
+    ensures { result ≡ role_of (node_of parts.now) }
+{
+    if let Some(ballot) = &parts.ballot {
+        if !ballot.is_over() {
+            return Role::Coordinator;
+        }
+    }
+    if parts.is_sequencer() {
+        return Role::Sequencer;
+    }
+    role_by(parts.status)
+}
+
+/// What a node knows of itself and of its group.
+pub fn info_of(parts: &Parts) -> Info
+    ensures { result ≡ info_of (node_of parts.now) }
+{
+    let log = &parts.core.log;
+    Info {
+        role: role_of(parts),
+        view: log.view(),
+        members: log.members_after(log.top()),
+        base: log.base(),
+        taken: parts.core.taken,
+        accepted: parts.core.acc,
+        top: log.top(),
+        promise: parts.core.promise,
+    }
+}
+
+fn waited_in(answer: &Outcome) -> Names
+    ensures { result ≡ waited_in answer.now }
+{
+    match answer {
+        Outcome::Waiting { names } => *names,
+        _ => Names::empty(),
+    }
+}
+
+/// The names whose votes a ballot still wants; nobody where there is none or it is over.
+pub fn waited_for(ballot: &Option<Ballot>) -> Names
+    ensures { result ≡ waited_for (option_map ballot_of ballot.now) }
+{
+    match ballot {
+        Some(ballot) if !ballot.is_over() => waited_in(ballot.answer()),
+        _ => Names::empty(),
+    }
+}
+
+fn end_of(ballot: &Ballot) -> BallotEnd
+    ensures { result ≡ end_of (ballot_of ballot.now) }
+{
+    let answer = ballot.answer().copied();
+    if ballot.is_over() {
+        return BallotEnd::Ended(answer);
+    }
+    BallotEnd::Going(answer)
+}
+
+/// How the ballot of a round stands; None where the last ballot's round is lower, or there is none.
+pub fn ballot_end(ballot: &Option<Ballot>, round: u32) -> Option<BallotEnd>
+    ensures { result ≡ ballot_end round (option_map ballot_of ballot.now) }
+{
+    let ballot = ballot.as_ref()?;
+    let stamp = ballot.stamp();
+    if stamp.round < round {
+        return None;
+    }
+    if round < stamp.round {
+        return Some(BallotEnd::Ended(Outcome::Overtaken { by: stamp }));
+    }
+    Some(end_of(ballot))
+}
