@@ -1,4 +1,4 @@
-ghost use Rattle.std.specs.Prelude.{◌≡◌, ◌≤◌, IfOk, string_bytes};
+ghost use Rattle.std.specs.Prelude.{◌≡◌, ◌≤◌, IfOk, length, string_bytes};
 ghost use Rattle.am_pump.specs.Generating.{generated_rules, generated};
 ghost use Rattle.am_sim.specs.Simulation.{Generated};
 
@@ -12,7 +12,8 @@ use std::alloc::Global;
 /// The group of two numbers, of which the second is at most 100,000.
 fn generated_world(alloc: Global, numbers: Numbers) -> Result<World, NoMemory>
     requires { numbers.count ≤ 100000 }
-    ensures { IfOk result (λ world. world ≡ record { rules = generated_rules; events = generated numbers.seed numbers.count }) }
+    ensures world { IfOk result (λ world. world ≡ record { rules = generated_rules; events = generated numbers.seed numbers.count }) }
+    ensures count { IfOk result (λ world. length world.events ≡ numbers.count) }
 {
     match generate(alloc, numbers.seed, numbers.count) {
         Ok(world) => Ok(world),
@@ -28,5 +29,6 @@ pub fn summary_of_run(alloc: Global, numbers: Numbers) -> Result<String, NoMemor
 {
     let world = generated_world(alloc, numbers)?;
     let broken = world.broken();
-    summary_text(alloc, world.journal(), world.group(), broken)
+    let text = summary_text(alloc, world.journal(), world.group(), broken)?;
+    Ok(text)
 }

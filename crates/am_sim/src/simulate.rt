@@ -106,10 +106,10 @@ fn generate_run<K: Sink>(alloc: Global, words: &[&str], sink: &mut K) -> Status
     let Ok(text) = summary_of(alloc, words) else {
         return Status::NoMemory;
     };
-    match write_all(sink, text.as_bytes()) {
-        Ok(()) => Status::Done,
-        Err(_) => Status::WriteFault,
+    if write_all(sink, text.as_bytes()).is_err() {
+        return Status::WriteFault;
     }
+    Status::Done
 }
 
 /// The summary of the run of the words of `gen`.
@@ -218,7 +218,7 @@ mod tests {
 
     const TICK: &str = "{\"play\":{\"founders\":[0],\"events\":[{\"do\":\"tick\",\"node\":0}]}}";
 
-    const TICKED: &str = "1 tick 0 ticked\ngroup 1 view 1.0 0\nlog 0 empty\nlawful\n";
+    const TICKED: &str = "1 tick 0 : ticked\ngroup 1 view 1.0 0\nlog 0 empty\nlawful\n";
 
     const TEXT: &str = "group 1 view 1.0 0,1\nlog 0 empty\nlog 1 empty\nlawful\n";
 

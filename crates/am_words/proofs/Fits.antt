@@ -130,13 +130,13 @@ fits (w ∷ f ∷ a ∷ g ∷ []) some = absurd (some refl)
 fits (w ∷ f ∷ a ∷ g ∷ b ∷ []) some =
     split (has_options w f g (codes "--seed") (codes "--count"))
     (λ is.
-        let numbers = some_first w f a g b some is in
-        subst Fits (sym (are_options w f a g b (codes "--seed") (codes "--count") is))
-        (fits_first a b (is_word a (first_some (number_of a) (number_of b) numbers)) (is_word b (second_some (number_of a) (number_of b) numbers))))
+    let numbers = some_first w f a g b some is in
+    subst Fits (sym (are_options w f a g b (codes "--seed") (codes "--count") is))
+    (fits_first a b (is_word a (first_some (number_of a) (number_of b) numbers)) (is_word b (second_some (number_of a) (number_of b) numbers))))
     (λ other. split (has_options w f g (codes "--count") (codes "--seed"))
     (λ is.
-        let numbers = some_back w f a g b some other is in
-        subst Fits (sym (are_options w f a g b (codes "--count") (codes "--seed") is))
-        (fits_back b a (is_word b (first_some (number_of b) (number_of a) numbers)) (is_word a (second_some (number_of b) (number_of a) numbers))))
+    let numbers = some_back w f a g b some other is in
+    subst Fits (sym (are_options w f a g b (codes "--count") (codes "--seed") is))
+    (fits_back b a (is_word b (first_some (number_of b) (number_of a) numbers)) (is_word a (second_some (number_of b) (number_of a) numbers))))
     (λ none. absurd (some (none_left w f a g b other none))))
 fits (w ∷ f ∷ a ∷ g ∷ b ∷ h ∷ ws) some = absurd (some refl)

@@ -9,7 +9,10 @@ use clap::{Arg, ArgAction, Command, Error};
 use std::alloc::{AllocError, Global};
 
 /// The texts of the two options of `gen`. The parse fails only for want of memory.
-fn texts<'a>(alloc: Global, words: &'a [&'a str]) -> Result<(Option<&'a str>, Option<&'a str>), Error>
+fn texts<'a>(
+    alloc: Global,
+    words: &'a [&'a str],
+) -> Result<(Option<&'a str>, Option<&'a str>), Error>
     requires { gen_of (map (λ word. word.now) words.now) ≢ None }
     ensures seed { IfOk result (λ r. option_map (λ s. s.now) r.0 ≡ option_map (λ t. t.0) (texts_of (map (λ word. word.now) words.entry.now))) }
     ensures count { IfOk result (λ r. option_map (λ s. s.now) r.1 ≡ option_map (λ t. t.1) (texts_of (map (λ word. word.now) words.entry.now))) }
