@@ -1,5 +1,5 @@
 -- The words of `gen` fit its command.
-use Rattle.std.proofs.Common.{rules, ap, ap₂, refl, sym, subst, codes, true, false, Bool, map, List, [], ◌∷◌, ◌≡◌, ◌≢◌, ◌∙◌, ◌==◌, ◌&&◌, ℕ, true≢false, Option, Some, None, option_map, arith}
+use Rattle.std.proofs.Common.{refl, sym, subst, codes, true, false, Bool, List, [], ◌∷◌, ◌≡◌, ◌≢◌, ◌==◌, ◌&&◌, ℕ, true≢false, Option, Some, None, option_map, arith}
 use Rattle.std.specs.Char.{is_ascii_digit}
 use Rattle.std.proofs.lemmas.Bool.Decides.{nat_tests}
 use Rattle.std.specs.Cmp.Lexicographic.{same_text}
@@ -7,8 +7,7 @@ use Rattle.clap.specs.Words.{App, Rule, Text, first_of, is_simple, new_app, new_
 use Rattle.clap.specs.Simple.{matches_of}
 use Rattle.clap.specs.declared.builder.action.ArgAction.TheVariants.{Set}
 use Rattle.clap.proofs.OnLiterals.{clap_on_literals}
-use Rattle.am_words.specs.declared.form.Numbers.{Numbers}
-use Rattle.am_words.specs.Forms.{same, number_of, with_numbers, has_options, texts_of, numbers_in, gen_of}
+use Rattle.am_words.specs.Forms.{same, number_of, with_numbers, has_options, texts_of, gen_of}
 
 -- ---- the command, and words that fit it
 

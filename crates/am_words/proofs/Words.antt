@@ -1,5 +1,5 @@
 -- Lists of one and of five words.
-use Rattle.std.proofs.Common.{◌≡◌, ◌≢◌, Bool, true, false, if◌then◌else◌, codes, ℕ, ◌+◌, ◌<◌, ◌≤◌, List, [], ◌∷◌, length, map, Bor, Option, Some, None, slice_index_or, option_map, subst, refl, sym, ap, ◌∙◌, rules, arith}
+use Rattle.std.proofs.Common.{◌≡◌, ◌≢◌, Bool, true, false, if◌then◌else◌, codes, ℕ, List, [], ◌∷◌, length, map, Bor, Some, None, slice_index_or, option_map, subst, refl, ap, ◌∙◌, arith}
 use Rattle.std.specs.Bool.{then_some}
 use Rattle.am_words.specs.declared.form.Form.TheVariants as form
 use Rattle.am_words.specs.declared.form.Numbers.{Numbers}

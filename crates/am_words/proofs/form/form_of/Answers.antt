@@ -1,5 +1,4 @@
-use Rattle.std.proofs.Common.{◌≡◌, length, sym, ap, ◌∙◌, arith}
-use Rattle.am_words.specs.Forms.{form_of}
+use Rattle.std.proofs.Common.{◌≡◌, length, ◌∙◌, arith}
 use Rattle.am_words.proofs.Words.{play_form, no_form}
 use Rattle.am_words.proofs.form.form_of.Goals as goal
 

@@ -1,6 +1,5 @@
-use Rattle.std.proofs.Common.{rules, ap, ap₂, sym, ◌∙◌, ◌≡◌, List, map, codes, true, Some, option_map}
-use Rattle.clap.specs.Words.{App, app_of, rule_of, with_rule, is_simple, takes, first_of, first_value, found_of, kind_of}
-use Rattle.clap.specs.Walk.{rows_of, Text}
+use Rattle.std.proofs.Common.{rules, ap, ap₂, ◌∙◌, ◌≡◌, map, codes}
+use Rattle.clap.specs.Words.{App, app_of, rule_of, with_rule, is_simple, takes, first_of, found_of}
 use Rattle.clap.specs.Simple.{matches_of}
 use Rattle.clap.proofs.WalkLemmas.{first_value-rows}
 use Rattle.am_words.proofs.Fits.{option_rule, gen_app, simple, fits}
