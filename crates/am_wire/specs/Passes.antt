@@ -1,0 +1,48 @@
+-- Wires and passes as contracts see them.
+use Rattle.std.specs.Prelude.{◌≡◌, ℕ, ◌<◌, List, [], ◌∷◌, ◌++◌, length, true, false}
+use Rattle.atomic_table.specs.Seated.{TableId}
+use Rattle.am_base.specs.Founding.{Rules}
+use Rattle.am_group.specs.declared.event.Record.{Record}
+use Rattle.am_wire.specs.declared.rule.Key.{Key}
+use Rattle.am_wire.specs.declared.rule.View.{View}
+use Rattle.am_wire.specs.Keys.{times, is_key}
+use Rattle.am_wire.specs.Seats.{GoesOn}
+
+-- a wire: which one it is, how its group begins, and how many callers there are
+pub record Line : Type 0 where
+  pub id : TableId
+  pub founding : Rules
+  pub callers : ℕ
+
+-- a pass: of which wire it is, whose records it knows, and what it has seen of the journal
+pub record Known : Type 0 where
+  pub wire : TableId
+  pub keys : List Key
+  pub seen : List Record
+
+-- a pass with one key, which has seen nothing
+abbrev pub fresh : TableId → Key → Known
+fresh wire key = record { wire = wire; keys = key ∷ []; seen = [] }
+
+-- the pass of the one seat
+abbrev pub known_by : TableId → List View → Known
+known_by wire [] = record { wire = wire; keys = []; seen = [] }
+known_by wire (v ∷ vs) = record { wire = wire; keys = v.keys; seen = v.seen }
+
+-- there is one seat, between two calls, and it has a key
+pub record Rests (views : List View) : Type 0 where
+  pub its : View
+  pub one : views ≡ its ∷ []
+  pub turn : its.turn ≡ false
+  pub older : its.older ≡ []
+  pub keyed : 0 < length its.keys
+
+-- a pass has each key of a wire
+abbrev pub HasAll : ℕ → List Key → Type 0
+HasAll callers keys = (key : Key) → is_key callers key ≡ true → 0 < times key keys
+
+-- the same pass, whose journal went on from what it had seen, with no record more of its keys
+pub record Sees (p p' : Known) : Type 0 where
+  pub wire : p'.wire ≡ p.wire
+  pub keys : p'.keys ≡ p.keys
+  pub goes : GoesOn p.keys p.seen p'.seen
