@@ -1,5 +1,5 @@
 -- Each step of a wire keeps its rule.
-use Rattle.std.proofs.Common.{◌≡◌, ◌≢◌, ◌⊎◌, ℕ, zero, suc, ◌+◌, ◌*◌, ◌%◌, ◌^◌, ◌<◌, ◌≤◌, Bool, cond, nat_lt, true, false, true≢false, eqb, List, [], ◌∷◌, ◌++◌, length, take, drop, get_or, set, sym, refl, ap, ◌∙◌, subst, inl, inr, arith, append-nil, append_assoc, length-append, ap₂, length-set, get_or-set_same, eq-eqb, ne_eqb}
+use Rattle.std.proofs.Common.{◌≡◌, ◌≢◌, ◌⊎◌, ℕ, zero, suc, ◌+◌, ◌*◌, ◌%◌, ◌^◌, ◌<◌, ◌≤◌, Bool, cond, nat_lt, true, false, true≢false, eqb, List, [], ◌∷◌, ◌++◌, length, take, drop, map, get_or, set, sym, refl, ap, ◌∙◌, subst, inl, inr, arith, append-nil, append_assoc, length-append, ap₂, length-set, get_or-set_same, eq-eqb, ne_eqb}
 use Rattle.std.specs.Prelude.{slice_index, All, if◌then◌else◌}
 use mathlib.Core.Option.{Option, none, some, some-injective, some-ne-none}
 use lib.ListN.{get_elem?}
@@ -9,7 +9,7 @@ use Rattle.std.proofs.lemmas.List.{take-append-drop}
 use Rattle.std.proofs.Math.Nat.{mod-lt}
 use Rattle.std.proofs.lemmas.List.Concat.{flat_map-append}
 use Rattle.std.proofs.lemmas.List.Elements.{All-append}
-use Rattle.atomic_table.specs.Table.{State, Me, Step, step, keeps, takes, gives, stepped, Allows, Splits, Joins, Final, Seen, Act, put_back, rest}
+use Rattle.atomic_table.specs.Table.{State, Me, Step, step, opening, keeps, takes, gives, stepped, Allows, Splits, Joins, Final, Seen, Act, put_back, rest}
 use Rattle.atomic_table.proofs.Lists.{at_set, at_snoc, at_longer, set_again, set_else}
 use Rattle.am_base.specs.Founding.{Rules}
 use Rattle.am_base.specs.Names.{place_of}
@@ -21,10 +21,11 @@ use Rattle.am_wire.specs.declared.rule.Key.TheVariants.{Place, Caller}
 use Rattle.am_wire.specs.declared.rule.Sight.{Sight}
 use Rattle.am_wire.specs.declared.rule.Terms.{Terms}
 use Rattle.am_wire.specs.declared.rule.View.{View}
-use Rattle.am_wire.specs.Keys.{is_of, of_key, same_key, times, is_key}
+use Rattle.am_wire.specs.Keys.{is_of, of_key, same_key, times, is_key, all_keys}
 use Rattle.am_wire.specs.Stops.{Page}
 use Rattle.am_wire.specs.Seats.{view, sight_of, no_rules, longer, StartsWith, GoesOn, IsUpTo, AreLow, Shown, Sat, standing, Fits, IsFree, IsTaken, Stands, IsIdle, HasTurn, Takes, took, carried, counted, gave, Looks, looked, Unites}
 use Rattle.am_wire.specs.Passes.{HasAll}
+use Rattle.am_wire.proofs.Dealt.{each_once}
 use Rattle.am_wire.proofs.Views.{rest_of, starts_by, starts_all, starts_through, key_append, goes_same, times_append, times_cons, BothGo, both_go, stand_set, stand_last, stand_one, stand_two}
 
 abbrev page : Terms → List Record → Page
@@ -198,12 +199,13 @@ take_allows terms slots id me idle keyed s k len at small = elim k.turn [
         turn = record {
           turn = refl;
           older = refl;
+          keyed = keyed;
           page = ap₂ (λ (c : List (ℕ × Page)) (f : Rules). (0, record { founding = f; records = k.log }) ∷ c) idle.empty (sym ((k.fits id me.0 at).founded keyed));
-          most = k.most;
-          low = k.low;
         };
         keys = refl;
         goes = (k.fits id me.0 at).goes;
+        most = k.most;
+        low = k.low;
       }),
       λ not. absurd (not x),
     ),
@@ -590,3 +592,37 @@ pub unites_by : (v w : View) (carry : List (ℕ × Page)) (m m' : Sat) → m ≡
 unites_by v w carry m m' is empty looks =
     let both : View = view v.founding (w.keys ++ v.keys) (longer v.seen w.seen) (sight_of v ∷ sight_of w ∷ []) false in
     unites_after v w m' (subst (λ (x : Sat). Looks x m') (is ∙ ap (λ (x : List (ℕ × Page)). (both, x)) empty) looks)
+
+-- ---- the start
+
+at_first : (views : List View) (v : View) → views ≡ v ∷ [] → (id : ℕ) (u : View) → get_elem? views id ≡ some u → v ≡ u
+at_first views v is zero u at = some-injective v u (sym (ap (λ (l : List View). get_elem? l 0) is) ∙ at)
+at_first views v is (suc id) u at = absurd (some-ne-none u (sym at ∙ ap (λ (l : List View). get_elem? l (suc id)) is))
+
+first_standing : (key : Key) (v : View) (n : ℕ) → times key v.keys ≡ n → standing key (v ∷ []) ≡ n
+first_standing key v n is = let l = stand_last key [] v in let z : standing key [] ≡ 0 = refl in let l' : standing key (v ∷ []) ≡ standing key [] + times key v.keys = l in omega arith
+
+pub opens : (terms : Terms) (pages : List Page) → pages ≡ record { founding = terms.founding; records = [] } ∷ []
+    → Stands terms (opening (0 ∷ 0 ∷ []) pages (view terms.founding (all_keys terms.callers) [] [] false))
+opens terms pages is =
+    let v : View = view terms.founding (all_keys terms.callers) [] [] false in record {
+  log = [];
+  two = refl;
+  count = refl;
+  most = omega arith;
+  low = λ k d h. absurd (omega arith);
+  callers = λ k d h. absurd (omega arith);
+  once = λ key. first_standing key v _ (each_once terms.callers key);
+  fits = λ id u at. subst (Fits terms []) (at_first (v ∷ []) v refl id u at) (record {
+    goes = goes_same (all_keys terms.callers) [];
+    older = none_older _;
+    founded = λ h. refl;
+    whole = λ bad. absurd (true≢false (sym bad));
+    keyed = λ bad. absurd (true≢false (sym bad));
+  });
+  turn = inl (record {
+    word = refl;
+    home = ap (map some) is;
+    nobody = λ id u at. ap (λ (x : View). x.turn) (sym (at_first (v ∷ []) v refl id u at));
+  });
+}

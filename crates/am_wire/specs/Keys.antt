@@ -29,5 +29,5 @@ abbrev pub is_key : ℕ → Key → Bool
 is_key callers (Place place) = nat_lt place 16
 is_key callers (Caller caller) = nat_lt caller callers
 
-abbrev pub all_keys : ℕ → List Key
+unfoldable pub all_keys : ℕ → List Key
 all_keys callers = map Place (range_with_len 0 16) ++ map Caller (range_with_len 0 callers)

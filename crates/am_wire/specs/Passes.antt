@@ -1,12 +1,12 @@
 -- Wires and passes as contracts see them.
-use Rattle.std.specs.Prelude.{◌≡◌, ℕ, ◌<◌, List, [], ◌∷◌, ◌++◌, length, true, false}
+use Rattle.std.specs.Prelude.{◌≡◌, ℕ, ◌+◌, ◌<◌, List, [], ◌∷◌, ◌++◌, length, true, false}
 use Rattle.atomic_table.specs.Seated.{TableId}
 use Rattle.am_base.specs.Founding.{Rules}
 use Rattle.am_group.specs.declared.event.Record.{Record}
 use Rattle.am_wire.specs.declared.rule.Key.{Key}
 use Rattle.am_wire.specs.declared.rule.View.{View}
 use Rattle.am_wire.specs.Keys.{times, is_key}
-use Rattle.am_wire.specs.Seats.{GoesOn}
+use Rattle.am_wire.specs.Seats.{GoesOn, longer}
 
 -- a wire: which one it is, how its group begins, and how many callers there are
 pub record Line : Type 0 where
@@ -46,3 +46,21 @@ pub record Sees (p p' : Known) : Type 0 where
   pub wire : p'.wire ≡ p.wire
   pub keys : p'.keys ≡ p.keys
   pub goes : GoesOn p.keys p.seen p'.seen
+
+-- a pass with the keys of both, that has seen what either had
+pub record Joined (p q p' : Known) : Type 0 where
+  pub wire : p'.wire ≡ p.wire
+  pub keys : p'.keys ≡ q.keys ++ p.keys
+  pub seen : p'.seen ≡ longer p.seen q.seen
+  pub first : GoesOn p.keys p.seen p'.seen
+  pub second : GoesOn q.keys q.seen p'.seen
+
+-- the record was added to the journal, which both have then seen: what was there before went on from what each had seen
+pub record Committed (p q : Known) (item : Record) (count : ℕ) (p' q' : Known) : Type 0 where
+  pub before : List Record
+  pub room : length before < 100000
+  pub number : count ≡ length before + 1
+  pub pass : GoesOn p.keys p.seen before
+  pub share : GoesOn q.keys q.seen before
+  pub pass_after : p' ≡ record p { seen = before ++ item ∷ [] }
+  pub share_after : q' ≡ record q { seen = before ++ item ∷ [] }

@@ -1,5 +1,5 @@
 -- The rule of the wire, and what its steps tell.
-use Rattle.std.specs.Prelude.{◌≡◌, ◌≢◌, ◌⊎◌, ℕ, ◌+◌, ◌*◌, ◌<◌, ◌≤◌, Bool, true, false, List, [], ◌∷◌, ◌++◌, length, take, slice_index, nat_lt, if◌then◌else◌, All, sum_by}
+use Rattle.std.specs.Prelude.{◌≡◌, ◌≢◌, ◌⊎◌, ℕ, ◌+◌, ◌*◌, ◌<◌, ◌≤◌, Bool, true, false, List, [], ◌∷◌, ◌++◌, length, take, drop, slice_index, nat_lt, if◌then◌else◌, All, sum_by}
 use mathlib.Core.Option.{none, some}
 use lib.ListN.{get_elem?}
 use Rattle.atomic_table.specs.Table.{State, Me, Step}
@@ -117,15 +117,16 @@ pub record IsIdle (m : Sat) : Type 0 where
 pub record HasTurn (m : Sat) : Type 0 where
   pub turn : m.0.turn ≡ true
   pub older : m.0.older ≡ []
+  pub keyed : 0 < length m.0.keys
   pub page : m.1 ≡ (0, record { founding = m.0.founding; records = m.0.seen }) ∷ []
-  pub most : length m.0.seen ≤ 100000
-  pub low : AreLow m.0.seen
 
 -- it has the turn, and sees all that there is
 pub record Takes (m m' : Sat) : Type 0 where
   pub turn : HasTurn m'
   pub keys : m'.0.keys ≡ m.0.keys
   pub goes : GoesOn m.0.keys m.0.seen m'.0.seen
+  pub most : length m'.0.seen ≤ 100000
+  pub low : AreLow m'.0.seen
 
 abbrev pub took : Step Page → Sat → ℕ → Sat → Type 0
 took st m n m' = (n ≡ 0 → Takes m m') × (n ≢ 0 → m' ≡ m)
@@ -156,3 +157,17 @@ pub record Unites (v w : View) (m : Sat) : Type 0 where
   pub seen : m.0.seen ≡ longer v.seen w.seen
   pub mine : GoesOn v.keys v.seen m.0.seen
   pub theirs : GoesOn w.keys w.seen m.0.seen
+
+-- a seat without its first key, and a seat with this key
+pub record Parts (m m' other : Sat) : Type 0 where
+  pub idle : IsIdle m' × IsIdle other
+  pub keys : m'.0.keys ≡ drop 1 m.0.keys
+  pub seen : m'.0.seen ≡ m.0.seen
+  pub other_keys : other.0.keys ≡ take 1 m.0.keys
+  pub other_seen : other.0.seen ≡ m.0.seen
+
+-- the journal has a record more
+pub record Adds (m : Sat) (item : Record) (m' : Sat) : Type 0 where
+  pub turn : HasTurn m'
+  pub keys : m'.0.keys ≡ m.0.keys
+  pub seen : m'.0.seen ≡ m.0.seen ++ item ∷ []

@@ -17,6 +17,7 @@ pub enum Key {
 }
 
 /// What a wire is told once: how its group begins, and how many callers there are.
+#[derive(Drop)]
 pub struct Terms {
     pub founding: Founding,
     pub callers: u32,

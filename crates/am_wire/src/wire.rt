@@ -1,16 +1,43 @@
-ghost use Rattle.std.specs.Prelude.{◌≡◌, ◌<◌, [], false, length, All};
-ghost use Rattle.am_wire.specs.Seats.{IsIdle, HasTurn, Takes, Unites, view};
+ghost use Rattle.std.specs.Prelude.{◌≡◌, ◌+◌, ◌*◌, ◌<◌, ◌≤◌, ◌↔◌, [], ◌∷◌, false, length, All, IfOk, IfErr, IfSome, OnOk, OnErr};
+ghost use Rattle.am_base.specs.Names.{place_of};
+ghost use Rattle.am_group.specs.Addressed.{next_for};
+ghost use Rattle.am_group.specs.Journals.{letters_of, letter_at};
+ghost use Rattle.am_wire.specs.declared.rule.Key.TheVariants.{Place, Caller};
+ghost use Rattle.am_wire.specs.declared.wire.WireRefusal.TheVariants as refusals;
+ghost use Rattle.am_wire.specs.Keys.{all_keys, times};
+ghost use Rattle.am_wire.specs.Stops.{stopped_in};
+ghost use Rattle.am_wire.specs.Seats.{IsIdle, HasTurn, Takes, Unites, Parts, Adds, IsUpTo, view, longer};
+ghost use Rattle.am_wire.specs.Passes.{Rests, HasAll, Sees, Joined};
 
-use crate::rule::{FirstKey, Give, Look, OneJournal, Take, Terms, Together, View};
+use crate::rule::{Count, FirstKey, Give, Look, OneJournal, Take, Terms, Together, View};
 use crate::sheet::Sheet;
+use am_base::NoMemory;
+use am_base::founding::Founding;
+use am_base::name::Name;
+use am_base::names::Names;
+use am_group::event::Record;
 use am_group::journal::Journal;
+use am_letter::letter::Letter;
 use atomic_table::{Badge, Seat, Table};
-use std::alloc::Global;
+use std::alloc::{AllocError, Global};
 use std::marker::Model;
+use std::mem;
 use std::sync::Wait;
 use std::thread;
 
+/// The most records that a journal has.
+const MOST_RECORDS: usize = 100_000;
+
 type TableSeat = Seat<Sheet, View>;
+
+/// Why a record was not added.
+#[derive(Clone, Copy, PartialEq, Eq, Debug)]
+pub enum WireRefusal {
+    /// There was no memory for it.
+    NoMemory,
+    /// The journal has 100,000 records.
+    Spent,
+}
 
 /// The one journal of a race, of which each pass has seen a beginning. Contracts see it as which wire it is, how its group
 /// begins, and how many callers there are.
@@ -47,11 +74,52 @@ impl Model for Pass {
     ghost invariant = { λ p. Rests p.badge.views };
 }
 
-/// The pass of a caller, whose one key is that caller's.
+/// The pass of a caller: its one key is that caller's.
 pub type Share = Pass;
 
+/// Takes the seat of a pass out.
+fn seat_in(badge: &mut Badge<View>) -> TableSeat
+    requires { Rests badge.old.views }
+    ensures wire { result.table_id ≡ badge.old.table_id }
+    ensures one { badge.old.views ≡ result.me.0 ∷ [] }
+    ensures empty { result.me.1 ≡ [] }
+{
+    mem::replace(badge, Badge::blank()).into_seat()
+}
+
+impl Pass {
+    fn of(seat: TableSeat) -> Pass
+        requires idle { IsIdle seat.me }
+        requires keyed { 0 < length seat.me.0.keys }
+        ensures { result ≡ record { wire = seat.table_id; keys = seat.me.0.keys; seen = seat.me.0.seen } }
+    {
+        Pass {
+            badge: seat.into_badge(),
+        }
+    }
+}
+
 impl Wire {
-    ghost use Rattle.am_wire.specs.Passes.{HasAll};
+    /// Makes the table. Its first seat has all keys.
+    fn new(
+        alloc: Global,
+        founding: &Founding,
+        callers: u32,
+    ) -> Result<(Wire, TableSeat), NoMemory>
+        ensures wire { IfOk result (λ r. (r.0.founding ≡ founding.now) × (r.0.callers ≡ callers)) }
+        ensures seat { IfOk result (λ r. (r.1.table_id ≡ r.0.id) × (r.1.me ≡ (view founding.now (all_keys callers) [] [] false, []))) }
+    {
+        let terms = Terms {
+            founding: *founding,
+            callers,
+        };
+        let mut slots = Vec::new(alloc);
+        slots.push(Sheet::new(alloc, founding))?;
+        match Table::new(alloc, &[0, 0], slots, &terms) {
+            Ok((table, seat)) => Ok((Wire { table }, seat)),
+            Err(_) => Err(AllocError),
+        }
+    }
 
     /// Takes the slot, and sees all of the journal.
     fn take<R: Wait>(&self, rt: &R, seat: &mut TableSeat)
@@ -92,7 +160,121 @@ impl Wire {
         self.table.shared.load::<Look>(seat, 1);
     }
 
-    /// The journal as it stands at the end: all of it was seen by the pass that has all keys.
+    /// Splits off a seat with the first key.
+    fn part(&self, seat: &mut TableSeat) -> TableSeat
+        requires own { seat.old.table_id ≡ self.now.id }
+        requires idle { IsIdle seat.old.me }
+        ensures same { (seat.new.table_id ≡ seat.old.table_id) × (result.table_id ≡ seat.old.table_id) }
+        ensures parts { Parts seat.old.me seat.new.me result.me }
+    {
+        self.table.shared.split_seat::<FirstKey>(seat)
+    }
+
+    /// Adds a record with the turn, and answers its number.
+    fn add(&self, seat: &mut TableSeat, item: Record) -> Result<u32, WireRefusal>
+        requires own { seat.old.table_id ≡ self.now.id }
+        requires turn { HasTurn seat.old.me }
+        requires most { length seat.old.me.0.seen ≤ 100000 }
+        requires place { 0 < times (Place (place_of item.event.node)) seat.old.me.0.keys }
+        requires caller { 0 < times (Caller item.by.caller) seat.old.me.0.keys }
+        requires few { length item.packets ≤ 24 }
+        requires low { All (λ l. IsUpTo (2 * length seat.old.me.0.seen + 3) l.packet) item.packets }
+        ensures same { seat.new.table_id ≡ seat.old.table_id }
+        ensures ok { OnOk result (Adds seat.old.me item seat.new.me) }
+        ensures number { IfOk result (λ n. n ≡ length seat.old.me.0.seen + 1) }
+        ensures room { OnOk result (length seat.old.me.0.seen < 100000) }
+        ensures err { OnErr result (seat.new.me ≡ seat.old.me) }
+        ensures spent { IfErr result (λ e. e ≡ refusals.Spent ↔ (length seat.old.me.0.seen ≡ 100000)) }
+    {
+        let sheet = seat.slot_mut(&self.table.shared, 0);
+        let count = sheet.len();
+        if count >= MOST_RECORDS {
+            return Err(WireRefusal::Spent);
+        }
+        if sheet.add(item).is_err() {
+            return Err(WireRefusal::NoMemory);
+        }
+        self.table.shared.fetch_add::<Count>(seat, 1, 1);
+        Ok(count as u32 + 1)
+    }
+
+    /// A pass gets the keys of another, and sees what either had seen.
+    pub fn join(&self, pass: &mut Pass, other: Pass)
+        requires own { (pass.old.wire ≡ self.now.id) × (other.wire ≡ self.now.id) }
+        ensures { Joined pass.old other pass.new }
+    {
+        let Pass { badge } = other;
+        let mut seat = seat_in(&mut pass.badge);
+        self.unite(&mut seat, badge.into_seat());
+        pass.badge = seat.into_badge();
+    }
+
+    /// A pass and a share see the longer of what they had seen.
+    pub fn meet(&self, pass: &mut Pass, share: &mut Share)
+        requires own { (pass.old.wire ≡ self.now.id) × (share.old.wire ≡ self.now.id) }
+        requires one { length share.old.keys ≡ 1 }
+        ensures pass { Sees pass.old pass.new }
+        ensures share { Sees share.old share.new }
+        ensures longer { pass.new.seen ≡ longer pass.old.seen share.old.seen }
+        ensures both { share.new.seen ≡ pass.new.seen }
+    {
+        let mut seat = seat_in(&mut pass.badge);
+        self.unite(&mut seat, seat_in(&mut share.badge));
+        share.badge = self.part(&mut seat).into_badge();
+        pass.badge = seat.into_badge();
+    }
+
+    /// A letter of the journal by its number, from 1; None exactly where the journal that the pass has then seen has none.
+    pub fn read<R: Wait>(&self, rt: &R, pass: &mut Pass, number: u32) -> Option<Letter>
+        requires own { pass.old.wire ≡ self.now.id }
+        ensures sees { Sees pass.old pass.new }
+        ensures letter { result ≡ letter_at (letters_of pass.new.seen) number }
+        ensures low { IfSome result (λ l. IsUpTo (2 * length pass.new.seen + 1) l.packet) }
+    {
+        let mut seat = seat_in(&mut pass.badge);
+        self.take(rt, &mut seat);
+        let letter = seat.slot_mut(&self.table.shared, 0).letter(number);
+        self.give(&mut seat);
+        pass.badge = seat.into_badge();
+        letter
+    }
+
+    /// The least number above another of a letter that is for this name; None exactly where the journal that the pass has
+    /// then seen has none.
+    pub fn next_for<R: Wait>(
+        &self,
+        rt: &R,
+        pass: &mut Pass,
+        node: Name,
+        after: u32,
+    ) -> Option<u32>
+        requires own { pass.old.wire ≡ self.now.id }
+        ensures sees { Sees pass.old pass.new }
+        ensures value { result ≡ next_for (letters_of pass.new.seen) node after }
+    {
+        let mut seat = seat_in(&mut pass.badge);
+        self.take(rt, &mut seat);
+        let next = seat.slot_mut(&self.table.shared, 0).next_for(node, after);
+        self.give(&mut seat);
+        pass.badge = seat.into_badge();
+        next
+    }
+
+    /// The names that stopped in the journal that the pass has then seen.
+    pub fn stopped<R: Wait>(&self, rt: &R, pass: &mut Pass) -> Names
+        requires own { pass.old.wire ≡ self.now.id }
+        ensures sees { Sees pass.old pass.new }
+        ensures value { result ≡ stopped_in pass.new.seen }
+    {
+        let mut seat = seat_in(&mut pass.badge);
+        self.take(rt, &mut seat);
+        let stopped = seat.slot_mut(&self.table.shared, 0).stopped();
+        self.give(&mut seat);
+        pass.badge = seat.into_badge();
+        stopped
+    }
+
+    /// The journal as it stands at the end: the pass that has all keys has seen all of it.
     pub fn close(self, pass: Pass) -> Journal
         requires own { pass.wire ≡ self.id }
         requires all { HasAll self.callers pass.keys }
