@@ -293,7 +293,7 @@ alone terms s k key i j v w apart at there one two =
     let m = at_most_one (is_key terms.callers key) in
     omega arith
 
-raised : (low high : ℕ) (letters : List Letter) → low ≤ high → All (λ l. IsUpTo low l.packet) letters → All (λ l. IsUpTo high l.packet) letters
+pub raised : (low high : ℕ) (letters : List Letter) → low ≤ high → All (λ l. IsUpTo low l.packet) letters → All (λ l. IsUpTo high l.packet) letters
 raised low high letters le all = λ k d h. let u = all k d h in let a = u.round in let b = u.base in record { round = omega arith; base = omega arith }
 
 letters_more : (log : List Record) (r : Record) → letters_of (log ++ r ∷ []) ≡ letters_of log ++ r.packets

@@ -2,3 +2,4 @@ pub mod Views
 pub mod Dealt
 pub mod Keeps
 pub mod Passing
+pub mod Committing

@@ -45,7 +45,7 @@ rests_by m views idle keyed one = record { its = m.0; one = one; turn = idle.tur
 pub sees_by : (p : Known) (wire : TableId) (v : View) (views : List View) → views ≡ v ∷ [] → wire ≡ p.wire → v.keys ≡ p.keys → GoesOn p.keys p.seen v.seen → Sees p (known_by wire views)
 sees_by p wire v views one same keys goes = subst (λ (vs : List View). Sees p (known_by wire vs)) (sym one) (record { wire = same; keys = keys; goes = goes })
 
-goes_at : (keys keys' : List Key) (seen seen' log log' : List Record) → keys ≡ keys' → seen ≡ seen' → log ≡ log' → GoesOn keys seen log → GoesOn keys' seen' log'
+pub goes_at : (keys keys' : List Key) (seen seen' log log' : List Record) → keys ≡ keys' → seen ≡ seen' → log ≡ log' → GoesOn keys seen log → GoesOn keys' seen' log'
 goes_at keys keys' seen seen' log log' k s l g = subst (λ (x : List Record). GoesOn keys' seen' x) l (subst (λ (x : List Record). GoesOn keys' x log) s (subst (λ (x : List Key). GoesOn x seen log) k g))
 
 -- a seat that took the slot and gave it back
@@ -66,7 +66,7 @@ visits p id s t m sits takes is = subst (Visits p t) (sym is) (record {
 })
 
 -- two that met
-first_key : (keys others : List Key) → length keys ≡ 1 → (take 1 (keys ++ others) ≡ keys) × (drop 1 (keys ++ others) ≡ others)
+pub first_key : (keys others : List Key) → length keys ≡ 1 → (take 1 (keys ++ others) ≡ keys) × (drop 1 (keys ++ others) ≡ others)
 first_key [] others e = absurd (omega arith)
 first_key (key ∷ []) others e = (refl, refl)
 first_key (key ∷ more ∷ keys) others e = absurd (omega arith)

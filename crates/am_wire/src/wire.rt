@@ -7,7 +7,7 @@ ghost use Rattle.am_wire.specs.declared.wire.WireRefusal.TheVariants as refusals
 ghost use Rattle.am_wire.specs.Keys.{all_keys, times};
 ghost use Rattle.am_wire.specs.Stops.{stopped_in};
 ghost use Rattle.am_wire.specs.Seats.{IsIdle, HasTurn, Takes, Unites, Parts, Adds, IsUpTo, view, longer};
-ghost use Rattle.am_wire.specs.Passes.{Rests, HasAll, Sees, Joined};
+ghost use Rattle.am_wire.specs.Passes.{Rests, HasAll, Sees, Joined, Committed};
 
 use crate::rule::{Count, FirstKey, Give, Look, OneJournal, Take, Terms, Together, View};
 use crate::sheet::Sheet;
@@ -222,6 +222,37 @@ impl Wire {
         self.unite(&mut seat, seat_in(&mut share.badge));
         share.badge = self.part(&mut seat).into_badge();
         pass.badge = seat.into_badge();
+    }
+
+    /// Adds a record, and answers its number, from 1. The pass is that of the record's place and the share that of its
+    /// caller; no letter of the record tells a higher round, nor in a Welcome a higher base, than the records allow that the
+    /// pass has seen. After a refusal the journal is as it was, and the record is dropped; Spent comes exactly where the
+    /// journal, which both have then seen, has 100,000 records.
+    pub fn commit<R: Wait>(
+        &self,
+        rt: &R,
+        pass: &mut Pass,
+        share: &mut Share,
+        item: Record,
+    ) -> Result<u32, WireRefusal>
+        requires own { (pass.old.wire ≡ self.now.id) × (share.old.wire ≡ self.now.id) }
+        requires place { pass.old.keys ≡ Place (place_of item.event.node) ∷ [] }
+        requires caller { share.old.keys ≡ Caller item.by.caller ∷ [] }
+        requires few { length item.packets ≤ 24 }
+        requires low { All (λ l. IsUpTo (2 * length pass.old.seen + 3) l.packet) item.packets }
+        ensures ok { IfOk result (λ n. Committed pass.old share.old item n pass.new share.new) }
+        ensures err { OnErr result (Sees pass.old pass.new × Sees share.old share.new) }
+        ensures both { share.new.seen ≡ pass.new.seen }
+        ensures spent { IfErr result (λ e. e ≡ refusals.Spent ↔ (length pass.new.seen ≡ 100000)) }
+    {
+        let mut seat = seat_in(&mut pass.badge);
+        self.unite(&mut seat, seat_in(&mut share.badge));
+        self.take(rt, &mut seat);
+        let added = self.add(&mut seat, item);
+        self.give(&mut seat);
+        share.badge = self.part(&mut seat).into_badge();
+        pass.badge = seat.into_badge();
+        added
     }
 
     /// A letter of the journal by its number, from 1; None exactly where the journal that the pass has then seen has none.
