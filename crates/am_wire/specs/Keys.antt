@@ -29,5 +29,11 @@ abbrev pub is_key : ℕ → Key → Bool
 is_key callers (Place place) = nat_lt place 16
 is_key callers (Caller caller) = nat_lt caller callers
 
-unfoldable pub all_keys : ℕ → List Key
-all_keys callers = map Place (range_with_len 0 16) ++ map Caller (range_with_len 0 callers)
+unfoldable pub place_keys : List Key
+place_keys = map Place (range_with_len 0 16)
+
+unfoldable pub caller_keys : ℕ → List Key
+caller_keys callers = map Caller (range_with_len 0 callers)
+
+abbrev pub all_keys : ℕ → List Key
+all_keys callers = place_keys ++ caller_keys callers

@@ -1,13 +1,13 @@
-ghost use Rattle.std.specs.Prelude.{◌≡◌, ◌+◌, ◌*◌, ◌<◌, ◌≤◌, ◌↔◌, [], ◌∷◌, false, length, All, IfOk, IfErr, IfSome, OnOk, OnErr};
+ghost use Rattle.std.specs.Prelude.{◌≡◌, ◌+◌, ◌*◌, ◌<◌, ◌≤◌, ◌↔◌, [], ◌∷◌, false, length, take, drop, map, All, IfOk, IfErr, IfSome, OnOk, OnErr};
 ghost use Rattle.am_base.specs.Names.{place_of};
 ghost use Rattle.am_group.specs.Addressed.{next_for};
 ghost use Rattle.am_group.specs.Journals.{letters_of, letter_at};
 ghost use Rattle.am_wire.specs.declared.rule.Key.TheVariants.{Place, Caller};
 ghost use Rattle.am_wire.specs.declared.wire.WireRefusal.TheVariants as refusals;
-ghost use Rattle.am_wire.specs.Keys.{all_keys, times};
+ghost use Rattle.am_wire.specs.Keys.{place_keys, caller_keys, all_keys, times};
 ghost use Rattle.am_wire.specs.Stops.{stopped_in};
 ghost use Rattle.am_wire.specs.Seats.{IsIdle, HasTurn, Takes, Unites, Parts, Adds, IsUpTo, view, longer};
-ghost use Rattle.am_wire.specs.Passes.{Rests, HasAll, Sees, Joined, Committed};
+ghost use Rattle.am_wire.specs.Passes.{Rests, HasAll, Sees, Joined, Committed, fresh};
 
 use crate::rule::{Count, FirstKey, Give, Look, OneJournal, Take, Terms, Together, View};
 use crate::sheet::Sheet;
@@ -196,6 +196,48 @@ impl Wire {
         }
         self.table.shared.fetch_add::<Count>(seat, 1, 1);
         Ok(count as u32 + 1)
+    }
+
+    /// Splits off passes with the first keys, one for each.
+    fn deal(
+        &self,
+        alloc: Global,
+        seat: &mut TableSeat,
+        count: usize,
+    ) -> Result<Vec<Pass>, NoMemory>
+        requires own { seat.old.table_id ≡ self.now.id }
+        requires idle { IsIdle seat.old.me }
+        requires unseen { seat.old.me.0.seen ≡ [] }
+        requires count { count ≤ length seat.old.me.0.keys }
+        ensures passes { IfOk result (λ v. v.items ≡ map (fresh self.now.id) (take count seat.old.me.0.keys)) }
+        ensures same { seat.new.table_id ≡ seat.old.table_id }
+        ensures idle { IsIdle seat.new.me }
+        ensures unseen { seat.new.me.0.seen ≡ [] }
+        ensures keys { OnOk result (seat.new.me.0.keys ≡ drop count seat.old.me.0.keys) }
+    {
+        let mut passes = Vec::new(alloc);
+        for _done in 0..count {
+            let other = self.part(seat);
+            passes.push(Pass::of(other))?;
+        }
+        Ok(passes)
+    }
+
+    /// The wire of a group that begins so, with a pass for each of the sixteen places and a share for each of so many
+    /// callers. None has seen a record.
+    pub fn start(
+        alloc: Global,
+        founding: &Founding,
+        callers: u32,
+    ) -> Result<(Wire, Vec<Pass>, Vec<Share>), NoMemory>
+        ensures wire { IfOk result (λ r. (r.0.founding ≡ founding.now) × (r.0.callers ≡ callers)) }
+        ensures passes { IfOk result (λ r. r.1.items ≡ map (fresh r.0.id) place_keys) }
+        ensures shares { IfOk result (λ r. r.2.items ≡ map (fresh r.0.id) (caller_keys callers)) }
+    {
+        let (wire, mut seat) = Wire::new(alloc, founding, callers)?;
+        let passes = wire.deal(alloc, &mut seat, 16)?;
+        let shares = wire.deal(alloc, &mut seat, callers as usize)?;
+        Ok((wire, passes, shares))
     }
 
     /// A pass gets the keys of another, and sees what either had seen.
