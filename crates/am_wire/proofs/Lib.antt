@@ -3,3 +3,4 @@ pub mod Dealt
 pub mod Keeps
 pub mod Passing
 pub mod Committing
+pub mod Gathering

@@ -1,12 +1,14 @@
 -- Wires and passes as contracts see them.
-use Rattle.std.specs.Prelude.{◌≡◌, ℕ, ◌+◌, ◌<◌, List, [], ◌∷◌, ◌++◌, length, true, false}
+use Rattle.std.specs.Prelude.{◌≡◌, ℕ, ◌+◌, ◌*◌, ◌<◌, ◌≤◌, List, [], ◌∷◌, ◌++◌, length, true, false, All, sum_by}
 use Rattle.atomic_table.specs.Seated.{TableId}
 use Rattle.am_base.specs.Founding.{Rules}
 use Rattle.am_group.specs.declared.event.Record.{Record}
+use Rattle.am_base.specs.Names.{place_of}
 use Rattle.am_wire.specs.declared.rule.Key.{Key}
+use Rattle.am_wire.specs.declared.rule.Key.TheVariants.{Place, Caller}
 use Rattle.am_wire.specs.declared.rule.View.{View}
 use Rattle.am_wire.specs.Keys.{times, is_key}
-use Rattle.am_wire.specs.Seats.{GoesOn, longer}
+use Rattle.am_wire.specs.Seats.{GoesOn, IsUpTo, longer}
 
 -- a wire: which one it is, how its group begins, and how many callers there are
 pub record Line : Type 0 where
@@ -55,6 +57,14 @@ pub record Joined (p q p' : Known) : Type 0 where
   pub first : GoesOn p.keys p.seen p'.seen
   pub second : GoesOn q.keys q.seen p'.seen
 
+-- what a commit of a record wants of a pass and a share
+pub record IsReady (wire : TableId) (p q : Known) (item : Record) : Type 0 where
+  pub own : (p.wire ≡ wire) × (q.wire ≡ wire)
+  pub place : p.keys ≡ Place (place_of item.event.node) ∷ []
+  pub caller : q.keys ≡ Caller item.by.caller ∷ []
+  pub few : length item.packets ≤ 24
+  pub low : All (λ l. IsUpTo (2 * length p.seen + 3) l.packet) item.packets
+
 -- the record was added to the journal, which both have then seen: what was there before went on from what each had seen
 pub record Committed (p q : Known) (item : Record) (count : ℕ) (p' q' : Known) : Type 0 where
   pub before : List Record
@@ -64,3 +74,8 @@ pub record Committed (p q : Known) (item : Record) (count : ℕ) (p' q' : Known)
   pub share : GoesOn q.keys q.seen before
   pub pass_after : p' ≡ record p { seen = before ++ item ∷ [] }
   pub share_after : q' ≡ record q { seen = before ++ item ∷ [] }
+
+-- what several passes knew, joined into one: it has their keys, and its journal went on from what each had seen
+pub record Gathered (made : List Known) (p : Known) : Type 0 where
+  pub keys : (key : Key) → times key p.keys ≡ sum_by (λ q. times key q.keys) made
+  pub goes : All (λ q. GoesOn q.keys q.seen p.seen) made

@@ -3,6 +3,8 @@
 
 mod rule;
 mod sheet;
+#[cfg(test)]
+mod tests;
 pub mod wire;
 
 pub use rule::Key;

@@ -7,7 +7,7 @@ ghost use Rattle.am_wire.specs.declared.wire.WireRefusal.TheVariants as refusals
 ghost use Rattle.am_wire.specs.Keys.{place_keys, caller_keys, all_keys, times};
 ghost use Rattle.am_wire.specs.Stops.{stopped_in};
 ghost use Rattle.am_wire.specs.Seats.{IsIdle, HasTurn, Takes, Unites, Parts, Adds, IsUpTo, view, longer};
-ghost use Rattle.am_wire.specs.Passes.{Rests, HasAll, Sees, Joined, Committed, fresh};
+ghost use Rattle.am_wire.specs.Passes.{Rests, HasAll, Sees, Joined, IsReady, Committed, Gathered, fresh};
 
 use crate::rule::{Count, FirstKey, Give, Look, OneJournal, Take, Terms, Together, View};
 use crate::sheet::Sheet;
@@ -251,6 +251,17 @@ impl Wire {
         pass.badge = seat.into_badge();
     }
 
+    /// A pass gets the keys of several others, and sees what any of them had seen.
+    pub fn gather(&self, pass: &mut Pass, others: Vec<Pass>)
+        requires own { (pass.old.wire ≡ self.now.id) × All (λ p. p.wire ≡ self.now.id) others.items }
+        ensures wire { pass.new.wire ≡ pass.old.wire }
+        ensures gathered { Gathered (pass.old ∷ others.items) pass.new }
+    {
+        for other in others {
+            self.join(pass, other);
+        }
+    }
+
     /// A pass and a share see the longer of what they had seen.
     pub fn meet(&self, pass: &mut Pass, share: &mut Share)
         requires own { (pass.old.wire ≡ self.now.id) × (share.old.wire ≡ self.now.id) }
@@ -277,11 +288,7 @@ impl Wire {
         share: &mut Share,
         item: Record,
     ) -> Result<u32, WireRefusal>
-        requires own { (pass.old.wire ≡ self.now.id) × (share.old.wire ≡ self.now.id) }
-        requires place { pass.old.keys ≡ Place (place_of item.event.node) ∷ [] }
-        requires caller { share.old.keys ≡ Caller item.by.caller ∷ [] }
-        requires few { length item.packets ≤ 24 }
-        requires low { All (λ l. IsUpTo (2 * length pass.old.seen + 3) l.packet) item.packets }
+        requires ready { IsReady self.now.id pass.old share.old item }
         ensures ok { IfOk result (λ n. Committed pass.old share.old item n pass.new share.new) }
         ensures err { OnErr result (Sees pass.old pass.new × Sees share.old share.new) }
         ensures both { share.new.seen ≡ pass.new.seen }

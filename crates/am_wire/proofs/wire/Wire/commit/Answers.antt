@@ -17,7 +17,7 @@ left g c =
         holds_by _ _ _ _ _ _ _ _
         (sits _ _ _ c.seat_in-seat.result.me (sym c.pass.view_is) c.pass.invariant c.seat_in-seat.ensures.one c.seat_in-seat.ensures.empty)
         (sits _ _ _ c.seat_in.result.me (sym c.share.view_is) c.share.invariant c.seat_in.ensures.one c.seat_in.ensures.empty)
-        (ap length c.requires.caller) c.unite.ensures.unites c.take.ensures.takes
+        (ap length c.requires.ready.caller) c.unite.ensures.unites c.take.ensures.takes
     in
     let later = after_by _ _ _ _ c.take.ensures.takes.turn c.add-added.ensures.ok c.add-added.ensures.err in record {
   holds = holds;
