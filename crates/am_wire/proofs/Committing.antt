@@ -1,9 +1,8 @@
 -- What a commit leaves.
-use Rattle.std.proofs.Common.{◌≡◌, ℕ, ◌+◌, ◌*◌, ◌<◌, ◌≤◌, min, Bool, true, false, cond, List, [], ◌∷◌, ◌++◌, length, take, drop, Result, Ok, Err, IfOk, OnOk, OnErr, sym, refl, ap, ◌∙◌, subst, arith, eq-eqb}
+use Rattle.std.proofs.Common.{◌≡◌, ℕ, ◌+◌, ◌*◌, ◌<◌, Bool, true, false, List, [], ◌∷◌, ◌++◌, length, take, drop, Result, Ok, Err, IfOk, OnOk, OnErr, sym, refl, ap, ◌∙◌, subst, arith, eq-eqb}
 use Rattle.std.specs.Prelude.{All, if◌then◌else◌}
 use Rattle.std.proofs.lemmas.List.{length-take}
 use Rattle.atomic_table.specs.Seated.{TableId}
-use Rattle.am_base.specs.Names.{place_of}
 use Rattle.am_packet.specs.Boxes.{Letter}
 use Rattle.am_group.specs.declared.event.Record.{Record}
 use Rattle.am_wire.specs.declared.rule.Key.{Key}
@@ -11,8 +10,7 @@ use Rattle.am_wire.specs.declared.rule.Key.TheVariants.{Place, Caller}
 use Rattle.am_wire.specs.declared.rule.View.{View}
 use Rattle.am_wire.specs.declared.wire.WireRefusal.{WireRefusal}
 use Rattle.am_wire.specs.Keys.{same_key, times}
-use Rattle.am_wire.specs.Stops.{Page}
-use Rattle.am_wire.specs.Seats.{Sat, view, StartsWith, GoesOn, IsUpTo, IsIdle, HasTurn, Takes, Unites, Parts, Adds}
+use Rattle.am_wire.specs.Seats.{Sat, view, GoesOn, IsUpTo, IsIdle, HasTurn, Takes, Unites, Parts, Adds}
 use Rattle.am_wire.specs.Passes.{Known, known_by, Sees, Committed}
 use Rattle.am_wire.proofs.Views.{times_append, times_cons, goes_through}
 use Rattle.am_wire.proofs.Keeps.{raised}
@@ -32,17 +30,17 @@ holds_by p q id other s r u t sits its one unites takes =
     let cut = first_key r.0.keys s.0.keys single in
     let keys : t.0.keys ≡ r.0.keys ++ s.0.keys = takes.keys ∙ unites.keys in
     let united : GoesOn (r.0.keys ++ s.0.keys) u.0.seen t.0.seen = subst (λ (ks : List Key). GoesOn ks u.0.seen t.0.seen) unites.keys takes.goes in record {
-  turn = takes.turn;
-  cut = (ap (take 1) keys ∙ cut.0 ∙ sym its.keys, ap (drop 1) keys ∙ cut.1 ∙ sym sits.keys);
-  keyed = (subst (λ (ks : List Key). 0 < length ks) (sym sits.keys) sits.keyed, subst (λ (ks : List Key). 0 < length ks) (sym its.keys) its.keyed);
-  keys = λ key. ap (times key) keys ∙ times_append key r.0.keys s.0.keys ∙ ap (λ (ks : List Key). times key ks + times key s.0.keys) (sym its.keys) ∙ ap (λ (ks : List Key). times key q.keys + times key ks) (sym sits.keys);
-  goes = (
-    goes_at s.0.keys p.keys s.0.seen p.seen t.0.seen t.0.seen (sym sits.keys) (sym sits.seen) refl
-    (goes_through s.0.keys (r.0.keys ++ s.0.keys) s.0.seen u.0.seen t.0.seen (λ key h. let e = times_append key r.0.keys s.0.keys in omega arith) unites.mine united),
-    goes_at r.0.keys q.keys r.0.seen q.seen t.0.seen t.0.seen (sym its.keys) (sym its.seen) refl
-    (goes_through r.0.keys (r.0.keys ++ s.0.keys) r.0.seen u.0.seen t.0.seen (λ key h. let e = times_append key r.0.keys s.0.keys in omega arith) unites.theirs united),
-  );
-}
+      turn = takes.turn;
+      cut = (ap (take 1) keys ∙ cut.0 ∙ sym its.keys, ap (drop 1) keys ∙ cut.1 ∙ sym sits.keys);
+      keyed = (subst (λ (ks : List Key). 0 < length ks) (sym sits.keys) sits.keyed, subst (λ (ks : List Key). 0 < length ks) (sym its.keys) its.keyed);
+      keys = λ key. ap (times key) keys ∙ times_append key r.0.keys s.0.keys ∙ ap (λ (ks : List Key). times key ks + times key s.0.keys) (sym its.keys) ∙ ap (λ (ks : List Key). times key q.keys + times key ks) (sym sits.keys);
+      goes = (
+        goes_at s.0.keys p.keys s.0.seen p.seen t.0.seen t.0.seen (sym sits.keys) (sym sits.seen) refl
+            (goes_through s.0.keys (r.0.keys ++ s.0.keys) s.0.seen u.0.seen t.0.seen (λ key h. let e = times_append key r.0.keys s.0.keys in omega arith) unites.mine united),
+        goes_at r.0.keys q.keys r.0.seen q.seen t.0.seen t.0.seen (sym its.keys) (sym its.seen) refl
+            (goes_through r.0.keys (r.0.keys ++ s.0.keys) r.0.seen u.0.seen t.0.seen (λ key h. let e = times_append key r.0.keys s.0.keys in omega arith) unites.theirs united),
+      );
+    }
 
 -- ---- what an addition wants
 
@@ -102,11 +100,11 @@ leaves p q t item answer a g m o holds later gave parts =
     let seen : g.0.seen ≡ a.0.seen = ap (λ (x : Sat). x.0.seen) gave in
     let mine : m.0.keys ≡ p.keys = parts.keys ∙ ap (drop 1) keys ∙ holds.cut.1 in
     let theirs : o.0.keys ≡ q.keys = parts.other_keys ∙ ap (take 1) keys ∙ holds.cut.0 in record {
-  idle = parts.idle;
-  keyed = (subst (λ (ks : List Key). 0 < length ks) (sym mine) holds.keyed.0, subst (λ (ks : List Key). 0 < length ks) (sym theirs) holds.keyed.1);
-  keys = (mine, theirs);
-  seen = (parts.seen ∙ seen, parts.other_seen ∙ seen);
-}
+      idle = parts.idle;
+      keyed = (subst (λ (ks : List Key). 0 < length ks) (sym mine) holds.keyed.0, subst (λ (ks : List Key). 0 < length ks) (sym theirs) holds.keyed.1);
+      keys = (mine, theirs);
+      seen = (parts.seen ∙ seen, parts.other_seen ∙ seen);
+    }
 
 known_as : (p : Known) (wire : TableId) (v : View) (views : List View) (seen : List Record) → views ≡ v ∷ [] → wire ≡ p.wire → v.keys ≡ p.keys → v.seen ≡ seen → known_by wire views ≡ record p { seen = seen }
 known_as p wire v views seen one same keys is = ap (known_by wire) one ∙ (λ i. record { wire = same i; keys = keys i; seen = is i })

@@ -1,5 +1,5 @@
 -- A wire has each of its keys once.
-use Rattle.std.proofs.Common.{◌≡◌, ◌≢◌, ℕ, zero, suc, ◌+◌, ◌<◌, ◌≤◌, Bool, true, false, cond, nat_lt, eqb, List, [], ◌∷◌, ◌++◌, length, map, take, drop, sym, refl, ap, ◌∙◌, subst, arith, eq-eqb, ne_eqb, length-append, length-drop}
+use Rattle.std.proofs.Common.{◌≡◌, ℕ, zero, suc, ◌+◌, ◌<◌, ◌≤◌, Bool, false, nat_lt, eqb, List, [], ◌∷◌, ◌++◌, length, map, take, drop, sym, refl, ap, ◌∙◌, arith, eq-eqb, ne_eqb, length-append, length-drop}
 use Rattle.std.specs.Prelude.{if◌then◌else◌}
 use Rattle.std.specs.List.{range_with_len}
 use Rattle.std.proofs.lemmas.Bool.{lt-ltb, le-ltb}
@@ -35,16 +35,16 @@ ranged make key n from (suc count) same le =
     let e = times_cons key (make from) (map make (range_with_len (from + 1) count)) in
     dite (ℕ_discrete n from)
     (λ is.
-        let f : one (same_key key (make from)) ≡ 1 = ap one (same from ∙ eq-eqb n from is) in
-        let r = other_keys make key (from + 1) count (λ i h. same i ∙ ne_eqb n i (λ e. omega arith)) in
-        let t : one (nat_lt n (from + suc count)) ≡ 1 = ap one (lt-ltb n (from + suc count) (omega arith)) in
-        omega arith)
+    let f : one (same_key key (make from)) ≡ 1 = ap one (same from ∙ eq-eqb n from is) in
+    let r = other_keys make key (from + 1) count (λ i h. same i ∙ ne_eqb n i (λ e. omega arith)) in
+    let t : one (nat_lt n (from + suc count)) ≡ 1 = ap one (lt-ltb n (from + suc count) (omega arith)) in
+    omega arith)
     (λ not.
-        let f : one (same_key key (make from)) ≡ 0 = ap one (same from ∙ ne_eqb n from not) in
-        let r = ranged make key n (from + 1) count same (omega arith) in
-        let t : from + 1 + count ≡ from + suc count = omega arith in
-        let u : one (nat_lt n (from + 1 + count)) ≡ one (nat_lt n (from + suc count)) = ap (λ (m : ℕ). one (nat_lt n m)) t in
-        omega arith)
+    let f : one (same_key key (make from)) ≡ 0 = ap one (same from ∙ ne_eqb n from not) in
+    let r = ranged make key n (from + 1) count same (omega arith) in
+    let t : from + 1 + count ≡ from + suc count = omega arith in
+    let u : one (nat_lt n (from + 1 + count)) ≡ one (nat_lt n (from + suc count)) = ap (λ (m : ℕ). one (nat_lt n m)) t in
+    omega arith)
 
 pub each_once : (callers : ℕ) (key : Key) → times key (all_keys callers) ≡ (if is_key callers key then 1 else 0)
 unfolding place_keys caller_keys

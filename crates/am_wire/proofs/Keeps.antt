@@ -1,5 +1,5 @@
 -- Each step of a wire keeps its rule.
-use Rattle.std.proofs.Common.{◌≡◌, ◌≢◌, ◌⊎◌, ℕ, zero, suc, ◌+◌, ◌*◌, ◌%◌, ◌^◌, ◌<◌, ◌≤◌, Bool, cond, nat_lt, true, false, true≢false, eqb, List, [], ◌∷◌, ◌++◌, length, take, drop, map, get_or, set, sym, refl, ap, ◌∙◌, subst, inl, inr, arith, append-nil, append_assoc, length-append, ap₂, length-set, get_or-set_same, eq-eqb, ne_eqb}
+use Rattle.std.proofs.Common.{◌≡◌, ◌≢◌, ◌⊎◌, ℕ, zero, suc, ◌+◌, ◌*◌, ◌%◌, ◌^◌, ◌<◌, ◌≤◌, Bool, cond, true, false, true≢false, eqb, List, [], ◌∷◌, ◌++◌, length, take, drop, map, set, sym, refl, ap, ◌∙◌, subst, inl, inr, arith, append-nil, length-append, ap₂, eq-eqb}
 use Rattle.std.specs.Prelude.{slice_index, All, if◌then◌else◌}
 use mathlib.Core.Option.{Option, none, some, some-injective, some-ne-none}
 use lib.ListN.{get_elem?}
@@ -9,7 +9,7 @@ use Rattle.std.proofs.lemmas.List.{take-append-drop}
 use Rattle.std.proofs.Math.Nat.{mod-lt}
 use Rattle.std.proofs.lemmas.List.Concat.{flat_map-append}
 use Rattle.std.proofs.lemmas.List.Elements.{All-append}
-use Rattle.atomic_table.specs.Table.{State, Me, Step, step, opening, keeps, takes, gives, stepped, Allows, Splits, Joins, Final, Seen, Act, put_back, rest}
+use Rattle.atomic_table.specs.Table.{step, opening, keeps, takes, gives, stepped, Allows, Splits, Joins, Final, Seen, put_back, rest}
 use Rattle.atomic_table.proofs.Lists.{at_set, at_snoc, at_longer, set_again, set_else}
 use Rattle.am_base.specs.Founding.{Rules}
 use Rattle.am_base.specs.Names.{place_of}
@@ -23,10 +23,10 @@ use Rattle.am_wire.specs.declared.rule.Terms.{Terms}
 use Rattle.am_wire.specs.declared.rule.View.{View}
 use Rattle.am_wire.specs.Keys.{is_of, of_key, same_key, times, is_key, all_keys}
 use Rattle.am_wire.specs.Stops.{Page}
-use Rattle.am_wire.specs.Seats.{view, sight_of, no_rules, longer, StartsWith, GoesOn, IsUpTo, AreLow, Shown, Sat, standing, Fits, IsFree, IsTaken, Stands, IsIdle, HasTurn, Takes, took, carried, counted, gave, Looks, looked, Unites}
+use Rattle.am_wire.specs.Seats.{view, sight_of, no_rules, longer, GoesOn, IsUpTo, AreLow, Shown, Sat, standing, Fits, IsFree, Stands, IsIdle, HasTurn, took, carried, counted, gave, Looks, looked, Unites}
 use Rattle.am_wire.specs.Passes.{HasAll}
 use Rattle.am_wire.proofs.Dealt.{each_once}
-use Rattle.am_wire.proofs.Views.{rest_of, starts_by, starts_all, starts_through, key_append, goes_same, times_append, times_cons, BothGo, both_go, stand_set, stand_last, stand_one, stand_two}
+use Rattle.am_wire.proofs.Views.{rest_of, starts_by, starts_through, key_append, goes_same, times_append, times_cons, BothGo, both_go, stand_set, stand_last, stand_one, stand_two}
 
 abbrev page : Terms → List Record → Page
 page terms log = record { founding = terms.founding; records = log }
@@ -98,25 +98,23 @@ SameTurns vs ws = (id : ℕ) (u : View) → u.turn ≡ true → (get_elem? vs id
 
 turns_set : (vs : List View) (id : ℕ) (v w : View) → get_elem? vs id ≡ some v → v.turn ≡ false → w.turn ≡ false → SameTurns vs (set vs id w)
 unfolding SameTurns
-turns_set vs id v w at off gone = λ j u has.
-    (
-      (λ here. set_else vs id j w (λ is. let e : some v ≡ some u = sym at ∙ ap (get_elem? vs) (sym is) ∙ here in absurd (true≢false (sym has ∙ ap (λ (x : View). x.turn) (sym (some-injective v u e)) ∙ off))) ∙ here),
-      λ here. elim (at_set vs id j w u here) [
-        | inl t ↦ absurd (true≢false (sym has ∙ ap (λ (x : View). x.turn) (sym t.1) ∙ gone))
-        | inr t ↦ t.1
-      ],
-    )
+turns_set vs id v w at off gone = λ j u has. (
+  (λ here. set_else vs id j w (λ is. let e : some v ≡ some u = sym at ∙ ap (get_elem? vs) (sym is) ∙ here in absurd (true≢false (sym has ∙ ap (λ (x : View). x.turn) (sym (some-injective v u e)) ∙ off))) ∙ here),
+  λ here. elim (at_set vs id j w u here) [
+    | inl t ↦ absurd (true≢false (sym has ∙ ap (λ (x : View). x.turn) (sym t.1) ∙ gone))
+    | inr t ↦ t.1
+  ],
+)
 
 turns_last : (vs : List View) (w : View) → w.turn ≡ false → SameTurns vs (vs ++ w ∷ [])
 unfolding SameTurns
-turns_last vs w off = λ j u has.
-    (
-      (λ here. at_longer vs (w ∷ []) j u here),
-      λ here. elim (at_snoc vs w u j here) [
-        | inl old ↦ old
-        | inr new ↦ absurd (true≢false (sym has ∙ ap (λ (x : View). x.turn) (sym new) ∙ off))
-      ],
-    )
+turns_last vs w off = λ j u has. (
+  (λ here. at_longer vs (w ∷ []) j u here),
+  λ here. elim (at_snoc vs w u j here) [
+    | inl old ↦ old
+    | inr new ↦ absurd (true≢false (sym has ∙ ap (λ (x : View). x.turn) (sym new) ∙ off))
+  ],
+)
 
 turns_through : (us vs ws : List View) → SameTurns us vs → SameTurns vs ws → SameTurns us ws
 unfolding SameTurns
@@ -156,30 +154,30 @@ free_takes : (terms : Terms) (s : Shown) (k : Stands terms s) (id : ℕ) (me : S
 free_takes terms s k id me free keyed at =
     let new : View = view me.0.founding me.0.keys k.log [] true in
     let w = two_words s.words 1 k.two in record {
-  log = k.log;
-  two = w.0;
-  count = w.2 ∙ k.count;
-  most = k.most;
-  low = k.low;
-  callers = k.callers;
-  once = kept_keys terms s k id me.0 new at refl;
-  fits = λ j v here. elim (at_set s.views id j new v here) [
-    | inl t ↦ subst (Fits terms k.log) t.1 (all_seen terms k.log k.log me.0 (k.fits id me.0 at) keyed)
-    | inr t ↦ k.fits j v t.1
-  ];
-  turn = inr (record {
-    word = w.1;
-    home = ap (λ hs. set hs 0 none) free.home;
-    holder = id;
-    its = new;
-    there = new_there s.views id me.0 new at;
-    has = refl;
-    only = λ j v here has. elim (at_set s.views id j new v here) [
-      | inl t ↦ t.0
-      | inr t ↦ absurd (true≢false (sym has ∙ free.nobody j v t.1))
-    ];
-  });
-}
+      log = k.log;
+      two = w.0;
+      count = w.2 ∙ k.count;
+      most = k.most;
+      low = k.low;
+      callers = k.callers;
+      once = kept_keys terms s k id me.0 new at refl;
+      fits = λ j v here. elim (at_set s.views id j new v here) [
+        | inl t ↦ subst (Fits terms k.log) t.1 (all_seen terms k.log k.log me.0 (k.fits id me.0 at) keyed)
+        | inr t ↦ k.fits j v t.1
+      ];
+      turn = inr (record {
+        word = w.1;
+        home = ap (λ hs. set hs 0 none) free.home;
+        holder = id;
+        its = new;
+        there = new_there s.views id me.0 new at;
+        has = refl;
+        only = λ j v here has. elim (at_set s.views id j new v here) [
+          | inl t ↦ t.0
+          | inr t ↦ absurd (true≢false (sym has ∙ free.nobody j v t.1))
+        ];
+      });
+    }
 
 unmoved : (terms : Terms) (s : Shown) (k : Stands terms s) (n id : ℕ) (me : Sat) → slice_index s.words 0 ≡ n → get_elem? s.views id ≡ some me.0 → Stands terms (stepped s 0 n id me.1 me.0 keeps)
 unmoved terms s k n id me is at =
@@ -405,24 +403,23 @@ look_allows terms slots id me off empty s k len at small =
     let mine = k.fits id me.0 at in
     let new : View = view me.0.founding me.0.keys me.0.seen [] false in
     let x : ℕ = slice_index s.words 1 in
-    let same_words : set s.words 1 x ≡ s.words = same_count s.words x k.two refl in
-    (
+    let same_words : set s.words 1 x ≡ s.words = same_count s.words x k.two refl in (
       new,
       keeps,
       tt,
       subst (λ (ws : List ℕ). Stands terms (record { words = ws; homes = s.homes; views = set s.views id new })) (sym same_words)
-      (with_views terms s k (set s.views id new) (kept_keys terms s k id me.0 new at refl)
-      (λ j v here. elim (at_set s.views id j new v here) [
-        | inl t ↦ subst (Fits terms k.log) t.1 (record {
-          goes = mine.goes;
-          older = none_older _;
-          founded = mine.founded;
-          whole = λ bad. absurd (true≢false (sym bad));
-          keyed = λ bad. absurd (true≢false (sym bad));
-        })
-        | inr t ↦ k.fits j v t.1
-      ])
-      (turns_set s.views id me.0 new at off refl)),
+          (with_views terms s k (set s.views id new) (kept_keys terms s k id me.0 new at refl)
+          (λ j v here. elim (at_set s.views id j new v here) [
+            | inl t ↦ subst (Fits terms k.log) t.1 (record {
+              goes = mine.goes;
+              older = none_older _;
+              founded = mine.founded;
+              whole = λ bad. absurd (true≢false (sym bad));
+              keyed = λ bad. absurd (true≢false (sym bad));
+            })
+            | inr t ↦ k.fits j v t.1
+          ])
+          (turns_set s.views id me.0 new at off refl)),
       record { same = ap (λ (c : List (ℕ × Page)). (new, c)) empty; goes = mine.older },
     )
 
@@ -489,12 +486,12 @@ joins terms id other v w off gone keyed s k at apart there =
     let go : BothGo v.keys w.keys v.seen w.seen seen k.log = both_go v.keys w.keys v.seen w.seen k.log mine.goes its.goes in
     with_views terms s k (set one other spent)
     (λ key.
-        let a = stand_set key s.views id v both at in
-        let b = stand_set key one other w spent there in
-        let c = times_append key w.keys v.keys in
-        let none_left : times key [] ≡ 0 = refl in
-        let o = k.once key in
-        omega arith)
+    let a = stand_set key s.views id v both at in
+    let b = stand_set key one other w spent there in
+    let c = times_append key w.keys v.keys in
+    let none_left : times key [] ≡ 0 = refl in
+    let o = k.once key in
+    omega arith)
     (λ j u here. elim (at_set one other j spent u here) [
       | inl t ↦ subst (Fits terms k.log) t.1 (record {
         goes = record { begins = refl; own = λ key h. absurd (omega arith) };
@@ -552,8 +549,8 @@ saw_all terms s k id v at all =
     let goes = (k.fits id v at).goes in
     let is : k.log ≡ v.seen ++ drop (length v.seen) k.log = rest_of k.log v.seen goes.begins in
     is ∙ ap (λ (l : List Record). v.seen ++ l) (all_rest v.seen (drop (length v.seen) k.log) (λ r.
-        let key : Key = Place (place_of r.event.node) in
-        ap (of_key key) (sym is) ∙ goes.own key (all key (lt-ltb (place_of r.event.node) 16 (mod-lt r.event.node (omega arith)))))) ∙ append-nil v.seen
+    let key : Key = Place (place_of r.event.node) in
+    ap (of_key key) (sym is) ∙ goes.own key (all key (lt-ltb (place_of r.event.node) 16 (mod-lt r.event.node (omega arith)))))) ∙ append-nil v.seen
 
 pub ends : (terms : Terms) (s : Shown) → Stands terms s → (id : ℕ) (v : View) → get_elem? s.views id ≡ some v → v.turn ≡ false → HasAll terms.callers v.keys → Ends terms s v
 ends terms s k id v at off all =
@@ -606,23 +603,23 @@ pub opens : (terms : Terms) (pages : List Page) → pages ≡ record { founding 
     → Stands terms (opening (0 ∷ 0 ∷ []) pages (view terms.founding (all_keys terms.callers) [] [] false))
 opens terms pages is =
     let v : View = view terms.founding (all_keys terms.callers) [] [] false in record {
-  log = [];
-  two = refl;
-  count = refl;
-  most = omega arith;
-  low = λ k d h. absurd (omega arith);
-  callers = λ k d h. absurd (omega arith);
-  once = λ key. first_standing key v _ (each_once terms.callers key);
-  fits = λ id u at. subst (Fits terms []) (at_first (v ∷ []) v refl id u at) (record {
-    goes = goes_same (all_keys terms.callers) [];
-    older = none_older _;
-    founded = λ h. refl;
-    whole = λ bad. absurd (true≢false (sym bad));
-    keyed = λ bad. absurd (true≢false (sym bad));
-  });
-  turn = inl (record {
-    word = refl;
-    home = ap (map some) is;
-    nobody = λ id u at. ap (λ (x : View). x.turn) (sym (at_first (v ∷ []) v refl id u at));
-  });
-}
+      log = [];
+      two = refl;
+      count = refl;
+      most = omega arith;
+      low = λ k d h. absurd (omega arith);
+      callers = λ k d h. absurd (omega arith);
+      once = λ key. first_standing key v _ (each_once terms.callers key);
+      fits = λ id u at. subst (Fits terms []) (at_first (v ∷ []) v refl id u at) (record {
+        goes = goes_same (all_keys terms.callers) [];
+        older = none_older _;
+        founded = λ h. refl;
+        whole = λ bad. absurd (true≢false (sym bad));
+        keyed = λ bad. absurd (true≢false (sym bad));
+      });
+      turn = inl (record {
+        word = refl;
+        home = ap (map some) is;
+        nobody = λ id u at. ap (λ (x : View). x.turn) (sym (at_first (v ∷ []) v refl id u at));
+      });
+    }

@@ -1,12 +1,10 @@
 -- What a pass tells of its seat.
-use Rattle.std.proofs.Common.{◌≡◌, ℕ, ◌+◌, ◌<◌, false, List, [], ◌∷◌, ◌++◌, length, take, drop, sym, refl, ap, ◌∙◌, subst, arith, length-append}
+use Rattle.std.proofs.Common.{◌≡◌, ◌<◌, false, List, [], ◌∷◌, ◌++◌, length, take, drop, sym, refl, ap, ◌∙◌, subst, arith, length-append}
 use Rattle.atomic_table.specs.Seated.{TableId}
 use Rattle.am_wire.specs.declared.rule.View.{View}
-use Rattle.am_base.specs.Founding.{Rules}
 use Rattle.am_group.specs.declared.event.Record.{Record}
 use Rattle.am_wire.specs.declared.rule.Key.{Key}
-use Rattle.am_wire.specs.Stops.{Page}
-use Rattle.am_wire.specs.Seats.{Sat, view, longer, GoesOn, IsIdle, HasTurn, Takes, Unites, Parts, Adds}
+use Rattle.am_wire.specs.Seats.{Sat, view, longer, GoesOn, IsIdle, Takes, Unites, Parts}
 use Rattle.am_wire.specs.Passes.{Known, known_by, Rests, Sees, Joined}
 
 -- the seat of a pass between two calls
@@ -21,16 +19,16 @@ pub sits : (p : Known) (id : TableId) (views : List View) (m : Sat) → p ≡ kn
 sits p id views m is rests one empty =
     let known : p ≡ known_by id (m.0 ∷ []) = is ∙ ap (known_by id) one in
     let its : rests.its ≡ m.0 = ap (head rests.its) (sym rests.one ∙ one) in record {
-  wire = ap (λ (x : Known). x.wire) known;
-  keys = ap (λ (x : Known). x.keys) known;
-  seen = ap (λ (x : Known). x.seen) known;
-  idle = record {
-    turn = ap (λ (v : View). v.turn) (sym its) ∙ rests.turn;
-    older = ap (λ (v : View). v.older) (sym its) ∙ rests.older;
-    empty = empty;
-  };
-  keyed = subst (λ (v : View). 0 < length v.keys) its rests.keyed;
-}
+      wire = ap (λ (x : Known). x.wire) known;
+      keys = ap (λ (x : Known). x.keys) known;
+      seen = ap (λ (x : Known). x.seen) known;
+      idle = record {
+        turn = ap (λ (v : View). v.turn) (sym its) ∙ rests.turn;
+        older = ap (λ (v : View). v.older) (sym its) ∙ rests.older;
+        empty = empty;
+      };
+      keyed = subst (λ (v : View). 0 < length v.keys) its rests.keyed;
+    }
   where
     head : View → List View → View
     head v [] = v
@@ -85,16 +83,16 @@ meets p q id other s r u m o sits its one unites parts =
     let cut = first_key r.0.keys s.0.keys single in
     let m_keys : m.0.keys ≡ s.0.keys = parts.keys ∙ ap (drop 1) unites.keys ∙ cut.1 in
     let o_keys : o.0.keys ≡ r.0.keys = parts.other_keys ∙ ap (take 1) unites.keys ∙ cut.0 in record {
-  idle = parts.idle;
-  keyed = (subst (λ (ks : List Key). 0 < length ks) (sym m_keys) sits.keyed, subst (λ (ks : List Key). 0 < length ks) (sym o_keys) its.keyed);
-  keys = (m_keys ∙ sym sits.keys, o_keys ∙ sym its.keys);
-  goes = (
-    goes_at s.0.keys p.keys s.0.seen p.seen u.0.seen m.0.seen (sym sits.keys) (sym sits.seen) (sym parts.seen) unites.mine,
-    goes_at r.0.keys q.keys r.0.seen q.seen u.0.seen o.0.seen (sym its.keys) (sym its.seen) (sym parts.other_seen) unites.theirs,
-  );
-  longer = parts.seen ∙ unites.seen ∙ ap (λ (l : List Record). longer l r.0.seen) (sym sits.seen) ∙ ap (longer p.seen) (sym its.seen);
-  both = parts.other_seen ∙ sym parts.seen;
-}
+      idle = parts.idle;
+      keyed = (subst (λ (ks : List Key). 0 < length ks) (sym m_keys) sits.keyed, subst (λ (ks : List Key). 0 < length ks) (sym o_keys) its.keyed);
+      keys = (m_keys ∙ sym sits.keys, o_keys ∙ sym its.keys);
+      goes = (
+        goes_at s.0.keys p.keys s.0.seen p.seen u.0.seen m.0.seen (sym sits.keys) (sym sits.seen) (sym parts.seen) unites.mine,
+        goes_at r.0.keys q.keys r.0.seen q.seen u.0.seen o.0.seen (sym its.keys) (sym its.seen) (sym parts.other_seen) unites.theirs,
+      );
+      longer = parts.seen ∙ unites.seen ∙ ap (λ (l : List Record). longer l r.0.seen) (sym sits.seen) ∙ ap (longer p.seen) (sym its.seen);
+      both = parts.other_seen ∙ sym parts.seen;
+    }
 
 -- one that got another's keys
 pub joins_by : (p q : Known) (id other wire : TableId) (s r u : Sat) (views : List View) → Sits p id s → Sits q other r → Unites s.0 r.0 u → views ≡ u.0 ∷ [] → wire ≡ p.wire → Joined p q (known_by wire views)

@@ -1,14 +1,11 @@
 -- What starts with what, which records are of a key, and how often a key stands among views.
 use Rattle.std.proofs.Common.{◌≡◌, ◌≢◌, ◌⊎◌, ℕ, zero, suc, ◌+◌, ◌<◌, ◌≤◌, Bool, true, false, cond, nat_lt, List, [], ◌∷◌, ◌++◌, length, take, drop, set, sym, refl, ap, ◌∙◌, subst, inl, inr, arith, append-nil, append_assoc, length-append}
-use Rattle.std.specs.Prelude.{sum_by, count_by, filter}
 use Rattle.std.proofs.lemmas.List.{take-append-le, take-append-drop}
 use Rattle.std.proofs.lemmas.Bool.{ltb-true, ltb-false}
 use Rattle.std.proofs.lemmas.List.Sums.{sum_by-append, sum_by-cons}
 use Rattle.std.proofs.lemmas.List.Elements.{filter-append}
 use Rattle.std.proofs.Math.Seq.{take-append_seam, take-length}
-use mathlib.Core.Logic.{dite}
 use mathlib.Core.Option.{some, some-injective, some-ne-none}
-use native.Mathlib.Decide.{dec_lt}
 use lib.ListN.{get_elem?}
 use Rattle.am_group.specs.declared.event.Record.{Record}
 use Rattle.am_wire.specs.declared.rule.Key.{Key}
@@ -72,7 +69,7 @@ key_between key a b c p q e =
     let of_b : of_key key b ≡ of_key key a ++ of_key key r = ap (of_key key) (rest_of b a p) ∙ key_append key a r in
     let of_c : of_key key c ≡ of_key key b ++ of_key key s = ap (of_key key) (rest_of c b q) ∙ key_append key b s in
     let all : of_key key a ++ (of_key key r ++ of_key key s) ≡ of_key key a =
-        sym (append_assoc (of_key key a) (of_key key r) (of_key key s)) ∙ ap (λ (l : List Record). l ++ of_key key s) (sym of_b) ∙ sym of_c ∙ e
+    sym (append_assoc (of_key key a) (of_key key r) (of_key key s)) ∙ ap (λ (l : List Record). l ++ of_key key s) (sym of_b) ∙ sym of_c ∙ e
     in of_b ∙ ap (λ (l : List Record). of_key key a ++ l) (nothing_more (of_key key a) (of_key key r) (of_key key s) all) ∙ append-nil (of_key key a)
 
 -- ---- going on
@@ -110,16 +107,16 @@ both_go keys others xs ys log p q =
     let l = longer_is log xs ys p.begins q.begins in
     let one : GoesOn keys xs (longer xs ys) = goes_between keys xs (longer xs ys) log l.first l.of_log p in
     let two : GoesOn others ys (longer xs ys) = goes_between others ys (longer xs ys) log l.second l.of_log q in record {
-  first = one;
-  second = two;
-  both = record {
-    begins = l.of_log;
-    own = λ key h. elim (either_more (times key others) (times key keys) (subst (λ (n : ℕ). 0 < n) (times_append key others keys) h)) [
-      | inl t ↦ q.own key t ∙ sym (two.own key t)
-      | inr t ↦ p.own key t ∙ sym (one.own key t)
-    ];
-  };
-}
+      first = one;
+      second = two;
+      both = record {
+        begins = l.of_log;
+        own = λ key h. elim (either_more (times key others) (times key keys) (subst (λ (n : ℕ). 0 < n) (times_append key others keys) h)) [
+          | inl t ↦ q.own key t ∙ sym (two.own key t)
+          | inr t ↦ p.own key t ∙ sym (one.own key t)
+        ];
+      };
+    }
 
 -- ---- keys among views
 

@@ -114,12 +114,7 @@ fn two_threads_add(rt: HostRuntime) -> Result<(), Fail> {
     };
     let first = stop_at(alloc, 0, 0, 6)?;
     let second = stop_at(alloc, 1, 1, 5)?;
-    let (mut pass, mut share, done) = add_both(
-        &rt,
-        &wire,
-        (one, mine, first),
-        (two, its, second),
-    );
+    let (mut pass, mut share, done) = add_both(&rt, &wire, (one, mine, first), (two, its, second));
     assert!(rt; done);
     wire.meet(&mut pass, &mut share);
     assert_eq!(rt; wire.stopped(&rt, &mut pass).mask(), 3);

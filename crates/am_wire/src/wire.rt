@@ -21,9 +21,8 @@ use am_letter::letter::Letter;
 use atomic_table::{Badge, Seat, Table};
 use std::alloc::{AllocError, Global};
 use std::marker::Model;
-use std::mem;
 use std::sync::Wait;
-use std::thread;
+use std::{mem, thread};
 
 /// The most records that a journal has.
 const MOST_RECORDS: usize = 100_000;
@@ -101,11 +100,7 @@ impl Pass {
 
 impl Wire {
     /// Makes the table. Its first seat has all keys.
-    fn new(
-        alloc: Global,
-        founding: &Founding,
-        callers: u32,
-    ) -> Result<(Wire, TableSeat), NoMemory>
+    fn new(alloc: Global, founding: &Founding, callers: u32) -> Result<(Wire, TableSeat), NoMemory>
         ensures wire { IfOk result (λ r. (r.0.founding ≡ founding.now) × (r.0.callers ≡ callers)) }
         ensures seat { IfOk result (λ r. (r.1.table_id ≡ r.0.id) × (r.1.me ≡ (view founding.now (all_keys callers) [] [] false, []))) }
     {
@@ -199,12 +194,7 @@ impl Wire {
     }
 
     /// Splits off passes with the first keys, one for each.
-    fn deal(
-        &self,
-        alloc: Global,
-        seat: &mut TableSeat,
-        count: usize,
-    ) -> Result<Vec<Pass>, NoMemory>
+    fn deal(&self, alloc: Global, seat: &mut TableSeat, count: usize) -> Result<Vec<Pass>, NoMemory>
         requires own { seat.old.table_id ≡ self.now.id }
         requires idle { IsIdle seat.old.me }
         requires unseen { seat.old.me.0.seen ≡ [] }
@@ -321,13 +311,7 @@ impl Wire {
 
     /// The least number above another of a letter that is for this name; None exactly where the journal that the pass has
     /// then seen has none.
-    pub fn next_for<R: Wait>(
-        &self,
-        rt: &R,
-        pass: &mut Pass,
-        node: Name,
-        after: u32,
-    ) -> Option<u32>
+    pub fn next_for<R: Wait>(&self, rt: &R, pass: &mut Pass, node: Name, after: u32) -> Option<u32>
         requires own { pass.old.wire ≡ self.now.id }
         ensures sees { Sees pass.old pass.new }
         ensures value { result ≡ next_for (letters_of pass.new.seen) node after }

@@ -1,10 +1,9 @@
-use Rattle.std.proofs.Common.{◌≡◌, ℕ, zero, suc, ◌+◌, ◌<◌, List, [], ◌∷◌, ◌++◌, length, get_or, map, sym, refl, ap, ◌∙◌, subst, arith}
+use Rattle.std.proofs.Common.{◌≡◌, ℕ, zero, suc, List, [], ◌∷◌, ◌++◌, sym, refl, ap, ◌∙◌, subst, arith}
 use Rattle.std.specs.Prelude.{sum_by, All}
 use Rattle.std.proofs.lemmas.List.Sums.{sum_by-append, sum_by-cons}
-use Rattle.atomic_table.specs.Seated.{TableId}
 use Rattle.am_wire.specs.declared.rule.Key.{Key}
 use Rattle.am_wire.specs.Keys.{times, place_keys, caller_keys, all_keys}
-use Rattle.am_wire.specs.Passes.{Known, fresh, HasAll}
+use Rattle.am_wire.specs.Passes.{Known, HasAll}
 use Rattle.am_wire.proofs.Views.{times_append}
 use Rattle.am_wire.proofs.Gathering.{gathered_all, fresh_times, fresh_wires}
 use Rattle.am_wire.proofs.tests.all_passes_close_a_wire.Goals as goal

@@ -1,4 +1,4 @@
-use Rattle.std.proofs.Common.{rules, ◌≡◌, ℕ, zero, suc, ◌+◌, ◌*◌, ◌<◌, ◌≤◌, List, [], ◌∷◌, ◌++◌, length, map, take, drop, sym, refl, ap, ◌∙◌, subst, arith, Option, Some, None}
+use Rattle.std.proofs.Common.{◌≡◌, ℕ, ◌+◌, ◌*◌, List, [], ◌∷◌, length, map, sym, ap, ◌∙◌, subst, arith}
 use Rattle.std.specs.Prelude.{All}
 use Rattle.atomic_table.specs.Seated.{TableId}
 use Rattle.am_base.specs.Names.{place_of}
@@ -52,4 +52,3 @@ add_both-pass-requires-clause-second g c =
     let p = places _ _ _ _ c.in_ok-wire.ensures.passes (given _ _ _ _ _ _ c.into_iter-passes.ensures.rest c.in-Some-Some.ensures.items c.in-Some-Some-2.ensures.items) in
     let q = callers _ _ _ _ c.in_ok-wire.ensures.shares (given _ _ _ _ _ _ c.into_iter-shares.ensures.rest c.in-Some-Some.ensures'.items c.in-Some-Some-2.ensures'.items) in
     λ _. ready _ _ _ 1 1 c.in_ok-second.second p.1 q.1 (ap place_of c.in_ok-second.ensures.place) c.in_ok-second.ensures.caller c.in_ok-second.ensures.few c.in_ok-second.ensures.low
-

@@ -1,10 +1,9 @@
-use Rattle.std.proofs.Common.{rules, ◌≡◌, ℕ, List, ◌+◌, ◌*◌, ◌<◌, ◌≤◌, true, false, [], ◌∷◌, ◌++◌, length, sym, ap, ap₂, ◌∙◌, arith}
+use Rattle.std.proofs.Common.{rules, ◌≡◌, ℕ, List, ◌<◌, [], ◌∷◌, ◌++◌, length, sym, ap, ◌∙◌, arith}
 use Rattle.atomic_table.specs.Table.{rest}
-use Rattle.am_base.specs.Founding.{Rules}
 use Rattle.am_group.specs.declared.event.Record.{Record}
 use Rattle.am_wire.specs.Stops.{Page}
 use Rattle.am_wire.specs.Seats.{Sat, HasTurn}
-use Rattle.am_wire.proofs.Keeps.{MayCount, count_allows}
+use Rattle.am_wire.proofs.Keeps.{count_allows}
 use Rattle.am_wire.proofs.wire.Wire.add.Goals as goal
 
 pub slot_mut-sheet-requires : goal.slot_mut-sheet-requires
@@ -43,12 +42,15 @@ fetch_add-requires c =
     let page = carries m c.args.item c.slot_mut-sheet.result.now c.add.new.self has held c.add.ensures.founding added in
     let same : length c.slot_mut-sheet.result.now.records ≡ length m.0.seen = ap length (held_records m c.slot_mut-sheet.result.now has held) in
     let found : c.len-count.result ≡ length c.slot_mut-sheet.result.now.records = c.len-count.ensures.value in
-    let below : c.len-count.result < 100000 = c.if-count-ge-MOST_RECORDS.false in
-    (search rules, search rules, count_allows _ _ _ _ c.args.item (record {
-      turn = has.turn;
-      page = page;
-      room = omega arith;
-      place = c.requires.place;
-      caller = c.requires.caller;
-      low = c.requires.low;
-    }))
+    let below : c.len-count.result < 100000 = c.if-count-ge-MOST_RECORDS.false in (
+      search rules,
+      search rules,
+      count_allows _ _ _ _ c.args.item (record {
+        turn = has.turn;
+        page = page;
+        room = omega arith;
+        place = c.requires.place;
+        caller = c.requires.caller;
+        low = c.requires.low;
+      }),
+    )

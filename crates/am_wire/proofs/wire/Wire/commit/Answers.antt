@@ -14,17 +14,17 @@ record Left (g : Over) (c : goal.After-drop-pass-inside g) : Type 0 where
 left : (g : Over) (c : goal.After-drop-pass-inside g) → Left g c
 left g c =
     let holds =
-        holds_by _ _ _ _ _ _ _ _
-        (sits _ _ _ c.seat_in-seat.result.me (sym c.pass.view_is) c.pass.invariant c.seat_in-seat.ensures.one c.seat_in-seat.ensures.empty)
-        (sits _ _ _ c.seat_in.result.me (sym c.share.view_is) c.share.invariant c.seat_in.ensures.one c.seat_in.ensures.empty)
-        (ap length c.requires.ready.caller) c.unite.ensures.unites c.take.ensures.takes
+    holds_by _ _ _ _ _ _ _ _
+    (sits _ _ _ c.seat_in-seat.result.me (sym c.pass.view_is) c.pass.invariant c.seat_in-seat.ensures.one c.seat_in-seat.ensures.empty)
+    (sits _ _ _ c.seat_in.result.me (sym c.share.view_is) c.share.invariant c.seat_in.ensures.one c.seat_in.ensures.empty)
+    (ap length c.requires.ready.caller) c.unite.ensures.unites c.take.ensures.takes
     in
     let later = after_by _ _ _ _ c.take.ensures.takes.turn c.add-added.ensures.ok c.add-added.ensures.err in record {
-  holds = holds;
-  later = later;
-  seats = leaves _ _ _ _ _ _ _ _ _ holds later c.give.ensures.gave c.part.ensures.parts;
-  badges = record { wires = (search rules, search rules); one = (c.into_badge-2.ensures.2, c.into_badge.ensures.2) };
-}
+      holds = holds;
+      later = later;
+      seats = leaves _ _ _ _ _ _ _ _ _ holds later c.give.ensures.gave c.part.ensures.parts;
+      badges = record { wires = (search rules, search rules); one = (c.into_badge-2.ensures.2, c.into_badge.ensures.2) };
+    }
 
 pub returns-clause-ok : goal.returns-clause-ok
 returns-clause-ok g c = let l = left g c in committed _ _ _ _ _ _ _ _ _ _ _ _ l.holds l.later l.seats l.badges c.add-added.ensures.number c.add-added.ensures.room

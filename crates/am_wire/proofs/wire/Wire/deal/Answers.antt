@@ -1,6 +1,5 @@
-use Rattle.std.proofs.Common.{rules, ◌≡◌, [], ◌∷◌, ◌++◌, ap, ◌∙◌, arith, ◌<◌, length}
+use Rattle.std.proofs.Common.{[], ◌∷◌, ◌++◌, ap, ◌∙◌, arith, ◌<◌}
 use Rattle.am_wire.specs.Passes.{Known}
-use Rattle.std.proofs.Common.{List}
 use Rattle.am_wire.proofs.Dealt.{dealt_more}
 use Rattle.am_wire.proofs.wire.Wire.deal.Goals as goal
 

@@ -1,4 +1,4 @@
-use Rattle.std.proofs.Common.{rules, ◌∷◌, ◌∙◌}
+use Rattle.std.proofs.Common.{◌∷◌, ◌∙◌}
 use Rattle.am_wire.proofs.Gathering.{gathered_more}
 use Rattle.am_wire.proofs.wire.Wire.gather.Goals as goal
 

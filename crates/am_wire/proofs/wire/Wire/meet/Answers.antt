@@ -1,4 +1,4 @@
-use Rattle.std.proofs.Common.{rules, sym, ◌∙◌}
+use Rattle.std.proofs.Common.{rules, sym}
 use Rattle.am_wire.proofs.Passing.{sits, rests_by, sees_by, Meets, meets}
 use Rattle.am_wire.proofs.wire.Wire.meet.Goals as goal
 

@@ -1,8 +1,8 @@
-use Rattle.std.proofs.Common.{◌≡◌, ℕ, ◌+◌, ◌≤◌, List, ◌++◌, length, take, drop, map, sym, ap, ◌∙◌, subst, arith}
+use Rattle.std.proofs.Common.{◌≡◌, ◌≤◌, List, length, take, drop, map, sym, ap, ◌∙◌, subst, arith}
 use Rattle.am_wire.specs.declared.rule.Key.{Key}
-use Rattle.am_wire.specs.Keys.{place_keys, caller_keys, all_keys}
+use Rattle.am_wire.specs.Keys.{caller_keys}
 use Rattle.am_wire.specs.Seats.{Sat}
-use Rattle.am_wire.specs.Passes.{Known, fresh}
+use Rattle.am_wire.specs.Passes.{fresh}
 use Rattle.am_wire.proofs.Dealt.{sixteen, so_many, enough, take_callers}
 use Rattle.am_wire.proofs.wire.Wire.start.Goals as goal
 
@@ -12,7 +12,7 @@ deal-requires-clause-count c = subst (λ (ks : List Key). 16 ≤ length ks) (sym
 pub deal-requires-2-clause-count : goal.deal-requires-2-clause-count
 deal-requires-2-clause-count c =
     let left : c.deal.new.seat.me.0.keys ≡ caller_keys c.args.callers =
-        c.in_ok-passes.ensures.keys ∙ ap (λ (m : Sat). drop 16 m.0.keys) c.in_ok-wire.ensures.seat.1 ∙ (sixteen c.args.callers).1
+    c.in_ok-passes.ensures.keys ∙ ap (λ (m : Sat). drop 16 m.0.keys) c.in_ok-wire.ensures.seat.1 ∙ (sixteen c.args.callers).1
     in
     let many : length c.deal.new.seat.me.0.keys ≡ c.args.callers = ap length left ∙ so_many c.args.callers in
     omega arith
