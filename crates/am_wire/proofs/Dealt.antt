@@ -20,7 +20,8 @@ abbrev one : Bool → ℕ
 one b = if b then 1 else 0
 
 -- keys of another kind, or of other numbers
-other_keys : (make : ℕ → Key) (key : Key) (from count : ℕ) → ((i : ℕ) → from ≤ i → same_key key (make i) ≡ false) → times key (map make (range_with_len from count)) ≡ 0
+other_keys : (make : ℕ → Key) (key : Key) (from count : ℕ) → ((i : ℕ) → from ≤ i → same_key key (make i) ≡ false)
+    → times key (map make (range_with_len from count)) ≡ 0
 other_keys make key from zero other = refl
 other_keys make key from (suc count) other =
     let e = times_cons key (make from) (map make (range_with_len (from + 1) count)) in
@@ -29,7 +30,8 @@ other_keys make key from (suc count) other =
     omega arith
 
 -- how often a number is among so many from another on
-ranged : (make : ℕ → Key) (key : Key) (n from count : ℕ) → ((i : ℕ) → same_key key (make i) ≡ eqb n i) → from ≤ n → times key (map make (range_with_len from count)) ≡ one (nat_lt n (from + count))
+ranged : (make : ℕ → Key) (key : Key) (n from count : ℕ) → ((i : ℕ) → same_key key (make i) ≡ eqb n i) → from ≤ n
+    → times key (map make (range_with_len from count)) ≡ one (nat_lt n (from + count))
 ranged make key n from zero same le = ap one (sym (le-ltb n (from + 0) (omega arith)))
 ranged make key n from (suc count) same le =
     let e = times_cons key (make from) (map make (range_with_len (from + 1) count)) in
@@ -76,7 +78,8 @@ enough callers = omega (arith, length-append (map Place (range_with_len 0 16)) (
 
 -- ---- one by one
 
-take_more : (wire : TableId) (key : Key) (keys : List Key) (i : ℕ) → map (fresh wire) (take (suc i + 1) (key ∷ keys)) ≡ fresh wire key ∷ map (fresh wire) (take (i + 1) keys)
+take_more : (wire : TableId) (key : Key) (keys : List Key) (i : ℕ)
+    → map (fresh wire) (take (suc i + 1) (key ∷ keys)) ≡ fresh wire key ∷ map (fresh wire) (take (i + 1) keys)
 take_more wire key keys i = let e : suc i + 1 ≡ suc (i + 1) = omega arith in ap (λ (n : ℕ). map (fresh wire) (take n (key ∷ keys))) e
 
 pub one_more : (wire : TableId) (keys : List Key) (i : ℕ) → i < length keys
@@ -105,15 +108,22 @@ pub record Dealt (wire : TableId) (all : List Key) (i : ℕ) (its : TableId) (m 
   pub keys : m.0.keys ≡ drop i all
   pub passes : made ≡ map (fresh wire) (take i all)
 
-pub dealt_more : (wire : TableId) (all : List Key) (i : ℕ) (its : TableId) (m : Sat) (made : List Known) (its' : TableId) (m' other : Sat) (made' : List Known) → i < length all
-    → Dealt wire all i its m made → its' ≡ its → Parts m m' other → made' ≡ made ++ record { wire = its; keys = other.0.keys; seen = other.0.seen } ∷ [] → Dealt wire all (i + 1) its' m' made'
+pub dealt_more : (wire : TableId) (all : List Key) (i : ℕ) (its : TableId) (m : Sat) (made : List Known) (its' : TableId) (m' other : Sat)
+    (made' : List Known) → i < length all
+    → Dealt wire all i its m made → its' ≡ its → Parts m m' other
+    → made' ≡ made ++ record { wire = its; keys = other.0.keys; seen = other.0.seen } ∷ [] → Dealt wire all (i + 1) its' m' made'
 dealt_more wire all i its m made its' m' other made' h dealt same parts pushed = record {
   same = same ∙ dealt.same;
   idle = parts.idle.0;
   unseen = parts.seen ∙ dealt.unseen;
   keys = parts.keys ∙ ap (drop 1) dealt.keys ∙ drop_more all i;
   passes = pushed ∙ ap (λ (l : List Known). l ++ record { wire = its; keys = other.0.keys; seen = other.0.seen } ∷ []) dealt.passes
-      ∙ ap (λ (p : Known). map (fresh wire) (take i all) ++ p ∷ []) (λ k. record { wire = dealt.same k; keys = (parts.other_keys ∙ ap (take 1) dealt.keys) k; seen = (parts.other_seen ∙ dealt.unseen) k })
+      ∙ ap (λ (p : Known). map (fresh wire) (take i all) ++ p ∷ []) (λ k. record {
+        wire = dealt.same k;
+        keys = (parts.other_keys
+            ∙ ap (take 1) dealt.keys) k;
+        seen = (parts.other_seen ∙ dealt.unseen) k;
+      })
       ∙ sym (one_more wire all i h);
 }
 

@@ -38,7 +38,8 @@ gathered_more made p q p' g j = record {
       let o = g.keys key in
       omega arith;
   goes = All-append (λ (x : Known). GoesOn x.keys x.seen p'.seen) made (q ∷ [])
-      (λ k d h. goes_through (get_or made k d).keys p.keys (get_or made k d).seen p.seen p'.seen (λ key has. let s = some_of_sum made key k d h in let o = g.keys key in omega arith) (g.goes k d h) j.first)
+      (λ k d h. goes_through (get_or made k d).keys p.keys (get_or made k d).seen p.seen p'.seen (λ key has. let s = some_of_sum made key k d h in
+      let o = g.keys key in omega arith) (g.goes k d h) j.first)
       (λ k d h. second k d h);
 }
   where
@@ -47,7 +48,8 @@ gathered_more made p q p' g j = record {
     second (suc k) d h = absurd (omega arith)
 
 -- where the passes had each key of a wire, the one has all
-pub gathered_all : (callers : ℕ) (made : List Known) (p : Known) → Gathered made p → ((key : Key) → sum_by (λ q. times key q.keys) made ≡ times key (all_keys callers)) → HasAll callers p.keys
+pub gathered_all : (callers : ℕ) (made : List Known) (p : Known) → Gathered made p
+    → ((key : Key) → sum_by (λ q. times key q.keys) made ≡ times key (all_keys callers)) → HasAll callers p.keys
 gathered_all callers made p g each key is =
     let a = g.keys key in
     let b = each key in

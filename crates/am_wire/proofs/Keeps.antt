@@ -33,13 +33,15 @@ page terms log = record { founding = terms.founding; records = log }
 
 -- ---- two words
 
-two_words : (ws : List ℕ) (n : ℕ) → length ws ≡ 2 → (length (set ws 0 n) ≡ 2) × (slice_index (set ws 0 n) 0 ≡ n) × (slice_index (set ws 0 n) 1 ≡ slice_index ws 1)
+two_words : (ws : List ℕ) (n : ℕ) → length ws ≡ 2
+    → (length (set ws 0 n) ≡ 2) × (slice_index (set ws 0 n) 0 ≡ n) × (slice_index (set ws 0 n) 1 ≡ slice_index ws 1)
 two_words [] n e = absurd (omega arith)
 two_words (a ∷ []) n e = absurd (omega arith)
 two_words (a ∷ b ∷ []) n e = (refl, refl, refl)
 two_words (a ∷ b ∷ c ∷ ws) n e = absurd (omega arith)
 
-two_counts : (ws : List ℕ) (n : ℕ) → length ws ≡ 2 → (length (set ws 1 n) ≡ 2) × (slice_index (set ws 1 n) 1 ≡ n) × (slice_index (set ws 1 n) 0 ≡ slice_index ws 0)
+two_counts : (ws : List ℕ) (n : ℕ) → length ws ≡ 2
+    → (length (set ws 1 n) ≡ 2) × (slice_index (set ws 1 n) 1 ≡ n) × (slice_index (set ws 1 n) 0 ≡ slice_index ws 0)
 two_counts [] n e = absurd (omega arith)
 two_counts (a ∷ []) n e = absurd (omega arith)
 two_counts (a ∷ b ∷ []) n e = (refl, refl, refl)
@@ -94,12 +96,14 @@ all_seen terms log old v fits keyed = record {
 
 -- the seats with the turn are the same
 SameTurns : List View → List View → Type 0
-SameTurns vs ws = (id : ℕ) (u : View) → u.turn ≡ true → (get_elem? vs id ≡ some u → get_elem? ws id ≡ some u) × (get_elem? ws id ≡ some u → get_elem? vs id ≡ some u)
+SameTurns vs ws = (id : ℕ) (u : View) → u.turn ≡ true → (get_elem? vs id ≡ some u → get_elem? ws id ≡ some u) ×
+    (get_elem? ws id ≡ some u → get_elem? vs id ≡ some u)
 
 turns_set : (vs : List View) (id : ℕ) (v w : View) → get_elem? vs id ≡ some v → v.turn ≡ false → w.turn ≡ false → SameTurns vs (set vs id w)
 unfolding SameTurns
 turns_set vs id v w at off gone = λ j u has. (
-  (λ here. set_else vs id j w (λ is. let e : some v ≡ some u = sym at ∙ ap (get_elem? vs) (sym is) ∙ here in absurd (true≢false (sym has ∙ ap (λ (x : View). x.turn) (sym (some-injective v u e)) ∙ off))) ∙ here),
+  (λ here. set_else vs id j w (λ is. let e : some v ≡ some u = sym at ∙ ap (get_elem? vs) (sym is) ∙ here in absurd (true≢false (sym has
+      ∙ ap (λ (x : View). x.turn) (sym (some-injective v u e)) ∙ off))) ∙ here),
   λ here. elim (at_set vs id j w u here) [
     | inl t ↦ absurd (true≢false (sym has ∙ ap (λ (x : View). x.turn) (sym t.1) ∙ gone))
     | inr t ↦ t.1
@@ -122,7 +126,8 @@ turns_through us vs ws p q = λ j u has. ((λ here. (q j u has).0 ((p j u has).0
 
 -- the rule with other views
 with_views : (terms : Terms) (s : Shown) (k : Stands terms s) (vs : List View) → ((key : Key) → standing key vs ≡ (if is_key terms.callers key then 1 else 0))
-    → ((id : ℕ) (v : View) → get_elem? vs id ≡ some v → Fits terms k.log v) → SameTurns s.views vs → Stands terms (record { words = s.words; homes = s.homes; views = vs })
+    → ((id : ℕ) (v : View) → get_elem? vs id ≡ some v → Fits terms k.log v) → SameTurns s.views vs
+    → Stands terms (record { words = s.words; homes = s.homes; views = vs })
 unfolding SameTurns
 with_views terms s k vs once fits turns = record {
   log = k.log;
@@ -134,7 +139,12 @@ with_views terms s k vs once fits turns = record {
   once = once;
   fits = fits;
   turn = elim k.turn [
-    | inl free ↦ inl (record { word = free.word; home = free.home; nobody = λ id v at. not_true v.turn (λ has. absurd (true≢false (sym has ∙ free.nobody id v ((turns id v has).1 at)))) })
+    | inl free ↦ inl (record {
+      word = free.word;
+      home = free.home;
+      nobody = λ id v at. not_true v.turn (λ has. absurd (true≢false (sym has
+          ∙ free.nobody id v ((turns id v has).1 at))));
+    })
     | inr taken ↦ inr (record {
       word = taken.word;
       home = taken.home;
@@ -149,7 +159,8 @@ with_views terms s k vs once fits turns = record {
 
 -- ---- taking the slot
 
-free_takes : (terms : Terms) (s : Shown) (k : Stands terms s) (id : ℕ) (me : Sat) → IsFree terms s k.log → 0 < length me.0.keys → get_elem? s.views id ≡ some me.0
+free_takes : (terms : Terms) (s : Shown) (k : Stands terms s) (id : ℕ) (me : Sat) → IsFree terms s k.log → 0 < length me.0.keys
+    → get_elem? s.views id ≡ some me.0
     → Stands terms (stepped s 0 1 id me.1 (view me.0.founding me.0.keys k.log [] true) (takes 0 (page terms k.log)))
 free_takes terms s k id me free keyed at =
     let new : View = view me.0.founding me.0.keys k.log [] true in
@@ -179,26 +190,30 @@ free_takes terms s k id me free keyed at =
       });
     }
 
-unmoved : (terms : Terms) (s : Shown) (k : Stands terms s) (n id : ℕ) (me : Sat) → slice_index s.words 0 ≡ n → get_elem? s.views id ≡ some me.0 → Stands terms (stepped s 0 n id me.1 me.0 keeps)
+unmoved : (terms : Terms) (s : Shown) (k : Stands terms s) (n id : ℕ) (me : Sat) → slice_index s.words 0 ≡ n → get_elem? s.views id ≡ some me.0
+    → Stands terms (stepped s 0 n id me.1 me.0 keeps)
 unmoved terms s k n id me is at =
     let same_words : set s.words 0 n ≡ s.words = same_word s.words n k.two is in
     let same_views : set s.views id me.0 ≡ s.views = set_again s.views id me.0 at in
     subst (λ (t : List ℕ × List View). Stands terms (record { words = t.0; homes = s.homes; views = t.1 })) (λ i. (sym same_words i, sym same_views i)) k
 
-pub take_allows : (terms : Terms) (slots id : ℕ) (me : Sat) → IsIdle me → 0 < length me.0.keys → Allows (Stands terms) slots id me 0 (λ n. either (eqb n 0) 1 n) (took (step slots 0 0 1 none) me)
+pub take_allows : (terms : Terms) (slots id : ℕ) (me : Sat) → IsIdle me → 0 < length me.0.keys
+    → Allows (Stands terms) slots id me 0 (λ n. either (eqb n 0) 1 n) (took (step slots 0 0 1 none) me)
 take_allows terms slots id me idle keyed s k len at small = elim k.turn [
   | inl free ↦ let x : slice_index s.words 0 ≡ 0 = free.word in let new : View = view me.0.founding me.0.keys k.log [] true in (
     new,
     takes 0 (page terms k.log),
     subst (λ hs. get_elem? hs 0 ≡ some (some (page terms k.log))) (sym free.home) refl,
-    subst (λ (n : ℕ). Stands terms (stepped s 0 (either (eqb n 0) 1 n) id me.1 new (takes 0 (page terms k.log)))) (sym x) (free_takes terms s k id me free keyed at),
+    subst (λ (n : ℕ). Stands terms (stepped s 0 (either (eqb n 0) 1 n) id me.1 new (takes 0 (page terms k.log)))) (sym x)
+        (free_takes terms s k id me free keyed at),
     (
       (λ _. record {
         turn = record {
           turn = refl;
           older = refl;
           keyed = keyed;
-          page = ap₂ (λ (c : List (ℕ × Page)) (f : Rules). (0, record { founding = f; records = k.log }) ∷ c) idle.empty (sym ((k.fits id me.0 at).founded keyed));
+          page = ap₂ (λ (c : List (ℕ × Page)) (f : Rules). (0, record { founding = f; records = k.log }) ∷ c) idle.empty (sym
+              ((k.fits id me.0 at).founded keyed));
         };
         keys = refl;
         goes = (k.fits id me.0 at).goes;
@@ -252,7 +267,8 @@ give_allows terms slots id me has s k len at small =
           ];
           turn = inl (record {
             word = w.1;
-            home = given s.homes me.1 (record { founding = me.0.founding; records = me.0.seen }) (page terms k.log) taken.home has.page (ap₂ (λ (f : Rules) (l : List Record). record { founding = f; records = l }) founded whole);
+            home = given s.homes me.1 (record { founding = me.0.founding; records = me.0.seen }) (page terms k.log) taken.home has.page (ap₂
+                (λ (f : Rules) (l : List Record). record { founding = f; records = l }) founded whole);
             nobody = λ j v here. elim (at_set s.views id j new v here) [
               | inl t ↦ ap (λ (x : View). x.turn) (sym t.1)
               | inr t ↦ not_true v.turn (λ is. t.0 (taken.only j v t.1 is ∙ sym (taken.only id me.0 at has.turn)))
@@ -283,7 +299,8 @@ at_most_one true = omega arith
 at_most_one false = omega arith
 
 -- a key is with one seat alone
-alone : (terms : Terms) (s : Shown) (k : Stands terms s) (key : Key) (i j : ℕ) (v w : View) → i ≢ j → get_elem? s.views i ≡ some v → get_elem? s.views j ≡ some w
+alone : (terms : Terms) (s : Shown) (k : Stands terms s) (key : Key) (i j : ℕ) (v w : View) → i ≢ j → get_elem? s.views i ≡ some v
+    → get_elem? s.views j ≡ some w
     → 0 < times key v.keys → 0 < times key w.keys → ⊥
 alone terms s k key i j v w apart at there one two =
     let t = stand_two key s.views i j v w apart at there in
@@ -315,7 +332,8 @@ is_true_if true h = refl
 is_true_if false h = absurd (omega arith)
 
 -- a key that a seat has is one of the wire's
-key_of_wire : (terms : Terms) (s : Shown) (k : Stands terms s) (key : Key) (id : ℕ) (v : View) → get_elem? s.views id ≡ some v → 0 < times key v.keys → is_key terms.callers key ≡ true
+key_of_wire : (terms : Terms) (s : Shown) (k : Stands terms s) (key : Key) (id : ℕ) (v : View) → get_elem? s.views id ≡ some v
+    → 0 < times key v.keys → is_key terms.callers key ≡ true
 key_of_wire terms s k key id v at has = let t = stand_one key s.views id v at in let o = k.once key in is_true_if (is_key terms.callers key) (omega arith)
 
 -- what a seat is to have before it counts a record
@@ -328,7 +346,8 @@ pub record MayCount (me : Sat) (r : Record) : Type 0 where
   pub low : All (λ l. IsUpTo (2 * length me.0.seen + 3) l.packet) r.packets
 
 -- another seat's view fits what is longer by a record
-others_fit : (terms : Terms) (s : Shown) (k : Stands terms s) (id : ℕ) (me : Sat) (r : Record) → MayCount me r → get_elem? s.views id ≡ some me.0 → (j : ℕ) (u : View) → j ≢ id → get_elem? s.views j ≡ some u
+others_fit : (terms : Terms) (s : Shown) (k : Stands terms s) (id : ℕ) (me : Sat) (r : Record) → MayCount me r → get_elem? s.views id ≡ some me.0
+    → (j : ℕ) (u : View) → j ≢ id → get_elem? s.views j ≡ some u
     → (u.turn ≡ true → ⊥) → Fits terms (k.log ++ r ∷ []) u
 others_fit terms s k id me r may at j u apart here off = let old = k.fits j u here in record {
   goes = record {
@@ -344,7 +363,8 @@ others_fit terms s k id me r may at j u apart here off = let old = k.fits j u he
   keyed = λ is. absurd (off is);
 }
 
-pub count_allows : (terms : Terms) (slots id : ℕ) (me : Sat) (r : Record) → MayCount me r → Allows (Stands terms) slots id me 1 (λ n. (n + 1) % 2 ^ 64) (counted (step slots 1 1 0 none) me)
+pub count_allows : (terms : Terms) (slots id : ℕ) (me : Sat) (r : Record) → MayCount me r
+    → Allows (Stands terms) slots id me 1 (λ n. (n + 1) % 2 ^ 64) (counted (step slots 1 1 0 none) me)
 count_allows terms slots id me r may s k len at small =
     let x : ℕ = slice_index s.words 1 in
     let mine = k.fits id me.0 at in
@@ -373,10 +393,13 @@ count_allows terms slots id me r may s k len at small =
           count = w.1 ∙ counts;
           most = omega arith;
           low = low;
-          callers = All-append (λ (q : Record). q.by.caller < terms.callers) k.log (r ∷ []) k.callers (all_one (λ (q : Record). q.by.caller < terms.callers) r caller);
+          callers = All-append (λ (q : Record). q.by.caller < terms.callers) k.log (r ∷ []) k.callers (all_one
+              (λ (q : Record). q.by.caller < terms.callers) r caller);
           once = kept_keys terms s k id me.0 new at refl;
           fits = λ j v here. elim (at_set s.views id j new v here) [
-            | inl t ↦ subst (Fits terms more) t.1 (subst (λ (l : List Record). Fits terms more (view me.0.founding me.0.keys l [] true)) (sym is) (all_seen terms more k.log me.0 mine (mine.keyed may.turn)))
+            | inl t ↦ subst (Fits terms more) t.1
+                (subst (λ (l : List Record). Fits terms more (view me.0.founding me.0.keys l [] true)) (sym is) (all_seen terms more k.log me.0 mine
+                (mine.keyed may.turn)))
             | inr t ↦ others_fit terms s k id me r may at j v t.0 t.1 (λ has. absurd (t.0 (taken.only j v t.1 has ∙ sym (taken.only id me.0 at may.turn))))
           ];
           turn = inr (record {
@@ -398,7 +421,8 @@ count_allows terms slots id me r may s k len at small =
 
 -- ---- looking
 
-pub look_allows : (terms : Terms) (slots id : ℕ) (me : Sat) → me.0.turn ≡ false → me.1 ≡ [] → Allows (Stands terms) slots id me 1 (λ n. n) (looked (step slots 1 0 0 none) me)
+pub look_allows : (terms : Terms) (slots id : ℕ) (me : Sat) → me.0.turn ≡ false → me.1 ≡ []
+    → Allows (Stands terms) slots id me 1 (λ n. n) (looked (step slots 1 0 0 none) me)
 look_allows terms slots id me off empty s k len at small =
     let mine = k.fits id me.0 at in
     let new : View = view me.0.founding me.0.keys me.0.seen [] false in
@@ -474,7 +498,8 @@ both_older P a b p q (suc zero) d h = q
 both_older P a b p q (suc (suc k)) d h = absurd (omega arith)
 
 pub joins : (terms : Terms) (id other : ℕ) (v w : View) → v.turn ≡ false → w.turn ≡ false → 0 < length v.keys
-    → Joins (Stands terms) id v other w (view v.founding (w.keys ++ v.keys) (longer v.seen w.seen) (sight_of v ∷ sight_of w ∷ []) false) (view no_rules [] [] [] false)
+    → Joins (Stands terms) id v other w (view v.founding (w.keys ++ v.keys) (longer v.seen w.seen) (sight_of v ∷ sight_of w ∷ []) false)
+    (view no_rules [] [] [] false)
 joins terms id other v w off gone keyed s k at apart there =
     let seen : List Record = longer v.seen w.seen in
     let both : View = view v.founding (w.keys ++ v.keys) seen (sight_of v ∷ sight_of w ∷ []) false in
@@ -515,13 +540,15 @@ joins terms id other v w off gone keyed s k at apart there =
 
 -- ---- the end
 
-all_rest : (seen rest : List Record) → ((r : Record) → of_key (Place (place_of r.event.node)) (seen ++ rest) ≡ of_key (Place (place_of r.event.node)) seen) → rest ≡ []
+all_rest : (seen rest : List Record)
+    → ((r : Record) → of_key (Place (place_of r.event.node)) (seen ++ rest) ≡ of_key (Place (place_of r.event.node)) seen) → rest ≡ []
 all_rest seen [] same = refl
 all_rest seen (r ∷ rest) same =
     let key : Key = Place (place_of r.event.node) in
     let its : is_of key r ≡ true = eq-eqb (place_of r.event.node) (place_of r.event.node) refl in
     let first : of_key key (r ∷ rest) ≡ r ∷ of_key key rest = ap (λ (b : Bool). cond b (r ∷ of_key key rest) (of_key key rest)) its in
-    let whole : of_key key (seen ++ (r ∷ rest)) ≡ of_key key seen ++ (r ∷ of_key key rest) = key_append key seen (r ∷ rest) ∙ ap (λ (l : List Record). of_key key seen ++ l) first in
+    let whole : of_key key (seen ++ (r ∷ rest)) ≡ of_key key seen ++ (r ∷ of_key key rest) = key_append key seen (r ∷ rest)
+    ∙ ap (λ (l : List Record). of_key key seen ++ l) first in
     let e : length (of_key key seen ++ (r ∷ of_key key rest)) ≡ length (of_key key seen) = ap length (sym whole ∙ same r) in
     let n = length-append (of_key key seen) (r ∷ of_key key rest) in
     let c : length (r ∷ of_key key rest) ≡ suc (length (of_key key rest)) = refl in
@@ -552,7 +579,8 @@ saw_all terms s k id v at all =
     let key : Key = Place (place_of r.event.node) in
     ap (of_key key) (sym is) ∙ goes.own key (all key (lt-ltb (place_of r.event.node) 16 (mod-lt r.event.node (omega arith)))))) ∙ append-nil v.seen
 
-pub ends : (terms : Terms) (s : Shown) → Stands terms s → (id : ℕ) (v : View) → get_elem? s.views id ≡ some v → v.turn ≡ false → HasAll terms.callers v.keys → Ends terms s v
+pub ends : (terms : Terms) (s : Shown) → Stands terms s → (id : ℕ) (v : View) → get_elem? s.views id ≡ some v → v.turn ≡ false
+    → HasAll terms.callers v.keys → Ends terms s v
 ends terms s k id v at off all =
     let whole : k.log ≡ v.seen = saw_all terms s k id v at all in
     elim k.turn [
@@ -563,11 +591,13 @@ ends terms s k id v at off all =
       | inr taken ↦
           let key = first_of taken.its.keys ((k.fits taken.holder taken.its taken.there).keyed taken.has) in
           let has = all key.0 (key_of_wire terms s k key.0 taken.holder taken.its taken.there key.1) in
-          absurd (alone terms s k key.0 taken.holder id taken.its v (λ e. true≢false (sym taken.has ∙ ap (λ (u : View). u.turn) (some-injective taken.its v (sym taken.there ∙ ap (get_elem? s.views) e ∙ at)) ∙ off)) taken.there at key.1 has)
+          absurd (alone terms s k key.0 taken.holder id taken.its v (λ e. true≢false (sym taken.has
+          ∙ ap (λ (u : View). u.turn) (some-injective taken.its v (sym taken.there ∙ ap (get_elem? s.views) e ∙ at)) ∙ off)) taken.there at key.1 has)
     ]
 
 -- what the slot holds then
-pub closes : (terms : Terms) (id : ℕ) (v : View) → v.turn ≡ false → HasAll terms.callers v.keys → (words : List ℕ) (pages : List Page) → Final (Seen (Stands terms) id v) words pages
+pub closes : (terms : Terms) (id : ℕ) (v : View) → v.turn ≡ false → HasAll terms.callers v.keys → (words : List ℕ) (pages : List Page)
+    → Final (Seen (Stands terms) id v) words pages
     → (last : Page) → get_elem? pages 0 ≡ some last → (last ≡ page terms v.seen) × All (λ r. r.by.caller < terms.callers) v.seen
 closes terms id v off all words pages (s, seen, same_words, same_slots, homes) last at =
     let e = ends terms s seen.0 id v seen.1 off all in
@@ -576,7 +606,8 @@ closes terms id v off all words pages (s, seen, same_words, same_slots, homes) l
 
 -- ---- what calls say of it
 
-unites_after : (v w : View) (m' : Sat) → Looks (view v.founding (w.keys ++ v.keys) (longer v.seen w.seen) (sight_of v ∷ sight_of w ∷ []) false, []) m' → Unites v w m'
+unites_after : (v w : View) (m' : Sat)
+    → Looks (view v.founding (w.keys ++ v.keys) (longer v.seen w.seen) (sight_of v ∷ sight_of w ∷ []) false, []) m' → Unites v w m'
 unites_after v w m' l = subst (Unites v w) (sym l.same) (record {
   idle = record { turn = refl; older = refl; empty = refl };
   keys = refl;
@@ -585,7 +616,8 @@ unites_after v w m' l = subst (Unites v w) (sym l.same) (record {
   theirs = l.goes 1 (sight_of v) (omega arith);
 })
 
-pub unites_by : (v w : View) (carry : List (ℕ × Page)) (m m' : Sat) → m ≡ (view v.founding (w.keys ++ v.keys) (longer v.seen w.seen) (sight_of v ∷ sight_of w ∷ []) false, carry) → carry ≡ [] → Looks m m' → Unites v w m'
+pub unites_by : (v w : View) (carry : List (ℕ × Page)) (m m' : Sat)
+    → m ≡ (view v.founding (w.keys ++ v.keys) (longer v.seen w.seen) (sight_of v ∷ sight_of w ∷ []) false, carry) → carry ≡ [] → Looks m m' → Unites v w m'
 unites_by v w carry m m' is empty looks =
     let both : View = view v.founding (w.keys ++ v.keys) (longer v.seen w.seen) (sight_of v ∷ sight_of w ∷ []) false in
     unites_after v w m' (subst (λ (x : Sat). Looks x m') (is ∙ ap (λ (x : List (ℕ × Page)). (both, x)) empty) looks)
@@ -597,7 +629,8 @@ at_first views v is zero u at = some-injective v u (sym (ap (λ (l : List View).
 at_first views v is (suc id) u at = absurd (some-ne-none u (sym at ∙ ap (λ (l : List View). get_elem? l (suc id)) is))
 
 first_standing : (key : Key) (v : View) (n : ℕ) → times key v.keys ≡ n → standing key (v ∷ []) ≡ n
-first_standing key v n is = let l = stand_last key [] v in let z : standing key [] ≡ 0 = refl in let l' : standing key (v ∷ []) ≡ standing key [] + times key v.keys = l in omega arith
+first_standing key v n is = let l = stand_last key [] v in let z : standing key [] ≡ 0 = refl in
+    let l' : standing key (v ∷ []) ≡ standing key [] + times key v.keys = l in omega arith
 
 pub opens : (terms : Terms) (pages : List Page) → pages ≡ record { founding = terms.founding; records = [] } ∷ []
     → Stands terms (opening (0 ∷ 0 ∷ []) pages (view terms.founding (all_keys terms.callers) [] [] false))

@@ -40,11 +40,14 @@ rests_by m views idle keyed one = record { its = m.0; one = one; turn = idle.tur
 
 -- ---- between the two: what a pass sees
 
-pub sees_by : (p : Known) (wire : TableId) (v : View) (views : List View) → views ≡ v ∷ [] → wire ≡ p.wire → v.keys ≡ p.keys → GoesOn p.keys p.seen v.seen → Sees p (known_by wire views)
+pub sees_by : (p : Known) (wire : TableId) (v : View) (views : List View) → views ≡ v ∷ [] → wire ≡ p.wire → v.keys ≡ p.keys
+    → GoesOn p.keys p.seen v.seen → Sees p (known_by wire views)
 sees_by p wire v views one same keys goes = subst (λ (vs : List View). Sees p (known_by wire vs)) (sym one) (record { wire = same; keys = keys; goes = goes })
 
-pub goes_at : (keys keys' : List Key) (seen seen' log log' : List Record) → keys ≡ keys' → seen ≡ seen' → log ≡ log' → GoesOn keys seen log → GoesOn keys' seen' log'
-goes_at keys keys' seen seen' log log' k s l g = subst (λ (x : List Record). GoesOn keys' seen' x) l (subst (λ (x : List Record). GoesOn keys' x log) s (subst (λ (x : List Key). GoesOn x seen log) k g))
+pub goes_at : (keys keys' : List Key) (seen seen' log log' : List Record) → keys ≡ keys' → seen ≡ seen' → log ≡ log' → GoesOn keys seen log
+    → GoesOn keys' seen' log'
+goes_at keys keys' seen seen' log log' k s l g = subst (λ (x : List Record). GoesOn keys' seen' x) l
+    (subst (λ (x : List Record). GoesOn keys' x log) s (subst (λ (x : List Key). GoesOn x seen log) k g))
 
 -- a seat that took the slot and gave it back
 pub record Visits (p : Known) (t m : Sat) : Type 0 where
@@ -77,7 +80,8 @@ pub record Meets (p q : Known) (m o : Sat) : Type 0 where
   pub longer : m.0.seen ≡ longer p.seen q.seen
   pub both : o.0.seen ≡ m.0.seen
 
-pub meets : (p q : Known) (id other : TableId) (s r u m o : Sat) → Sits p id s → Sits q other r → length q.keys ≡ 1 → Unites s.0 r.0 u → Parts u m o → Meets p q m o
+pub meets : (p q : Known) (id other : TableId) (s r u m o : Sat) → Sits p id s → Sits q other r → length q.keys ≡ 1 → Unites s.0 r.0 u → Parts u m o
+    → Meets p q m o
 meets p q id other s r u m o sits its one unites parts =
     let single : length r.0.keys ≡ 1 = ap length (sym its.keys) ∙ one in
     let cut = first_key r.0.keys s.0.keys single in
@@ -95,7 +99,8 @@ meets p q id other s r u m o sits its one unites parts =
     }
 
 -- one that got another's keys
-pub joins_by : (p q : Known) (id other wire : TableId) (s r u : Sat) (views : List View) → Sits p id s → Sits q other r → Unites s.0 r.0 u → views ≡ u.0 ∷ [] → wire ≡ p.wire → Joined p q (known_by wire views)
+pub joins_by : (p q : Known) (id other wire : TableId) (s r u : Sat) (views : List View) → Sits p id s → Sits q other r → Unites s.0 r.0 u
+    → views ≡ u.0 ∷ [] → wire ≡ p.wire → Joined p q (known_by wire views)
 joins_by p q id other wire s r u views sits its unites one same = subst (λ (vs : List View). Joined p q (known_by wire vs)) (sym one) (record {
   wire = same;
   keys = unites.keys ∙ ap (λ (l : List Key). l ++ s.0.keys) (sym its.keys) ∙ ap (λ (l : List Key). q.keys ++ l) (sym sits.keys);

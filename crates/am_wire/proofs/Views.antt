@@ -38,9 +38,20 @@ pub record IsLonger (log xs ys zs : List Record) : Type 0 where
   pub first : StartsWith zs xs
   pub second : StartsWith zs ys
 
-longer_by : (log xs ys : List Record) → StartsWith log xs → StartsWith log ys → (b : Bool) → nat_lt (length xs) (length ys) ≡ b → IsLonger log xs ys (cond b ys xs)
-longer_by log xs ys p q true is = record { of_log = q; first = (let lt = ltb-true (length xs) (length ys) is in starts_shorter log xs ys p q (omega arith)); second = starts_all ys }
-longer_by log xs ys p q false is = record { of_log = p; first = starts_all xs; second = (let le = ltb-false (length xs) (length ys) is in starts_shorter log ys xs q p (omega arith)) }
+longer_by : (log xs ys : List Record) → StartsWith log xs → StartsWith log ys → (b : Bool) → nat_lt (length xs) (length ys) ≡ b
+    → IsLonger log xs ys (cond b ys xs)
+longer_by log xs ys p q true is = record {
+  of_log = q;
+  first = (let lt = ltb-true (length xs) (length ys) is in
+      starts_shorter log xs ys p q (omega arith));
+  second = starts_all ys;
+}
+longer_by log xs ys p q false is = record {
+  of_log = p;
+  first = starts_all xs;
+  second = (let le = ltb-false (length xs) (length ys) is in
+      starts_shorter log ys xs q p (omega arith));
+}
 
 pub longer_is : (log xs ys : List Record) → StartsWith log xs → StartsWith log ys → IsLonger log xs ys (longer xs ys)
 longer_is log xs ys p q = longer_by log xs ys p q (nat_lt (length xs) (length ys)) refl
@@ -77,7 +88,8 @@ key_between key a b c p q e =
 pub goes_same : (keys : List Key) (seen : List Record) → GoesOn keys seen seen
 goes_same keys seen = record { begins = starts_all seen; own = λ key h. refl }
 
-pub goes_through : (keys more : List Key) (a b c : List Record) → ((key : Key) → 0 < times key keys → 0 < times key more) → GoesOn keys a b → GoesOn more b c → GoesOn keys a c
+pub goes_through : (keys more : List Key) (a b c : List Record) → ((key : Key) → 0 < times key keys → 0 < times key more) → GoesOn keys a b
+    → GoesOn more b c → GoesOn keys a c
 goes_through keys more a b c within p q = record {
   begins = starts_through a b c p.begins q.begins;
   own = λ key h. q.own key (within key h) ∙ p.own key h;
@@ -126,7 +138,8 @@ same_keys key x v e = ap (λ (u : View). times key u.keys) (some-injective x v e
 stand_cons : (key : Key) (v : View) (vs : List View) → standing key (v ∷ vs) ≡ times key v.keys + standing key vs
 stand_cons key v vs = sum_by-cons (λ u. times key u.keys) v vs
 
-pub stand_set : (key : Key) (vs : List View) (i : ℕ) (v w : View) → get_elem? vs i ≡ some v → standing key (set vs i w) + times key v.keys ≡ standing key vs + times key w.keys
+pub stand_set : (key : Key) (vs : List View) (i : ℕ) (v w : View) → get_elem? vs i ≡ some v
+    → standing key (set vs i w) + times key v.keys ≡ standing key vs + times key w.keys
 stand_set key [] i v w at = absurd (some-ne-none v (sym at))
 stand_set key (x ∷ vs) zero v w at = omega (arith, same_keys key x v at, stand_cons key w vs, stand_cons key x vs)
 stand_set key (x ∷ vs) (suc i) v w at = omega (arith, stand_set key vs i v w at, stand_cons key x (set vs i w), stand_cons key x vs)
@@ -140,7 +153,8 @@ stand_one key [] i v at = absurd (some-ne-none v (sym at))
 stand_one key (x ∷ vs) zero v at = omega (arith, same_keys key x v at, stand_cons key x vs)
 stand_one key (x ∷ vs) (suc i) v at = omega (arith, stand_one key vs i v at, stand_cons key x vs)
 
-pub stand_two : (key : Key) (vs : List View) (i j : ℕ) (v w : View) → i ≢ j → get_elem? vs i ≡ some v → get_elem? vs j ≡ some w → times key v.keys + times key w.keys ≤ standing key vs
+pub stand_two : (key : Key) (vs : List View) (i j : ℕ) (v w : View) → i ≢ j → get_elem? vs i ≡ some v → get_elem? vs j ≡ some w
+    → times key v.keys + times key w.keys ≤ standing key vs
 stand_two key [] i j v w apart at there = absurd (some-ne-none v (sym at))
 stand_two key (x ∷ vs) zero zero v w apart at there = absurd (apart refl)
 stand_two key (x ∷ vs) zero (suc j) v w apart at there = omega (arith, same_keys key x v at, stand_one key vs j w there, stand_cons key x vs)

@@ -31,10 +31,12 @@ no_callers key = let a = times_append key place_keys (caller_keys 0) in let z : 
 pub gather-requires : goal.gather-requires
 gather-requires g c =
     let items = sym c.in-Some.ensures.items ∙ c.in_ok-wire.ensures.passes in
-    let s = split_all (λ p. p.wire ≡ c.in_ok-wire.wire.id) _ _ (subst (All (λ (p : Known). p.wire ≡ c.in_ok-wire.wire.id)) (sym items) (fresh_wires c.in_ok-wire.wire.id place_keys)) in record { own = s }
+    let s = split_all (λ p. p.wire ≡ c.in_ok-wire.wire.id) _ _
+    (subst (All (λ (p : Known). p.wire ≡ c.in_ok-wire.wire.id)) (sym items) (fresh_wires c.in_ok-wire.wire.id place_keys)) in record { own = s }
 
 pub close-journal-requires-clause-all : goal.close-journal-requires-clause-all
 close-journal-requires-clause-all g c =
     let items = sym c.in-Some.ensures.items ∙ c.in_ok-wire.ensures.passes in
     subst (λ (n : ℕ). HasAll n c.gather.new.pass.keys) (sym c.in_ok-wire.ensures.wire.1)
-    (gathered_all 0 _ _ c.gather.ensures.gathered (λ key. turned key c.pop.new.self.items c.in-Some.last ∙ ap (sum_by (λ (q : Known). times key q.keys)) items ∙ fresh_times key c.in_ok-wire.wire.id place_keys ∙ sym (no_callers key)))
+    (gathered_all 0 _ _ c.gather.ensures.gathered (λ key. turned key c.pop.new.self.items c.in-Some.last
+    ∙ ap (sum_by (λ (q : Known). times key q.keys)) items ∙ fresh_times key c.in_ok-wire.wire.id place_keys ∙ sym (no_callers key)))

@@ -23,15 +23,18 @@ given items all rest more p q is one two =
     let both : items ≡ p ∷ q ∷ more = sym is ∙ one ∙ ap (λ (l : List Known). p ∷ l) two in
     (sym (ap (head_of p) both), sym (ap (second_of q) both))
 
-places : (wire : TableId) (items : List Known) (p q : Known) → items ≡ map (fresh wire) place_keys → (p ≡ head_of p items) × (q ≡ second_of q items) → (p ≡ fresh wire (Place 0)) × (q ≡ fresh wire (Place 1))
+places : (wire : TableId) (items : List Known) (p q : Known) → items ≡ map (fresh wire) place_keys → (p ≡ head_of p items) × (q ≡ second_of q items)
+    → (p ≡ fresh wire (Place 0)) × (q ≡ fresh wire (Place 1))
 unfolding place_keys
 places wire items p q is got = (got.0 ∙ ap (head_of p) is, got.1 ∙ ap (second_of q) is)
 
-callers : (wire : TableId) (items : List Known) (p q : Known) → items ≡ map (fresh wire) (caller_keys 2) → (p ≡ head_of p items) × (q ≡ second_of q items) → (p ≡ fresh wire (Caller 0)) × (q ≡ fresh wire (Caller 1))
+callers : (wire : TableId) (items : List Known) (p q : Known) → items ≡ map (fresh wire) (caller_keys 2)
+    → (p ≡ head_of p items) × (q ≡ second_of q items) → (p ≡ fresh wire (Caller 0)) × (q ≡ fresh wire (Caller 1))
 unfolding caller_keys
 callers wire items p q is got = (got.0 ∙ ap (head_of p) is, got.1 ∙ ap (second_of q) is)
 
-ready : (wire : TableId) (p q : Known) (place caller : ℕ) (item : Record) → p ≡ fresh wire (Place place) → q ≡ fresh wire (Caller caller) → place_of item.event.node ≡ place → item.by.caller ≡ caller
+ready : (wire : TableId) (p q : Known) (place caller : ℕ) (item : Record) → p ≡ fresh wire (Place place) → q ≡ fresh wire (Caller caller)
+    → place_of item.event.node ≡ place → item.by.caller ≡ caller
     → length item.packets ≡ 1 → All (λ l. IsUpTo 3 l.packet) item.packets → IsReady wire p q item
 ready wire p q place caller item is its at by one low = record {
   own = (ap (λ (x : Known). x.wire) is, ap (λ (x : Known). x.wire) its);
@@ -43,12 +46,18 @@ ready wire p q place caller item is its at by one low = record {
 
 pub add_both-pass-requires-clause-first : goal.add_both-pass-requires-clause-first
 add_both-pass-requires-clause-first g c =
-    let p = places _ _ _ _ c.in_ok-wire.ensures.passes (given _ _ _ _ _ _ c.into_iter-passes.ensures.rest c.in-Some-Some.ensures.items c.in-Some-Some-2.ensures.items) in
-    let q = callers _ _ _ _ c.in_ok-wire.ensures.shares (given _ _ _ _ _ _ c.into_iter-shares.ensures.rest c.in-Some-Some.ensures'.items c.in-Some-Some-2.ensures'.items) in
-    λ _. ready _ _ _ 0 0 c.in_ok-first.first p.0 q.0 (ap place_of c.in_ok-first.ensures.place) c.in_ok-first.ensures.caller c.in_ok-first.ensures.few c.in_ok-first.ensures.low
+    let p = places _ _ _ _ c.in_ok-wire.ensures.passes
+    (given _ _ _ _ _ _ c.into_iter-passes.ensures.rest c.in-Some-Some.ensures.items c.in-Some-Some-2.ensures.items) in
+    let q = callers _ _ _ _ c.in_ok-wire.ensures.shares
+    (given _ _ _ _ _ _ c.into_iter-shares.ensures.rest c.in-Some-Some.ensures'.items c.in-Some-Some-2.ensures'.items) in
+    λ _. ready _ _ _ 0 0 c.in_ok-first.first p.0 q.0
+    (ap place_of c.in_ok-first.ensures.place) c.in_ok-first.ensures.caller c.in_ok-first.ensures.few c.in_ok-first.ensures.low
 
 pub add_both-pass-requires-clause-second : goal.add_both-pass-requires-clause-second
 add_both-pass-requires-clause-second g c =
-    let p = places _ _ _ _ c.in_ok-wire.ensures.passes (given _ _ _ _ _ _ c.into_iter-passes.ensures.rest c.in-Some-Some.ensures.items c.in-Some-Some-2.ensures.items) in
-    let q = callers _ _ _ _ c.in_ok-wire.ensures.shares (given _ _ _ _ _ _ c.into_iter-shares.ensures.rest c.in-Some-Some.ensures'.items c.in-Some-Some-2.ensures'.items) in
-    λ _. ready _ _ _ 1 1 c.in_ok-second.second p.1 q.1 (ap place_of c.in_ok-second.ensures.place) c.in_ok-second.ensures.caller c.in_ok-second.ensures.few c.in_ok-second.ensures.low
+    let p = places _ _ _ _ c.in_ok-wire.ensures.passes
+    (given _ _ _ _ _ _ c.into_iter-passes.ensures.rest c.in-Some-Some.ensures.items c.in-Some-Some-2.ensures.items) in
+    let q = callers _ _ _ _ c.in_ok-wire.ensures.shares
+    (given _ _ _ _ _ _ c.into_iter-shares.ensures.rest c.in-Some-Some.ensures'.items c.in-Some-Some-2.ensures'.items) in
+    λ _. ready _ _ _ 1 1 c.in_ok-second.second p.1 q.1
+    (ap place_of c.in_ok-second.ensures.place) c.in_ok-second.ensures.caller c.in_ok-second.ensures.few c.in_ok-second.ensures.low

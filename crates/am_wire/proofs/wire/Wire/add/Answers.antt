@@ -13,7 +13,8 @@ slot_mut-sheet-requires c = let t = c.requires.turn.page in (
 )
 
 -- the page that the seat then carries
-carries : (m : Sat) (item : Record) (old new : Page) → HasTurn m → m.1 ≡ (0, old) ∷ rest m.1 → new.founding ≡ old.founding → new.records ≡ old.records ++ item ∷ []
+carries : (m : Sat) (item : Record) (old new : Page) → HasTurn m → m.1 ≡ (0, old) ∷ rest m.1 → new.founding ≡ old.founding
+    → new.records ≡ old.records ++ item ∷ []
     → (0, new) ∷ rest m.1 ≡ (0, record { founding = m.0.founding; records = m.0.seen ++ item ∷ [] }) ∷ []
 carries m item old new has held founded added =
     let is : old ≡ record { founding = m.0.founding; records = m.0.seen } = ap first_page (sym held ∙ has.page) in

@@ -21,10 +21,13 @@ the_end c =
     let terms : Terms = c.self.inside.table.shared.key in
     let founded : terms.founding ≡ c.args.self.founding = ap (λ (l : Line). l.founding) c.self.view_is in
     let same : terms.callers ≡ c.args.self.callers = ap (λ (l : Line). l.callers) c.self.view_is in
-    let e = closes terms _ _ s.idle.turn (subst (HasAll terms.callers) s.keys (subst (λ (n : ℕ). HasAll n c.args.pass.keys) (sym same) c.requires.all)) _ _ c.close_with-closed.ensures.values.2 c.take-sheet.result c.take-sheet.ensures.value in record {
+    let e = closes terms _ _ s.idle.turn (subst (HasAll terms.callers) s.keys
+    (subst (λ (n : ℕ). HasAll n c.args.pass.keys)
+    (sym same) c.requires.all)) _ _ c.close_with-closed.ensures.values.2 c.take-sheet.result c.take-sheet.ensures.value in record {
       founding = ap (λ (p : Page). p.founding) e.0 ∙ founded;
       records = ap (λ (p : Page). p.records) e.0 ∙ sym s.seen;
-      callers = subst (λ (n : ℕ). All (λ (r : Record). r.by.caller < n) c.args.pass.seen) same (subst (All (λ (r : Record). r.by.caller < terms.callers)) (sym s.seen) e.1);
+      callers = subst (λ (n : ℕ). All (λ (r : Record). r.by.caller < n) c.args.pass.seen) same
+          (subst (All (λ (r : Record). r.by.caller < terms.callers)) (sym s.seen) e.1);
     }
 
 pub returns-clause-founding : goal.returns-clause-founding

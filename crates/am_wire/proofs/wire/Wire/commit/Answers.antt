@@ -9,7 +9,8 @@ record Left (g : Over) (c : goal.After-drop-pass-inside g) : Type 0 where
   pub holds : Holds c.args.pass.now c.args.share.now c.take.new.seat.me
   pub later : After c.take.new.seat.me c.args.item c.add-added.result c.add-added.new.seat.me
   pub seats : Leaves c.args.pass.now c.args.share.now c.add-added.new.seat.me c.part.new.seat.me c.part.result.me
-  pub badges : Badges c.args.pass.now c.args.share.now c.part.new.seat.me c.part.result.me c.into_badge-2.result.table_id c.into_badge.result.table_id c.into_badge-2.result.views c.into_badge.result.views
+  pub badges : Badges c.args.pass.now c.args.share.now c.part.new.seat.me c.part.result.me c.into_badge-2.result.table_id
+      c.into_badge.result.table_id c.into_badge-2.result.views c.into_badge.result.views
 
 left : (g : Over) (c : goal.After-drop-pass-inside g) → Left g c
 left g c =
@@ -27,7 +28,8 @@ left g c =
     }
 
 pub returns-clause-ok : goal.returns-clause-ok
-returns-clause-ok g c = let l = left g c in committed _ _ _ _ _ _ _ _ _ _ _ _ l.holds l.later l.seats l.badges c.add-added.ensures.number c.add-added.ensures.room
+returns-clause-ok g c = let l = left g c in
+    committed _ _ _ _ _ _ _ _ _ _ _ _ l.holds l.later l.seats l.badges c.add-added.ensures.number c.add-added.ensures.room
 
 pub returns-clause-err : goal.returns-clause-err
 returns-clause-err g c = let l = left g c in refused _ _ _ _ _ _ _ _ _ _ _ _ l.holds l.later l.seats l.badges

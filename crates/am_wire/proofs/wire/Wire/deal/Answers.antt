@@ -10,4 +10,5 @@ loop-done-preserved c =
     let pushed = c.in_ok-push.ensures.items in
     let same = c.part-other.ensures.same in
     let made = c.of.ensures ∙ (λ k. record { wire = same.1 k; keys = c.part-other.result.me.0.keys; seen = c.part-other.result.me.0.seen }) in
-    dealt_more _ _ _ _ _ _ _ _ _ _ (omega arith) c.loop-done.invariant same.0 c.part-other.ensures.parts (pushed ∙ ap (λ (p : Known). c.loop-done.passes.items ++ p ∷ []) made)
+    dealt_more _ _ _ _ _ _ _ _ _ _ (omega arith) c.loop-done.invariant same.0 c.part-other.ensures.parts (pushed
+    ∙ ap (λ (p : Known). c.loop-done.passes.items ++ p ∷ []) made)
