@@ -1,3 +1,6 @@
 pub mod Names
-pub mod Events
 pub mod Changes
+pub mod Lines
+pub mod Entries
+pub mod Events
+pub mod Carried
