@@ -15,7 +15,12 @@ use Rattle.am_effects.specs.Changes.{refreshes, settles, takes_report, admits, n
 use Rattle.am_effects.proofs.Rests.{rests_refresh, settle_is}
 use Rattle.am_stands.specs.Standing.{StandsBut, within}
 use Rattle.am_stands.specs.Moving.{Leads}
-use Rattle.am_stands.specs.Steps.{of_line, ChangesStand}
+use Rattle.am_model.specs.Node.{Ballot}
+use Rattle.am_model.specs.Ballots.{Verdict}
+use Rattle.am_effects.specs.Causes.{Cause}
+use Rattle.am_effects.specs.Looks.{Balloting, Looks, finds_itself_out, waits, fetches_from_best, finds_too_few, finds_no_room, decides}
+use Rattle.am_stands.specs.Steps.{MayMove, of_line, NeedsLook, after_look, ChangesStand}
+use Rattle.am_stands.proofs.Decisions.{decision_stands}
 use Rattle.am_stands.proofs.Changes.{unmoved, promise_stands, open_stands, look_stands, looked_open, or_last, ask_stands, depart_stands}
 use Rattle.am_stands.proofs.Entries.{piece_stands, number_stands, welcome_stands}
 
@@ -30,6 +35,14 @@ hears_in_view_member x from v h = hears_member_member x from (and_both (hears_me
 same_to_it : (w : World) (name : ℕ) (x y : Node) (s : Group) → y.core.log ≡ x.core.log → y.status ≡ x.status → y.leaving ≡ x.leaving → y.core.promise ≡ x.core.promise → y.ballot ≡ x.ballot → y.core.start ≡ x.core.start → StandsBut name (within w name x) s → Leads (StandsBut name (within w name y)) s
 same_to_it w name x y s log stays leaving promise ballot start_ h = unmoved w name x y s (record { log = log; log_ = ap has_log stays; departed = ap has_departed stays; leaving = leaving; promise = promise; ballot = ap is_unfinished ballot; start = start_ }) h
 
+looked : (w : World) (name : ℕ) (c : Cause) (x : Node) (b : Ballot) (v : Verdict) (s : Group) → MayMove w name c x s → Balloting c x b → (look : Looks x b v) → NeedsLook s name look → StandsBut name (within w name x) s → Leads (StandsBut name (within (after_look look w) name v.node)) s
+looked w name c x b v s may why (finds_itself_out y) is h = look_stands w name c x b v s may (looked_open c x b why) (finds_itself_out y) (λ z. z) h
+looked w name c x b v s may why (waits y z) is h = look_stands w name c x b v s may (looked_open c x b why) (waits y z) (λ u. u) h
+looked w name c x b v s may why (fetches_from_best y z u) is h = look_stands w name c x b v s may (looked_open c x b why) (fetches_from_best y z u) (λ t. t) h
+looked w name c x b v s may why (finds_too_few y z) is h = look_stands w name c x b v s may (looked_open c x b why) (finds_too_few y z) (λ u. u) h
+looked w name c x b v s may why (finds_no_room y) is h = look_stands w name c x b v s may (looked_open c x b why) (finds_no_room y) (λ z. z) h
+looked w name c x b v s may why (decides y) is h = decision_stands w name c x b s may why is h
+
 pub changes_stand : ChangesStand
 changes_stand w name c o x y s refreshes may is h = let r = rests_refresh x in same_to_it w name x (refresh x) s r.log r.rests.status r.rests.leaving r.rests.promise r.rests.ballot r.begins h
 changes_stand w name c o x y s settles may is h = subst (λ n. Leads (StandsBut name (within w name n)) s) (sym (settle_is x)) (same_to_it w name x _ s refl refl refl refl refl refl h)
@@ -43,7 +56,7 @@ changes_stand w name c o x y s (begins_list from v base join image was says may_
 changes_stand w name c o x y s (departs from v number was by leaves) may is h = depart_stands w name from number v c x s may was by leaves h
 changes_stand w name c o x y s (promises v low why) may is h = promise_stands w name c x v s may low why h
 changes_stand w name c o x y s (opens least resilience by may_) may is h = open_stands w name c x y s may may_.member may_.listed may_.stays refl refl refl refl refl refl h
-changes_stand w name c o x y s (looks b verdict over_ why look was) may is h = look_stands w name c x b verdict s may (looked_open c x b why) look is h
+changes_stand w name c o x y s (looks b verdict over_ why look was) may is h = looked w name c x b verdict s may why look is h
 changes_stand w name c o x y s (fetches from v base number e was by promise below why may_) may is h = piece_stands w name x y e s may.few may.runs (hears_member_member x from by) (record { log = refl; stays = refl; leaving = refl; promise = refl; ballot = refl; start = refl }) is h
 changes_stand w name c o x y s (stores_view from v base number names resilience was by own other promise below may_) may is h = piece_stands w name x y (View v names resilience) s may.few may.runs (hears_member_member x from by) (record { log = refl; stays = refl; leaving = refl; promise = refl; ballot = refl; start = refl }) (of_line is) h
 changes_stand w name c o x y s (queues body was says member stays few) may is h = same_to_it w name x y s refl refl refl refl refl refl h

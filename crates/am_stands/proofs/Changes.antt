@@ -36,7 +36,7 @@ use Rattle.am_packet.specs.declared.packet.Packet.TheVariants as packet
 use Rattle.am_stands.specs.Standing.{NameStands, FrontsStand, StandsBut, within}
 use Rattle.am_stands.specs.Letters.{GoneSays, has_stopped, may_go}
 use Rattle.am_stands.specs.Moving.{Leads}
-use Rattle.am_stands.specs.Steps.{MayMove, DecidesNothing, ChangesStand}
+use Rattle.am_stands.specs.Steps.{MayMove, ChangesStand}
 use Rattle.am_stands.proofs.Names.{one_move, no_move, name_in, views_in, lines_within, each_within, fronts_within}
 
 -- ---- a node that is the same to the group
@@ -219,14 +219,18 @@ open_stands w name c x y s may member listed stays log same_status same_leaving 
       start = λ t. k.start (ap has_log (sym same_status) ∙ t) ∙ sym start_;
     }) h
 
+abbrev pub IsDecision : {m : Node} {b : Ballot} {v : Verdict} → Looks m b v → Type 0
+IsDecision (decides may) = Unit {0}
+IsDecision _ = ⊥
+
 -- a ballot that goes on is the same to the group, and one that ends is given over
-pub look_stands : (w : World) (name : ℕ) (c : Cause) (x : Node) (b : Ballot) (v : Verdict) (s : Group) → MayMove w name c x s → is_unfinished x.ballot ≡ true → (look : Looks x b v) → DecidesNothing look → StandsBut name (within w name x) s → Leads (StandsBut name (within w name v.node)) s
+pub look_stands : (w : World) (name : ℕ) (c : Cause) (x : Node) (b : Ballot) (v : Verdict) (s : Group) → MayMove w name c x s → is_unfinished x.ballot ≡ true → (look : Looks x b v) → (IsDecision look → ⊥) → StandsBut name (within w name x) s → Leads (StandsBut name (within w name v.node)) s
 look_stands w name c x b v s may open_ (waits y z) nothing h = unmoved w name x v.node s (record { log = refl; log_ = refl; departed = refl; leaving = refl; promise = refl; ballot = sym open_; start = refl }) h
 look_stands w name c x b v s may open_ (fetches_from_best y z u) nothing h = unmoved w name x v.node s (record { log = refl; log_ = refl; departed = refl; leaving = refl; promise = refl; ballot = sym open_; start = refl }) h
 look_stands w name c x b v s may open_ (finds_itself_out y) nothing h = given_over w name x v.node s refl refl refl refl refl refl h
 look_stands w name c x b v s may open_ (finds_too_few y z) nothing h = given_over w name x v.node s refl refl refl refl refl refl h
 look_stands w name c x b v s may open_ (finds_no_room y) nothing h = given_over w name x v.node s refl refl refl refl refl refl h
-look_stands w name c x b v s may open_ (decides y) nothing h = absurd nothing
+look_stands w name c x b v s may open_ (decides y) nothing h = absurd (nothing tt)
 
 pub looked_open : (c : Cause) (x : Node) (b : Ballot) → Balloting c x b → is_unfinished x.ballot ≡ true
 looked_open c x b (with_more old s v shown is heard low high o same stays) = ap is_unfinished o.last ∙ ap not o.open_

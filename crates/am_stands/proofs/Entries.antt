@@ -48,7 +48,7 @@ pub record Longer (x y : Node) (e : Entry) : Type 0 where
 whole_longer : (w : World) (name : ℕ) (x y : Node) (e : Entry) → Longer x y e → whole (within w name y) y ≡ whole (within w name x) x ++ e ∷ []
 whole_longer w name x y e l = ap (λ (g : Log). take g.start w.group ++ g.entries) l.log ∙ sym (append_assoc (take x.core.log.start w.group) x.core.log.entries (e ∷ []))
 
-name_longer : (w : World) (name : ℕ) (x y : Node) (e : Entry) (a : groups.Node) → Longer x y e → NameStands (within w name x) name x a → NameStands (within w name y) name y (longer a e)
+pub name_longer : (w : World) (name : ℕ) (x y : Node) (e : Entry) (a : groups.Node) → Longer x y e → NameStands (within w name x) name x a → NameStands (within w name y) name y (longer a e)
 name_longer w name x y e a l h = record {
   begins = record {
     within = subst (λ (g : Log). g.start ≤ length w.group) (sym l.log) h.begins.within;
@@ -67,13 +67,13 @@ name_longer w name x y e a l h = record {
 -- ---- the lines
 
 -- a noted view's View stands in its coordinator's list
-noted_stands : (w : World) (views : Views) (v : Decided) (list : List Entry) → NotedStands w views v → line_of w v.stamp ≡ up_to_next v.stamp list → HasViewOf v.stamp list
+pub noted_stands : (w : World) (views : Views) (v : Decided) (list : List Entry) → NotedStands w views v → line_of w v.stamp ≡ up_to_next v.stamp list → HasViewOf v.stamp list
 noted_stands w views v list h is =
     let ch = views.chosen (key v.stamp) in
     opened v.stamp ch.before ch.members ch.resilience list (subst (λ (s : Stamp). Begins (ch.before ++ View s ch.members ch.resilience ∷ []) (up_to_next v.stamp list)) h.stamp
     (subst (λ l. Begins (opening ch) l) (h.line ∙ is) h.opens))
 
-line_here : (w : World) (name : ℕ) (x : Node) (v : Stamp) → v.by ≡ name → line_of (within w name x) v ≡ up_to_next v (whole (within w name x) x)
+pub line_here : (w : World) (name : ℕ) (x : Node) (v : Stamp) → v.by ≡ name → line_of (within w name x) v ≡ up_to_next v (whole (within w name x) x)
 line_here w name x v same = let t : (v.by == name) ≡ true = grind (arith, nat_tests) in rw t refl
 
 -- what the whole list's view is

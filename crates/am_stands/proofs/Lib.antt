@@ -3,4 +3,5 @@ pub mod Changes
 pub mod Lines
 pub mod Entries
 pub mod Events
+pub mod Decisions
 pub mod Carried
