@@ -5,3 +5,4 @@ pub mod Entries
 pub mod Events
 pub mod Decisions
 pub mod Carried
+pub mod Ends

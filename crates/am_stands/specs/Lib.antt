@@ -3,3 +3,4 @@ pub mod Letters
 pub mod States
 pub mod Moving
 pub mod Steps
+pub mod Ends
