@@ -28,13 +28,13 @@ take_front zero xs ys h = refl
 take_front (suc n) [] ys h = absurd (omega arith)
 take_front (suc n) (x ∷ xs) ys h = ap (λ l. x ∷ l) (take_front n xs ys (omega arith))
 
-taken_more : (n : ℕ) (old new : List Entry) → Begins old new → n ≤ length old → take n new ≡ take n old
+pub taken_more : (n : ℕ) (old new : List Entry) → Begins old new → n ≤ length old → take n new ≡ take n old
 taken_more n old new h low = ap (take n) (sym h.same) ∙ take_front n old h.rest low
 
-longer_more : (old new : List Entry) → Begins old new → length old ≤ length new
+pub longer_more : (old new : List Entry) → Begins old new → length old ≤ length new
 longer_more old new h = (let a = ap length h.same in let b = length-append old h.rest in omega arith)
 
-name_grows : (w v : World) (i : ℕ) (m : Node) (a : groups.Node) → Begins w.group v.group → is_stopped v i ≡ is_stopped w i → NameStands w i m a → NameStands v i m a
+pub name_grows : (w v : World) (i : ℕ) (m : Node) (a : groups.Node) → Begins w.group v.group → is_stopped v i ≡ is_stopped w i → NameStands w i m a → NameStands v i m a
 name_grows w v i m a grows stopped h =
     let low = h.begins.within in
     let more = longer_more w.group v.group grows in

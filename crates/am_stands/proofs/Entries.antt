@@ -193,28 +193,50 @@ views_numbered w name x y e a views l old plain by few small chain h = record {
   current = λ d last. h.current d (record { before = last.before; is = last.is });
 }
 
-pub number_stands : (w : World) (name : ℕ) (c : Cause) (x : Node) (e : Entry) (s : Group) → MayMove w name c x s → is_sequencer x ≡ true → Numbers c x e → NeedsNumber s name x e → StandsBut name (within w name x) s → Leads (StandsBut name (within w name (pushed x e))) s
-number_stands w name c x e s may leads why needs h =
-    let y = pushed x e in
-    let old = own_name w name x s may.few h in
-    let a = s.node name in
+-- what a sequencer's node shows of what stands for it
+pub record IsLeading (name : ℕ) (x : Node) (a : groups.Node) : Type 0 where
+  pub member : is_member x.status ≡ true
+  pub by : (view_of a.list).by ≡ name
+  pub acts_ : a.promise ≡ view_of a.list
+
+pub is_leading : (w : World) (name : ℕ) (x : Node) (a : groups.Node) → x.core.who ≡ name → is_sequencer x ≡ true → NameStands (within w name x) name x a → IsLeading name x a
+is_leading w name x a who leads old =
     let both = and_both (acts x) ((view x).by == x.core.who) leads in
     let acting = and_both (is_member x.status) (stamp_eq x.core.promise (view x)) both.0 in
     let viewed = view_whole w name x a old in
     let own : (view x).by ≡ x.core.who = let t = both.1 in grind (arith, nat_tests) in
-    let by : (view_of a.list).by ≡ name = ap (λ (v : Stamp). v.by) viewed ∙ own ∙ may.who in
-    let promised : a.promise ≡ view_of a.list = old.promise ∙ same_stamp x.core.promise (view x) acting.1 ∙ sym viewed in
-    let fit : fits (told a.list) e ≡ true = ap (λ (i : Image). fits i e) (told_whole w name name x a old) ∙ needs.fit in
+    record {
+      member = acting.0;
+      by = ap (λ (v : Stamp). v.by) viewed ∙ own ∙ who;
+      acts_ = old.promise ∙ same_stamp x.core.promise (view x) acting.1 ∙ sym viewed;
+    }
+
+-- the group with a sequencer's entry stands for the world with it
+pub numbered_stands : (w : World) (name : ℕ) (x : Node) (e : Entry) (s : Group) → name < 256 → IsLeading name x (s.node name) → ((k : ℕ) (v : Decided) → slice_get w.views k ≡ Some v → v.stamp.by < 256) → is_view e ≡ false → s.views.line (key (view_of (s.node name).list)) ≡ (s.node name).list
+    → StandsBut name (within w name x) s → StandsBut name (within w name (pushed x e)) (with_line s name (longer (s.node name) e))
+numbered_stands w name x e s few leading small plain chain h =
+    let y = pushed x e in
+    let a = s.node name in
+    let old = own_name w name x s few h in
     let l : Longer x y e = record { log = refl; stays = refl; leaving = refl; promise = refl; ballot = refl; start = refl } in
     let b = longer a e in
-    one_move (StandsBut name (within w name y)) s (with_line s name b)
-    (group.numbers name e (record { up = is_up w name x a may.runs acting.0 old; acts = promised; by = by }) fit needs.may)
-    (record {
+    record {
       each = each_within w name x y s b (name_longer w name x y e a l) h.each;
       fronts = fronts_within w name x y s b h.fronts;
-      views = views_numbered w name x y e a s.views l old (numbers_plain c x e why) by may.few may.noted needs.chain h.views;
+      views = views_numbered w name x y e a s.views l old plain leading.by few small chain h.views;
       group = h.group;
-    })
+    }
+
+pub number_stands : (w : World) (name : ℕ) (c : Cause) (x : Node) (e : Entry) (s : Group) → MayMove w name c x s → is_sequencer x ≡ true → Numbers c x e → NeedsNumber s name x e → StandsBut name (within w name x) s → Leads (StandsBut name (within w name (pushed x e))) s
+number_stands w name c x e s may leads why needs h =
+    let y = pushed x e in
+    let a = s.node name in
+    let old = own_name w name x s may.few h in
+    let leading = is_leading w name x a may.who leads old in
+    let fit : fits (told a.list) e ≡ true = ap (λ (i : Image). fits i e) (told_whole w name name x a old) ∙ needs.fit in
+    one_move (StandsBut name (within w name y)) s (with_line s name (longer a e))
+    (group.numbers name e (record { up = is_up w name x a may.runs leading.member old; acts = leading.acts_; by = leading.by }) fit needs.may)
+    (numbered_stands w name x e s may.few leading may.noted (numbers_plain c x e why) needs.chain h)
 
 -- ---- a joiner's list begins
 

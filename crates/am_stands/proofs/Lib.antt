@@ -6,3 +6,4 @@ pub mod Events
 pub mod Decisions
 pub mod Carried
 pub mod Ends
+pub mod Closing

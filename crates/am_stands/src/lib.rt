@@ -1,7 +1,8 @@
 //! How a world of the whole definitions stands for a group of whole lists, of which it is proved that it has one list
-//! (docs/SAFETY.md), and which changes of a node are carried by moves of that group.
+//! (docs/SAFETY.md), and how each event is moves of that group, with what it needs of it.
 #![tactic(auto)]
 
+ghost use Rattle.am_stands.specs.Ends.{EndsStand, CloseStands};
 ghost use Rattle.am_stands.specs.Steps.{ChangesStand, EventsStand};
 
 /// An event that no node does is no move of the group, or that a name stops.
@@ -9,8 +10,15 @@ pub fn events_stand()
     ensures { EventsStand }
 {}
 
-/// A change of a node that makes no list longer is no move of the group, or one of its own: a promise is raised, a ballot begins or ends
-/// without a decision, a member asks to leave, or is let go.
+/// Each change of a node is no move of the group, or one of its own, where what it needs is so: from a world and a group that stand for
+/// each other it leads to such a group for the world after it. The last member's own Leave isn't among these.
 pub fn changes_stand()
     ensures { ChangesStand }
+{}
+
+/// At the end of a step the group accepts what its sequencer does, and the name learns how far that is. A last member that numbers its own
+/// Leave ends its step by that one move.
+pub fn ends_stand()
+    ensures end { EndsStand }
+    ensures close { CloseStands }
 {}
