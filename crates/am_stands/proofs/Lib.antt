@@ -6,4 +6,5 @@ pub mod Events
 pub mod Decisions
 pub mod Carried
 pub mod Ends
+pub mod Letters
 pub mod Closing

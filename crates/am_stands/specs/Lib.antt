@@ -4,3 +4,4 @@ pub mod States
 pub mod Moving
 pub mod Steps
 pub mod Ends
+pub mod Growing
