@@ -1,11 +1,11 @@
 -- At the end of a step the group accepts what its sequencer does, and the name learns how far that is.
 use Rattle.std.proofs.Common.{◌≡◌, ◌≢◌, ℕ, zero, suc, ◌+◌, ◌<◌, ◌≤◌, ◌==◌, max, Bool, true, false, if◌then◌else◌, List, [], ◌∷◌, ◌++◌, length, take, Some, slice_get, refl, sym, ap, ◌∙◌, subst, arith}
 use Rattle.std.proofs.lemmas.Bool.Decides.{nat_tests}
-use Rattle.std.proofs.lemmas.List.{length-append}
 use Rattle.am_base.specs.declared.entry.Entry.{Entry}
 use Rattle.am_base.specs.declared.name.Stamp.{Stamp}
 use Rattle.am_group.specs.declared.event.Event.{Event}
 use Rattle.am_chain_lists.specs.Whole.{Begins, told, key}
+use Rattle.am_chain_lists.proofs.Prefixes.{begins_length}
 use Rattle.am_chain_moves.specs.Group as groups
 use Rattle.am_chain_moves.specs.Group.{Group, put}
 use Rattle.am_chain_moves.specs.Moves.{Move, with_node}
@@ -31,13 +31,10 @@ take_front (suc n) (x ∷ xs) ys h = ap (λ l. x ∷ l) (take_front n xs ys (ome
 pub taken_more : (n : ℕ) (old new : List Entry) → Begins old new → n ≤ length old → take n new ≡ take n old
 taken_more n old new h low = ap (take n) (sym h.same) ∙ take_front n old h.rest low
 
-pub longer_more : (old new : List Entry) → Begins old new → length old ≤ length new
-longer_more old new h = (let a = ap length h.same in let b = length-append old h.rest in omega arith)
-
 pub name_grows : (w v : World) (i : ℕ) (m : Node) (a : groups.Node) → Begins w.group v.group → is_stopped v i ≡ is_stopped w i → NameStands w i m a → NameStands v i m a
 name_grows w v i m a grows stopped h =
     let low = h.begins.within in
-    let more = longer_more w.group v.group grows in
+    let more = begins_length grows in
     let same = taken_more m.core.log.start w.group v.group grows low in
     record {
       begins = record { within = omega arith; image = h.begins.image ∙ ap told (sym same) };

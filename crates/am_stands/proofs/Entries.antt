@@ -11,6 +11,7 @@ use Rattle.am_base.specs.Stamps.{stamp_eq}
 use Rattle.am_base.specs.Lists.{Log, fits}
 use Rattle.am_chain_lists.specs.Whole.{Begins, told, view_of, key}
 use Rattle.am_chain_lists.proofs.Order.{key_by}
+use Rattle.am_chain_lists.proofs.Prefixes.{begins_trans, begins_more}
 use Rattle.am_chain_moves.specs.Group as groups
 use Rattle.am_chain_moves.specs.Group.{Group, Views, put, IsUp, opening}
 use Rattle.am_chain_moves.specs.Moves.{Move, with_node, with_line, longer}
@@ -131,9 +132,6 @@ numbers_plain c m e (own_send s is last) = refl
 numbers_plain c m e (asked_join s v is other fit) = refl
 numbers_plain c m e (asked_leave s v report is other known stays) = refl
 
-begins_more : (short list : List Entry) (e : Entry) → Begins short list → Begins short (list ++ e ∷ [])
-begins_more short list e h = record { rest = h.rest ++ e ∷ []; same = sym (append_assoc short h.rest (e ∷ [])) ∙ ap (λ l. l ++ e ∷ []) h.same }
-
 -- equal keys are of equal stamps
 key_stamp : (a b : Stamp) → a.by < 256 → b.by < 256 → key a ≡ key b → a ≡ b
 unfolding key
@@ -169,7 +167,7 @@ views_numbered w name x y e a views l old plain by few small chain h = record {
         resilience = n.resilience;
         number = n.number;
         line = rw t (sym now);
-        opens = rw t (begins_more (opening (views.chosen (key v))) a.list e (subst (Begins (opening (views.chosen (key v)))) was n.opens));
+        opens = rw t (begins_trans (subst (Begins (opening (views.chosen (key v)))) was n.opens) (begins_more a.list (e ∷ [])));
       })
       (λ f.
       let stays : line_of (within w name y) v ≡ line_of (within w name x) v = split (v.by == name)

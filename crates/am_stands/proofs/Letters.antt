@@ -1,6 +1,5 @@
 -- What a letter says stays so as the group goes on.
 use Rattle.std.proofs.Common.{◌≡◌, ◌≢◌, ◌⊎◌, inl, inr, ⊎_elim, ℕ, zero, suc, ◌+◌, ◌<◌, ◌≤◌, List, [], ◌∷◌, ◌++◌, length, take, drop, Bool, true, false, Some, None, slice_get, refl, sym, ap, ◌∙◌, subst, arith}
-use Rattle.std.proofs.lemmas.List.{append_assoc, take-append-drop}
 use Rattle.std.proofs.lemmas.Option.{slice_get_within}
 use Rattle.am_base.specs.declared.name.Stamp.{Stamp}
 use Rattle.am_base.specs.declared.image.Report.{Report}
@@ -14,18 +13,16 @@ use Rattle.am_packet.specs.declared.packet.Packet.TheVariants.{Request, Spread, 
 use Rattle.am_group.specs.Journals.{item_at}
 use Rattle.am_group.specs.declared.event.Record.{Record}
 use Rattle.am_chain_lists.specs.Whole.{Begins, told, mem, key}
+use Rattle.am_chain_lists.proofs.Prefixes.{begins_trans, begins_take, begins_length}
 use Rattle.am_chain_moves.specs.Group as groups
 use Rattle.am_chain_moves.specs.Group.{Group, Chosen, IsThere}
 use Rattle.am_model.specs.World.{World}
 use Rattle.am_effects.proofs.Items.{get_front}
 use Rattle.am_stands.specs.Letters.{line, IsDecided, AllShown, SequencerSays, EntrySays, WasAsked, OrderSays, ReportSays, SendSays, LeaverSays, WelcomeSays, GoneSays, has_stopped, may_go, VoteTells, VoteSays, own, tells, over as over_vote, FetchSays, for_ballot, of_promise, ShownEntry, PieceSays, of_line, of_shown, over, ResultSays, PacketSays}
 use Rattle.am_stands.specs.Growing.{NameGrows, NewView, Grows, LettersStay}
-use Rattle.am_stands.proofs.Ends.{taken_more, longer_more}
+use Rattle.am_stands.proofs.Ends.{taken_more}
 
 -- ---- lists
-
-begins_then : (a b c : List Entry) → Begins a b → Begins b c → Begins a c
-begins_then a b c h k = record { rest = h.rest ++ k.rest; same = sym (append_assoc a h.rest k.rest) ∙ ap (λ l. l ++ k.rest) h.same ∙ k.same }
 
 item_stays : (a b : List Entry) (n : ℕ) (e : Entry) → Begins a b → item_at a n ≡ Some e → item_at b n ≡ Some e
 item_stays a b zero e h is = absurd (cc)
@@ -40,7 +37,7 @@ part_stays a b n l h low k = subst (λ x. Begins x l) (sym (taken_more n a b h l
 
 -- the beginning of a beginning
 part_begins : (a b : List Entry) (n : ℕ) → Begins a b → Begins (take n a) b
-part_begins a b n h = begins_then (take n a) a b (record { rest = drop n a; same = take-append-drop n a }) h
+part_begins a b n h = begins_trans (begins_take n a) h
 
 -- ---- of a group
 
@@ -64,14 +61,14 @@ module _ (w v : World) (s t : Group) (g : Grows s t) (more : (rest : List Record
   sequencer_stays : (i : ℕ) (u : Stamp) (acc : ℕ) → SequencerSays s i u acc → SequencerSays t i u acc
   sequencer_stays i u acc h =
       let low = h.accepted in
-      let up = longer_more s.group t.group g.group in
+      let up = begins_length g.group in
       record {
         by = h.by;
         decided = decided_stays (key u) h.decided;
         accepted = omega arith;
         before = λ x d above. ⊎_elim
             (λ (old : s.views.decided x ≡ true). subst (λ (c : Chosen). acc ≤ length c.before) (sym (g.decided x old).1) (h.before x old above))
-            (λ (new : NewView s t x). (let z = longer_more s.group (t.views.chosen x).before new.accepted in omega arith))
+            (λ (new : NewView s t x). (let z = begins_length new.accepted in omega arith))
             (g.new x d);
       }
 
@@ -84,22 +81,22 @@ module _ (w v : World) (s t : Group) (g : Grows s t) (more : (rest : List Record
   report_stays : (i : ℕ) (u : Stamp) (report : Report) → ReportSays s i u report → ReportSays t i u report
   report_stays i u report h =
       let low = h.within in
-      let up = longer_more (s.node i).list (t.node i).list (g.each i).list in
+      let up = begins_length (g.each i).list in
       record {
         decided = decided_stays (key u) h.decided;
         within = omega arith;
-        begins = part_stays (s.node i).list (t.node i).list report.stored (line t u) (g.each i).list h.within (begins_then _ (line s u) (line t u) h.begins (g.lines (key u) h.decided));
+        begins = part_stays (s.node i).list (t.node i).list report.stored (line t u) (g.each i).list h.within (begins_trans h.begins (g.lines (key u) h.decided));
       }
 
   leaver_stays : (i : ℕ) (u : Stamp) (report : Report) → LeaverSays s i u report → LeaverSays t i u report
   leaver_stays i u report h =
       let low = h.within in
-      let up = longer_more (s.node i).list (t.node i).list (g.each i).list in
+      let up = begins_length (g.each i).list in
       record {
         leaves = (g.each i).leaving h.leaves;
         within = omega arith;
         begins = λ d member. part_stays (s.node i).list (t.node i).list report.stored (line t u) (g.each i).list h.within (⊎_elim
-            (λ (old : s.views.decided (key u) ≡ true). begins_then _ (line s u) (line t u) (h.begins old (subst (λ (c : Chosen). has c.members i ≡ true) (g.decided (key u) old).1 member)) (g.lines (key u) old))
+            (λ (old : s.views.decided (key u) ≡ true). begins_trans (h.begins old (subst (λ (c : Chosen). has c.members i ≡ true) (g.decided (key u) old).1 member)) (g.lines (key u) old))
             (λ (new : NewView s t (key u)). part_begins (s.node i).list (line t u) report.stored (new.members i member))
             (g.new (key u) d));
       }
@@ -122,8 +119,8 @@ module _ (w v : World) (s t : Group) (g : Grows s t) (more : (rest : List Record
 
   gone_stays : (number name : ℕ) → GoneSays s number name → GoneSays t number name
   gone_stays number name (has_stopped h) = has_stopped ((g.each name).stopped h)
-  gone_stays number name (may_go before is accepted stored) = may_go before is (begins_then _ s.group t.group accepted g.group)
-      (λ j member there stays. begins_then _ (s.node j).list (t.node j).list (stored j member (there_before j there) (not_yet (s.node j).leaving (t.node j).leaving (g.each j).leaving stays)) (g.each j).list)
+  gone_stays number name (may_go before is accepted stored) = may_go before is (begins_trans accepted g.group)
+      (λ j member there stays. begins_trans (stored j member (there_before j there) (not_yet (s.node j).leaving (t.node j).leaving (g.each j).leaving stays)) (g.each j).list)
     where
       not_yet : (a b : Bool) → (a ≡ true → b ≡ true) → b ≡ false → a ≡ false
       not_yet true b f k = absurd (let z = f refl in cc)

@@ -7,4 +7,6 @@ pub mod Decisions
 pub mod Carried
 pub mod Ends
 pub mod Letters
+pub mod Growing
+pub mod Ongoing
 pub mod Closing

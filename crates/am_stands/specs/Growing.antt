@@ -4,9 +4,11 @@ use Rattle.am_base.specs.declared.entry.Entry.{Entry}
 use Rattle.am_base.specs.Names.{has}
 use Rattle.am_packet.specs.declared.packet.Packet.{Packet}
 use Rattle.am_group.specs.declared.event.Record.{Record}
-use Rattle.am_chain_lists.specs.Whole.{Begins}
+use Rattle.am_chain_lists.specs.Whole.{Begins, key}
 use Rattle.am_chain_moves.specs.Group as groups
 use Rattle.am_chain_moves.specs.Group.{Group}
+use Rattle.am_chain_moves.specs.Moves.{Move, decides}
+use Rattle.am_chain_moves.specs.Kept.{Kept}
 use Rattle.am_model.specs.World.{World}
 use Rattle.am_stands.specs.Letters.{PacketSays}
 
@@ -34,3 +36,14 @@ pub record Grows (s t : Group) : Type 0 where
 -- what a letter says stays so, while records are added
 abbrev pub LettersStay : Type 0
 LettersStay = (w v : World) (s t : Group) (to : List ℕ) (p : Packet) → (rest : List Record) × (v.records ≡ w.records ++ rest) → Grows s t → PacketSays w s to p → PacketSays v t to p
+
+-- ---- moves
+
+-- of a decision it is so that its view is a new one, which found all that was accepted
+abbrev pub DecidesNew : {s t : Group} → Move s t → Type 0
+DecidesNew {s = s} {t = t} (decides i members resilience may) = (s.views.decided (key (s.node i).promise) ≡ false) × NewView s t (key (s.node i).promise)
+DecidesNew _ = Unit {0}
+
+-- with each move the group goes on so
+abbrev pub MovesGrow : Type 0
+MovesGrow = (s t : Group) (move : Move s t) → Kept s → DecidesNew move → Grows s t

@@ -3,6 +3,7 @@
 #![tactic(auto)]
 
 ghost use Rattle.am_stands.specs.Ends.{EndsStand, CloseStands};
+ghost use Rattle.am_stands.specs.Growing.{LettersStay, MovesGrow};
 ghost use Rattle.am_stands.specs.Steps.{ChangesStand, EventsStand};
 
 /// An event that no node does is no move of the group, or that a name stops.
@@ -21,4 +22,11 @@ pub fn changes_stand()
 pub fn ends_stand()
     ensures end { EndsStand }
     ensures close { CloseStands }
+{}
+
+/// With each move the group goes on so that what a letter says of it stays so, where a decided view is a new one that found all that was
+/// accepted.
+pub fn letters_stay()
+    ensures moves { MovesGrow }
+    ensures letters { LettersStay }
 {}
