@@ -239,7 +239,7 @@ closed_leads m h member alone =
 -- ---- what a sequencer numbers
 
 -- who is known and hasn't left is a member
-known_member : (m : Node) (s : ℕ) → length (told m).rows ≡ 16 → is_unknown m s ≡ false → (sequencing.row_at m s).left ≡ 0 → has (members m) s ≡ true
+pub known_member : (m : Node) (s : ℕ) → length (told m).rows ≡ 16 → is_unknown m s ≡ false → (sequencing.row_at m s).left ≡ 0 → has (members m) s ≡ true
 known_member m s long known stays = split ((at_place (told m) s).life == life_of s)
     (λ t. let j : ((at_place (told m) s).joined == 0) ≡ false = rw t at known in
     let l : (at_place (told m) s).left ≡ 0 = rw t at stays in
@@ -247,7 +247,7 @@ known_member m s long known stays = split ((at_place (told m) s).life == life_of
     in_is (told m) s long (record { joined = grind (arith, nat_tests); left = l; is = is }))
     (λ f. absurd (let k = rw f at known in cc))
 
-leave_fits : (image : Image) (name : ℕ) → has (members_of image) name ≡ true → fits image (Leave name) ≡ true
+pub leave_fits : (image : Image) (name : ℕ) → has (members_of image) name ≡ true → fits image (Leave name) ≡ true
 unfolding fits
 leave_fits image name h = h
 

@@ -39,7 +39,7 @@ node_grows s i b h = record {
 
 -- ---- a sequencer
 
-leads_line : (s : Group) (i : ℕ) → Kept s → Leads i (s.node i) → s.views.line (key (view_of (s.node i).list)) ≡ (s.node i).list
+pub leads_line : (s : Group) (i : ℕ) → Kept s → Leads i (s.node i) → s.views.line (key (view_of (s.node i).list)) ≡ (s.node i).list
 leads_line s i k leads =
     let ok = (k.each i).leads leads in
     let viewed : view_of (s.node i).list ≡ s.views.current = ap view_of ok.chain ∙ k.views.view in

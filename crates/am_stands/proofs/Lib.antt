@@ -9,4 +9,5 @@ pub mod Ends
 pub mod Letters
 pub mod Growing
 pub mod Ongoing
+pub mod Heard
 pub mod Closing

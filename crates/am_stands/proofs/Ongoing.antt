@@ -9,9 +9,9 @@ use Rattle.am_base.specs.declared.image.Image.{Image}
 use Rattle.am_base.specs.Names.{place_of, life_of}
 use Rattle.am_base.specs.Lists.{is_blank, at_place, row_of, member_life, with_row, viewed, after}
 use Rattle.am_chain_lists.specs.Whole.{Begins, BeginsBelow, IsGood, told, mem}
-use Rattle.am_chain_lists.proofs.Prefixes.{begins_same, below_of}
+use Rattle.am_chain_lists.proofs.Prefixes.{begins_same, begins_pushed}
 use Rattle.am_chain_lists.proofs.Rows.{by_cases, row_at, In, Spares, mod16, row_set, row_view, blank_joined}
-use Rattle.am_chain_lists.proofs.Members.{told_push, long_told, mem_in, in_mem, mem_push}
+use Rattle.am_chain_lists.proofs.Members.{good_begins, told_push, long_told, mem_in, in_mem, mem_push}
 use Rattle.am_chain_moves.specs.Group as groups
 use Rattle.am_chain_moves.specs.Group.{Group, IsUp, IsOngoing}
 use Rattle.am_chain_moves.specs.Kept.{Kept}
@@ -69,3 +69,26 @@ last_keeps a (View stamp names resilience) name good member left =
     (λ (z : In (row_at (after (told a) (1 + length a) e) (place_of name)) (life_of name)). in_mem (a ++ e ∷ []) name (subst (λ (i : Image). In (row_at i (place_of name)) (life_of name)) (sym (told_push a e)) z))
     (λ (z : (row_of (after (told a) (1 + length a) e) name).left ≡ 1 + length a). absurd (let y : (row_of (told (a ++ e ∷ [])) name).left ≡ 1 + length a = ap (λ (i : Image). (row_of i name).left) (told_push a e) ∙ z in omega arith))
     (viewed_row (told a) (1 + length a) stamp names resilience name (long_told a) (mem_in a name member))
+
+-- ---- the whole list
+
+unsnoc : (x : Entry) (xs : List Entry) → (init : List Entry) × (last : Entry) × (x ∷ xs ≡ init ++ last ∷ [])
+unsnoc x [] = ([], x, refl)
+unsnoc x (y ∷ ys) = let r = unsnoc y ys in (x ∷ r.0, r.1, ap (λ l. x ∷ l) r.2)
+
+below_nothing : (a : List Entry) → length a < 0 → ⊥
+below_nothing a h = omega arith
+
+ongoing_of : (list : List Entry) (name : ℕ) → IsGood list → ((a d : List Entry) → BeginsBelow d list → Begins a d → mem a name ≡ true → mem d name ≡ true) → (row_of (told list) name).left ≡ 0 → IsOngoing list name
+ongoing_of [] name good own left = λ a h member. subst (λ l. mem l name ≡ true) (begins_same h (omega arith)) member
+ongoing_of (x ∷ xs) name good own left =
+    let r = unsnoc x xs in
+    λ a h member. ⊎_elim
+    (λ (z : Begins a r.0). (let below : BeginsBelow r.0 (x ∷ xs) = record { next = r.1; rest = []; same = sym r.2 } in
+    let before = own a r.0 below z member in
+    subst (λ l. mem l name ≡ true) (sym r.2) (last_keeps r.0 r.1 name (subst IsGood r.2 good) before (subst (λ l. (row_of (told l) name).left ≡ 0) r.2 left))))
+    (λ (z : a ≡ r.0 ++ r.1 ∷ []). subst (λ l. mem l name ≡ true) (z ∙ sym r.2) member)
+    (begins_pushed r.1 (subst (Begins a) r.2 h))
+
+pub is_ongoing : (s : Group) (i : ℕ) → Kept s → IsUp (s.node i) → (row_of (told (s.node i).list) i).left ≡ 0 → IsOngoing (s.node i).list i
+is_ongoing s i k up left = ongoing_of (s.node i).list i (good_begins ((k.each i).list up) k.views.good) ((k.each i).own up) left
