@@ -1,7 +1,7 @@
 -- The changes of a node that make no list longer, as moves of the group.
 use Rattle.std.proofs.Common.{◌≡◌, ◌≢◌, ℕ, ◌+◌, ◌<◌, ◌≤◌, ◌==◌, ◌||◌, not, Bool, true, false, List, ◌++◌, length, take, Option, Some, None, refl, sym, ap, ◌∙◌, subst, arith, nat_lt}
 use Rattle.std.proofs.lemmas.Bool.Decides.{nat_tests}
-use Rattle.std.proofs.lemmas.List.{length-take}
+use Rattle.std.proofs.lemmas.List.{length-append, length-take}
 use Rattle.am_base.specs.declared.name.Stamp.{Stamp}
 use Rattle.am_base.specs.declared.entry.Entry.{Entry}
 use Rattle.am_base.specs.declared.image.Image.{Image}
@@ -130,13 +130,25 @@ is_up w name x a runs member h = record { log = h.log_ ∙ logged x.status membe
 
 -- ---- what a whole list tells
 
-pub told_whole : (w : World) (name i : ℕ) (x : Node) (a : groups.Node) → NameStands (within w name x) i x a → told a.list ≡ nodes.told x
-told_whole w name i x a h =
+pub told_all : (v : World) (i : ℕ) (x : Node) (a : groups.Node) → NameStands v i x a → told a.list ≡ nodes.told x
+told_all v i x a h =
     let start_ = x.core.log.start in
-    let front = take start_ w.group in
-    let long : length front ≡ start_ = (let b = h.begins.within in let c = length-take start_ w.group in omega arith) in
+    let front = take start_ v.group in
+    let long : length front ≡ start_ = (let b = h.begins.within in let c = length-take start_ v.group in omega arith) in
     let one : 1 + length front ≡ start_ + 1 = omega arith in
     ap told h.list ∙ fold_append blank 1 front x.core.log.entries ∙ ap (λ (i : Image). fold i (1 + length front) x.core.log.entries) (sym h.begins.image) ∙ ap (λ n. fold x.core.log.image n x.core.log.entries) one
+
+pub told_whole : (w : World) (name i : ℕ) (x : Node) (a : groups.Node) → NameStands (within w name x) i x a → told a.list ≡ nodes.told x
+told_whole w name i x a h = told_all (within w name x) i x a h
+
+-- and how long it is
+pub long_all : (v : World) (i : ℕ) (x : Node) (a : groups.Node) → NameStands v i x a → length a.list ≡ nodes.top x
+long_all v i x a h =
+    let b = h.begins.within in
+    let t = length-take x.core.log.start v.group in
+    let m = length-append (take x.core.log.start v.group) x.core.log.entries in
+    let l = ap length h.list in
+    omega arith
 
 -- ---- promises
 

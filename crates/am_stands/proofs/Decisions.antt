@@ -2,7 +2,7 @@
 use Rattle.std.proofs.Common.{◌≡◌, ◌≢◌, ◌⊎◌, inl, inr, ⊎_elim, ℕ, zero, suc, ◌+◌, ◌<◌, ◌≤◌, ◌==◌, ◌||◌, max, not, Bool, true, false, if◌then◌else◌, List, [], ◌∷◌, ◌++◌, length, take, Option, Some, None, slice_get, refl, sym, ap, ◌∙◌, subst, arith}
 use Rattle.std.specs.List.{list_any}
 use Rattle.std.proofs.lemmas.Bool.Decides.{nat_tests}
-use Rattle.std.proofs.lemmas.List.{append_assoc, append-nil, length-append, length-take}
+use Rattle.std.proofs.lemmas.List.{append_assoc, append-nil, length-append}
 use Rattle.am_base.specs.declared.name.Stamp.{Stamp}
 use Rattle.am_base.specs.declared.image.Image.{Image}
 use Rattle.am_base.specs.declared.entry.Entry.{Entry}
@@ -34,7 +34,7 @@ use Rattle.am_stands.specs.Standing.{BeginsIn, NameStands, NotedStands, IsLast, 
 use Rattle.am_stands.specs.Moving.{Leads}
 use Rattle.am_stands.specs.Steps.{MayMove, NeedsDecision, noting}
 use Rattle.am_stands.proofs.Names.{one_move, name_in, each_within, fronts_within}
-use Rattle.am_stands.proofs.Changes.{own_name}
+use Rattle.am_stands.proofs.Changes.{own_name, long_all}
 use Rattle.am_stands.proofs.Lines.{HasViewOf, line_ends}
 use Rattle.am_stands.proofs.Entries.{noted_stands, line_here}
 
@@ -105,12 +105,7 @@ module _ (w : World) (name : ℕ) (x y : Node) (a : groups.Node) (views : Views)
   is_resilience = ap (λ (i : Image). i.resilience) (told_is ∙ told_pushed x (View v names r)) ∙ (after_view (nodes.told x) (nodes.top x + 1) v names r).2
 
   long : length a.list ≡ nodes.top x
-  long =
-      let b = old.begins.within in
-      let t = length-take x.core.log.start w.group in
-      let m = length-append (take x.core.log.start w.group) x.core.log.entries in
-      let l = ap length old.list in
-      omega arith
+  long = long_all (within w name x) name x a old
 
   -- what was noted before
   old_noted : (k : ℕ) (d : Decided) → slice_get w.views k ≡ Some d → NotedStands (within next name y) made d

@@ -1,7 +1,6 @@
 -- What a change needs of the group, from what a letter says and what every run of the group keeps.
 use Rattle.std.proofs.Common.{◌≡◌, ◌≢◌, ◌⊎◌, inl, inr, ⊎_elim, ℕ, zero, suc, ◌+◌, ◌<◌, ◌≤◌, ◌==◌, ◌&&◌, not, nat_lt, List, [], ◌∷◌, ◌++◌, length, take, Bool, true, false, Some, slice_get, refl, sym, ap, ◌∙◌, subst, arith}
 use Rattle.std.proofs.lemmas.Bool.Decides.{nat_tests}
-use Rattle.std.proofs.lemmas.List.{length-append, length-take}
 use Rattle.am_base.specs.declared.entry.Entry.{Entry}
 use Rattle.am_base.specs.declared.entry.Entry.TheVariants.{Data, Join, Leave, View}
 use Rattle.am_base.specs.declared.name.Stamp.{Stamp}
@@ -32,20 +31,10 @@ use Rattle.am_laws.proofs.Taken.{known_member, leave_fits}
 use Rattle.am_stands.specs.Standing.{NameStands, StandsBut, within}
 use Rattle.am_stands.specs.Letters.{line, IsDecided, EntrySays, LeaverSays, ResultSays}
 use Rattle.am_stands.specs.Steps.{MayMove, NeedsNumber, IsOthers, NeedsEntry}
-use Rattle.am_stands.proofs.Changes.{told_whole, is_up}
+use Rattle.am_stands.proofs.Changes.{told_whole, long_all, is_up}
 use Rattle.am_stands.proofs.Entries.{IsLeading}
 use Rattle.am_stands.proofs.Growing.{leads_line}
 use Rattle.am_stands.proofs.Ongoing.{is_ongoing}
-
--- ---- the whole list
-
-pub long_whole : (w : World) (name : ℕ) (x : Node) (a : groups.Node) → NameStands (within w name x) name x a → length a.list ≡ nodes.top x
-long_whole w name x a h =
-    let b = h.begins.within in
-    let t = length-take x.core.log.start w.group in
-    let m = length-append (take x.core.log.start w.group) x.core.log.entries in
-    let l = ap length h.list in
-    omega arith
 
 -- ---- an entry of a decided view's line
 
@@ -57,7 +46,7 @@ pub entry_needs : (w : World) (name number : ℕ) (x : Node) (v : Stamp) (e : En
 entry_needs w name number x v e s k who old up promise other others decided at next stays =
     let a = s.node name in
     let promised : a.promise ≡ v = old.promise ∙ promise in
-    let long = long_whole w name x a old in
+    let long = long_all (within w name x) name x a old in
     let told_is = told_whole w name name x a old in
     let left : (row_of (told a.list) name).left ≡ 0 =
     (let row : (row_of (told a.list) name).left ≡ (nodes.own_row x).left = ap (λ (i : Image). (row_of i name).left) told_is ∙ ap (λ n. (row_of (nodes.told x) n).left) (sym who) in

@@ -10,4 +10,5 @@ pub mod Letters
 pub mod Growing
 pub mod Ongoing
 pub mod Heard
+pub mod Sent
 pub mod Closing
