@@ -48,7 +48,7 @@ line_opens v (x ∷ es) names resilience h = split (is_view_of v x)
     (λ t. absurd (let z = rw t at h in cc))
     (λ f. rw f (ap (λ l. x ∷ l) (line_opens v es names resilience (rw f at h))))
 
-last_same : {A : Type 0} (a b : List A) (x y : A) → a ++ x ∷ [] ≡ b ++ y ∷ [] → x ≡ y
+pub last_same : {A : Type 0} (a b : List A) (x y : A) → a ++ x ∷ [] ≡ b ++ y ∷ [] → x ≡ y
 last_same a b x y h =
     let long = ap length h in
     let m = length-append a (x ∷ []) in

@@ -11,4 +11,6 @@ pub mod Growing
 pub mod Ongoing
 pub mod Heard
 pub mod Sent
+pub mod Start
+pub mod Lawful
 pub mod Closing

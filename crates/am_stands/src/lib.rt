@@ -4,7 +4,14 @@
 
 ghost use Rattle.am_stands.specs.Ends.{EndsStand, CloseStands};
 ghost use Rattle.am_stands.specs.Growing.{LettersStay, MovesGrow};
+ghost use Rattle.am_stands.specs.Lawful.{RunsGoOn};
+ghost use Rattle.am_stands.specs.Standing.{StartStands};
 ghost use Rattle.am_stands.specs.Steps.{ChangesStand, EventsStand};
+
+/// At the start each founder is told of the first entry, and then the group stands for the world.
+pub fn start_stands()
+    ensures { StartStands }
+{}
 
 /// An event that no node does is no move of the group, or that a name stops.
 pub fn events_stand()
@@ -29,4 +36,9 @@ pub fn ends_stand()
 pub fn letters_stay()
     ensures moves { MovesGrow }
     ensures letters { LettersStay }
+{}
+
+/// A lawful run of the group that goes on by a move that is no stop is lawful: so between the moves of one event all is kept.
+pub fn runs_go_on()
+    ensures { RunsGoOn }
 {}
