@@ -28,7 +28,7 @@ item_stays : (a b : List Entry) (n : ℕ) (e : Entry) → Begins a b → item_at
 item_stays a b zero e h is = absurd (cc)
 item_stays a b (suc n) e h is = ap (λ l. slice_get l n) (sym h.same) ∙ get_front a h.rest n e is
 
-item_within : (a : List Entry) (n : ℕ) (e : Entry) → item_at a n ≡ Some e → n ≤ length a
+pub item_within : (a : List Entry) (n : ℕ) (e : Entry) → item_at a n ≡ Some e → n ≤ length a
 item_within a zero e is = absurd (cc)
 item_within a (suc n) e is = (let z = slice_get_within a n e is in omega arith)
 
@@ -97,7 +97,7 @@ module _ (w v : World) (s t : Group) (g : Grows s t) (more : (rest : List Record
         within = omega arith;
         begins = λ d member. part_stays (s.node i).list (t.node i).list report.stored (line t u) (g.each i).list h.within (⊎_elim
             (λ (old : s.views.decided (key u) ≡ true). begins_trans (h.begins old (subst (λ (c : Chosen). has c.members i ≡ true) (g.decided (key u) old).1 member)) (g.lines (key u) old))
-            (λ (new : NewView s t (key u)). part_begins (s.node i).list (line t u) report.stored (new.members i member))
+            (λ (new : NewView s t (key u)). part_begins (s.node i).list (line t u) report.stored (new.leavers i h.leaves member))
             (g.new (key u) d));
       }
 

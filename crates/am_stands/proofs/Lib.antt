@@ -13,4 +13,5 @@ pub mod Heard
 pub mod Sent
 pub mod Start
 pub mod Lawful
+pub mod Welcomes
 pub mod Closing

@@ -19,10 +19,10 @@ pub record NameGrows (a b : groups.Node) : Type 0 where
   pub departed : a.departed ≡ true → b.departed ≡ true
   pub leaving : a.leaving ≡ true → b.leaving ≡ true
 
--- a view that is decided now, and wasn't: its ballot found all that was accepted, and what each of its members had
+-- a view that is decided now, and wasn't: its ballot found all that was accepted, and what each of its members had that leaves
 pub record NewView (s t : Group) (x : ℕ) : Type 0 where
   pub accepted : Begins s.group (t.views.chosen x).before
-  pub members : (i : ℕ) → has (t.views.chosen x).members i ≡ true → Begins (s.node i).list (t.views.line x)
+  pub leavers : (i : ℕ) → (s.node i).leaving ≡ true → has (t.views.chosen x).members i ≡ true → Begins (s.node i).list (t.views.line x)
 
 pub record Grows (s t : Group) : Type 0 where
   pub each : (i : ℕ) → NameGrows (s.node i) (t.node i)
