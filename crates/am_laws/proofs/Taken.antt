@@ -319,7 +319,7 @@ own_need m b own none =
     ap (λ (v : Vote). v.members) (own_best b.votes m.core.who (own_vote m) (record { by = m.core.who; vote = own_vote m }) all_names (λ e. refl) none same)
 
 -- who passes is among those that pass
-those_at : (test : ℕ → Bool) (names : List ℕ) (who : ℕ) → has names who ≡ true → test who ≡ true → slice_index (those test names) (place_of who) ≡ life_of who
+pub those_at : (test : ℕ → Bool) (names : List ℕ) (who : ℕ) → has names who ≡ true → test who ≡ true → slice_index (those test names) (place_of who) ≡ life_of who
 unfolding those
 those_at test names who there passes =
     let place = place_of who in

@@ -14,4 +14,5 @@ pub mod Sent
 pub mod Start
 pub mod Lawful
 pub mod Welcomes
+pub mod Votes
 pub mod Closing

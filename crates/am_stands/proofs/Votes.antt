@@ -1,0 +1,158 @@
+-- A ballot that its coordinator decides may be decided by the group's own test.
+use Rattle.std.proofs.Common.{◌≡◌, ◌≢◌, ◌⊎◌, inl, inr, ⊎_elim, ℕ, zero, suc, ◌+◌, ◌-◌, ◌<◌, ◌≤◌, ◌==◌, ◌&&◌, ◌||◌, not, max, nat_lt, nat_le, is_some, List, [], ◌∷◌, ◌++◌, length, Bool, true, false, Option, Some, None, slice_index, if◌then◌else◌, refl, sym, ap, ◌∙◌, subst, arith}
+use Rattle.std.specs.List.{list_all, list_any, range_with_len}
+use Rattle.std.proofs.lemmas.Bool.Decides.{nat_tests}
+use Rattle.am_base.specs.declared.entry.Entry.{Entry}
+use Rattle.am_base.specs.declared.image.Vote.{Vote}
+use Rattle.am_base.specs.declared.image.Image.{Image}
+use Rattle.am_base.specs.declared.name.Stamp.{Stamp}
+use Rattle.am_base.specs.Names.{place_of, life_of, name_at, has, size, is_within}
+use Rattle.am_base.specs.Stamps.{stamp_lt, stamp_eq}
+use Rattle.am_base.specs.Votes.{Shown, vote_lt}
+use Rattle.am_base.specs.Lists.{members_of}
+use Rattle.am_base.proofs.Places.{slice_index-by_place}
+use Rattle.am_chain_lists.specs.Whole.{Begins, told, mem, view_of, resilience_of, key}
+use Rattle.am_chain_lists.proofs.Order.{key_lt}
+use Rattle.am_chain_moves.specs.Group as groups
+use Rattle.am_chain_moves.specs.Group.{Group, IsThere, IsUp, NoBetter}
+use Rattle.am_chain_moves.specs.Moves as group
+use Rattle.am_chain_moves.specs.Moves.{MayDecide, Voted}
+use Rattle.am_chain_moves.specs.Kept.{Kept}
+use Rattle.am_model.specs.Node as nodes
+use Rattle.am_model.specs.Node.{Node, Ballot, view, members, name_where, those, is_member}
+use Rattle.am_model.specs.Ballots.{own_vote, best_of, need_of, has_voted, is_waited_for, left_in}
+use Rattle.am_model.specs.Laws.{IsBestVote}
+use Rattle.am_model.specs.World.{World, is_stopped}
+use Rattle.am_model.proofs.BestVotes.{best_vote_is}
+use Rattle.am_model.proofs.Greatest.{split, and_both}
+use Rattle.am_effects.specs.Looks as looks
+use Rattle.am_bounded.proofs.Changes.{some_left}
+use Rattle.am_laws.proofs.Stamps.{equal_stamps, same_stamp}
+use Rattle.am_laws.proofs.Taken.{own_need, those_at}
+use Rattle.am_stands.specs.Standing.{NameStands, within}
+use Rattle.am_stands.specs.Letters.{VoteTells}
+use Rattle.am_stands.proofs.Changes.{told_whole, long_all}
+
+-- ---- what is known of a ballot
+
+pub record BallotKnown (w : World) (name : ℕ) (x : Node) (b : Ballot) (s : Group) : Type 0 where
+  pub few : name < 256
+  pub who : x.core.who ≡ name
+  pub stands : NameStands (within w name x) name x (s.node name)
+  pub up : IsUp (s.node name)
+  pub ballot : (s.node name).ballot ≡ true
+  pub stamp : b.stamp ≡ x.core.promise
+  -- its votes tell what was shown; it has none of its own, and only stopped names are given up
+  pub votes : (j : ℕ) (vote : Vote) → b.votes j ≡ Some vote → VoteTells s j b.stamp vote
+  pub own : b.votes x.core.who ≡ None
+  pub given : (j : ℕ) → b.given_up j ≡ true → (s.node j).stopped ≡ true
+  -- views are of names, and only names vote
+  pub view_ : (view x).by < 256
+  pub views : (j : ℕ) (vote : Vote) → b.votes j ≡ Some vote → vote.view.by < 256
+  pub names : (j : ℕ) (vote : Vote) → b.votes j ≡ Some vote → j < 256
+
+-- ---- the best vote
+
+vote_low : (own : Vote) (vote : Vote) → own.view.by < 256 → vote.view.by < 256 → vote_lt own vote ≡ false → (key vote.view < key own.view) ⊎ ((key vote.view ≡ key own.view) × (vote.top ≤ own.top))
+vote_low own vote small few low =
+    let a : stamp_lt own.view vote.view ≡ false = split (stamp_lt own.view vote.view) (λ t. absurd (let z = rw t at low in cc)) (λ f. f) in
+    let rest : (stamp_eq own.view vote.view && nat_lt own.top vote.top) ≡ false = rw a at low in
+    split (stamp_lt vote.view own.view)
+    (λ t. inl (key_lt vote.view own.view few small t))
+    (λ f.
+    let same : vote.view ≡ own.view = equal_stamps vote.view own.view few small f a in
+    let t : stamp_eq own.view vote.view ≡ true = subst (λ u. stamp_eq own.view u ≡ true) (sym same) (itself own.view) in
+    let top : nat_lt own.top vote.top ≡ false = rw t at rest in
+    inr (ap key same, grind (arith, nat_tests)))
+  where
+    itself : (v : Stamp) → stamp_eq v v ≡ true
+    itself v = grind (arith, nat_tests)
+
+best_low : (x : Node) (b : Ballot) → ((best_of x b).by == x.core.who) ≡ true → b.votes x.core.who ≡ None → (view x).by < 256 → ((j : ℕ) (vote : Vote) → b.votes j ≡ Some vote → vote.view.by < 256)
+    → (j : ℕ) (vote : Vote) → j < 256 → b.votes j ≡ Some vote → vote_lt (own_vote x) vote ≡ false
+unfolding best_of
+best_low x b own none small views j vote few is =
+    let best = best_vote_is b.votes x.core.who (own_vote x) small views in
+    let by : (best_of x b).by ≡ x.core.who = grind (arith, nat_tests) in
+    let shown : (best_of x b).vote ≡ own_vote x = ⊎_elim
+    (λ (z : ((best_of x b).by ≡ x.core.who) × ((best_of x b).vote ≡ own_vote x)). z.1)
+    (λ (z : b.votes (best_of x b).by ≡ Some (best_of x b).vote). absurd (let y : b.votes x.core.who ≡ Some (best_of x b).vote = ap b.votes (sym by) ∙ z in cc))
+    best.shown in
+    ap (λ (v : Vote). vote_lt v vote) (sym shown) ∙ best.above_all j vote few is
+
+-- ---- who is needed
+
+some_vote : (o : Option Vote) → is_some o ≡ true → (v : Vote) × (o ≡ Some v)
+some_vote None h = absurd (cc)
+some_vote (Some v) h = (v, refl)
+
+voted : (who j : ℕ) (b : Ballot) → is_waited_for who b j ≡ false → b.given_up j ≡ false → (j == who) ≡ false → is_some (b.votes j) ≡ true
+voted who j b waits stays other = split (is_some (b.votes j))
+    (λ t. t)
+    (λ f. absurd (
+    let v : has_voted who b j ≡ false = rw (other, f) refl in
+    let z : (not (has_voted who b j) && not (b.given_up j)) ≡ true = rw (v, stays) refl in
+    cc))
+
+not_waited : (x : Node) (b : Ballot) (j : ℕ) → nat_lt 0 (size (those (is_waited_for x.core.who b) (need_of x b))) ≡ false → has (need_of x b) j ≡ true → is_waited_for x.core.who b j ≡ false
+not_waited x b j none needed = split (is_waited_for x.core.who b j)
+    (λ t. absurd (let some = some_left (is_waited_for x.core.who b) (need_of x b) j needed t in let z : nat_lt 0 (size (those (is_waited_for x.core.who b) (need_of x b))) ≡ true = grind (arith, nat_tests) in cc))
+    (λ f. f)
+
+all_places : (p : ℕ → Bool) (from n : ℕ) → ((place : ℕ) → place < from + n → p place ≡ true) → list_all p (range_with_len from n) ≡ true
+all_places p from zero h = refl
+all_places p from (suc n) h = rw (h from (omega arith)) (all_places p (from + 1) n (λ place low. h place (omega arith)))
+
+those_some : (test : ℕ → Bool) (names : List ℕ) (place : ℕ) → place < 16 → ((slice_index (those test names) place == 0) || (slice_index (those test names) place == slice_index names place)) ≡ true
+unfolding those
+those_some test names place low =
+    let life = slice_index names place in
+    let at = slice_index-by_place (λ p. name_where test p (slice_index names p)) place low in
+    let any : (x : ℕ) → ((x == 0) || (x == x)) ≡ true = λ x. grind (arith, nat_tests) in
+    ap (λ x. (x == 0) || (x == life)) at ∙ split (life == 0)
+    (λ t. rw t refl)
+    (λ f. split (test (name_at place life))
+    (λ t. ap (λ x. (x == 0) || (x == life)) (let e : name_where test place life ≡ life = rw (f, t) refl in e) ∙ any life)
+    (λ g. ap (λ x. (x == 0) || (x == life)) (let e : name_where test place life ≡ 0 = rw (f, g) refl in e)))
+
+-- ---- the group's own test
+
+pub may_decide : (w : World) (name : ℕ) (x : Node) (b : Ballot) (s : Group) → BallotKnown w name x b s → looks.MayDecide x b → MayDecide s name (left_in b (need_of x b)) (max b.resilience (nodes.told x).resilience)
+unfolding mem view_of resilience_of
+may_decide w name x b s h may =
+    let a = s.node name in
+    let who = h.who in
+    let told_is = told_whole w name name x a h.stands in
+    let long = long_all (within w name x) name x a h.stands in
+    let need = own_need x b may.learned.own h.own in
+    let test : ℕ → Bool = λ j. not (b.given_up j) in
+    let members_is : members_of (told a.list) ≡ members x = ap members_of told_is in
+    let in_need : (j : ℕ) → mem a.list j ≡ true → has (need_of x b) j ≡ true = λ j m. ap (λ set. has set j) (need ∙ sym members_is) ∙ m in
+    let stamp : b.stamp ≡ a.promise = h.stamp ∙ sym h.stands.promise in
+    let spared : (j : ℕ) → IsThere (s.node j) → b.given_up j ≡ false = λ j there. split (b.given_up j) (λ t. absurd (let z = h.given j t in let y = there.goes in cc)) (λ f. f) in
+    record {
+      small = h.few;
+      up = h.up;
+      ballot = h.ballot;
+      needed = ap (λ set. has set name) (members_is ∙ sym need) ∙ ap (has (need_of x b)) (sym who) ∙ may.learned.needed;
+      votes = λ j m there. split (j == x.core.who)
+          (λ t. inl (let same : j ≡ x.core.who = grind (arith, nat_tests) in same ∙ who))
+          (λ f. (let vote = some_vote (b.votes j) (voted x.core.who j b (not_waited x b j may.learned.all (in_need j m)) (spared j there) f) in
+          let tells = h.votes j vote.0 vote.1 in
+          let low = best_low x b may.learned.own h.own h.view_ h.views j vote.0 (h.names j vote.0 vote.1) vote.1 in
+          let order = vote_low (own_vote x) vote.0 h.view_ (h.views j vote.0 vote.1) low in
+          let seen : key vote.0.view ≡ key (view_of tells.list) = ap key tells.view in
+          let mine : key (view x) ≡ key (view_of a.list) = ap (λ (i : Image). key i.view) (sym told_is) in
+          let top = tells.top in
+          inr (record {
+            vote = tells.list;
+            is = ap (λ (u : Stamp). s.shown (key u) j) (sym stamp) ∙ tells.shown;
+            worse = ⊎_elim
+                (λ (z : key vote.0.view < key (view x)). inl (omega arith))
+                (λ (z : (key vote.0.view ≡ key (view x)) × (vote.0.top ≤ nodes.top x)). (let y = z.0 in let u = z.1 in inr (omega arith, omega arith)))
+                order;
+          })));
+      within = subst (λ set. is_within (left_in b (need_of x b)) set ≡ true) (need ∙ sym members_is) (all_places _ 0 16 (λ place low. those_some test (need_of x b) place (omega arith)));
+      all = λ j m there. (let at = those_at test (need_of x b) j (in_need j m) (ap not (spared j there)) in grind (arith, nat_tests));
+      strong = (let same : (told a.list).resilience ≡ (nodes.told x).resilience = ap (λ (i : Image). i.resilience) told_is in omega arith);
+    }
