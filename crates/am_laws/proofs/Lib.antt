@@ -24,3 +24,4 @@ pub mod RunLimits
 pub mod LeaderRows
 pub mod Taken
 pub mod TakenRuns
+pub mod ViewMembers

@@ -15,4 +15,5 @@ pub mod Start
 pub mod Lawful
 pub mod Welcomes
 pub mod Votes
+pub mod Shown
 pub mod Closing

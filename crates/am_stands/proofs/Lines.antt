@@ -48,7 +48,7 @@ is_a_view v (Join name) h = absurd (cc)
 is_a_view v (Leave name) h = absurd (cc)
 is_a_view v (View stamp names resilience) h = refl
 
-viewed_as : (v : Stamp) (image : Image) (n : ℕ) (e : Entry) → is_view_of v e ≡ true → (after image n e).view ≡ v
+pub viewed_as : (v : Stamp) (image : Image) (n : ℕ) (e : Entry) → is_view_of v e ≡ true → (after image n e).view ≡ v
 viewed_as v image n (Data from req body) h = absurd (cc)
 viewed_as v image n (Join name) h = absurd (cc)
 viewed_as v image n (Leave name) h = absurd (cc)

@@ -10,9 +10,10 @@ use Rattle.am_base.specs.Names.{place_of, life_of, name_at, has, size, is_within
 use Rattle.am_base.specs.Stamps.{stamp_lt, stamp_eq}
 use Rattle.am_base.specs.Votes.{Shown, vote_lt}
 use Rattle.am_base.specs.Lists.{members_of}
-use Rattle.am_base.proofs.Places.{slice_index-by_place}
 use Rattle.am_chain_lists.specs.Whole.{Begins, told, mem, view_of, resilience_of, key}
-use Rattle.am_chain_lists.proofs.Order.{key_lt}
+use Rattle.am_chain_lists.proofs.Order.{key_lt, view_up}
+use Rattle.am_chain_lists.proofs.Prefixes.{begins_trans}
+use Rattle.am_chain_lists.proofs.Members.{told_push}
 use Rattle.am_chain_moves.specs.Group as groups
 use Rattle.am_chain_moves.specs.Group.{Group, IsThere, IsUp, NoBetter}
 use Rattle.am_chain_moves.specs.Moves as group
@@ -20,7 +21,10 @@ use Rattle.am_chain_moves.specs.Moves.{MayDecide, Voted}
 use Rattle.am_chain_moves.specs.Kept.{Kept}
 use Rattle.am_model.specs.Node as nodes
 use Rattle.am_model.specs.Node.{Node, Ballot, view, members, name_where, those, is_member}
-use Rattle.am_model.specs.Ballots.{own_vote, best_of, need_of, has_voted, is_waited_for, left_in}
+use Rattle.am_base.specs.declared.entry.Entry.TheVariants.{View}
+use Rattle.std.proofs.lemmas.List.{append_assoc}
+use Rattle.am_model.specs.Lawful.{is_view_of}
+use Rattle.am_model.specs.Ballots.{trimmed_for, own_vote, best_of, need_of, has_voted, is_waited_for, left_in}
 use Rattle.am_model.specs.Laws.{IsBestVote}
 use Rattle.am_model.specs.World.{World, is_stopped}
 use Rattle.am_model.proofs.BestVotes.{best_vote_is}
@@ -29,8 +33,12 @@ use Rattle.am_effects.specs.Looks as looks
 use Rattle.am_bounded.proofs.Changes.{some_left}
 use Rattle.am_laws.proofs.Stamps.{equal_stamps, same_stamp}
 use Rattle.am_laws.proofs.Taken.{own_need, those_at}
+use Rattle.am_laws.proofs.ViewMembers.{viewed_members, those_some, those_long}
 use Rattle.am_stands.specs.Standing.{NameStands, within}
+use Rattle.am_effects.proofs.Says.{told_pushed}
 use Rattle.am_stands.specs.Letters.{VoteTells}
+use Rattle.am_stands.specs.Steps.{NeedsDecision}
+use Rattle.am_stands.proofs.Lines.{HasViewOf, viewed_as}
 use Rattle.am_stands.proofs.Changes.{told_whole, long_all}
 
 -- ---- what is known of a ballot
@@ -103,17 +111,19 @@ all_places : (p : ℕ → Bool) (from n : ℕ) → ((place : ℕ) → place < fr
 all_places p from zero h = refl
 all_places p from (suc n) h = rw (h from (omega arith)) (all_places p (from + 1) n (λ place low. h place (omega arith)))
 
-those_some : (test : ℕ → Bool) (names : List ℕ) (place : ℕ) → place < 16 → ((slice_index (those test names) place == 0) || (slice_index (those test names) place == slice_index names place)) ≡ true
-unfolding those
-those_some test names place low =
-    let life = slice_index names place in
-    let at = slice_index-by_place (λ p. name_where test p (slice_index names p)) place low in
-    let any : (x : ℕ) → ((x == 0) || (x == x)) ≡ true = λ x. grind (arith, nat_tests) in
-    ap (λ x. (x == 0) || (x == life)) at ∙ split (life == 0)
-    (λ t. rw t refl)
-    (λ f. split (test (name_at place life))
-    (λ t. ap (λ x. (x == 0) || (x == life)) (let e : name_where test place life ≡ life = rw (f, t) refl in e) ∙ any life)
-    (λ g. ap (λ x. (x == 0) || (x == life)) (let e : name_where test place life ≡ 0 = rw (f, g) refl in e)))
+-- as a test
+is_some_of : (test : ℕ → Bool) (names : List ℕ) (place : ℕ) → place < 16 → ((slice_index (those test names) place == 0) || (slice_index (those test names) place == slice_index names place)) ≡ true
+is_some_of test names place low =
+    let life = slice_index (those test names) place in
+    let all = slice_index names place in
+    ⊎_elim
+    (λ (z : slice_index (those test names) place ≡ 0). (let t : (life == 0) ≡ true = grind (arith, nat_tests) in rw t refl))
+    (λ (z : slice_index (those test names) place ≡ slice_index names place). (let t : (life == all) ≡ true = grind (arith, nat_tests) in or_true (life == 0) (life == all) t))
+    (those_some test names place low)
+  where
+    or_true : (a b : Bool) → b ≡ true → (a || b) ≡ true
+    or_true true b t = refl
+    or_true false b t = t
 
 -- ---- the group's own test
 
@@ -152,7 +162,56 @@ may_decide w name x b s h may =
                 (λ (z : (key vote.0.view ≡ key (view x)) × (vote.0.top ≤ nodes.top x)). (let y = z.0 in let u = z.1 in inr (omega arith, omega arith)))
                 order;
           })));
-      within = subst (λ set. is_within (left_in b (need_of x b)) set ≡ true) (need ∙ sym members_is) (all_places _ 0 16 (λ place low. those_some test (need_of x b) place (omega arith)));
+      within = subst (λ set. is_within (left_in b (need_of x b)) set ≡ true) (need ∙ sym members_is) (all_places _ 0 16 (λ place low. is_some_of test (need_of x b) place (omega arith)));
       all = λ j m there. (let at = those_at test (need_of x b) j (in_need j m) (ap not (spared j there)) in grind (arith, nat_tests));
       strong = (let same : (told a.list).resilience ≡ (nodes.told x).resilience = ap (λ (i : Image). i.resilience) told_is in omega arith);
+    }
+
+-- ---- all that a decision needs
+
+-- a View that stands in a good list is no greater than the list's view
+prefix_view : (v : Stamp) (a b : List Entry) → HasViewOf v b → (p : List Entry) × Begins p (a ++ b) × (view_of p ≡ v)
+unfolding view_of
+prefix_view v a [] h = absurd (cc)
+prefix_view v a (e ∷ b) h = split (is_view_of v e)
+    (λ t. (a ++ e ∷ [], record { rest = b; same = append_assoc a (e ∷ []) b }, ap (λ (i : Image). i.view) (told_push a e) ∙ viewed_as v (told a) (1 + length a) e t))
+    (λ f. (let r = prefix_view v (a ++ e ∷ []) b (rw f at h) in (r.0, subst (Begins r.0) (append_assoc a (e ∷ []) b) r.1, r.2)))
+
+unseen : (s : Group) (i : ℕ) → Kept s → IsUp (s.node i) → (s.node i).ballot ≡ true → list_any (is_view_of (s.node i).promise) (s.node i).list ≡ false
+unseen s i k up ballot = split (list_any (is_view_of (s.node i).promise) (s.node i).list)
+    (λ t. absurd (
+    let list = (s.node i).list in
+    let p = prefix_view (s.node i).promise [] list t in
+    let in_chain = (k.each i).list up in
+    let low = view_up k.views.good (begins_trans p.1 in_chain) in
+    let same = ap key p.2 in
+    let now = ap key k.views.view in
+    let above = ((k.each i).ballot up ballot).above in
+    omega arith))
+    (λ f. f)
+
+undecided : (s : Group) (i : ℕ) → Kept s → IsUp (s.node i) → (s.node i).ballot ≡ true → s.views.decided (key (s.node i).promise) ≡ false
+undecided s i k up ballot = split (s.views.decided (key (s.node i).promise))
+    (λ t. absurd (let above = ((k.each i).ballot up ballot).above in let most = k.views.order (key (s.node i).promise) t in omega arith))
+    (λ f. f)
+
+view_members : (x : Node) (b : Ballot) → length (nodes.told x).rows ≡ 16 → need_of x b ≡ members x → members (looks.view_of x b) ≡ left_in b (need_of x b)
+view_members x b long need =
+    let test : ℕ → Bool = λ name. not (b.given_up name) in
+    let names = left_in b (need_of x b) in
+    let before = trimmed_for x b names in
+    let r = max b.resilience (nodes.told x).resilience in
+    let some : (place : ℕ) → place < 16 → (slice_index names place ≡ 0) ⊎ (slice_index names place ≡ slice_index (members x) place) =
+    λ place low. ⊎_elim (λ (z : slice_index names place ≡ 0). inl z) (λ (z : slice_index names place ≡ slice_index (need_of x b) place). inr (z ∙ ap (λ set. slice_index set place) need)) (those_some test (need_of x b) place low) in
+    ap members_of (told_pushed before (View b.stamp names r)) ∙ viewed_members (nodes.told x) (nodes.top x + 1) b.stamp names r long (omega arith) (those_long test (need_of x b)) some
+
+pub decision_needs : (w : World) (name : ℕ) (x : Node) (b : Ballot) (s : Group) → Kept s → BallotKnown w name x b s → x.core.promise.by ≡ name → length (nodes.told x).rows ≡ 16 → looks.MayDecide x b → NeedsDecision s name x b
+decision_needs w name x b s k h own long may =
+    let same = h.stands.promise in
+    record {
+      may = may_decide w name x b s h may;
+      own = own;
+      fresh = ap (λ (u : Stamp). s.views.decided (key u)) (sym same) ∙ undecided s name k h.up h.ballot;
+      unseen = ap (λ (u : Stamp). list_any (is_view_of u) (s.node name).list) (sym same) ∙ unseen s name k h.up h.ballot;
+      members_ = view_members x b long (own_need x b may.learned.own h.own);
     }
