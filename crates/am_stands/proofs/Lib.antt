@@ -16,4 +16,5 @@ pub mod Lawful
 pub mod Welcomes
 pub mod Votes
 pub mod Shown
+pub mod Learned
 pub mod Closing
