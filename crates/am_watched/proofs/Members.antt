@@ -34,7 +34,8 @@ use Rattle.am_laws.proofs.ViewSteps.{entry_stays, after_same, after_view, view_l
 use Rattle.am_laws.proofs.ViewChanges.{Balloted}
 use Rattle.am_laws.proofs.Views.{same_is_equal}
 use Rattle.am_laws.proofs.ViewMembers.{data_members, viewed_members, those_some, those_long}
-use Rattle.am_laws.proofs.Taken.{NoOwnVote, own_need, looked_vote}
+use Rattle.am_laws.proofs.Trims.{NoOwnVote}
+use Rattle.am_laws.proofs.Taken.{own_need, looked_vote}
 use Rattle.am_watched.proofs.Chains.{welcomed_none}
 use Rattle.am_watched.proofs.Own.{Known, HeardOwn, looked_open}
 
