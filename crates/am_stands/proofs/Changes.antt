@@ -276,4 +276,3 @@ depart_stands w name from number v c x s may is heard leaves h =
     moved w name x (record x { status = status.Departed }) s (record (s.node name) { departed = true }) refl
     (group.departs name go.0 go.1)
     (λ k. record { begins = record { within = k.begins.within; image = k.begins.image }; list = k.list; log_ = up.log; stopped = k.stopped; departed = refl; leaving = k.leaving; promise = k.promise; ballot = k.ballot; start = λ t. k.start (logged x.status member) }) h
-

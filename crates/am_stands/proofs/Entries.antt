@@ -262,16 +262,16 @@ welcome_stands w name c x v base join image s may needs h =
     one_move (StandsBut name (within w name y)) s (with_node s name b) (group.welcomes name v base join needs.may)
     (record {
       each = each_within w name x y s b (λ k. record {
-            begins = record { within = subst (λ (g : List Entry). base ≤ length g) h.group needs.within; image = needs.image_ ∙ ap told all_of };
-            list = all_of ∙ sym (append-nil (take base w.group));
-            log_ = refl;
-            stopped = k.stopped;
-            departed = needs.may.there.stays;
-            leaving = k.leaving;
-            promise = refl;
-            ballot = k.ballot;
-            start = λ t. refl;
-          }) h.each;
+        begins = record { within = subst (λ (g : List Entry). base ≤ length g) h.group needs.within; image = needs.image_ ∙ ap told all_of };
+        list = all_of ∙ sym (append-nil (take base w.group));
+        log_ = refl;
+        stopped = k.stopped;
+        departed = needs.may.there.stays;
+        leaving = k.leaving;
+        promise = refl;
+        ballot = k.ballot;
+        start = λ t. refl;
+      }) h.each;
       fronts = fronts_within w name x y s b h.fronts;
       views = views_noted (within w name x) (within w name y) s.views refl lines h.views;
       group = h.group;
