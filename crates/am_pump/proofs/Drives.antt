@@ -1,5 +1,5 @@
 -- Generated runs, event by event.
-use Rattle.std.proofs.Common.{◌≡◌, ◌≢◌, ℕ, zero, suc, ◌+◌, ◌<◌, ◌≤◌, ◌==◌, List, [], ◌∷◌, ◌++◌, length, map, cond, Bool, true, false, ◌&&◌, Option, Some, None, count_by, slice_index, slice_set, refl, sym, ap, ◌∙◌, subst, arith}
+use Rattle.std.proofs.Common.{◌≡◌, ◌≢◌, ℕ, zero, suc, ◌+◌, ◌<◌, ◌≤◌, ◌==◌, List, [], ◌∷◌, ◌++◌, length, cond, Bool, true, false, ◌&&◌, count_by, slice_index, slice_set, refl, sym, ap, ◌∙◌, arith}
 use Rattle.std.proofs.lemmas.List.{length-append, length-set, get_or-set_same, get_or-set_other}
 use Rattle.std.proofs.lemmas.List.Sums.{sum_by_push, count_by-le-length}
 use Rattle.std.proofs.lemmas.Bool.Decides.{nat_tests}
@@ -43,19 +43,19 @@ counts_go sent w v e o letters at is here low are = record {
       let b = is_sent o in
       let next = sent_by w at + cond b 1 0 in
       let more : sent_by v place ≡ sent_by w place + cond (b && (at == place)) 1 0 =
-          sent_more w v e o letters place is ∙ ap (λ n. sent_by w place + cond (b && (n == place)) 1 0) here in
+      sent_more w v e o letters place is ∙ ap (λ n. sent_by w place + cond (b && (n == place)) 1 0) here in
       split (at == place)
       (λ t.
-          let same : at ≡ place = grind (arith, nat_tests) in
-          ap (slice_index (slice_set sent at next)) (sym same)
-          ∙ get_or-set_same sent at next 0 (omega (arith, are.count))
-          ∙ ap (λ n. sent_by w n + cond b 1 0) same
-          ∙ ap (λ c. sent_by w place + cond c 1 0) (sym (here_or_not b) ∙ ap (λ c. b && c) (sym t))
-          ∙ sym more)
+      let same : at ≡ place = grind (arith, nat_tests) in
+      ap (slice_index (slice_set sent at next)) (sym same)
+      ∙ get_or-set_same sent at next 0 (omega (arith, are.count))
+      ∙ ap (λ n. sent_by w n + cond b 1 0) same
+      ∙ ap (λ c. sent_by w place + cond c 1 0) (sym (here_or_not b) ∙ ap (λ c. b && c) (sym t))
+      ∙ sym more)
       (λ f.
-          let other : place ≢ at = λ e. grind (arith, nat_tests) in
-          let none : sent_by v place ≡ sent_by w place + 0 = more ∙ ap (λ c. sent_by w place + cond c 1 0) (ap (λ c. b && c) f ∙ nowhere b) in
-          get_or-set_other sent at place next 0 other ∙ are.each place within ∙ omega (arith, none));
+      let other : place ≢ at = λ e. grind (arith, nat_tests) in
+      let none : sent_by v place ≡ sent_by w place + 0 = more ∙ ap (λ c. sent_by w place + cond c 1 0) (ap (λ c. b && c) f ∙ nowhere b) in
+      get_or-set_other sent at place next 0 other ∙ are.each place within ∙ omega (arith, none));
 }
 
 pub few_sent : (w : World) (place : ℕ) → sent_by w place ≤ length w.records
@@ -86,7 +86,6 @@ pub same_play : (d mid next : Drive) (place : ℕ) (t : Turn) → mid ≡ record
 same_play d mid next place t words goes = ap (λ x. x.play) goes ∙ turned_play mid place t ∙ ap (λ x. x.play) words
 
 -- ---- how many events there are
-
 
 pub one_more : (d : Drive) → length (driven d).play.events ≡ length d.play.events + 1
 unfolding driven

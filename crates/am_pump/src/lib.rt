@@ -2,8 +2,8 @@
 #![tactic(auto)]
 
 pub mod chooser;
-mod generator;
 pub mod generate;
+mod generator;
 pub mod progress;
 #[cfg(test)]
 mod tests;

@@ -1,4 +1,4 @@
-use Rattle.std.proofs.Common.{◌≡◌, ◌+◌, length, sym, ap, ◌∙◌, refl, arith}
+use Rattle.std.proofs.Common.{◌≡◌, length, sym, ap, ◌∙◌, arith}
 use Rattle.std.proofs.lemmas.Result.{err_from_is_err_and}
 use Rattle.am_world.specs.Runs.{Play}
 use Rattle.am_pump.specs.Generating.{Drive, begun, drive, driven}
@@ -16,9 +16,9 @@ pub returns-in_err-step-clause-spent : goal.returns-in_err-step-clause-spent
 returns-in_err-step-clause-spent c =
     let p = err_from_is_err_and c.from_residual-in_err-step.result c.from_residual-in_err-step.ensures.1 in
     rw (p.1, p.2) (λ is.
-        let many = ap (λ (d : Drive). length d.play.events) c.loop-done.invariant ∙ so_many c.loop-done._done (begun c.args.seed) in
-        let full = c.in_err-step.ensures.spent is in
-        omega (arith, c.loop-done-test.true))
+    let many = ap (λ (d : Drive). length d.play.events) c.loop-done.invariant ∙ so_many c.loop-done._done (begun c.args.seed) in
+    let full = c.in_err-step.ensures.spent is in
+    omega (arith, c.loop-done-test.true))
 
 pub returns-clause-world : goal.returns-clause-world
 returns-clause-world c =
