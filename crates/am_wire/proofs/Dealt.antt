@@ -1,0 +1,131 @@
+-- A wire has each of its keys once.
+use Rattle.std.proofs.Common.{◌≡◌, ℕ, zero, suc, ◌+◌, ◌<◌, ◌≤◌, Bool, false, nat_lt, eqb, List, [], ◌∷◌, ◌++◌, length, map, take, drop, sym, refl, ap, ◌∙◌, arith, eq-eqb, ne_eqb, length-append, length-drop}
+use Rattle.std.specs.Prelude.{if◌then◌else◌}
+use Rattle.std.specs.List.{range_with_len}
+use Rattle.std.proofs.lemmas.Bool.{lt-ltb, le-ltb}
+use Rattle.std.proofs.Math.Seq.{take-length}
+use Rattle.std.proofs.lemmas.List.{length-take}
+use Rattle.std.proofs.lemmas.List.FromFn.{length-map-range_with_len}
+use mathlib.Core.Logic.{dite}
+use native.Mathlib.Decide.{ℕ_discrete}
+use Rattle.atomic_table.specs.Seated.{TableId}
+use Rattle.am_wire.specs.declared.rule.Key.{Key}
+use Rattle.am_wire.specs.declared.rule.Key.TheVariants.{Place, Caller}
+use Rattle.am_wire.specs.Keys.{same_key, times, is_key, place_keys, caller_keys, all_keys}
+use Rattle.am_wire.specs.Seats.{Sat, IsIdle, Parts}
+use Rattle.am_wire.specs.Passes.{Known, fresh}
+use Rattle.am_wire.proofs.Views.{times_append, times_cons}
+
+abbrev one : Bool → ℕ
+one b = if b then 1 else 0
+
+-- keys of another kind, or of other numbers
+other_keys : (make : ℕ → Key) (key : Key) (from count : ℕ) → ((i : ℕ) → from ≤ i → same_key key (make i) ≡ false)
+    → times key (map make (range_with_len from count)) ≡ 0
+other_keys make key from zero other = refl
+other_keys make key from (suc count) other =
+    let e = times_cons key (make from) (map make (range_with_len (from + 1) count)) in
+    let f : one (same_key key (make from)) ≡ 0 = ap one (other from (omega arith)) in
+    let r = other_keys make key (from + 1) count (λ i h. other i (omega arith)) in
+    omega arith
+
+-- how often a number is among so many from another on
+ranged : (make : ℕ → Key) (key : Key) (n from count : ℕ) → ((i : ℕ) → same_key key (make i) ≡ eqb n i) → from ≤ n
+    → times key (map make (range_with_len from count)) ≡ one (nat_lt n (from + count))
+ranged make key n from zero same le = ap one (sym (le-ltb n (from + 0) (omega arith)))
+ranged make key n from (suc count) same le =
+    let e = times_cons key (make from) (map make (range_with_len (from + 1) count)) in
+    dite (ℕ_discrete n from)
+    (λ is.
+    let f : one (same_key key (make from)) ≡ 1 = ap one (same from ∙ eq-eqb n from is) in
+    let r = other_keys make key (from + 1) count (λ i h. same i ∙ ne_eqb n i (λ e. omega arith)) in
+    let t : one (nat_lt n (from + suc count)) ≡ 1 = ap one (lt-ltb n (from + suc count) (omega arith)) in
+    omega arith)
+    (λ not.
+    let f : one (same_key key (make from)) ≡ 0 = ap one (same from ∙ ne_eqb n from not) in
+    let r = ranged make key n (from + 1) count same (omega arith) in
+    let t : from + 1 + count ≡ from + suc count = omega arith in
+    let u : one (nat_lt n (from + 1 + count)) ≡ one (nat_lt n (from + suc count)) = ap (λ (m : ℕ). one (nat_lt n m)) t in
+    omega arith)
+
+pub each_once : (callers : ℕ) (key : Key) → times key (all_keys callers) ≡ (if is_key callers key then 1 else 0)
+unfolding place_keys caller_keys
+each_once callers (Place place) =
+    let e = times_append (Place place) place_keys (caller_keys callers) in
+    let f = ranged Place (Place place) place 0 16 (λ i. refl) (omega arith) in
+    let g = other_keys Caller (Place place) 0 callers (λ i h. refl) in
+    omega arith
+each_once callers (Caller caller) =
+    let e = times_append (Caller caller) place_keys (caller_keys callers) in
+    let f = other_keys Place (Caller caller) 0 16 (λ i h. refl) in
+    let g = ranged Caller (Caller caller) caller 0 callers (λ i. refl) (omega arith) in
+    let z : 0 + callers ≡ callers = omega arith in
+    let h : one (nat_lt caller (0 + callers)) ≡ one (nat_lt caller callers) = ap (λ (m : ℕ). one (nat_lt caller m)) z in
+    let k : (if is_key callers (Caller caller) then 1 else 0) ≡ one (nat_lt caller callers) = refl in
+    omega arith
+
+pub sixteen : (callers : ℕ) → (take 16 (all_keys callers) ≡ place_keys) × (drop 16 (all_keys callers) ≡ caller_keys callers)
+unfolding place_keys
+sixteen callers = (refl, refl)
+
+pub so_many : (callers : ℕ) → length (caller_keys callers) ≡ callers
+unfolding caller_keys
+so_many callers = length-map-range_with_len Caller 0 callers
+
+pub enough : (callers : ℕ) → 16 ≤ length (all_keys callers)
+unfolding place_keys
+enough callers = omega (arith, length-append (map Place (range_with_len 0 16)) (caller_keys callers))
+
+-- ---- one by one
+
+take_more : (wire : TableId) (key : Key) (keys : List Key) (i : ℕ)
+    → map (fresh wire) (take (suc i + 1) (key ∷ keys)) ≡ fresh wire key ∷ map (fresh wire) (take (i + 1) keys)
+take_more wire key keys i = let e : suc i + 1 ≡ suc (i + 1) = omega arith in ap (λ (n : ℕ). map (fresh wire) (take n (key ∷ keys))) e
+
+pub one_more : (wire : TableId) (keys : List Key) (i : ℕ) → i < length keys
+    → map (fresh wire) (take (i + 1) keys) ≡ map (fresh wire) (take i keys) ++ record { wire = wire; keys = take 1 (drop i keys); seen = [] } ∷ []
+one_more wire [] i h = absurd (omega arith)
+one_more wire (key ∷ keys) zero h = refl
+one_more wire (key ∷ keys) (suc i) h = take_more wire key keys i ∙ ap (λ (l : List Known). fresh wire key ∷ l) (one_more wire keys i (omega arith))
+
+drop_none : (i : ℕ) → drop {A = Key} i [] ≡ []
+drop_none zero = refl
+drop_none (suc i) = refl
+
+pub drop_more : (keys : List Key) (i : ℕ) → drop 1 (drop i keys) ≡ drop (i + 1) keys
+drop_more [] i = ap (drop 1) (drop_none i) ∙ sym (drop_none (i + 1))
+drop_more (key ∷ keys) zero = refl
+drop_more (key ∷ keys) (suc i) = let e : suc i + 1 ≡ suc (i + 1) = omega arith in drop_more keys i ∙ sym (ap (λ (n : ℕ). drop n (key ∷ keys)) e)
+
+pub first_there : (keys : List Key) (i : ℕ) → i < length keys → 0 < length (take 1 (drop i keys))
+first_there keys i h = omega (arith, length-take 1 (drop i keys), length-drop i keys)
+
+-- so many keys have their passes
+pub record Dealt (wire : TableId) (all : List Key) (i : ℕ) (its : TableId) (m : Sat) (made : List Known) : Type 0 where
+  pub same : its ≡ wire
+  pub idle : IsIdle m
+  pub unseen : m.0.seen ≡ []
+  pub keys : m.0.keys ≡ drop i all
+  pub passes : made ≡ map (fresh wire) (take i all)
+
+pub dealt_more : (wire : TableId) (all : List Key) (i : ℕ) (its : TableId) (m : Sat) (made : List Known) (its' : TableId) (m' other : Sat)
+    (made' : List Known) → i < length all
+    → Dealt wire all i its m made → its' ≡ its → Parts m m' other
+    → made' ≡ made ++ record { wire = its; keys = other.0.keys; seen = other.0.seen } ∷ [] → Dealt wire all (i + 1) its' m' made'
+dealt_more wire all i its m made its' m' other made' h dealt same parts pushed = record {
+  same = same ∙ dealt.same;
+  idle = parts.idle.0;
+  unseen = parts.seen ∙ dealt.unseen;
+  keys = parts.keys ∙ ap (drop 1) dealt.keys ∙ drop_more all i;
+  passes = pushed ∙ ap (λ (l : List Known). l ++ record { wire = its; keys = other.0.keys; seen = other.0.seen } ∷ []) dealt.passes
+      ∙ ap (λ (p : Known). map (fresh wire) (take i all) ++ p ∷ []) (λ k. record {
+        wire = dealt.same k;
+        keys = (parts.other_keys
+            ∙ ap (take 1) dealt.keys) k;
+        seen = (parts.other_seen ∙ dealt.unseen) k;
+      })
+      ∙ sym (one_more wire all i h);
+}
+
+pub take_callers : (callers : ℕ) → take callers (caller_keys callers) ≡ caller_keys callers
+take_callers callers = ap (λ (n : ℕ). take n (caller_keys callers)) (sym (so_many callers)) ∙ take-length (caller_keys callers)

@@ -1,0 +1,658 @@
+-- Each step of a wire keeps its rule.
+use Rattle.std.proofs.Common.{◌≡◌, ◌≢◌, ◌⊎◌, ℕ, zero, suc, ◌+◌, ◌*◌, ◌%◌, ◌^◌, ◌<◌, ◌≤◌, Bool, cond, true, false, true≢false, eqb, List, [], ◌∷◌, ◌++◌, length, take, drop, map, set, sym, refl, ap, ◌∙◌, subst, inl, inr, arith, append-nil, length-append, ap₂, eq-eqb}
+use Rattle.std.specs.Prelude.{slice_index, All, if◌then◌else◌}
+use mathlib.Core.Option.{Option, none, some, some-injective, some-ne-none}
+use lib.ListN.{get_elem?}
+use prog.Atomic.{either}
+use Rattle.std.proofs.lemmas.Bool.{ltb-true, lt-ltb, eqb-true}
+use Rattle.std.proofs.lemmas.List.{take-append-drop}
+use Rattle.std.proofs.Math.Nat.{mod-lt}
+use Rattle.std.proofs.lemmas.List.Concat.{flat_map-append}
+use Rattle.std.proofs.lemmas.List.Elements.{All-append}
+use Rattle.atomic_table.specs.Table.{step, opening, keeps, takes, gives, stepped, Allows, Splits, Joins, Final, Seen, put_back, rest}
+use Rattle.atomic_table.proofs.Lists.{at_set, at_snoc, at_longer, set_again, set_else}
+use Rattle.am_base.specs.Founding.{Rules}
+use Rattle.am_base.specs.Names.{place_of}
+use Rattle.am_packet.specs.Boxes.{Letter}
+use Rattle.am_group.specs.declared.event.Record.{Record}
+use Rattle.am_group.specs.Journals.{letters_of}
+use Rattle.am_wire.specs.declared.rule.Key.{Key}
+use Rattle.am_wire.specs.declared.rule.Key.TheVariants.{Place, Caller}
+use Rattle.am_wire.specs.declared.rule.Sight.{Sight}
+use Rattle.am_wire.specs.declared.rule.Terms.{Terms}
+use Rattle.am_wire.specs.declared.rule.View.{View}
+use Rattle.am_wire.specs.Keys.{is_of, of_key, same_key, times, is_key, all_keys}
+use Rattle.am_wire.specs.Stops.{Page}
+use Rattle.am_wire.specs.Seats.{view, sight_of, no_rules, longer, GoesOn, IsUpTo, AreLow, Shown, Sat, standing, Fits, IsFree, Stands, IsIdle, HasTurn, took, carried, counted, gave, Looks, looked, Unites}
+use Rattle.am_wire.specs.Passes.{HasAll}
+use Rattle.am_wire.proofs.Dealt.{each_once}
+use Rattle.am_wire.proofs.Views.{rest_of, starts_by, starts_through, key_append, goes_same, times_append, times_cons, BothGo, both_go, stand_set, stand_last, stand_one, stand_two}
+
+abbrev page : Terms → List Record → Page
+page terms log = record { founding = terms.founding; records = log }
+
+-- ---- two words
+
+two_words : (ws : List ℕ) (n : ℕ) → length ws ≡ 2
+    → (length (set ws 0 n) ≡ 2) × (slice_index (set ws 0 n) 0 ≡ n) × (slice_index (set ws 0 n) 1 ≡ slice_index ws 1)
+two_words [] n e = absurd (omega arith)
+two_words (a ∷ []) n e = absurd (omega arith)
+two_words (a ∷ b ∷ []) n e = (refl, refl, refl)
+two_words (a ∷ b ∷ c ∷ ws) n e = absurd (omega arith)
+
+two_counts : (ws : List ℕ) (n : ℕ) → length ws ≡ 2
+    → (length (set ws 1 n) ≡ 2) × (slice_index (set ws 1 n) 1 ≡ n) × (slice_index (set ws 1 n) 0 ≡ slice_index ws 0)
+two_counts [] n e = absurd (omega arith)
+two_counts (a ∷ []) n e = absurd (omega arith)
+two_counts (a ∷ b ∷ []) n e = (refl, refl, refl)
+two_counts (a ∷ b ∷ c ∷ ws) n e = absurd (omega arith)
+
+same_word : (ws : List ℕ) (n : ℕ) → length ws ≡ 2 → slice_index ws 0 ≡ n → set ws 0 n ≡ ws
+same_word [] n e is = absurd (omega arith)
+same_word (a ∷ []) n e is = absurd (omega arith)
+same_word (a ∷ b ∷ []) n e is = λ i. sym is i ∷ b ∷ []
+same_word (a ∷ b ∷ c ∷ ws) n e is = absurd (omega arith)
+
+same_count : (ws : List ℕ) (n : ℕ) → length ws ≡ 2 → slice_index ws 1 ≡ n → set ws 1 n ≡ ws
+same_count [] n e is = absurd (omega arith)
+same_count (a ∷ []) n e is = absurd (omega arith)
+same_count (a ∷ b ∷ []) n e is = λ i. a ∷ sym is i ∷ []
+same_count (a ∷ b ∷ c ∷ ws) n e is = absurd (omega arith)
+
+not_true : (b : Bool) → (b ≡ true → ⊥) → b ≡ false
+not_true true never = absurd (never refl)
+not_true false never = refl
+
+-- ---- views
+
+new_there : (vs : List View) (id : ℕ) (v w : View) → get_elem? vs id ≡ some v → get_elem? (set vs id w) id ≡ some w
+new_there [] id v w at = absurd (some-ne-none v (sym at))
+new_there (x ∷ vs) zero v w at = refl
+new_there (x ∷ vs) (suc id) v w at = new_there vs id v w at
+
+-- a seat's view is another one, with the same keys
+kept_keys : (terms : Terms) (s : Shown) (k : Stands terms s) (id : ℕ) (v w : View) → get_elem? s.views id ≡ some v → w.keys ≡ v.keys
+    → (key : Key) → standing key (set s.views id w) ≡ (if is_key terms.callers key then 1 else 0)
+kept_keys terms s k id v w at same key =
+    let e = stand_set key s.views id v w at in
+    let f : times key w.keys ≡ times key v.keys = ap (times key) same in
+    let o = k.once key in
+    omega arith
+
+none_older : (P : Sight → Type 0) → All P []
+none_older P = λ k d h. absurd (omega arith)
+
+-- the whole journal, as the seat with the turn sees it
+all_seen : (terms : Terms) (log old : List Record) (v : View) → Fits terms old v → 0 < length v.keys → Fits terms log (view v.founding v.keys log [] true)
+all_seen terms log old v fits keyed = record {
+  goes = goes_same v.keys log;
+  older = none_older _;
+  founded = fits.founded;
+  whole = λ is. refl;
+  keyed = λ is. keyed;
+}
+
+-- ---- views alone change
+
+-- the seats with the turn are the same
+SameTurns : List View → List View → Type 0
+SameTurns vs ws = (id : ℕ) (u : View) → u.turn ≡ true → (get_elem? vs id ≡ some u → get_elem? ws id ≡ some u) ×
+    (get_elem? ws id ≡ some u → get_elem? vs id ≡ some u)
+
+turns_set : (vs : List View) (id : ℕ) (v w : View) → get_elem? vs id ≡ some v → v.turn ≡ false → w.turn ≡ false → SameTurns vs (set vs id w)
+unfolding SameTurns
+turns_set vs id v w at off gone = λ j u has. (
+  (λ here. set_else vs id j w (λ is. let e : some v ≡ some u = sym at ∙ ap (get_elem? vs) (sym is) ∙ here in absurd (true≢false (sym has
+      ∙ ap (λ (x : View). x.turn) (sym (some-injective v u e)) ∙ off))) ∙ here),
+  λ here. elim (at_set vs id j w u here) [
+    | inl t ↦ absurd (true≢false (sym has ∙ ap (λ (x : View). x.turn) (sym t.1) ∙ gone))
+    | inr t ↦ t.1
+  ],
+)
+
+turns_last : (vs : List View) (w : View) → w.turn ≡ false → SameTurns vs (vs ++ w ∷ [])
+unfolding SameTurns
+turns_last vs w off = λ j u has. (
+  (λ here. at_longer vs (w ∷ []) j u here),
+  λ here. elim (at_snoc vs w u j here) [
+    | inl old ↦ old
+    | inr new ↦ absurd (true≢false (sym has ∙ ap (λ (x : View). x.turn) (sym new) ∙ off))
+  ],
+)
+
+turns_through : (us vs ws : List View) → SameTurns us vs → SameTurns vs ws → SameTurns us ws
+unfolding SameTurns
+turns_through us vs ws p q = λ j u has. ((λ here. (q j u has).0 ((p j u has).0 here)), λ here. (p j u has).1 ((q j u has).1 here))
+
+-- the rule with other views
+with_views : (terms : Terms) (s : Shown) (k : Stands terms s) (vs : List View) → ((key : Key) → standing key vs ≡ (if is_key terms.callers key then 1 else 0))
+    → ((id : ℕ) (v : View) → get_elem? vs id ≡ some v → Fits terms k.log v) → SameTurns s.views vs
+    → Stands terms (record { words = s.words; homes = s.homes; views = vs })
+unfolding SameTurns
+with_views terms s k vs once fits turns = record {
+  log = k.log;
+  two = k.two;
+  count = k.count;
+  most = k.most;
+  low = k.low;
+  callers = k.callers;
+  once = once;
+  fits = fits;
+  turn = elim k.turn [
+    | inl free ↦ inl (record {
+      word = free.word;
+      home = free.home;
+      nobody = λ id v at. not_true v.turn (λ has. absurd (true≢false (sym has
+          ∙ free.nobody id v ((turns id v has).1 at))));
+    })
+    | inr taken ↦ inr (record {
+      word = taken.word;
+      home = taken.home;
+      holder = taken.holder;
+      its = taken.its;
+      there = (turns taken.holder taken.its taken.has).0 taken.there;
+      has = taken.has;
+      only = λ id v at has. taken.only id v ((turns id v has).1 at) has;
+    })
+  ];
+}
+
+-- ---- taking the slot
+
+free_takes : (terms : Terms) (s : Shown) (k : Stands terms s) (id : ℕ) (me : Sat) → IsFree terms s k.log → 0 < length me.0.keys
+    → get_elem? s.views id ≡ some me.0
+    → Stands terms (stepped s 0 1 id me.1 (view me.0.founding me.0.keys k.log [] true) (takes 0 (page terms k.log)))
+free_takes terms s k id me free keyed at =
+    let new : View = view me.0.founding me.0.keys k.log [] true in
+    let w = two_words s.words 1 k.two in record {
+      log = k.log;
+      two = w.0;
+      count = w.2 ∙ k.count;
+      most = k.most;
+      low = k.low;
+      callers = k.callers;
+      once = kept_keys terms s k id me.0 new at refl;
+      fits = λ j v here. elim (at_set s.views id j new v here) [
+        | inl t ↦ subst (Fits terms k.log) t.1 (all_seen terms k.log k.log me.0 (k.fits id me.0 at) keyed)
+        | inr t ↦ k.fits j v t.1
+      ];
+      turn = inr (record {
+        word = w.1;
+        home = ap (λ hs. set hs 0 none) free.home;
+        holder = id;
+        its = new;
+        there = new_there s.views id me.0 new at;
+        has = refl;
+        only = λ j v here has. elim (at_set s.views id j new v here) [
+          | inl t ↦ t.0
+          | inr t ↦ absurd (true≢false (sym has ∙ free.nobody j v t.1))
+        ];
+      });
+    }
+
+unmoved : (terms : Terms) (s : Shown) (k : Stands terms s) (n id : ℕ) (me : Sat) → slice_index s.words 0 ≡ n → get_elem? s.views id ≡ some me.0
+    → Stands terms (stepped s 0 n id me.1 me.0 keeps)
+unmoved terms s k n id me is at =
+    let same_words : set s.words 0 n ≡ s.words = same_word s.words n k.two is in
+    let same_views : set s.views id me.0 ≡ s.views = set_again s.views id me.0 at in
+    subst (λ (t : List ℕ × List View). Stands terms (record { words = t.0; homes = s.homes; views = t.1 })) (λ i. (sym same_words i, sym same_views i)) k
+
+pub take_allows : (terms : Terms) (slots id : ℕ) (me : Sat) → IsIdle me → 0 < length me.0.keys
+    → Allows (Stands terms) slots id me 0 (λ n. either (eqb n 0) 1 n) (took (step slots 0 0 1 none) me)
+take_allows terms slots id me idle keyed s k len at small = elim k.turn [
+  | inl free ↦ let x : slice_index s.words 0 ≡ 0 = free.word in let new : View = view me.0.founding me.0.keys k.log [] true in (
+    new,
+    takes 0 (page terms k.log),
+    subst (λ hs. get_elem? hs 0 ≡ some (some (page terms k.log))) (sym free.home) refl,
+    subst (λ (n : ℕ). Stands terms (stepped s 0 (either (eqb n 0) 1 n) id me.1 new (takes 0 (page terms k.log)))) (sym x)
+        (free_takes terms s k id me free keyed at),
+    (
+      (λ _. record {
+        turn = record {
+          turn = refl;
+          older = refl;
+          keyed = keyed;
+          page = ap₂ (λ (c : List (ℕ × Page)) (f : Rules). (0, record { founding = f; records = k.log }) ∷ c) idle.empty (sym
+              ((k.fits id me.0 at).founded keyed));
+        };
+        keys = refl;
+        goes = (k.fits id me.0 at).goes;
+        most = k.most;
+        low = k.low;
+      }),
+      λ not. absurd (not x),
+    ),
+  )
+  | inr taken ↦ let x : slice_index s.words 0 ≡ 1 = taken.word in (
+    me.0,
+    keeps,
+    tt,
+    subst (λ (n : ℕ). Stands terms (stepped s 0 (either (eqb n 0) 1 n) id me.1 me.0 keeps)) (sym x) (unmoved terms s k 1 id me x at),
+    ((λ (e : slice_index s.words 0 ≡ 0). absurd (omega arith)), λ _. refl),
+  )
+]
+
+-- ---- giving it back
+
+pub give_allows : (terms : Terms) (slots id : ℕ) (me : Sat) → HasTurn me → Allows (Stands terms) slots id me 0 (λ _. 0) (λ _. gave (step slots 0 0 0 none) me 0)
+give_allows terms slots id me has s k len at small =
+    let mine = k.fits id me.0 at in
+    let whole : me.0.seen ≡ k.log = mine.whole has.turn in
+    let founded : me.0.founding ≡ terms.founding = mine.founded (mine.keyed has.turn) in
+    let new : View = view me.0.founding me.0.keys me.0.seen [] false in
+    let w = two_words s.words 0 k.two in
+    elim k.turn [
+      | inl free ↦ absurd (true≢false (sym has.turn ∙ free.nobody id me.0 at))
+      | inr taken ↦ (
+        new,
+        gives,
+        tt,
+        record {
+          log = k.log;
+          two = w.0;
+          count = w.2 ∙ k.count;
+          most = k.most;
+          low = k.low;
+          callers = k.callers;
+          once = kept_keys terms s k id me.0 new at refl;
+          fits = λ j v here. elim (at_set s.views id j new v here) [
+            | inl t ↦ subst (Fits terms k.log) t.1 (record {
+              goes = mine.goes;
+              older = none_older _;
+              founded = mine.founded;
+              whole = λ bad. absurd (true≢false (sym bad));
+              keyed = λ bad. absurd (true≢false (sym bad));
+            })
+            | inr t ↦ k.fits j v t.1
+          ];
+          turn = inl (record {
+            word = w.1;
+            home = given s.homes me.1 (record { founding = me.0.founding; records = me.0.seen }) (page terms k.log) taken.home has.page (ap₂
+                (λ (f : Rules) (l : List Record). record { founding = f; records = l }) founded whole);
+            nobody = λ j v here. elim (at_set s.views id j new v here) [
+              | inl t ↦ ap (λ (x : View). x.turn) (sym t.1)
+              | inr t ↦ not_true v.turn (λ is. t.0 (taken.only j v t.1 is ∙ sym (taken.only id me.0 at has.turn)))
+            ];
+          });
+        },
+        ap (λ (c : List (ℕ × Page)). (new, rest c)) has.page,
+      )
+    ]
+  where
+    given : (hs : List (Option Page)) (c : List (ℕ × Page)) (seen log : Page) → hs ≡ none ∷ [] → c ≡ (0, seen) ∷ [] → seen ≡ log → put_back hs c ≡ some log ∷ []
+    given hs c seen log h e is = ap₂ put_back h e ∙ ap (λ (x : Page). some x ∷ []) is
+
+-- ---- counting a record
+
+is_own : (key : Key) (r : Record) → is_of key r ≡ true → (key ≡ Place (place_of r.event.node)) ⊎ (key ≡ Caller r.by.caller)
+is_own (Place place) r is = inl (ap Place (sym (eqb-true (place_of r.event.node) place is)))
+is_own (Caller caller) r is = inr (ap Caller (sym (eqb-true r.by.caller caller is)))
+
+lone : (key : Key) (r : Record) (b : Bool) → is_of key r ≡ b → of_key key (r ∷ []) ≡ cond b (r ∷ []) []
+lone key r b is = ap (λ (x : Bool). cond x (r ∷ []) []) is
+
+key_stays : (key : Key) (log : List Record) (r : Record) → is_of key r ≡ false → of_key key (log ++ r ∷ []) ≡ of_key key log
+key_stays key log r is = key_append key log (r ∷ []) ∙ ap (λ (l : List Record). of_key key log ++ l) (lone key r false is) ∙ append-nil (of_key key log)
+
+at_most_one : (b : Bool) → (if b then 1 else 0) ≤ 1
+at_most_one true = omega arith
+at_most_one false = omega arith
+
+-- a key is with one seat alone
+alone : (terms : Terms) (s : Shown) (k : Stands terms s) (key : Key) (i j : ℕ) (v w : View) → i ≢ j → get_elem? s.views i ≡ some v
+    → get_elem? s.views j ≡ some w
+    → 0 < times key v.keys → 0 < times key w.keys → ⊥
+alone terms s k key i j v w apart at there one two =
+    let t = stand_two key s.views i j v w apart at there in
+    let o = k.once key in
+    let m = at_most_one (is_key terms.callers key) in
+    omega arith
+
+pub raised : (low high : ℕ) (letters : List Letter) → low ≤ high → All (λ l. IsUpTo low l.packet) letters → All (λ l. IsUpTo high l.packet) letters
+raised low high letters le all = λ k d h. let u = all k d h in let a = u.round in let b = u.base in record { round = omega arith; base = omega arith }
+
+letters_more : (log : List Record) (r : Record) → letters_of (log ++ r ∷ []) ≡ letters_of log ++ r.packets
+letters_more log r = flat_map-append (λ (q : Record). q.packets) log (r ∷ []) ∙ ap (λ (l : List Letter). letters_of log ++ l) (append-nil r.packets)
+
+low_more : (log : List Record) (r : Record) → AreLow log → All (λ l. IsUpTo (2 * length log + 3) l.packet) r.packets → AreLow (log ++ r ∷ [])
+low_more log r low its =
+    let n : length (log ++ r ∷ []) ≡ length log + 1 = length-append log (r ∷ []) in
+    let most : ℕ = 2 * length (log ++ r ∷ []) + 1 in
+    let old = raised (2 * length log + 1) most (letters_of log) (omega arith) low in
+    let new = raised (2 * length log + 3) most r.packets (omega arith) its in
+    let is : letters_of (log ++ r ∷ []) ≡ letters_of log ++ r.packets = letters_more log r in
+    subst (All (λ (l : Letter). IsUpTo most l.packet)) (sym is) (All-append (λ (l : Letter). IsUpTo most l.packet) (letters_of log) r.packets old new)
+
+all_one : (P : Record → Type 0) (r : Record) → P r → All P (r ∷ [])
+all_one P r p zero d h = p
+all_one P r p (suc k) d h = absurd (omega arith)
+
+is_true_if : (b : Bool) → 0 < (if b then 1 else 0) → b ≡ true
+is_true_if true h = refl
+is_true_if false h = absurd (omega arith)
+
+-- a key that a seat has is one of the wire's
+key_of_wire : (terms : Terms) (s : Shown) (k : Stands terms s) (key : Key) (id : ℕ) (v : View) → get_elem? s.views id ≡ some v
+    → 0 < times key v.keys → is_key terms.callers key ≡ true
+key_of_wire terms s k key id v at has = let t = stand_one key s.views id v at in let o = k.once key in is_true_if (is_key terms.callers key) (omega arith)
+
+-- what a seat is to have before it counts a record
+pub record MayCount (me : Sat) (r : Record) : Type 0 where
+  pub turn : me.0.turn ≡ true
+  pub page : me.1 ≡ (0, record { founding = me.0.founding; records = me.0.seen ++ r ∷ [] }) ∷ []
+  pub room : length me.0.seen < 100000
+  pub place : 0 < times (Place (place_of r.event.node)) me.0.keys
+  pub caller : 0 < times (Caller r.by.caller) me.0.keys
+  pub low : All (λ l. IsUpTo (2 * length me.0.seen + 3) l.packet) r.packets
+
+-- another seat's view fits what is longer by a record
+others_fit : (terms : Terms) (s : Shown) (k : Stands terms s) (id : ℕ) (me : Sat) (r : Record) → MayCount me r → get_elem? s.views id ≡ some me.0
+    → (j : ℕ) (u : View) → j ≢ id → get_elem? s.views j ≡ some u
+    → (u.turn ≡ true → ⊥) → Fits terms (k.log ++ r ∷ []) u
+others_fit terms s k id me r may at j u apart here off = let old = k.fits j u here in record {
+  goes = record {
+    begins = starts_through u.seen k.log (k.log ++ r ∷ []) old.goes.begins (starts_by (k.log ++ r ∷ []) k.log (r ∷ []) refl);
+    own = λ key h. key_stays key k.log r (not_true (is_of key r) (λ is. elim (is_own key r is) [
+      | inl e ↦ alone terms s k key j id u me.0 apart here at h (subst (λ (x : Key). 0 < times x me.0.keys) (sym e) may.place)
+      | inr e ↦ alone terms s k key j id u me.0 apart here at h (subst (λ (x : Key). 0 < times x me.0.keys) (sym e) may.caller)
+    ])) ∙ old.goes.own key h;
+  };
+  older = old.older;
+  founded = old.founded;
+  whole = λ is. absurd (off is);
+  keyed = λ is. absurd (off is);
+}
+
+pub count_allows : (terms : Terms) (slots id : ℕ) (me : Sat) (r : Record) → MayCount me r
+    → Allows (Stands terms) slots id me 1 (λ n. (n + 1) % 2 ^ 64) (counted (step slots 1 1 0 none) me)
+count_allows terms slots id me r may s k len at small =
+    let x : ℕ = slice_index s.words 1 in
+    let mine = k.fits id me.0 at in
+    let whole : me.0.seen ≡ k.log = mine.whole may.turn in
+    let more : List Record = k.log ++ r ∷ [] in
+    let is : carried me.1 ≡ more = ap carried may.page ∙ ap (λ (l : List Record). l ++ r ∷ []) whole in
+    let new : View = view me.0.founding me.0.keys (carried me.1) [] true in
+    let n : ℕ = (x + 1) % 18446744073709551616 in
+    let w = two_counts s.words n k.two in
+    let at_x : x ≡ length k.log = k.count in
+    let same : length me.0.seen ≡ length k.log = ap length whole in
+    let grown : length more ≡ length k.log + 1 = length-append k.log (r ∷ []) in
+    let room = may.room in
+    let counts : n ≡ length more = omega arith in
+    let low : AreLow more = low_more k.log r k.low (subst (λ (m : ℕ). All (λ (l : Letter). IsUpTo (2 * m + 3) l.packet) r.packets) same may.low) in
+    let caller : r.by.caller < terms.callers = ltb-true r.by.caller terms.callers (key_of_wire terms s k (Caller r.by.caller) id me.0 at may.caller) in
+    elim k.turn [
+      | inl free ↦ absurd (true≢false (sym may.turn ∙ free.nobody id me.0 at))
+      | inr taken ↦ (
+        new,
+        keeps,
+        tt,
+        record {
+          log = more;
+          two = w.0;
+          count = w.1 ∙ counts;
+          most = omega arith;
+          low = low;
+          callers = All-append (λ (q : Record). q.by.caller < terms.callers) k.log (r ∷ []) k.callers (all_one
+              (λ (q : Record). q.by.caller < terms.callers) r caller);
+          once = kept_keys terms s k id me.0 new at refl;
+          fits = λ j v here. elim (at_set s.views id j new v here) [
+            | inl t ↦ subst (Fits terms more) t.1
+                (subst (λ (l : List Record). Fits terms more (view me.0.founding me.0.keys l [] true)) (sym is) (all_seen terms more k.log me.0 mine
+                (mine.keyed may.turn)))
+            | inr t ↦ others_fit terms s k id me r may at j v t.0 t.1 (λ has. absurd (t.0 (taken.only j v t.1 has ∙ sym (taken.only id me.0 at may.turn))))
+          ];
+          turn = inr (record {
+            word = w.2 ∙ taken.word;
+            home = taken.home;
+            holder = id;
+            its = new;
+            there = new_there s.views id me.0 new at;
+            has = refl;
+            only = λ j v here has. elim (at_set s.views id j new v here) [
+              | inl t ↦ t.0
+              | inr t ↦ taken.only j v t.1 has ∙ sym (taken.only id me.0 at may.turn)
+            ];
+          });
+        },
+        refl,
+      )
+    ]
+
+-- ---- looking
+
+pub look_allows : (terms : Terms) (slots id : ℕ) (me : Sat) → me.0.turn ≡ false → me.1 ≡ []
+    → Allows (Stands terms) slots id me 1 (λ n. n) (looked (step slots 1 0 0 none) me)
+look_allows terms slots id me off empty s k len at small =
+    let mine = k.fits id me.0 at in
+    let new : View = view me.0.founding me.0.keys me.0.seen [] false in
+    let x : ℕ = slice_index s.words 1 in
+    let same_words : set s.words 1 x ≡ s.words = same_count s.words x k.two refl in (
+      new,
+      keeps,
+      tt,
+      subst (λ (ws : List ℕ). Stands terms (record { words = ws; homes = s.homes; views = set s.views id new })) (sym same_words)
+          (with_views terms s k (set s.views id new) (kept_keys terms s k id me.0 new at refl)
+          (λ j v here. elim (at_set s.views id j new v here) [
+            | inl t ↦ subst (Fits terms k.log) t.1 (record {
+              goes = mine.goes;
+              older = none_older _;
+              founded = mine.founded;
+              whole = λ bad. absurd (true≢false (sym bad));
+              keyed = λ bad. absurd (true≢false (sym bad));
+            })
+            | inr t ↦ k.fits j v t.1
+          ])
+          (turns_set s.views id me.0 new at off refl)),
+      record { same = ap (λ (c : List (ℕ × Page)). (new, c)) empty; goes = mine.older },
+    )
+
+-- ---- splitting
+
+some_left : (keys : List Key) → 0 < length (drop 1 keys) → 0 < length keys
+some_left [] h = absurd (omega arith)
+some_left (x ∷ xs) h = omega arith
+
+cut_keys : (key : Key) (keys : List Key) → times key keys ≡ times key (take 1 keys) + times key (drop 1 keys)
+cut_keys key keys = ap (times key) (sym (take-append-drop 1 keys)) ∙ times_append key (take 1 keys) (drop 1 keys)
+
+some_of : (keys : List Key) → 0 < length (take 1 keys) → 0 < length keys
+some_of [] h = absurd (omega arith)
+some_of (x ∷ xs) h = omega arith
+
+pub splits : (terms : Terms) (id : ℕ) (v : View) → v.turn ≡ false
+    → Splits (Stands terms) id v (view v.founding (drop 1 v.keys) v.seen v.older v.turn) (view v.founding (take 1 v.keys) v.seen [] false)
+splits terms id v off s k at =
+    let mine = k.fits id v at in
+    let left : View = view v.founding (drop 1 v.keys) v.seen v.older v.turn in
+    let right : View = view v.founding (take 1 v.keys) v.seen [] false in
+    let cut : List View = set s.views id left in
+    with_views terms s k (cut ++ right ∷ [])
+    (λ key. let a = stand_set key s.views id v left at in let b = stand_last key cut right in let c = cut_keys key v.keys in let o = k.once key in omega arith)
+    (λ j u here. elim (at_snoc cut right u j here) [
+      | inl old ↦ elim (at_set s.views id j left u old) [
+        | inl t ↦ subst (Fits terms k.log) t.1 (record {
+          goes = record { begins = mine.goes.begins; own = λ key h. mine.goes.own key (let c = cut_keys key v.keys in omega arith) };
+          older = mine.older;
+          founded = λ h. mine.founded (some_left v.keys h);
+          whole = mine.whole;
+          keyed = λ bad. absurd (true≢false (sym bad ∙ off));
+        })
+        | inr t ↦ k.fits j u t.1
+      ]
+      | inr new ↦ subst (Fits terms k.log) new (record {
+        goes = record { begins = mine.goes.begins; own = λ key h. mine.goes.own key (let c = cut_keys key v.keys in omega arith) };
+        older = none_older _;
+        founded = λ h. mine.founded (some_of v.keys h);
+        whole = λ bad. absurd (true≢false (sym bad));
+        keyed = λ bad. absurd (true≢false (sym bad));
+      })
+    ])
+    (turns_through s.views cut (cut ++ right ∷ []) (turns_set s.views id v left at off off) (turns_last cut right refl))
+
+-- ---- joining
+
+both_older : (P : Sight → Type 0) (a b : Sight) → P a → P b → All P (a ∷ b ∷ [])
+both_older P a b p q zero d h = p
+both_older P a b p q (suc zero) d h = q
+both_older P a b p q (suc (suc k)) d h = absurd (omega arith)
+
+pub joins : (terms : Terms) (id other : ℕ) (v w : View) → v.turn ≡ false → w.turn ≡ false → 0 < length v.keys
+    → Joins (Stands terms) id v other w (view v.founding (w.keys ++ v.keys) (longer v.seen w.seen) (sight_of v ∷ sight_of w ∷ []) false)
+    (view no_rules [] [] [] false)
+joins terms id other v w off gone keyed s k at apart there =
+    let seen : List Record = longer v.seen w.seen in
+    let both : View = view v.founding (w.keys ++ v.keys) seen (sight_of v ∷ sight_of w ∷ []) false in
+    let spent : View = view no_rules [] [] [] false in
+    let one : List View = set s.views id both in
+    let old_w : get_elem? s.views other ≡ some w = sym (set_else s.views id other both apart) ∙ there in
+    let mine = k.fits id v at in
+    let its = k.fits other w old_w in
+    let go : BothGo v.keys w.keys v.seen w.seen seen k.log = both_go v.keys w.keys v.seen w.seen k.log mine.goes its.goes in
+    with_views terms s k (set one other spent)
+    (λ key.
+    let a = stand_set key s.views id v both at in
+    let b = stand_set key one other w spent there in
+    let c = times_append key w.keys v.keys in
+    let none_left : times key [] ≡ 0 = refl in
+    let o = k.once key in
+    omega arith)
+    (λ j u here. elim (at_set one other j spent u here) [
+      | inl t ↦ subst (Fits terms k.log) t.1 (record {
+        goes = record { begins = refl; own = λ key h. absurd (omega arith) };
+        older = none_older _;
+        founded = λ h. absurd (omega arith);
+        whole = λ bad. absurd (true≢false (sym bad));
+        keyed = λ bad. absurd (true≢false (sym bad));
+      })
+      | inr t ↦ elim (at_set s.views id j both u t.1) [
+        | inl e ↦ subst (Fits terms k.log) e.1 (record {
+          goes = go.both;
+          older = both_older (λ o. GoesOn o.keys o.seen seen) (sight_of v) (sight_of w) go.first go.second;
+          founded = λ h. mine.founded keyed;
+          whole = λ bad. absurd (true≢false (sym bad));
+          keyed = λ bad. absurd (true≢false (sym bad));
+        })
+        | inr e ↦ k.fits j u e.1
+      ]
+    ])
+    (turns_through s.views one (set one other spent) (turns_set s.views id v both at off refl) (turns_set one other w spent there gone refl))
+
+-- ---- the end
+
+all_rest : (seen rest : List Record)
+    → ((r : Record) → of_key (Place (place_of r.event.node)) (seen ++ rest) ≡ of_key (Place (place_of r.event.node)) seen) → rest ≡ []
+all_rest seen [] same = refl
+all_rest seen (r ∷ rest) same =
+    let key : Key = Place (place_of r.event.node) in
+    let its : is_of key r ≡ true = eq-eqb (place_of r.event.node) (place_of r.event.node) refl in
+    let first : of_key key (r ∷ rest) ≡ r ∷ of_key key rest = ap (λ (b : Bool). cond b (r ∷ of_key key rest) (of_key key rest)) its in
+    let whole : of_key key (seen ++ (r ∷ rest)) ≡ of_key key seen ++ (r ∷ of_key key rest) = key_append key seen (r ∷ rest)
+    ∙ ap (λ (l : List Record). of_key key seen ++ l) first in
+    let e : length (of_key key seen ++ (r ∷ of_key key rest)) ≡ length (of_key key seen) = ap length (sym whole ∙ same r) in
+    let n = length-append (of_key key seen) (r ∷ of_key key rest) in
+    let c : length (r ∷ of_key key rest) ≡ suc (length (of_key key rest)) = refl in
+    absurd (omega arith)
+
+first_of : (keys : List Key) → 0 < length keys → (key : Key) × (0 < times key keys)
+first_of [] h = absurd (omega arith)
+first_of (key ∷ keys) h = (key, let e = times_cons key key keys in let o = one_if (same_key key key) (same_as_itself key) in omega arith)
+  where
+    one_if : (b : Bool) → b ≡ true → 0 < (if b then 1 else 0)
+    one_if true is = omega arith
+    one_if false is = absurd (true≢false (sym is))
+
+    same_as_itself : (key : Key) → same_key key key ≡ true
+    same_as_itself (Place place) = eq-eqb place place refl
+    same_as_itself (Caller caller) = eq-eqb caller caller refl
+
+-- the seat with all keys has seen the whole journal, which lies at home
+pub record Ends (terms : Terms) (s : Shown) (v : View) : Type 0 where
+  pub home : s.homes ≡ some (page terms v.seen) ∷ []
+  pub callers : All (λ r. r.by.caller < terms.callers) v.seen
+
+saw_all : (terms : Terms) (s : Shown) (k : Stands terms s) (id : ℕ) (v : View) → get_elem? s.views id ≡ some v → HasAll terms.callers v.keys → k.log ≡ v.seen
+saw_all terms s k id v at all =
+    let goes = (k.fits id v at).goes in
+    let is : k.log ≡ v.seen ++ drop (length v.seen) k.log = rest_of k.log v.seen goes.begins in
+    is ∙ ap (λ (l : List Record). v.seen ++ l) (all_rest v.seen (drop (length v.seen) k.log) (λ r.
+    let key : Key = Place (place_of r.event.node) in
+    ap (of_key key) (sym is) ∙ goes.own key (all key (lt-ltb (place_of r.event.node) 16 (mod-lt r.event.node (omega arith)))))) ∙ append-nil v.seen
+
+pub ends : (terms : Terms) (s : Shown) → Stands terms s → (id : ℕ) (v : View) → get_elem? s.views id ≡ some v → v.turn ≡ false
+    → HasAll terms.callers v.keys → Ends terms s v
+ends terms s k id v at off all =
+    let whole : k.log ≡ v.seen = saw_all terms s k id v at all in
+    elim k.turn [
+      | inl free ↦ record {
+        home = free.home ∙ ap (λ (l : List Record). some (page terms l) ∷ []) whole;
+        callers = subst (All (λ (r : Record). r.by.caller < terms.callers)) whole k.callers;
+      }
+      | inr taken ↦
+          let key = first_of taken.its.keys ((k.fits taken.holder taken.its taken.there).keyed taken.has) in
+          let has = all key.0 (key_of_wire terms s k key.0 taken.holder taken.its taken.there key.1) in
+          absurd (alone terms s k key.0 taken.holder id taken.its v (λ e. true≢false (sym taken.has
+          ∙ ap (λ (u : View). u.turn) (some-injective taken.its v (sym taken.there ∙ ap (get_elem? s.views) e ∙ at)) ∙ off)) taken.there at key.1 has)
+    ]
+
+-- what the slot holds then
+pub closes : (terms : Terms) (id : ℕ) (v : View) → v.turn ≡ false → HasAll terms.callers v.keys → (words : List ℕ) (pages : List Page)
+    → Final (Seen (Stands terms) id v) words pages
+    → (last : Page) → get_elem? pages 0 ≡ some last → (last ≡ page terms v.seen) × All (λ r. r.by.caller < terms.callers) v.seen
+closes terms id v off all words pages (s, seen, same_words, same_slots, homes) last at =
+    let e = ends terms s seen.0 id v seen.1 off all in
+    let there : get_elem? pages 0 ≡ some (page terms v.seen) = homes 0 (page terms v.seen) (ap (λ hs. get_elem? hs 0) e.home) in
+    (some-injective last (page terms v.seen) (sym at ∙ there), e.callers)
+
+-- ---- what calls say of it
+
+unites_after : (v w : View) (m' : Sat)
+    → Looks (view v.founding (w.keys ++ v.keys) (longer v.seen w.seen) (sight_of v ∷ sight_of w ∷ []) false, []) m' → Unites v w m'
+unites_after v w m' l = subst (Unites v w) (sym l.same) (record {
+  idle = record { turn = refl; older = refl; empty = refl };
+  keys = refl;
+  seen = refl;
+  mine = l.goes 0 (sight_of v) (omega arith);
+  theirs = l.goes 1 (sight_of v) (omega arith);
+})
+
+pub unites_by : (v w : View) (carry : List (ℕ × Page)) (m m' : Sat)
+    → m ≡ (view v.founding (w.keys ++ v.keys) (longer v.seen w.seen) (sight_of v ∷ sight_of w ∷ []) false, carry) → carry ≡ [] → Looks m m' → Unites v w m'
+unites_by v w carry m m' is empty looks =
+    let both : View = view v.founding (w.keys ++ v.keys) (longer v.seen w.seen) (sight_of v ∷ sight_of w ∷ []) false in
+    unites_after v w m' (subst (λ (x : Sat). Looks x m') (is ∙ ap (λ (x : List (ℕ × Page)). (both, x)) empty) looks)
+
+-- ---- the start
+
+at_first : (views : List View) (v : View) → views ≡ v ∷ [] → (id : ℕ) (u : View) → get_elem? views id ≡ some u → v ≡ u
+at_first views v is zero u at = some-injective v u (sym (ap (λ (l : List View). get_elem? l 0) is) ∙ at)
+at_first views v is (suc id) u at = absurd (some-ne-none u (sym at ∙ ap (λ (l : List View). get_elem? l (suc id)) is))
+
+first_standing : (key : Key) (v : View) (n : ℕ) → times key v.keys ≡ n → standing key (v ∷ []) ≡ n
+first_standing key v n is = let l = stand_last key [] v in let z : standing key [] ≡ 0 = refl in
+    let l' : standing key (v ∷ []) ≡ standing key [] + times key v.keys = l in omega arith
+
+pub opens : (terms : Terms) (pages : List Page) → pages ≡ record { founding = terms.founding; records = [] } ∷ []
+    → Stands terms (opening (0 ∷ 0 ∷ []) pages (view terms.founding (all_keys terms.callers) [] [] false))
+opens terms pages is =
+    let v : View = view terms.founding (all_keys terms.callers) [] [] false in record {
+      log = [];
+      two = refl;
+      count = refl;
+      most = omega arith;
+      low = λ k d h. absurd (omega arith);
+      callers = λ k d h. absurd (omega arith);
+      once = λ key. first_standing key v _ (each_once terms.callers key);
+      fits = λ id u at. subst (Fits terms []) (at_first (v ∷ []) v refl id u at) (record {
+        goes = goes_same (all_keys terms.callers) [];
+        older = none_older _;
+        founded = λ h. refl;
+        whole = λ bad. absurd (true≢false (sym bad));
+        keyed = λ bad. absurd (true≢false (sym bad));
+      });
+      turn = inl (record {
+        word = refl;
+        home = ap (map some) is;
+        nobody = λ id u at. ap (λ (x : View). x.turn) (sym (at_first (v ∷ []) v refl id u at));
+      });
+    }

@@ -1,0 +1,6 @@
+pub mod Views
+pub mod Dealt
+pub mod Keeps
+pub mod Passing
+pub mod Committing
+pub mod Gathering

@@ -1,0 +1,4 @@
+pub mod Keys
+pub mod Stops
+pub mod Seats
+pub mod Passes

@@ -1,0 +1,29 @@
+-- What lies in the slot, and which names stopped in it.
+use Rattle.std.specs.Prelude.{ℕ, List, Bool, true, false, ◌&&◌, nat_lt, nat_le, if◌then◌else◌, fold}
+use Rattle.am_base.specs.declared.outcome.Outcome.{Outcome}
+use Rattle.am_base.specs.declared.outcome.Outcome.TheVariants as said
+use Rattle.am_base.specs.Founding.{Rules}
+use Rattle.am_base.specs.Names.{nobody, with_name}
+use Rattle.am_group.specs.declared.event.Record.{Record}
+use Rattle.am_group.specs.Deliveries.{name_of}
+
+-- a founding, and what happened since
+pub record Page : Type 0 where
+  pub founding : Rules
+  pub records : List Record
+
+abbrev pub is_stop : Outcome → Bool
+is_stop said.Stopped = true
+is_stop _ = false
+
+-- a record is of one of the sixteen lives of its place
+abbrev pub has_life : Record → Bool
+has_life r = nat_lt 0 r.life && nat_le r.life 16
+
+-- the names that stopped, with the one that stops in a record
+abbrev pub with_stop : List ℕ → Record → List ℕ
+with_stop stopped r = if is_stop r.outcome && has_life r then with_name stopped (name_of r) else stopped
+
+-- the names that stopped in these records
+abbrev pub stopped_in : List Record → List ℕ
+stopped_in records = fold with_stop nobody records

@@ -1,0 +1,97 @@
+//! The rule of the table on which a wire stands, and what its steps tell.
+ghost use Rattle.std.specs.Prelude.{[], ◌∷◌, ◌++◌, false, take, drop};
+ghost use Rattle.am_wire.specs.Keys.{all_keys};
+ghost use Rattle.am_wire.specs.Seats.{Stands, view, took, counted, gave, looked, longer, no_rules};
+
+use crate::sheet::Sheet;
+use am_base::founding::Founding;
+use am_group::event::Record;
+use atomic_table::{Join, Play, Split, TableRule};
+use std::collections::LinkedList;
+
+/// Whose records a pass knows, all of them: those done at a place, 0 to 15, or those of a caller.
+#[derive(Clone, Copy, PartialEq, Eq, Debug)]
+pub enum Key {
+    Place(u8),
+    Caller(u32),
+}
+
+/// What a wire is told once: how its group begins, and how many callers there are.
+#[derive(Drop)]
+pub struct Terms {
+    pub founding: Founding,
+    pub callers: u32,
+}
+
+/// What a seat had seen of the journal when another joined it, and the keys that it had. No value of it is made.
+pub struct Sight {
+    pub keys: LinkedList<Key>,
+    pub seen: LinkedList<Record>,
+}
+
+/// What a seat knows: how the group begins, its keys, what it has seen of the journal, what it and another had seen
+/// before they were joined, and whether it has the turn. No value of it is made.
+pub struct View {
+    pub founding: Founding,
+    pub keys: LinkedList<Key>,
+    pub seen: LinkedList<Record>,
+    pub older: LinkedList<Sight>,
+    pub turn: bool,
+}
+
+/// There is one journal.
+pub struct OneJournal;
+
+impl TableRule<Sheet, View, Terms> for OneJournal {
+    ghost holds = { Stands };
+
+    ghost first = { λ terms. view terms.founding (all_keys terms.callers) [] [] false };
+}
+
+/// Takes the slot.
+pub struct Take;
+
+impl Play<Sheet, View> for Take {
+    ghost then = { took };
+}
+
+/// Counts a record more.
+pub struct Count;
+
+impl Play<Sheet, View> for Count {
+    ghost then = { counted };
+}
+
+/// Gives the slot back.
+pub struct Give;
+
+impl Play<Sheet, View> for Give {
+    ghost then = { gave };
+}
+
+/// Looks at the count.
+pub struct Look;
+
+impl Play<Sheet, View> for Look {
+    ghost then = { looked };
+}
+
+/// A new seat gets the first key.
+pub struct FirstKey;
+
+impl Split<View> for FirstKey {
+    ghost left = { λ v. view v.founding (drop 1 v.keys) v.seen v.older v.turn };
+
+    ghost right = { λ v. view v.founding (take 1 v.keys) v.seen [] false };
+}
+
+/// One seat gets the keys of both, and has seen the longer of what they had seen.
+pub struct Together;
+
+impl Join<View> for Together {
+    ghost use Rattle.am_wire.specs.Seats.{sight_of};
+
+    ghost both = { λ v w. view v.founding (w.keys ++ v.keys) (longer v.seen w.seen) (sight_of v ∷ sight_of w ∷ []) false };
+
+    ghost spent = { view no_rules [] [] [] false };
+}

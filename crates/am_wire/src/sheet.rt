@@ -1,0 +1,120 @@
+ghost use Rattle.std.specs.Prelude.{◌≡◌, ◌<◌, ◌≤◌, ◌++◌, ◌∷◌, [], length, OnOk, OnErr, if◌then◌else◌};
+ghost use Rattle.am_group.specs.Addressed.{next_for};
+ghost use Rattle.am_group.specs.Journals.{letters_of, letter_at};
+ghost use Rattle.am_wire.specs.Stops.{is_stop, with_stop, stopped_in};
+
+use am_base::NoMemory;
+use am_base::founding::Founding;
+use am_base::name::Name;
+use am_base::names::Names;
+use am_base::outcome::Outcome;
+use am_group::event::Record;
+use am_group::journal::Journal;
+use am_letter::letter::Letter;
+use std::alloc::Global;
+use std::marker::Model;
+
+/// What lies in the slot: the journal, and who has stopped in it. Contracts see it as a founding and records.
+#[derive(Drop)]
+pub struct Sheet {
+    journal: Journal,
+    stopped: Names,
+}
+
+impl Model for Sheet {
+    ghost use Rattle.std.specs.Prelude.{◌≡◌};
+    ghost use Rattle.am_wire.specs.Stops.{Page, stopped_in};
+
+    ghost Value = { Page };
+
+    ghost view = { λ s. record { founding = s.journal.founding; records = s.journal.records } };
+
+    ghost invariant = { λ s. s.stopped ≡ stopped_in s.journal.records };
+}
+
+fn is_stop(outcome: &Outcome) -> bool
+    ensures { result ≡ is_stop outcome.now }
+{
+    match outcome {
+        Outcome::Stopped => true,
+        _ => false,
+    }
+}
+
+fn with_stop(stopped: Names, item: &Record) -> Names
+    ensures { result ≡ with_stop stopped item.now }
+{
+    if !is_stop(&item.outcome) {
+        return stopped;
+    }
+    match Name::of(item.event.node.place(), item.life) {
+        Some(name) => stopped.with(name),
+        None => stopped,
+    }
+}
+
+impl Sheet {
+    /// Nothing has happened.
+    pub fn new(alloc: Global, founding: &Founding) -> Sheet
+        ensures { result ≡ record { founding = founding.now; records = [] } }
+    {
+        Sheet {
+            journal: Journal::new(alloc, founding),
+            stopped: Names::empty(),
+        }
+    }
+
+    /// How many records there are.
+    pub fn len(&self) -> usize
+        ensures value { result ≡ length self.now.records }
+        ensures few { result ≤ 100000 }
+    {
+        self.journal.records().len()
+    }
+
+    /// Adds a record, or leaves all as it was where there is no memory.
+    pub fn add(&mut self, item: Record) -> Result<(), NoMemory>
+        requires few { length self.old.records < 100000 }
+        requires letters { length item.packets ≤ 24 }
+        ensures founding { self.new.founding ≡ self.old.founding }
+        ensures ok { OnOk result (self.new.records ≡ self.old.records ++ item ∷ []) }
+        ensures err { OnErr result (self.new.records ≡ self.old.records) }
+    {
+        self.journal.reserve()?;
+        self.stopped = with_stop(self.stopped, &item);
+        self.journal.push(item);
+        Ok(())
+    }
+
+    /// A letter by its number, from 1.
+    pub fn letter(&self, number: u32) -> Option<Letter>
+        ensures { result ≡ letter_at (letters_of self.now.records) number }
+    {
+        match self.journal.packet(number) {
+            Some(letter) => Some(letter.copied()),
+            None => None,
+        }
+    }
+
+    /// The least number above another of a letter that is for this name.
+    pub fn next_for(&self, node: Name, after: u32) -> Option<u32>
+        ensures { result ≡ next_for (letters_of self.now.records) node after }
+    {
+        self.journal.next_for(node, after)
+    }
+
+    /// Who has stopped.
+    pub fn stopped(&self) -> Names
+        ensures { result ≡ stopped_in self.now.records }
+    {
+        self.stopped
+    }
+
+    /// The journal.
+    pub fn into_journal(self) -> Journal
+        ensures founding { result.founding ≡ self.founding }
+        ensures records { result.records ≡ self.records }
+    {
+        self.journal
+    }
+}

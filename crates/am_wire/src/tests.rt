@@ -1,0 +1,153 @@
+ghost use Rattle.std.specs.Prelude.{◌≡◌, ◌≤◌, [], ◌∷◌, length, All, IfOk};
+ghost use Rattle.am_base.specs.Names.{place_of, of_mask};
+ghost use Rattle.am_wire.specs.declared.rule.Key.TheVariants.{Place, Caller};
+ghost use Rattle.am_wire.specs.Seats.{IsUpTo};
+ghost use Rattle.am_wire.specs.Passes.{IsReady};
+
+use crate::wire::{Pass, Share, Wire, WireRefusal};
+use am_base::founding::Founding;
+use am_base::items::Items;
+use am_base::name::{Name, Stamp};
+use am_base::names::Names;
+use am_base::outcome::Outcome;
+use am_group::event::{Act, By, Event, Part, Record};
+use am_group::journal::Journal;
+use am_letter::letter::Letter;
+use am_packet::packet::Packet;
+use std::alloc::Global;
+use std::sync::Wait;
+use std::test::*;
+use std::thread;
+use std::thread::Threads;
+
+fn founding_of(founders: u16) -> Result<Founding, Fail> {
+    Ok(Founding::new(Names::of_mask(founders), 0, 64, 256).ok_or("a founding")?)
+}
+
+/// A stop at a place by a caller, with a letter to some names.
+#[tactic(auto, unfolding(am_codec::specs::Limits::IsWithin))]
+fn stop_at(alloc: Global, place: u8, caller: u32, to: u16) -> Result<Record, Fail>
+    ensures place { IfOk result (λ r. r.event.node ≡ place) }
+    ensures caller { IfOk result (λ r. r.by.caller ≡ caller) }
+    ensures few { IfOk result (λ r. length r.packets ≡ 1) }
+    ensures low { IfOk result (λ r. All (λ l. IsUpTo 3 l.packet) r.packets) }
+{
+    let node = Name::of_byte(place);
+    let invite = Packet::Invite {
+        sender: node,
+        stamp: Stamp { round: 2, by: node },
+    };
+    let mut packets = Items::new(alloc);
+    packets.push(Letter::of(Names::of_mask(to), &invite))?;
+    Ok(Record {
+        event: Event {
+            node,
+            act: Act::Stop,
+        },
+        life: 1,
+        by: By {
+            caller,
+            call: 0,
+            part: Part::Call,
+        },
+        outcome: Outcome::Stopped,
+        packets,
+    })
+}
+
+/// Adds a record.
+fn adds<R: Wait>(
+    rt: &R,
+    wire: &Wire,
+    mut pass: Pass,
+    mut share: Share,
+    item: Record,
+) -> (Pass, Share, bool)
+    requires ready { IsReady wire.now.id pass share item }
+    ensures own { (result.0.wire ≡ wire.now.id) × (result.1.wire ≡ wire.now.id) }
+    ensures keys { (result.0.keys ≡ pass.keys) × (result.1.keys ≡ share.keys) }
+{
+    let done = wire.commit(rt, &mut pass, &mut share, item).is_ok();
+    (pass, share, done)
+}
+
+/// Two threads add a record each.
+fn add_both<R: Threads + Wait + Sync>(
+    rt: &R,
+    wire: &Wire,
+    first: (Pass, Share, Record),
+    second: (Pass, Share, Record),
+) -> (Pass, Share, bool)
+    requires first { IsReady wire.now.id first.0 first.1 first.2 }
+    requires second { IsReady wire.now.id second.0 second.1 second.2 }
+    ensures own { (result.0.wire ≡ wire.now.id) × (result.1.wire ≡ wire.now.id) }
+    ensures keys { (result.0.keys ≡ first.0.keys) × (result.1.keys ≡ second.1.keys) }
+{
+    let (one, mine, its) = first;
+    let (two, other, item) = second;
+    let ((one, _mine, a), (_two, other, b)) = thread::join(
+        rt,
+        || -> (Pass, Share, bool)
+            requires { IsReady wire.now.id one mine its }
+            ensures { (result.0.wire ≡ wire.entry.now.id) × (result.0.keys ≡ one.keys) }
+        { adds(rt, wire, one, mine, its) },
+        || -> (Pass, Share, bool)
+            requires { IsReady wire.now.id two other item }
+            ensures { (result.1.wire ≡ wire.entry.now.id) × (result.1.keys ≡ other.keys) }
+        { adds(rt, wire, two, other, item) },
+    );
+    (one, other, a && b)
+}
+
+#[tactic(auto, unfolding(crate::specs::Keys::place_keys, crate::specs::Keys::caller_keys))]
+#[test]
+fn two_threads_add(rt: HostRuntime) -> Result<(), Fail> {
+    let alloc = rt.alloc();
+    let (wire, passes, shares) = Wire::start(alloc, &founding_of(7)?, 2)?;
+    let mut passes = passes.into_iter();
+    let mut shares = shares.into_iter();
+    let (Some(one), Some(mine)) = (passes.next(), shares.next()) else {
+        return Err(Fail::from("a pass and a share"));
+    };
+    let (Some(two), Some(its)) = (passes.next(), shares.next()) else {
+        return Err(Fail::from("a pass and a share"));
+    };
+    let first = stop_at(alloc, 0, 0, 6)?;
+    let second = stop_at(alloc, 1, 1, 5)?;
+    let (mut pass, mut share, done) = add_both(&rt, &wire, (one, mine, first), (two, its, second));
+    assert!(rt; done);
+    wire.meet(&mut pass, &mut share);
+    assert_eq!(rt; wire.stopped(&rt, &mut pass).mask(), 3);
+    let third = Name::of_byte(2);
+    let found = [
+        wire.next_for(&rt, &mut share, third, 0),
+        wire.next_for(&rt, &mut share, third, 1),
+        wire.next_for(&rt, &mut share, third, 2),
+        wire.next_for(&rt, &mut share, Name::of_byte(3), 0),
+    ];
+    assert_eq!(rt; found, [Some(1), Some(2), None, None]);
+    let there = [
+        wire.read(&rt, &mut pass, 0).is_some(),
+        wire.read(&rt, &mut pass, 1).is_some(),
+        wire.read(&rt, &mut pass, 2).is_some(),
+        wire.read(&rt, &mut pass, 3).is_some(),
+    ];
+    assert_eq!(rt; there, [false, true, true, false]);
+    Ok(())
+}
+
+/// Without callers nothing is added, and the sixteen passes together give the empty journal.
+#[tactic(auto, unfolding(crate::specs::Keys::place_keys, crate::specs::Keys::caller_keys))]
+#[test]
+fn all_passes_close_a_wire(rt: HostRuntime) -> Result<(), Fail> {
+    let founding = founding_of(5)?;
+    let (wire, passes, _shares) = Wire::start(rt.alloc(), &founding, 0)?;
+    let mut passes = passes;
+    let Some(mut last) = passes.pop() else {
+        return Err(Fail::from("a pass"));
+    };
+    wire.gather(&mut last, passes);
+    let journal = wire.close(last);
+    assert!(rt; *journal.founding() == founding && journal.records().is_empty());
+    Ok(())
+}
