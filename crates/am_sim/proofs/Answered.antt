@@ -1,6 +1,5 @@
 -- What a script's text is.
-use Rattle.std.proofs.Common.{◌≡◌, ◌↔◌, ℕ, ◌≤◌, ◌<◌, List, [], ◌∷◌, ◌++◌, length, map, Bool, true, false, IsTrue, nat_eq, slice_index_or, Bor, Option, Some, None, append-nil, subst, Ok, Err, ◌∙◌, codes, sym, ap, refl, true≢false, arith}
-use Rattle.std.specs.Cmp.Lexicographic.{pointwise, same_text, other_text}
+use Rattle.std.proofs.Common.{◌≡◌, ℕ, ◌≤◌, List, [], ◌∷◌, ◌++◌, length, Bool, true, false, Option, Some, None, append-nil, subst, Ok, ◌∙◌, sym, ap, refl, arith}
 use Rattle.std.specs.Io.KnownBytes.{Consumes}
 use Rattle.am_io.specs.Outside.{ReadToEnd, GaveAtMost}
 use Rattle.am_base.specs.Founding.{Rules}

@@ -1,9 +1,8 @@
 -- What a world's text is, and a script's.
-use Rattle.std.proofs.Common.{◌≡◌, ℕ, ◌≤◌, List, ◌++◌, length, filter, count_by, codes, Bool, Option, refl, sym, ap, ◌∙◌}
+use Rattle.std.proofs.Common.{◌≡◌, ℕ, List, ◌++◌, length, filter, count_by, codes, Option, refl, sym, ap, ◌∙◌}
 use Rattle.am_base.specs.Founding.{Rules}
 use Rattle.am_base.specs.declared.entry.Entry.{Entry}
 use Rattle.am_base.specs.Votes.{all_names}
-use Rattle.am_group.specs.declared.event.Event.{Event}
 use Rattle.am_group.specs.declared.event.Record.{Record}
 use Rattle.am_model.specs.World.{World}
 use Rattle.am_model.specs.Group.{logs}
@@ -15,12 +14,8 @@ use Rattle.am_group.specs.Journals.{letters_of}
 use Rattle.am_report.specs.Logs.{logs_for}
 use Rattle.am_report.specs.Summaries.{summary_for}
 use Rattle.am_report.proofs.Logs.{logs_are}
-use Rattle.am_script.specs.declared.script.Script.{Script}
-use Rattle.am_script.specs.declared.script.Script.TheVariants.{Play}
 use Rattle.am_world.specs.Runs as worlds
 use Rattle.am_world.specs.Runs.{replay}
-use Rattle.am_sim.specs.Playing.{done_of}
-use Rattle.am_sim.specs.Simulation.{IsText}
 use Rattle.am_sim.proofs.Names.{has_log_in}
 
 pub world_text : (p : worlds.Play) (text : List ℕ) (founding : Rules) (records : List Record) (group : List Entry) (each : List ℕ) (broken : Option ℕ)
