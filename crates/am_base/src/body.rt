@@ -18,6 +18,8 @@ impl Model for Body {
 }
 
 impl Default for Body {
+    ghost is_default = { λ body. body ≡ [] };
+
     fn default() -> Body {
         Body(ArrayVec::new())
     }
@@ -67,6 +69,8 @@ impl Model for PacketBytes {
 }
 
 impl Default for PacketBytes {
+    ghost is_default = { λ bytes. bytes ≡ [] };
+
     fn default() -> PacketBytes {
         PacketBytes(ArrayVec::new())
     }

@@ -26,6 +26,10 @@ pub enum Entry {
 }
 
 impl Default for Entry {
+    ghost use Rattle.am_base.specs.declared.entry.Entry.TheVariants as entries;
+
+    ghost is_default = { λ entry. entry ≡ entries.Join 0 };
+
     fn default() -> Entry {
         Entry::Join(Name::default())
     }

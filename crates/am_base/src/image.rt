@@ -27,6 +27,11 @@ pub struct Image {
 }
 
 impl Default for Image {
+    ghost use Rattle.std.specs.Prelude.{◌≡◌};
+    ghost use Rattle.am_base.specs.Lists.{blank};
+
+    ghost is_default = { λ image. image ≡ blank };
+
     fn default() -> Image {
         Image {
             view: Stamp::default(),

@@ -76,6 +76,11 @@ impl Model for Names {
 }
 
 impl Default for Names {
+    ghost use Rattle.std.specs.Prelude.{◌≡◌};
+    ghost use Rattle.am_base.specs.Names.{nobody};
+
+    ghost is_default = { λ names. names ≡ nobody };
+
     fn default() -> Names {
         Names::empty()
     }

@@ -22,6 +22,8 @@ pub struct KeptBody {
 }
 
 impl Default for KeptBody {
+    ghost is_default = { λ kept. kept ≡ record { from = 0; req = 0; body = [] } };
+
     fn default() -> KeptBody {
         KeptBody {
             from: Name::default(),

@@ -56,9 +56,9 @@ open_itself : (m : Node) (b : Ballot) (who : ℕ) → HasOpen m b → HasItself 
 open_itself m b who h own = subst (HasItself who) h.last own
 
 -- the ballot that is looked at hasn't given up its coordinator
-itself : (c : Cause) (m : Node) (b : Ballot) → Balloting c m b → HasItself m.core.who m.ballot → b.given_up m.core.who ≡ false
+pub itself : (c : Cause) (m : Node) (b : Ballot) → Balloting c m b → HasItself m.core.who m.ballot → b.given_up m.core.who ≡ false
 itself c m b (with_more old s v vote is heard low high open_ same stays) own = open_itself m old m.core.who open_ own
-itself c m b (as_it_is old open_) own = open_itself m old m.core.who open_ own
+itself c m b (as_it_is old open_ on) own = open_itself m old m.core.who open_ own
 itself c m b (without_one old name is open_ other) own =
     let flipped : (m.core.who == name) ≡ false = grind (arith, nat_tests) in
     rw flipped (open_itself m old m.core.who open_ own)

@@ -31,10 +31,10 @@ each_keeps rules w e v (steps c s runs cause effect) h =
 
 -- ---- the start
 
-kept_founder : (rules : Rules) (name : ℕ) → Keeps rules (founder rules name)
+pub kept_founder : (rules : Rules) (name : ℕ) → Keeps rules (founder rules name)
 kept_founder rules name = record { founding = refl; few = omega arith; itself = tt }
 
-kept_stranger : (rules : Rules) (name : ℕ) → Keeps rules (stranger rules name)
+pub kept_stranger : (rules : Rules) (name : ℕ) → Keeps rules (stranger rules name)
 kept_stranger rules name = record { founding = refl; few = omega arith; itself = tt }
 
 all_start : (rules : Rules) → AllKept rules (start rules)

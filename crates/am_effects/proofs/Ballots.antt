@@ -17,7 +17,7 @@ use Rattle.am_model.specs.Ticks.{viewed_by}
 use Rattle.am_model.specs.Calls.{reset_row, give_up_of, give_up_row}
 use Rattle.am_model.proofs.Greatest.{and_both}
 use Rattle.am_effects.specs.Causes.{Cause, calls}
-use Rattle.am_effects.specs.Looks.{HasLearned, Looks, finds_itself_out, waits, fetches_from_best, finds_too_few, finds_no_room, decides, MayBegin, BeginsBy, HasOpen, Balloting, as_it_is, without_one}
+use Rattle.am_effects.specs.Looks.{HasLearned, Looks, finds_itself_out, waits, fetches_from_best, finds_too_few, finds_no_room, decides, MayBegin, BeginsBy, by_reset, by_hand_over, MayLook, was_reset, was_handed, HasOpen, Balloting, as_it_is, without_one}
 use Rattle.am_effects.specs.Changes.{unchanged, opens, looks}
 use Rattle.am_effects.specs.Letters.{invite, fetch, result, MayInvite, has_begun, for_ballot, MayTell, decided}
 use Rattle.am_effects.specs.Letters as letters
@@ -141,13 +141,17 @@ same_look : (m : Node) (least resilience : ℕ) → decide (promised m (next_sta
 unfolding decide best_of
 same_look m least resilience = refl
 
+looks_on : (m : Node) (c : Cause) (p : Node) → BeginsBy m c → MayLook c p
+looks_on m c p (by_reset least resilience) = was_reset least resilience refl
+looks_on m c p (by_hand_over s v heard) = was_handed s v refl
+
 row_begin : (m : Node) (c : Cause) (least resilience : ℕ) → BeginsBy m c → MayBegin m → HasEffect m c (begin m least resilience)
 unfolding begin
 row_begin m c least resilience by may =
     let p = opened m least resilience in
     let b = new_ballot (next_stamp m) least (min resilience 15) in
     let f : Node → List Letter = λ n. with_letter (others m) (invite_of n) [] in
-    let h : HasEffect m c (answered (decide p b) f) = effect_answered m c p b f (λ o. and_then unchanged (opens {m = m} least resilience by may)) refl (as_it_is b (record { last = refl; open_ = refl }))
+    let h : HasEffect m c (answered (decide p b) f) = effect_answered m c p b f (λ o. and_then unchanged (opens {m = m} least resilience by may)) refl (as_it_is b (record { last = refl; open_ = refl }) (looks_on m c p by))
     (λ n r. and_says m c n (others m) (invite_of n) [] (let new = ballot_look p b (decide p b) (looks_at p b) in invite (others m) (has_begun new.0 (r.rests.ballot ∙ new.1) (r.rests.promise ∙ promise_look p b (decide p b) (looks_at p b)))) (none_says m c n)) in
     subst (λ v. HasEffect m c (answered v f)) (sym (same_look m least resilience)) h
 

@@ -19,7 +19,7 @@ use Rattle.am_model.specs.Resets.{invite_row, is_open, voted_for, vote_row, may_
 use Rattle.am_model.specs.Hearing.{hears_member, hears_asking}
 use Rattle.am_model.proofs.Greatest.{and_both}
 use Rattle.am_effects.specs.Causes.{Cause, hears}
-use Rattle.am_effects.specs.Looks.{HasOpen, with_more, as_it_is}
+use Rattle.am_effects.specs.Looks.{HasOpen, with_more, as_it_is, was_fetched}
 use Rattle.am_effects.specs.Changes.{MayStore, without_ballot, for_ballot, Changes, unchanged, invited, overtaken, told_result, promises, fetches, stores_view}
 use Rattle.am_effects.specs.Letters.{vote, piece, ack, fetch, of_promise}
 use Rattle.am_effects.proofs.Tests.{not_false, not_true, or_first, or_second}
@@ -143,7 +143,7 @@ row_piece_for m s v base number e (Some b) is h =
     (λ from. row_fetched m c v base number e true (fetched_for b)
     (λ may past.
     let comes : Comes m c p = λ o. and_then unchanged (fetches {m = m} s v base number e refl h.heard h.promise h.below (for_ballot b has_open (not_false _ from) past) may) in
-    effect_answered m c p b (λ n. []) comes f (as_it_is b (record { last = is; open_ = f })) (λ n r. none_says m c n))))
+    effect_answered m c p b (λ n. []) comes f (as_it_is b (record { last = is; open_ = f }) (was_fetched s v base number e refl h.promise)) (λ n r. none_says m c n))))
 
 pub row_piece : (m : Node) (s : ℕ) (v : Stamp) (base number : ℕ) (e : Entry) → hears_member m s ≡ true → HasEffect m (hears (packet.Piece s v base number e)) (piece_row m s v base number e)
 unfolding piece_row

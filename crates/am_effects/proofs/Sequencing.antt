@@ -62,7 +62,7 @@ row_requested m c p s v report req body by_order comes leads known by spread =
     (λ left. effect_if m c (nat_le req r.last) _ _ (λ t. quietly said.Again (λ n. tt))
     (λ above. effect_if m c (nat_lt (r.last + 1) req) _ _ (λ t. quietly (said.Early r.last) (λ n. tt))
     (λ below. effect_if m c (not (has_room p)) _ _
-    (λ t. effect_of m c _ (does_and RestsWhole m c (polling p (said.Held p.core.base (top p))) (only_name s) (λ n. hold_of n req) (does_polling RestsWhole m c p _ (comes _) (λ n k. tt)) (λ n k. hold (only_name s) req (leads_rests k.rests ∙ leads))))
+    (λ t. effect_of m c _ (does_and RestsWhole m c (polling p (said.Held p.core.base (top p))) (only_name s) (λ n. hold_of n req) (does_polling RestsWhole m c p _ (comes _) (λ n k. tt)) (λ n k. hold (only_name s) s v report req body by (leads_rests k.rests ∙ leads))))
     (λ room.
     let e = Data s req body in
     let next : req ≡ r.last + 1 = grind (arith, nat_tests) in

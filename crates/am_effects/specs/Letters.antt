@@ -19,7 +19,7 @@ use Rattle.am_model.specs.Sequencing.{row_at}
 use Rattle.am_model.specs.Joining.{may_go}
 use Rattle.am_model.specs.Resets.{may_fetch}
 use Rattle.am_model.specs.Ticks.{viewed_by}
-use Rattle.am_effects.specs.Causes.{Cause, hears}
+use Rattle.am_effects.specs.Causes.{Cause, hears, BringsSend}
 use Rattle.am_effects.specs.Looks.{HasOpen}
 
 -- ---- what is told of a node
@@ -69,7 +69,7 @@ pub data Says (m : Node) (c : Cause) (n : Node) : List ℕ → Packet → Type 0
   accept : (to : List ℕ) (poll : Bool) → is_sequencer n ≡ true → Says m c n to (emits.accept_of n poll)
   ack : (to : List ℕ) → acts n ≡ true → Says m c n to (emits.ack_of n)
   nack : (to : List ℕ) → acts n ≡ true → Says m c n to (emits.nack_of n)
-  hold : (to : List ℕ) (req : ℕ) → is_sequencer n ≡ true → Says m c n to (emits.hold_of n req)
+  hold : (to : List ℕ) (s : ℕ) (v : Stamp) (report : Report) (req : ℕ) (body : List ℕ) → BringsSend c s v report req body → is_sequencer n ≡ true → Says m c n to (emits.hold_of n req)
   join_ask : (to : List ℕ) → is_asking n.status ≡ true → Says m c n to (emits.join_ask_of n)
   welcome : (s : ℕ) → is_sequencer n ≡ true → MayWelcome m n s → Says m c n (only_name s) (emits.welcome_of n s)
   leave_ask : (to : List ℕ) → is_member n.status ≡ true → n.leaving ≡ true → Says m c n to (emits.leave_ask_of n)

@@ -2,11 +2,12 @@
 use Rattle.std.specs.Prelude.{◌≡◌, ℕ, ◌+◌, ◌-◌, max, Some, true, false, ◌==◌, nat_lt}
 use Rattle.am_base.specs.declared.image.Vote.{Vote}
 use Rattle.am_base.specs.declared.name.Stamp.{Stamp}
+use Rattle.am_base.specs.declared.entry.Entry.{Entry}
 use Rattle.am_base.specs.declared.entry.Entry.TheVariants.{View}
 use Rattle.am_base.specs.declared.outcome.Outcome.TheVariants as said
 use Rattle.am_base.specs.declared.event.NodeEvent.TheVariants.{Reset, GiveUp}
 use Rattle.am_base.specs.Names.{has, size}
-use Rattle.am_base.specs.Stamps.{stamp_lt}
+use Rattle.am_base.specs.Stamps.{stamp_lt, stamp_eq}
 use Rattle.am_packet.specs.declared.packet.Packet.TheVariants as packet
 use Rattle.am_model.specs.Node.{Node, Ballot, top, told, members, those, is_member, pushed}
 use Rattle.am_model.specs.Ballots.{Verdict, need_of, best_of, is_waited_for, left_in, goes_on, ends, restarted, trimmed_for, with_vote, without_voter}
@@ -57,9 +58,14 @@ pub record HasOpen (m : Node) (b : Ballot) : Type 0 where
   pub last : m.ballot ≡ Some b
   pub open_ : b.is_over ≡ false
 
--- the ballot that is looked at: the open one with a vote more or a name given up, or as it is, once it was opened or an entry was
--- fetched for it
+-- a ballot is looked at as it is once it was opened, by a call or a hand-over, or an entry was fetched for it
+pub data MayLook (c : Cause) (m : Node) : Type 0 where
+  was_reset : (least resilience : ℕ) → c ≡ calls (Reset least resilience) → MayLook c m
+  was_handed : (s : ℕ) (v : Stamp) → c ≡ hears (packet.HandOver s v) → MayLook c m
+  was_fetched : (s : ℕ) (v : Stamp) (base number : ℕ) (e : Entry) → c ≡ hears (packet.Piece s v base number e) → stamp_eq v m.core.promise ≡ true → MayLook c m
+
+-- the ballot that is looked at: the open one with a vote more or a name given up, or as it is
 pub data Balloting (c : Cause) (m : Node) : Ballot → Type 0 where
   with_more : (old : Ballot) (s : ℕ) (v : Stamp) (vote : Vote) → c ≡ hears (packet.Vote s v vote) → hears_member m s ≡ true → stamp_lt v m.core.promise ≡ false → stamp_lt m.core.promise v ≡ false → HasOpen m old → old.stamp ≡ v → old.given_up s ≡ false → Balloting c m (with_vote old s vote)
   without_one : (old : Ballot) (name : ℕ) → c ≡ calls (GiveUp name) → HasOpen m old → (name == m.core.who) ≡ false → Balloting c m (without_voter old name)
-  as_it_is : (old : Ballot) → HasOpen m old → Balloting c m old
+  as_it_is : (old : Ballot) → HasOpen m old → MayLook c m → Balloting c m old

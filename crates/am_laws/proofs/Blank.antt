@@ -27,13 +27,13 @@ use Rattle.am_laws.proofs.ViewChanges.{Balloted, log_of_member, leads_member, in
 use Rattle.am_laws.proofs.Views.{AllViews, heard_names, each_views, views_start}
 
 -- by the parts of a node that stay while it has no list
-record NoList (log : Log) (base told begins : ℕ) : Type 0 where
-  blank_ : log ≡ record { start = 0; image = blank; entries = [] }
-  base_ : base ≡ 0
-  told_ : told ≡ 0
-  begins_ : begins ≡ 0
+pub record NoList (log : Log) (base told begins : ℕ) : Type 0 where
+  pub blank_ : log ≡ record { start = 0; image = blank; entries = [] }
+  pub base_ : base ≡ 0
+  pub told_ : told ≡ 0
+  pub begins_ : begins ≡ 0
 
-abbrev Blanked : Node → Type 0
+abbrev pub Blanked : Node → Type 0
 Blanked m = has_log m.status ≡ false → NoList m.core.log m.core.base m.core.told m.core.start
 
 no_member : (s : Status) → has_log s ≡ false → is_member s ≡ false
@@ -65,7 +65,7 @@ look_log m b v (decides may) = refl
 listed : (m n : Node) → has_log n.status ≡ has_log m.status → has_log m.status ≡ true → Blanked n
 listed m n same t = λ f. absurd (cc)
 
-change_blank : {c : Cause} {o : Outcome} (m n : Node) → Change c o m n → Balloted m → Blanked m → Blanked n
+pub change_blank : {c : Cause} {o : Outcome} (m n : Node) → Change c o m n → Balloted m → Blanked m → Blanked n
 change_blank m n refreshes k h = blank_refresh m h
 change_blank m n settles k h = subst Blanked (sym (settle_is m)) h
 change_blank m n (takes_report s v report by may) k h = h
@@ -97,11 +97,11 @@ changes_blank m n heard (changed {n = x} one more) names k h =
 
 -- ---- runs
 
-record AllBlank (rules : Rules) (w : World) : Type 0 where
-  views : AllViews rules w
-  each : (name : ℕ) → name < 256 → Blanked (w.nodes name)
+pub record AllBlank (rules : Rules) (w : World) : Type 0 where
+  pub views : AllViews rules w
+  pub each : (name : ℕ) → name < 256 → Blanked (w.nodes name)
 
-each_blank : (rules : Rules) → EachKeeps (AllBlank rules)
+pub each_blank : (rules : Rules) → EachKeeps (AllBlank rules)
 unfolding unchanged stepped
 each_blank rules w e v (idles o idle) h = record { views = each_views rules w e v (idles o idle) h.views; each = h.each }
 each_blank rules w e v (stops runs) h = record { views = each_views rules w e v (stops runs) h.views; each = h.each }
@@ -116,7 +116,7 @@ each_blank rules w e v (steps c s runs cause effect) h =
       each = λ other low. split (other == name) (λ t. rw t one) (λ f. rw f (h.each other low));
     }
 
-first_blank : (rules : Rules) (name : ℕ) → Blanked (first_node rules name)
+pub first_blank : (rules : Rules) (name : ℕ) → Blanked (first_node rules name)
 first_blank rules name = split (has rules.founders name)
     (λ t. rw t (λ f. absurd (cc)))
     (λ u. rw u (λ f. record { blank_ = refl; base_ = refl; told_ = refl; begins_ = refl }))

@@ -45,7 +45,7 @@ open_gives S m b open_ h = subst (GivesUp S) open_.last h
 
 looked_at : (S : ℕ → Type 0) {c : Cause} → Calls S c → (m : Node) (b : Ballot) → Balloting c m b → GivesUp S m.ballot → GivesUp S (Some b)
 looked_at S called m b (with_more old s v vote is heard low high open_ same stays) h = open_gives S m old open_ h
-looked_at S called m b (as_it_is old open_) h = open_gives S m old open_ h
+looked_at S called m b (as_it_is old open_ on) h = open_gives S m old open_ h
 looked_at S called m b (without_one old name is open_ other_) h = λ other up. split (other == name)
     (λ t. let same : name ≡ other = grind (arith, nat_tests) in subst S same (called name is))
     (λ f. open_gives S m old open_ h other (rw f at up))

@@ -28,12 +28,12 @@ row_more n r h = let j = h.joined in let l = h.left in record { joined = omega a
 up_blank : (n : ℕ) → RowUp n blank_row
 up_blank n = record { joined = omega arith; left = omega arith }
 
-up_at : (n : ℕ) (rows : List Row) (place : ℕ) → All (RowUp n) rows → RowUp n (slice_index_or rows place blank_row)
+pub up_at : (n : ℕ) (rows : List Row) (place : ℕ) → All (RowUp n) rows → RowUp n (slice_index_or rows place blank_row)
 up_at n [] place h = up_blank n
 up_at n (r ∷ rs) zero h = All-head (RowUp n) r rs h
 up_at n (r ∷ rs) (suc place) h = up_at n rs place (All-tail (RowUp n) r rs h)
 
-all_places : {A : Type 0} (P : A → Type 0) (f : ℕ → A) (places : List ℕ) → ((place : ℕ) → P (f place)) → All (λ place. P (f place)) places
+pub all_places : {A : Type 0} (P : A → Type 0) (f : ℕ → A) (places : List ℕ) → ((place : ℕ) → P (f place)) → All (λ place. P (f place)) places
 all_places P f [] h = All-nil (λ place. P (f place))
 all_places P f (place ∷ places) h = All-cons (λ place. P (f place)) place places (h place) (all_places P f places h)
 

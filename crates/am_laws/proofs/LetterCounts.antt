@@ -89,7 +89,7 @@ says_low b g m n c to p h (ack _ a) =
 says_low b g m n c to p h (nack _ a) =
     let t = told_of b g c m n h in
     record { round = t.round; numbers = two_low b.lists (top n) n.core.taken t.high t.taken; accepted = one_low g n.core.taken t.took }
-says_low b g m n c to p h (hold _ req l) =
+says_low b g m n c to p h (hold _ s v report req body by l) =
     let t = told_of b g c m n h in
     record { round = t.round; numbers = two_low b.lists n.core.base (top n) t.base t.high; accepted = none_low g }
 says_low b g m n c to p h (join_ask _ a) = record { round = h.low.rounds; numbers = none_low b.lists; accepted = none_low g }

@@ -17,3 +17,10 @@ pub mod Founders
 pub mod Views
 pub mod Fronts
 pub mod Blank
+pub mod Limits
+pub mod NodeLimits
+pub mod LetterLimits
+pub mod RunLimits
+pub mod LeaderRows
+pub mod Taken
+pub mod TakenRuns

@@ -29,7 +29,7 @@ use Rattle.am_laws.specs.Named.{NamesHold}
 
 -- ---- a node keeps its name
 
-abbrev IsNamed : ℕ → Node → Type 0
+abbrev pub IsNamed : ℕ → Node → Type 0
 IsNamed name m = m.core.who ≡ name
 
 look_named : (name : ℕ) (m : Node) (b : Ballot) (v : Verdict) → Looks m b v → IsNamed name m → IsNamed name v.node
@@ -40,7 +40,7 @@ look_named name m b v (finds_too_few x y) h = h
 look_named name m b v (finds_no_room x) h = h
 look_named name m b v (decides may) h = h
 
-change_named : (name : ℕ) {c : Cause} {o : Outcome} (m n : Node) → Change c o m n → IsNamed name m → IsNamed name n
+pub change_named : (name : ℕ) {c : Cause} {o : Outcome} (m n : Node) → Change c o m n → IsNamed name m → IsNamed name n
 change_named name m n refreshes h = (rests_refresh m).rests.who ∙ h
 change_named name m n settles h = ap (λ (x : Node). x.core.who) (settle_is m) ∙ h
 change_named name m n (takes_report s v report by may) h = h
@@ -72,7 +72,7 @@ says_named m n c to p (order _ number from_ req v report body is l s) = refl
 says_named m n c to p (accept _ poll l) = refl
 says_named m n c to p (ack _ a) = refl
 says_named m n c to p (nack _ a) = refl
-says_named m n c to p (hold _ req l) = refl
+says_named m n c to p (hold _ s v report req body by l) = refl
 says_named m n c to p (join_ask _ a) = refl
 says_named m n c to p (welcome s l may) = refl
 says_named m n c to p (leave_ask _ a l) = refl

@@ -148,7 +148,7 @@ welcomes_up m n c to p from h (order _ number from_ req v report body is l s) = 
 welcomes_up m n c to p from h (accept _ poll l) = tt
 welcomes_up m n c to p from h (ack _ a) = tt
 welcomes_up m n c to p from h (nack _ a) = tt
-welcomes_up m n c to p from h (hold _ req l) = tt
+welcomes_up m n c to p from h (hold _ s v report req body by l) = tt
 welcomes_up m n c to p from h (join_ask _ a) = tt
 welcomes_up m n c to p from h (leave_ask _ a l) = tt
 welcomes_up m n c to p from h (gone s l may) = tt
@@ -161,7 +161,7 @@ welcomes_up m n c to p from h (hand_over _ l leaves) = tt
 
 -- ---- a step
 
-set_same : (P : Node → Type 0) (nodes : ℕ → Node) (name : ℕ) (n : Node) → ((other : ℕ) → P (nodes other)) → P n → (other : ℕ) → P (set_at nodes name n other)
+pub set_same : (P : Node → Type 0) (nodes : ℕ → Node) (name : ℕ) (n : Node) → ((other : ℕ) → P (nodes other)) → P n → (other : ℕ) → P (set_at nodes name n other)
 set_same P nodes name n h k other = split (other == name) (λ t. rw t k) (λ f. rw f (h other))
 
 is_itself : (name : ℕ) → (name == name) ≡ true
@@ -178,7 +178,7 @@ sender_low b g n sender is h = let k : Low b g (record sender { status = n.statu
 sender_behind : (g : ℕ) (n sender : Node) → n ≡ record sender { status = n.status } → Behind g n → Behind g sender
 sender_behind g n sender is h = let k : Behind g (record sender { status = n.status }) = subst (Behind g) is h in record { told = k.told; acc = k.acc }
 
-sender_list : (n sender : Node) → n ≡ record sender { status = n.status } → ListUp n → ListUp sender
+pub sender_list : (n sender : Node) → n ≡ record sender { status = n.status } → ListUp n → ListUp sender
 sender_list n sender is h = let k : ListUp (record sender { status = n.status }) = subst ListUp is h in k
 
 -- the packet that was heard
@@ -237,7 +237,7 @@ low_event b w e v (stops runs) raised h = low_same b w v refl refl refl h
 low_event b w e v (returns place is left more) raised h = low_same b w v refl refl refl h
 low_event b w e v (steps c s runs cause effect) raised h = low_stepped b w e c s cause effect raised h
 
-low_happens : (b : Bounds) (w : World) (e : Event) → AllLow b w → AllLow (up b) (happens w e)
+pub low_happens : (b : Bounds) (w : World) (e : Event) → AllLow b w → AllLow (up b) (happens w e)
 low_happens b w e h = low_event b w e (happens w e) (events_have_effects w e) (λ c letters low. actor_low c (length w.group) w e letters (h.behind (actor w e)) low) h
 
 -- ---- runs
@@ -246,7 +246,7 @@ low_happens b w e h = low_event b w e (happens w e) (events_have_effects w e) (�
 abbrev pub bounds_after : ℕ → Bounds → Bounds
 bounds_after many b = record { lists = b.lists + many; rounds = b.rounds + many; requests = b.requests + many }
 
-same_bounds : (b c : Bounds) (w : World) → b ≡ c → AllLow b w → AllLow c w
+pub same_bounds : (b c : Bounds) (w : World) → b ≡ c → AllLow b w → AllLow c w
 same_bounds b c w is h = subst (λ x. AllLow x w) is h
 
 low_happen : (b : Bounds) (w : World) (events : List Event) → AllLow b w → AllLow (bounds_after (length events) b) (happen w events)
@@ -296,10 +296,10 @@ low_stranger rules name = record {
   known = inl (omega arith, omega arith);
 }
 
-first_of : (P : Node → Type 0) (rules : Rules) (name : ℕ) → P (founder rules name) → P (stranger rules name) → P (first_node rules name)
+pub first_of : (P : Node → Type 0) (rules : Rules) (name : ℕ) → P (founder rules name) → P (stranger rules name) → P (first_node rules name)
 first_of P rules name f g = split (has rules.founders name) (λ t. rw t f) (λ u. rw u g)
 
-low_start : (rules : Rules) → AllLow (record { lists = 1; rounds = 1; requests = 0 }) (start rules)
+pub low_start : (rules : Rules) → AllLow (record { lists = 1; rounds = 1; requests = 0 }) (start rules)
 low_start rules = record {
   each = λ name. first_of (Low (record { lists = 1; rounds = 1; requests = 0 }) 1) rules name (low_founder rules name) (low_stranger rules name);
   behind = λ name. first_of (Behind 1) rules name (record { told = omega arith; acc = omega arith }) (record { told = omega arith; acc = omega arith });

@@ -125,7 +125,7 @@ overtaken_open who promise v by (Some b) k l low h = split (not b.is_over && sta
 none_overtaken : (by : Stamp) (ballot : Option Ballot) → ballot ≡ None → overtaken by ballot ≡ None
 none_overtaken by ballot is = ap (overtaken by) is
 
-next_above : (promise : Stamp) (who : ℕ) → stamp_lt promise (record { round = promise.round + 1; by = who }) ≡ true
+pub next_above : (promise : Stamp) (who : ℕ) → stamp_lt promise (record { round = promise.round + 1; by = who }) ≡ true
 next_above promise who = let t : nat_lt promise.round (promise.round + 1) ≡ true = grind (arith, nat_tests) in rw t refl
 
 -- ---- looks at a ballot
@@ -145,7 +145,7 @@ looked_at m b (with_more old s v shown is by low high open_ same stays) h =
 looked_at m b (without_one old name is open_ other) h =
     let o = of_open m old open_ h in
     record { has_list = ballot_log m old open_.last h; open_ = record { above = o.above; promised = o.promised; own = o.own } }
-looked_at m b (as_it_is old open_) h = record { has_list = ballot_log m old open_.last h; open_ = of_open m old open_ h }
+looked_at m b (as_it_is old open_ on) h = record { has_list = ballot_log m old open_.last h; open_ = of_open m old open_ h }
 
 -- another answer, or an end
 does_look : (m : Node) (b : Ballot) (o : Outcome) (over : Bool) → LooksAt m b → Balloted m → Does m (record m { ballot = Some (record b { answer = o; is_over = over }) })

@@ -79,7 +79,7 @@ open_named m b open_ h = subst BallotNamed open_.last h.ballot_
 looked_named : {c : Cause} (m : Node) (b : Ballot) → Balloting c m b → HasNames m → b.stamp.by < 256
 looked_named m b (with_more old s v shown is by low high open_ same stays) h = open_named m old open_ h
 looked_named m b (without_one old name is open_ other) h = open_named m old open_ h
-looked_named m b (as_it_is old open_) h = open_named m old open_ h
+looked_named m b (as_it_is old open_ on) h = open_named m old open_ h
 
 look_names : (m : Node) (b : Ballot) (v : Verdict) → Looks m b v → b.stamp.by < 256 → HasNames m → HasNames v.node
 look_names m b v (finds_itself_out x) k h = record { who_ = h.who_; promise_ = h.promise_; entries_ = h.entries_; ballot_ = k }
@@ -144,7 +144,7 @@ pieces_named m n c to p h (order _ number from_ req v report body is l s) = tt
 pieces_named m n c to p h (accept _ poll l) = tt
 pieces_named m n c to p h (ack _ a) = tt
 pieces_named m n c to p h (nack _ a) = tt
-pieces_named m n c to p h (hold _ req l) = tt
+pieces_named m n c to p h (hold _ s v report req body by l) = tt
 pieces_named m n c to p h (join_ask _ a) = tt
 pieces_named m n c to p h (welcome s l may) = tt
 pieces_named m n c to p h (leave_ask _ a l) = tt

@@ -35,7 +35,7 @@ pub record SameView (a b : Image) : Type 0 where
   pub number : a.view_number ≡ b.view_number
   pub resilience : a.resilience ≡ b.resilience
 
-after_same : (image : Image) (number : ℕ) (e : Entry) → is_view e ≡ false → SameView (after image number e) image
+pub after_same : (image : Image) (number : ℕ) (e : Entry) → is_view e ≡ false → SameView (after image number e) image
 unfolding after
 after_same image number (Data from req body) f = split ((at_place image from).life == life_of from)
     (λ t. rw t (record { view = refl; number = refl; resilience = refl }))
@@ -46,7 +46,7 @@ after_same image number (Leave name) f = split ((at_place image name).life == li
     (λ g. rw g (record { view = refl; number = refl; resilience = refl }))
 after_same image number (View stamp names resilience) f = absurd (cc)
 
-after_view : (image : Image) (number : ℕ) (stamp : Stamp) (names : List ℕ) (resilience : ℕ)
+pub after_view : (image : Image) (number : ℕ) (stamp : Stamp) (names : List ℕ) (resilience : ℕ)
     → ((after image number (View stamp names resilience)).view ≡ stamp) × ((after image number (View stamp names resilience)).view_number ≡ number) × ((after image number (View stamp names resilience)).resilience ≡ resilience)
 unfolding after
 after_view image number stamp names resilience = (refl, refl, refl)

@@ -100,7 +100,7 @@ still_noted nodes name n v d h = split (v.stamp.by == name)
     })
     (λ f. record { by = h.by; log_ = rw f h.log_; low = rw f h.low; names = h.names; there = rw f h.there })
 
-same_is_equal : (v : Stamp) → stamp_eq v v ≡ true
+pub same_is_equal : (v : Stamp) → stamp_eq v v ≡ true
 same_is_equal v = let r : (v.round == v.round) ≡ true = grind (arith, nat_tests) in let n : (v.by == v.by) ≡ true = grind (arith, nat_tests) in rw (r, n) refl
 
 -- a decided view stands, and is greater
@@ -206,7 +206,7 @@ says_stamp m n c to p (order _ number from_ req v report body is l s) = refl
 says_stamp m n c to p (accept _ poll l) = refl
 says_stamp m n c to p (ack _ a) = refl
 says_stamp m n c to p (nack _ a) = refl
-says_stamp m n c to p (hold _ req l) = refl
+says_stamp m n c to p (hold _ s v report req body by l) = refl
 says_stamp m n c to p (join_ask _ a) = refl
 says_stamp m n c to p (welcome s l may) = refl
 says_stamp m n c to p (leave_ask _ a l) = refl

@@ -5,3 +5,5 @@ pub mod Named
 pub mod Views
 pub mod Begins
 pub mod Blank
+pub mod Bytes
+pub mod Taken

@@ -3,9 +3,11 @@
 
 ghost use Rattle.am_laws.specs.Begins.{RunsBegin, FrontBegins};
 ghost use Rattle.am_laws.specs.Blank.{BlankHolds};
+ghost use Rattle.am_laws.specs.Bytes.{LettersArePackets, LettersAreRead, RunsAreOfBytes};
 ghost use Rattle.am_laws.specs.GivenUp.{OnlyStoppedGivenUp};
 ghost use Rattle.am_laws.specs.Named.{NamesHold};
 ghost use Rattle.am_laws.specs.Numbers.{NumbersHold};
+ghost use Rattle.am_laws.specs.Taken.{TakenHolds};
 ghost use Rattle.am_laws.specs.Views.{ViewsHold};
 
 /// What a run has so far stays: the records, the letters and the group list of its first events begin the run's, and so do those of its
@@ -39,4 +41,17 @@ pub fn numbers_are_bounded()
 /// A name that is neither a member nor has departed has an empty list from nought on, has accepted nothing, and has begun no ballot.
 pub fn lists_begin_blank()
     ensures { BlankHolds }
+{}
+
+/// In a run of at most 100,000 events each letter holds a packet within a packet's limits, so its bytes are read as that packet; and
+/// where nodes hear bytes the run is the same.
+pub fn letters_are_packets()
+    ensures packets { LettersArePackets }
+    ensures read { LettersAreRead }
+    ensures bytes { RunsAreOfBytes }
+{}
+
+/// Nothing is trimmed that the node's own application hasn't taken.
+pub fn what_is_trimmed_was_taken()
+    ensures { TakenHolds }
 {}

@@ -1,3 +1,4 @@
 pub mod Founders
 pub mod Heard
+pub mod Told
 pub mod Within

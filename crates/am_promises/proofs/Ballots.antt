@@ -54,7 +54,7 @@ open_ok w i m b o h = subst (LastOk w i m.core.promise) o.last h.last
 -- the ballot that is looked at
 looked_ok : (w : World) (i : ℕ) (c : Cause) (m : Node) (b : Ballot) → Balloting c m b → MayGive w c → NodeOk w i m → BallotOk w i m.core.promise b
 looked_ok w i c m b (with_more old s v vote is heard low high o same stays) g h = let k = open_ok w i m old o h in record { own = k.own; low = k.low; high = k.high; given = k.given; answer = k.answer }
-looked_ok w i c m b (as_it_is old o) g h = open_ok w i m old o h
+looked_ok w i c m b (as_it_is old o on) g h = open_ok w i m old o h
 looked_ok w i c m b (without_one old name is o other) g h =
     let k = open_ok w i m old o h in
     let stopped : is_stopped w name ≡ true = subst (MayGive w) is g in
@@ -84,7 +84,7 @@ verdict_ok w i m b v (decides x) over log h who = record { who = who; last = end
 balloted : (c : Cause) (m : Node) (b : Ballot) → Balloting c m b → m.ballot ≡ None → ⊥
 balloted c m b (with_more old s v vote is heard low high o same stays) z = let y = o.last in absurd (cc)
 balloted c m b (without_one old name is o other) z = let y = o.last in absurd (cc)
-balloted c m b (as_it_is old o) z = let y = o.last in absurd (cc)
+balloted c m b (as_it_is old o on) z = let y = o.last in absurd (cc)
 
 balloting_log : (w : World) (i : ℕ) (c : Cause) (m : Node) (b : Ballot) → Balloting c m b → NodeOk w i m → has_log m.status ≡ true
 balloting_log w i c m b why h = split (has_log m.status) (λ t. t) (λ f. absurd (balloted c m b why (h.blank f)))

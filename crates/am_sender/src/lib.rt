@@ -22,6 +22,10 @@ pub struct OwnSend {
 }
 
 impl Default for OwnSend {
+    ghost use Rattle.std.specs.Prelude.{[], None};
+
+    ghost is_default = { λ send. send ≡ record { req = 0; body = []; number = None } };
+
     fn default() -> OwnSend {
         OwnSend {
             req: 0,

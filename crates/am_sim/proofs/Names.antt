@@ -29,7 +29,7 @@ logged_more w before after rank name is low at has now h =
     let same : P (named rank) ≡ is = ap P (sym at) ∙ sym has in
     let back : named rank ≡ name = sym at in
     let more : filter P (names_from rank) ≡ (if is then name ∷ [] else []) ++ rest =
-        ap (filter P) (names_more rank (256 - rank) refl low) ∙ first_of P (named rank) (names_from (rank + 1)) ∙ (λ k. (if same k then back k ∷ [] else []) ++ rest) in
+    ap (filter P) (names_more rank (256 - rank) refl low) ∙ first_of P (named rank) (names_from (rank + 1)) ∙ (λ k. (if same k then back k ∷ [] else []) ++ rest) in
     ap (λ xs. xs ++ rest) now ∙ append_assoc before (if is then name ∷ [] else []) rest ∙ ap (λ xs. before ++ xs) (sym more) ∙ h
 
 pub logged_end : (w : World) (each : List ℕ) (rank : ℕ) → 256 ≤ rank → each ++ filter (has_log_in w) (names_from rank) ≡ filter (has_log_in w) all_names → each ≡ filter (has_log_in w) all_names

@@ -3,11 +3,13 @@
 
 mod playing;
 pub mod simulate;
+mod telling;
 
 use am_io::standard::{StdSink, StdSource};
 use simulate::{Status, simulate};
 use std::process::ExitCode;
 use std::{env, io};
+use telling::line_of;
 
 /// Does what the process's words ask for, from standard input to standard output.
 fn answer(rt: &HostRuntime) -> Status {
@@ -29,22 +31,13 @@ fn answer(rt: &HostRuntime) -> Status {
     simulate(rt.alloc(), words.as_slice(), &mut source, &mut sink)
 }
 
-/// Tells of a status but Done, in one line.
+/// Tells of a status, but of Done, whose line is empty.
 fn tell(rt: &impl Eprint, status: Status) -> io::Result<()> {
-    match status {
-        Status::Done => Ok(()),
-        Status::Usage => eprintln!(rt; "usage: play"),
-        Status::BadScript(cause) => {
-            let number = cause.number();
-            let place = cause.place();
-            eprintln!(rt; "bad script {number} at {place}")
-        }
-        Status::TooLong => eprintln!(rt; "too long"),
-        Status::ReadFault => eprintln!(rt; "read fault"),
-        Status::WriteFault => eprintln!(rt; "write fault"),
-        Status::NoMemory => eprintln!(rt; "no memory"),
-        Status::Spent => eprintln!(rt; "spent"),
+    let line = line_of(status);
+    if line.is_empty() {
+        return Ok(());
     }
+    eprintln!(rt; "{line}")
 }
 
 fn main(rt: HostRuntime) -> ExitCode {

@@ -191,8 +191,7 @@ mod tests {
 
     const TICK: &str = "{\"play\":{\"founders\":[0],\"events\":[{\"do\":\"tick\",\"node\":0}]}}";
 
-    const TICKED: &str =
-        "1 tick 0 ticked\ngroup 1 view 1.0 0\nlog 0 empty\nlawful\n";
+    const TICKED: &str = "1 tick 0 ticked\ngroup 1 view 1.0 0\nlog 0 empty\nlawful\n";
 
     const TEXT: &str = "group 1 view 1.0 0,1\nlog 0 empty\nlog 1 empty\nlawful\n";
 

@@ -210,7 +210,7 @@ said rules list from acc low i m n c to p h f g w (order x number name req v rep
 said rules list from acc low i m n c to p h f g w (accept x poll a) j t = h.fronts.accepted
 said rules list from acc low i m n c to p h f g w (ack x a) j t = tt
 said rules list from acc low i m n c to p h f g w (nack x a) j t = tt
-said rules list from acc low i m n c to p h f g w (hold x req a) j t = tt
+said rules list from acc low i m n c to p h f g w (hold x s v report req body by a) j t = tt
 said rules list from acc low i m n c to p h f g w (join_ask x a) j t = tt
 said rules list from acc low i m n c to p h f g w (welcome s a b) j t =
     let same = only_is s j t in

@@ -49,7 +49,7 @@ ballot_log m b open_ h = split (has_log m.status) (λ t. t) (λ f. absurd (let n
 pub looked_log : {c : Cause} (m : Node) (b : Ballot) → Balloting c m b → Balloted m → has_log m.status ≡ true
 looked_log m b (with_more old s v shown is by low high open_ same stays) h = ballot_log m old open_ h
 looked_log m b (without_one old name is open_ other) h = ballot_log m old open_ h
-looked_log m b (as_it_is old open_) h = ballot_log m old open_ h
+looked_log m b (as_it_is old open_ on) h = ballot_log m old open_ h
 
 -- ---- entries
 

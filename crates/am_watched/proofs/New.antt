@@ -118,7 +118,7 @@ says_known nodes m x c to p entries told own (order _ number from_ req v report 
 says_known nodes m x c to p entries told own (accept _ poll l) = tt
 says_known nodes m x c to p entries told own (ack _ a) = tt
 says_known nodes m x c to p entries told own (nack _ a) = tt
-says_known nodes m x c to p entries told own (hold _ req l) = tt
+says_known nodes m x c to p entries told own (hold _ s v report req body by l) = tt
 says_known nodes m x c to p entries told own (join_ask _ a) = tt
 says_known nodes m x c to p entries told own (welcome s l may) = tt
 says_known nodes m x c to p entries told own (leave_ask _ a l) = tt
@@ -156,7 +156,7 @@ grown_known nodes group n h g = split ((view n).by == n.core.who)
     (λ t. rw t (All-append (Known nodes) group _ h (All-take (Known nodes) (n.core.acc - length group) _ (All-drop (Known nodes) (length group - n.core.log.start) n.core.log.entries g))))
     (λ f. rw f h)
 
-heard_own : (rules : Rules) (w : World) (e : Event) (c : Cause) → AllOwn rules w → IsCause w (actor w e) e.act c → HeardOwn w.nodes c
+pub heard_own : (rules : Rules) (w : World) (e : Event) (c : Cause) → AllOwn rules w → IsCause w (actor w e) e.act c → HeardOwn w.nodes c
 heard_own rules w e c h cause = record {
   stamp = λ p is. (let was : WasSentTo w (actor w e) e.act p = subst (IsCause w (actor w e) e.act) is cause in
       subst (λ (x : Packet). Below w.nodes (stamp_of x)) was.is (all_item (StampBelow w.nodes) w.letters (heard_by e.act) was.letter h.stamps was.there));
@@ -244,7 +244,7 @@ own_same rules w v nodes letters group lists h = record {
   group = rw (nodes, group) h.group;
 }
 
-each_own : (rules : Rules) → EachKeeps (AllOwn rules)
+pub each_own : (rules : Rules) → EachKeeps (AllOwn rules)
 unfolding unchanged
 each_own rules w e v (idles o idle) h = own_same rules w v refl refl refl (each_lists rules w e v (idles o idle) h.lists) h
 each_own rules w e v (stops runs) h = own_same rules w v refl refl refl (each_lists rules w e v (stops runs) h.lists) h
@@ -282,7 +282,7 @@ entries_first rules may name = split (has rules.founders name)
     (λ t. rw t (All-cons (Known (first_node rules)) (founders_view rules) [] (first_known rules may) (All-nil (Known (first_node rules)))))
     (λ f. rw f (All-nil (Known (first_node rules))))
 
-own_start : (rules : Rules) → MayFound rules → AllOwn rules (start rules)
+pub own_start : (rules : Rules) → MayFound rules → AllOwn rules (start rules)
 own_start rules may = record {
   lists = lists_start rules may;
   promises = promise_first rules may;

@@ -190,12 +190,12 @@ look_along nodes name x b v (decides may) d o log h =
 of_open : (m : Node) (b : Ballot) → HasOpen m b → Balloted m → IsOpen m.core.who m.core.promise (view m) b
 of_open m b o h = subst (OpenBallot m.core.who m.core.promise (view m)) o.last h.opened o.open_
 
-looked_open : {c : Cause} (m : Node) (b : Ballot) → Balloting c m b → Balloted m → IsOpen m.core.who m.core.promise (view m) b
+pub looked_open : {c : Cause} (m : Node) (b : Ballot) → Balloting c m b → Balloted m → IsOpen m.core.who m.core.promise (view m) b
 looked_open m b (with_more old s v shown is by low high open_ same stays) h =
     let o = of_open m old open_ h in record { above = o.above; promised = o.promised; own = o.own }
 looked_open m b (without_one old name is open_ other) h =
     let o = of_open m old open_ h in record { above = o.above; promised = o.promised; own = o.own }
-looked_open m b (as_it_is old open_) h = of_open m old open_ h
+looked_open m b (as_it_is old open_ on) h = of_open m old open_ h
 
 -- ---- each change
 

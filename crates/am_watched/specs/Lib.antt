@@ -1,3 +1,4 @@
 pub mod Lists
 pub mod New
+pub mod Members
 pub mod Watched

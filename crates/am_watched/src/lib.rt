@@ -2,6 +2,7 @@
 #![tactic(auto)]
 
 ghost use Rattle.am_watched.specs.Lists.{ListsGoOn};
+ghost use Rattle.am_watched.specs.Members.{MembersHold};
 ghost use Rattle.am_watched.specs.New.{DecidedAreNew};
 ghost use Rattle.am_watched.specs.Watched.{BeginningIsKept, BreakIsKept, StepIsWatched, StopIsWatched, ReturnIsWatched, PassIsWatched};
 
@@ -13,6 +14,11 @@ pub fn lists_go_on()
 /// The View of a view that a step decides stood nowhere before, in no list and not in the group list.
 pub fn decided_views_are_new()
     ensures { DecidedAreNew }
+{}
+
+/// A view is noted with the members that its View names, which stands at its number in its coordinator's list from then on.
+pub fn views_have_their_members()
+    ensures { MembersHold }
 {}
 
 /// What is kept of a run begins with it, and tells where it broke. It is kept of the run with one event more: after a name's step, a stop, a return, and any other event.

@@ -97,7 +97,7 @@ module _ (s : ℕ) (v : Stamp) (base join : ℕ) (image : Image) where
   no_look : {c : Cause} {m : Node} {b : Ballot} → Balloting c m b → c ≡ welcome_ → m.ballot ≡ None → ⊥
   no_look (with_more _ _ _ _ is _ _ _ _ _ _) h none = cc
   no_look (without_one _ _ is _ _) h none = cc
-  no_look (as_it_is _ open_) h none = let last = open_.last in cc
+  no_look (as_it_is _ open_ on) h none = let last = open_.last in cc
 
   abbrev Begun : Node → Type 0
   Begun m = (m.core.base ≡ m.core.log.start) × (m.ballot ≡ None) × (is_sequencer m ≡ false) × (is_member m.status ≡ false → m.core.log.start ≡ 0)

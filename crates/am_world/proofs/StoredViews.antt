@@ -170,7 +170,7 @@ above_last m x b o h = subst (IsAbove (view x)) o.last h.opened o.open_
 above_looked : {c : Cause} (m x : Node) (b : Ballot) → Balloting c x b → Still m x → stamp_lt (view x) b.stamp ≡ true
 above_looked m x b (with_more old s v shown is by low high open_ same stays) h = above_last m x old open_ h
 above_looked m x b (without_one old name is open_ other) h = above_last m x old open_ h
-above_looked m x b (as_it_is old open_) h = above_last m x old open_ h
+above_looked m x b (as_it_is old open_ on) h = above_last m x old open_ h
 
 still_ballot : (m x y : Node) → y.status ≡ x.status → y.core.promise ≡ x.core.promise → y.core.log ≡ x.core.log → IsAbove (view x) y.ballot → Still m x → Still m y
 still_ballot m x y stays promise log opened h = record {

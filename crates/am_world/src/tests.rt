@@ -1,9 +1,11 @@
 use crate::world::World;
+use am_base::body::Body;
 use am_base::founding::Founding;
 use am_base::name::Name;
 use am_base::names::Names;
 use am_base::outcome::Outcome;
 use am_group::event::{Act, Event};
+use std::process::Abort;
 use std::test::*;
 
 fn does(world: &mut World, place: u8, act: Act) -> Result<Outcome, Fail> {
@@ -75,5 +77,46 @@ fn a_place_has_sixteen_lives(rt: HostRuntime) -> Result<(), Fail> {
     let outcome = does(&mut world, 1, Act::Return)?;
     assert_eq!(rt; word(&outcome), ("no-life", 0));
     assert_eq!(rt; world.name_at(Name::of_byte(1)).life(), 16);
+    Ok(())
+}
+
+/// Does an event. Where there is no memory for it, all is as it was, and the event can be done again.
+fn does_at_last(rt: &impl Abort, world: &mut World, place: u8, act: Act) -> Result<(), Fail> {
+    let event = Event {
+        node: Name::of_byte(place),
+        act,
+    };
+    let records = world.journal().records().len();
+    let entries = world.group().len();
+    if world.step(&event).is_err() {
+        assert_eq!(rt; world.journal().records().len(), records);
+        assert_eq!(rt; world.group().len(), entries);
+        world.step(&event)?;
+    }
+    assert_eq!(rt; world.journal().records().len(), records + 1);
+    Ok(())
+}
+
+// Run with each allocation failing in turn, it ends as with none.
+#[test]
+fn an_event_without_memory_is_done_again(rt: HostRuntime) -> Result<(), Fail> {
+    let founding = Founding::new(Names::of_mask(3), 0, 64, 256).ok_or("a founding")?;
+    let mut world = match World::new(rt.alloc(), &founding) {
+        Ok(world) => world,
+        Err(_) => World::new(rt.alloc(), &founding)?,
+    };
+    for (place, act) in [
+        (1, Act::Send(Body::of(&[7; 9]).ok_or("a body")?)),
+        (0, Act::Hear(1)),
+        (1, Act::Hear(2)),
+        (1, Act::Take),
+        (1, Act::Take),
+        (1, Act::Stop),
+        (1, Act::Return),
+    ] {
+        does_at_last(&rt, &mut world, place, act)?;
+    }
+    assert_eq!(rt; world.group().len(), 2);
+    assert_eq!(rt; world.name_at(Name::of_byte(1)).life(), 2);
     Ok(())
 }

@@ -1,0 +1,164 @@
+-- What a letter tells is within its limits, where what its sender has is.
+use Rattle.std.proofs.Common.{◌≡◌, ℕ, zero, suc, ◌-◌, ◌≤◌, nat_le, List, [], ◌∷◌, length, Option, Some, None, refl, subst, arith}
+use Rattle.std.specs.Prelude.{All}
+use Rattle.std.proofs.lemmas.List.Elements.{All-head, All-tail}
+use Rattle.am_base.specs.declared.entry.Entry.{Entry}
+use Rattle.am_base.specs.declared.entry.Entry.TheVariants.{Data, Join, Leave, View}
+use Rattle.am_base.specs.declared.image.Report.{Report}
+use Rattle.am_base.specs.Names.{IsSet}
+use Rattle.am_base.specs.Limits.{IsNumber, IsReport}
+use Rattle.am_base.specs.Lists.{Log, entry_at}
+use Rattle.am_packet.specs.declared.packet.Packet.{Packet}
+use Rattle.am_packet.specs.declared.packet.Packet.TheVariants as packet
+use Rattle.am_codec.specs.Limits.{IsPacket, IsWithin, HasParts}
+use Rattle.am_model.specs.Node.{Node, top, told}
+use Rattle.am_model.specs.Ticks.{viewed_by}
+use Rattle.am_model.proofs.Greatest.{split}
+use Rattle.am_effects.specs.Causes.{Cause, hears}
+use Rattle.am_effects.specs.Letters.{HasSend, Says, request, spread, bcast, order, accept, ack, nack, hold, join_ask, welcome, leave_ask, gone, invite, vote, fetch, piece, result, hand_over}
+use Rattle.am_effects.proofs.Items.{all_get}
+use Rattle.am_laws.specs.Packets.{Bounds, UpTo, stamp_of}
+use Rattle.am_laws.proofs.Images.{told_up}
+use Rattle.am_laws.proofs.ListImages.{WelcomeUp, ListUp}
+use Rattle.am_laws.proofs.Limits.{EntryWithin, AreNumbers, is_nobody, members_within, told_within, image_at_within, is_entry, is_image}
+use Rattle.am_laws.proofs.NodeLimits.{SendWithin, Within, PacketWithin, req_brought}
+
+-- ---- what is sent
+
+own_send_within : (b : Bounds) (n : Node) (req : ℕ) (body : List ℕ) → HasSend n req body → Within b n → SendWithin b (record { req = req; body = body; number = None })
+own_send_within b n req body s h =
+    let k = all_get (SendWithin b) n.sends.queue s.index s.send h.sends s.there in
+    record { req = subst (λ r. r ≤ b.requests) s.request k.req; body = subst (λ (x : List ℕ). length x ≤ 1024) s.body_ k.body }
+
+viewed_by_set : (b : Bounds) (o : Option Entry) → ((e : Entry) → o ≡ Some e → EntryWithin b e) → IsSet (viewed_by o)
+viewed_by_set b None h = is_nobody
+viewed_by_set b (Some (Data from req body)) h = is_nobody
+viewed_by_set b (Some (Join name)) h = is_nobody
+viewed_by_set b (Some (Leave name)) h = is_nobody
+viewed_by_set b (Some (View stamp names resilience)) h = (h (View stamp names resilience) refl).1
+
+at_within : (b : Bounds) (log : Log) (number : ℕ) (e : Entry) → All (EntryWithin b) log.entries → entry_at log number ≡ Some e → EntryWithin b e
+at_within b log zero e h is = absurd (cc)
+at_within b log (suc before) e h is = split (nat_le log.start before)
+    (λ t. all_get (EntryWithin b) log.entries (before - log.start) e h (rw t at is))
+    (λ f. absurd (let x = rw f at is in cc))
+
+pub says_within : (b : Bounds) (m n : Node) (c : Cause) (to : List ℕ) (p : Packet) → Within b n → ListUp n → top n ≤ b.lists → ((q : Packet) → c ≡ hears q → PacketWithin b q) → Says m c n to p → PacketWithin b p
+says_within b m n c to p h up_ low heard (request _ req body a f s) = let k = own_send_within b n req body s h in (k.req, k.body)
+says_within b m n c to p h up_ low heard (spread _ req body a f s) = let k = own_send_within b n req body s h in (k.req, k.body)
+says_within b m n c to p h up_ low heard (bcast _ number e l s) = all_get (EntryWithin b) n.core.log.entries s.index e h.entries s.there
+says_within b m n c to p h up_ low heard (order _ number from req v report body is l s) = (all_get (EntryWithin b) n.core.log.entries s.index (Data from req body) h.entries s.there).0
+says_within b m n c to p h up_ low heard (accept _ poll l) = tt
+says_within b m n c to p h up_ low heard (ack _ a) = tt
+says_within b m n c to p h up_ low heard (nack _ a) = tt
+says_within b m n c to p h up_ low heard (hold _ s v report req body by l) = req_brought b c s v report req body by heard
+says_within b m n c to p h up_ low heard (join_ask _ a) = tt
+says_within b m n c to p h up_ low heard (welcome s l may) = image_at_within b n.core.log n.core.base h.entries h.image
+says_within b m n c to p h up_ low heard (leave_ask _ a l) = tt
+says_within b m n c to p h up_ low heard (gone s l may) = tt
+says_within b m n c to p h up_ low heard (invite _ may) = tt
+says_within b m n c to p h up_ low heard (vote s v is) = let k = told_within b n.core.log h.entries h.image in (members_within b (told n) k, k.round)
+says_within b m n c to p h up_ low heard (fetch _ may) = tt
+says_within b m n c to p h up_ low heard (piece s v stored number e is may at) = all_get (EntryWithin b) n.core.log.entries at.index e h.entries at.there
+says_within b m n c to p h up_ low heard (result _ number names is viewed may) =
+    let k = told_within b n.core.log h.entries h.image in
+    let v = (told_up n.core.log up_).view in
+    (omega arith, subst IsSet viewed (viewed_by_set b (entry_at n.core.log number) (λ e at. at_within b n.core.log number e h.entries at)), k.resilience)
+says_within b m n c to p h up_ low heard (hand_over _ l leaves) = tt
+
+-- ---- packets
+
+-- numbers up to bounds that are numbers
+first_of : (b : Bounds) (x : ℕ) (xs : List ℕ) → AreNumbers b → All (λ n. n ≤ b.lists) (x ∷ xs) → IsNumber x
+first_of b x xs n h = let l = n.lists in let k = All-head (λ n. n ≤ b.lists) x xs h in omega arith
+
+two_of : (b : Bounds) (x y : ℕ) → AreNumbers b → All (λ n. n ≤ b.lists) (x ∷ y ∷ []) → IsNumber x × IsNumber y
+two_of b x y n h = (first_of b x (y ∷ []) n h, first_of b y [] n (All-tail (λ n. n ≤ b.lists) x (y ∷ []) h))
+
+three_of : (b : Bounds) (x y z : ℕ) → AreNumbers b → All (λ n. n ≤ b.lists) (x ∷ y ∷ z ∷ []) → IsNumber x × IsNumber y × IsNumber z
+three_of b x y z n h = let k = two_of b y z n (All-tail (λ n. n ≤ b.lists) x (y ∷ z ∷ []) h) in (first_of b x (y ∷ z ∷ []) n h, k.0, k.1)
+
+is_report : (b : Bounds) (report : Report) → AreNumbers b → All (λ n. n ≤ b.lists) (report.stored ∷ report.taken ∷ []) → IsReport report
+is_report b report n h = let k = two_of b report.stored report.taken n h in record { stored = k.0; taken = k.1 }
+
+-- what a packet is within
+pub record IsLimited (b : Bounds) (g : ℕ) (p : Packet) : Type 0 where
+  pub up_to : UpTo b g p
+  pub within : PacketWithin b p
+  pub welcome : WelcomeUp p
+
+is_round : (b : Bounds) (g : ℕ) (p : Packet) → AreNumbers b → UpTo b g p → IsNumber (stamp_of p).round
+is_round b g p n h = let r = h.round in let k = n.rounds in omega arith
+
+is_request : (b : Bounds) (req : ℕ) → AreNumbers b → req ≤ b.requests → IsNumber req
+is_request b req n h = let k = n.requests in omega arith
+
+pub is_packet : (b : Bounds) (g : ℕ) (p : Packet) → AreNumbers b → IsLimited b g p → IsPacket p
+unfolding IsWithin HasParts
+is_packet b g (packet.Request s v report req body) n h =
+    let round = is_round b g (packet.Request s v report req body) n h.up_to in
+    let report_ = is_report b report n h.up_to.numbers in
+    record { within = (round, report_, is_request b req n h.within.0); parts = h.within.1 }
+is_packet b g (packet.Spread s v report req body) n h =
+    let round = is_round b g (packet.Spread s v report req body) n h.up_to in
+    let report_ = is_report b report n h.up_to.numbers in
+    record { within = (round, report_, is_request b req n h.within.0); parts = h.within.1 }
+is_packet b g (packet.Bcast s v base acc number e) n h =
+    let round = is_round b g (packet.Bcast s v base acc number e) n h.up_to in
+    let k = three_of b base acc number n h.up_to.numbers in let x = is_entry b e n h.within in
+    record { within = (round, k.0, k.1, k.2, x.0); parts = x.1 }
+is_packet b g (packet.Order s v base acc number from req) n h =
+    let round = is_round b g (packet.Order s v base acc number from req) n h.up_to in
+    let k = three_of b base acc number n h.up_to.numbers in
+    record { within = (round, k.0, k.1, k.2, is_request b req n h.within); parts = tt }
+is_packet b g (packet.Accept s v base acc high poll) n h =
+    let round = is_round b g (packet.Accept s v base acc high poll) n h.up_to in
+    let k = three_of b base acc high n h.up_to.numbers in
+    record { within = (round, k.0, k.1, k.2); parts = tt }
+is_packet b g (packet.Ack s v report) n h =
+    let round = is_round b g (packet.Ack s v report) n h.up_to in
+    let report_ = is_report b report n h.up_to.numbers in
+    record { within = (round, report_); parts = tt }
+is_packet b g (packet.Nack s v report) n h =
+    let round = is_round b g (packet.Nack s v report) n h.up_to in
+    let report_ = is_report b report n h.up_to.numbers in
+    record { within = (round, report_); parts = tt }
+is_packet b g (packet.Hold s v base high req) n h =
+    let round = is_round b g (packet.Hold s v base high req) n h.up_to in
+    let k = two_of b base high n h.up_to.numbers in
+    record { within = (round, k.0, k.1, is_request b req n h.within); parts = tt }
+is_packet b g (packet.JoinAsk s v) n h =
+    let round = is_round b g (packet.JoinAsk s v) n h.up_to in
+    record { within = round; parts = tt }
+is_packet b g (packet.Welcome s v base join image) n h =
+    let round = is_round b g (packet.Welcome s v base join image) n h.up_to in
+    let k = two_of b base join n h.up_to.numbers in
+    record { within = (round, k.0, k.1, is_image b base image n (All-head (λ n. n ≤ b.lists) base (join ∷ []) h.up_to.numbers) h.welcome h.within); parts = h.within.places }
+is_packet b g (packet.LeaveAsk s v report) n h =
+    let round = is_round b g (packet.LeaveAsk s v report) n h.up_to in
+    let report_ = is_report b report n h.up_to.numbers in
+    record { within = (round, report_); parts = tt }
+is_packet b g (packet.Gone s v number) n h =
+    let round = is_round b g (packet.Gone s v number) n h.up_to in
+    record { within = (round, first_of b number [] n h.up_to.numbers); parts = tt }
+is_packet b g (packet.Invite s v) n h =
+    let round = is_round b g (packet.Invite s v) n h.up_to in
+    record { within = round; parts = tt }
+is_packet b g (packet.Vote s v shown) n h =
+    let round = is_round b g (packet.Vote s v shown) n h.up_to in
+    let k = two_of b shown.top shown.taken n h.up_to.numbers in let low = h.within.1 in let rounds = n.rounds in
+    record { within = (round, record { view = omega arith; top = k.0; taken = k.1 }); parts = h.within.0 }
+is_packet b g (packet.Fetch s v stored) n h =
+    let round = is_round b g (packet.Fetch s v stored) n h.up_to in
+    record { within = (round, first_of b stored [] n h.up_to.numbers); parts = tt }
+is_packet b g (packet.Piece s v base number e) n h =
+    let round = is_round b g (packet.Piece s v base number e) n h.up_to in
+    let k = two_of b base number n h.up_to.numbers in let x = is_entry b e n h.within in
+    record { within = (round, k.0, k.1, x.0); parts = x.1 }
+is_packet b g (packet.Result s v base number names resilience) n h =
+    let round = is_round b g (packet.Result s v base number names resilience) n h.up_to in
+    let w = h.within in let low = w.0 in let lists = n.lists in
+    record { within = (round, first_of b base [] n h.up_to.numbers, omega arith, w.2); parts = w.1 }
+is_packet b g (packet.HandOver s v) n h =
+    let round = is_round b g (packet.HandOver s v) n h.up_to in
+    record { within = round; parts = tt }

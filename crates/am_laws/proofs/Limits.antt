@@ -1,0 +1,183 @@
+-- Which rows, images and entries are within their limits.
+use Rattle.std.proofs.Common.{◌≡◌, ℕ, zero, suc, ◌+◌, ◌-◌, ◌<◌, ◌≤◌, ◌==◌, ◌&&◌, not, nat_lt, Bool, true, false, List, [], ◌∷◌, length, take, map, set, slice_index, slice_index_or, refl, ◌∙◌, arith}
+use Rattle.std.specs.Prelude.{All}
+use Rattle.std.specs.List.{range_with_len}
+use Rattle.std.proofs.lemmas.Bool.Decides.{nat_tests}
+use Rattle.std.proofs.lemmas.List.{length-map, length-set}
+use Rattle.std.proofs.lemmas.List.Elements.{All-head, All-tail, All-map, All-set, All-take, All-weaker, All-get_or, All-from_get_or, All-replicate}
+use Rattle.am_base.specs.declared.entry.Entry.{Entry}
+use Rattle.am_base.specs.declared.entry.Entry.TheVariants.{Data, Join, Leave, View}
+use Rattle.am_base.specs.declared.image.Row.{Row}
+use Rattle.am_base.specs.declared.image.Image.{Image}
+use Rattle.am_base.specs.Names.{IsSet, nobody, place_of, life_of, name_at, by_place}
+use Rattle.am_base.specs.Limits.{IsImage, IsEntry}
+use Rattle.am_base.specs.Lists.{Log, blank_row, blank, is_blank, at_place, member_life, members_of, viewed, after, fold, image_at, told_by}
+use Rattle.am_codec.specs.Limits.{HasEntryParts}
+use Rattle.am_model.specs.Node.{name_where, those}
+use Rattle.am_model.proofs.Greatest.{split}
+use Rattle.am_laws.specs.Packets.{Bounds, up}
+use Rattle.am_laws.proofs.Images.{ImageUp, all_places, up_at}
+
+-- ---- sets
+
+pub lives_within : (names : List ℕ) → IsSet names → All (λ life. life ≤ 16) names
+lives_within names h = All-from_get_or (λ life. life ≤ 16) names 0 h.lives
+
+pub set_of_lives : (names : List ℕ) → length names ≡ 16 → All (λ life. life ≤ 16) names → IsSet names
+set_of_lives names long h = record { places = long; lives = λ place low. All-get_or (λ life. life ≤ 16) names place 0 low h }
+
+life_at : (names : List ℕ) (place : ℕ) → All (λ life. life ≤ 16) names → slice_index names place ≤ 16
+life_at [] place h = omega arith
+life_at (life ∷ lives) zero h = All-head (λ x. x ≤ 16) life lives h
+life_at (life ∷ lives) (suc place) h = life_at lives place (All-tail (λ x. x ≤ 16) life lives h)
+
+pub is_nobody : IsSet nobody
+is_nobody = set_of_lives nobody refl (All-replicate (λ life. life ≤ 16) 16 0 (omega arith))
+
+life_where : (test : ℕ → Bool) (place life : ℕ) → life ≤ 16 → name_where test place life ≤ 16
+life_where test place life h = split (life == 0)
+    (λ t. rw t (omega arith))
+    (λ f. rw f (split (test (name_at place life)) (λ t. rw t h) (λ g. rw g (omega arith))))
+
+-- those of a set that pass a test
+pub set_those : (test : ℕ → Bool) (names : List ℕ) → IsSet names → IsSet (those test names)
+unfolding those by_place
+set_those test names h =
+    let f : ℕ → ℕ = λ place. name_where test place (slice_index names place) in
+    let low = lives_within names h in
+    set_of_lives (map f (range_with_len 0 16)) refl (All-map (λ life. life ≤ 16) f (range_with_len 0 16) (all_places (λ life. life ≤ 16) f (range_with_len 0 16) (λ place. life_where test place _ (life_at names place low))))
+
+-- ---- rows
+
+pub record RowWithin (b : Bounds) (r : Row) : Type 0 where
+  pub life : r.life ≤ 16
+  pub unused : r.joined ≡ 0 → r.life ≡ 0
+  pub used : r.life ≡ 0 → r.joined ≡ 0
+  pub last : r.last ≤ b.requests
+
+pub record ImageWithin (b : Bounds) (image : Image) : Type 0 where
+  pub places : length image.rows ≡ 16
+  pub rows : All (RowWithin b) image.rows
+  pub round : image.view.round ≤ b.rounds
+  pub resilience : image.resilience ≤ 15
+
+abbrev pub EntryWithin : Bounds → Entry → Type 0
+EntryWithin b (Data from req body) = (req ≤ b.requests) × (length body ≤ 1024)
+EntryWithin b (Join name) = name < 256
+EntryWithin b (Leave name) = Unit {0}
+EntryWithin b (View stamp names resilience) = (stamp.round ≤ b.rounds) × IsSet names × (resilience ≤ 15)
+
+row_more : (b : Bounds) (r : Row) → RowWithin b r → RowWithin (up b) r
+row_more b r h = let l = h.last in record { life = h.life; unused = h.unused; used = h.used; last = omega arith }
+
+pub image_more : (b : Bounds) (image : Image) → ImageWithin b image → ImageWithin (up b) image
+image_more b image h = let r = h.round in record { places = h.places; rows = All-weaker (RowWithin b) (RowWithin (up b)) (row_more b) image.rows h.rows; round = omega arith; resilience = h.resilience }
+
+pub entry_more : (b : Bounds) (e : Entry) → EntryWithin b e → EntryWithin (up b) e
+entry_more b (Data from req body) h = let r = h.0 in (omega arith, h.1)
+entry_more b (Join name) h = h
+entry_more b (Leave name) h = h
+entry_more b (View stamp names resilience) h = let r = h.0 in (omega arith, h.1, h.2)
+
+blank_within : (b : Bounds) → RowWithin b blank_row
+blank_within b = record { life = omega arith; unused = λ e. refl; used = λ e. refl; last = omega arith }
+
+pub is_blank_within : (b : Bounds) → ImageWithin b blank
+is_blank_within b = record { places = refl; rows = All-replicate (RowWithin b) 16 blank_row (blank_within b); round = omega arith; resilience = omega arith }
+
+row_at_within : (b : Bounds) (rows : List Row) (place : ℕ) → All (RowWithin b) rows → RowWithin b (slice_index_or rows place blank_row)
+row_at_within b [] place h = blank_within b
+row_at_within b (r ∷ rs) zero h = All-head (RowWithin b) r rs h
+row_at_within b (r ∷ rs) (suc place) h = row_at_within b rs place (All-tail (RowWithin b) r rs h)
+
+member_within : (b : Bounds) (r : Row) → RowWithin b r → member_life r ≤ 16
+member_within b r h = split (nat_lt 0 r.joined && (r.left == 0)) (λ t. rw t h.life) (λ f. rw f (omega arith))
+
+-- who an image says to be members
+pub members_within : (b : Bounds) (image : Image) → ImageWithin b image → IsSet (members_of image)
+members_within b image h = set_of_lives (members_of image) (length-map image.rows member_life ∙ h.places) (All-map (λ life. life ≤ 16) member_life image.rows (All-weaker (RowWithin b) (λ r. member_life r ≤ 16) (member_within b) image.rows h.rows))
+
+-- ---- an entry more
+
+with_row_within : (b : Bounds) (rows : List Row) (place : ℕ) (r : Row) → RowWithin b r → All (RowWithin b) rows → length rows ≡ 16 → All (RowWithin b) (set rows place r) × (length (set rows place r) ≡ 16)
+with_row_within b rows place r h k long = (All-set (RowWithin b) rows place r h k, length-set rows place r ∙ long)
+
+viewed_within : (b : Bounds) (first : Bool) (number life : ℕ) (r : Row) → life ≤ 16 → RowWithin b r → RowWithin b (viewed first number life r)
+viewed_within b true number life r low h = split (life == 0)
+    (λ t. rw t h)
+    (λ f. rw f (record { life = low; unused = λ e. absurd (omega arith); used = λ e. absurd (grind (arith, nat_tests)); last = omega arith }))
+viewed_within b false number life r low h = split (nat_lt 0 (member_life r) && not (member_life r == life))
+    (λ t. rw t (record { life = h.life; unused = h.unused; used = h.used; last = h.last }))
+    (λ f. rw f h)
+
+after_within : (b : Bounds) (image : Image) (number : ℕ) (e : Entry) → EntryWithin b e → ImageWithin b image → ImageWithin b (after image (number + 1) e)
+unfolding after by_place
+after_within b image number (Data from req body) e h =
+    let old = row_at_within b image.rows (place_of from) h.rows in
+    let k = with_row_within b image.rows (place_of from) (record (at_place image from) { last = req }) (record { life = old.life; unused = old.unused; used = old.used; last = e.0 }) h.rows h.places in
+    split ((at_place image from).life == life_of from)
+    (λ t. rw t (record { places = k.1; rows = k.0; round = h.round; resilience = h.resilience }))
+    (λ f. rw f h)
+after_within b image number (Join name) e h =
+    let k = with_row_within b image.rows (place_of name) (record { life = life_of name; joined = number + 1; left = 0; last = 0 }) (record { life = omega arith; unused = λ z. absurd (omega arith); used = λ z. absurd (omega arith); last = omega arith }) h.rows h.places in
+    record { places = k.1; rows = k.0; round = h.round; resilience = h.resilience }
+after_within b image number (Leave name) e h =
+    let old = row_at_within b image.rows (place_of name) h.rows in
+    let k = with_row_within b image.rows (place_of name) (record (at_place image name) { left = number + 1 }) (record { life = old.life; unused = old.unused; used = old.used; last = old.last }) h.rows h.places in
+    split ((at_place image name).life == life_of name)
+    (λ t. rw t (record { places = k.1; rows = k.0; round = h.round; resilience = h.resilience }))
+    (λ f. rw f h)
+after_within b image number (View stamp names resilience) e h =
+    let f : ℕ → Row = λ place. viewed (is_blank image) (number + 1) (slice_index names place) (slice_index_or image.rows place blank_row) in
+    let low = lives_within names e.1 in
+    record {
+      places = refl;
+      rows = All-map (RowWithin b) f (range_with_len 0 16) (all_places (RowWithin b) f (range_with_len 0 16) (λ place. viewed_within b (is_blank image) (number + 1) (slice_index names place) _ (life_at names place low) (row_at_within b image.rows place h.rows)));
+      round = e.0;
+      resilience = e.2;
+    }
+
+pub fold_within : (b : Bounds) (image : Image) (number : ℕ) (es : List Entry) → All (EntryWithin b) es → ImageWithin b image → ImageWithin b (fold image (number + 1) es)
+unfolding fold
+fold_within b image number [] k h = h
+fold_within b image number (e ∷ es) k h = fold_within b (after image (number + 1) e) (number + 1) es (All-tail (EntryWithin b) e es k) (after_within b image number e (All-head (EntryWithin b) e es k) h)
+
+pub told_within : (b : Bounds) (log : Log) → All (EntryWithin b) log.entries → ImageWithin b log.image → ImageWithin b (told_by log)
+told_within b log k h = fold_within b log.image log.start log.entries k h
+
+pub image_at_within : (b : Bounds) (log : Log) (number : ℕ) → All (EntryWithin b) log.entries → ImageWithin b log.image → ImageWithin b (image_at log number)
+image_at_within b log number k h = fold_within b log.image log.start (take (number - log.start) log.entries) (All-take (EntryWithin b) (number - log.start) log.entries k) h
+
+-- ---- the limits of packets' parts
+
+-- bounds that are numbers
+pub record AreNumbers (b : Bounds) : Type 0 where
+  pub lists : b.lists ≤ 2000000000
+  pub rounds : b.rounds ≤ 2000000000
+  pub requests : b.requests ≤ 2000000000
+
+pub is_entry : (b : Bounds) (e : Entry) → AreNumbers b → EntryWithin b e → IsEntry e × HasEntryParts e
+is_entry b (Data from req body) n h = let r = n.requests in let q = h.0 in (omega arith, h.1)
+is_entry b (Join name) n h = (tt, tt)
+is_entry b (Leave name) n h = (tt, tt)
+is_entry b (View stamp names resilience) n h = let r = n.rounds in let q = h.0 in ((omega arith, h.2), h.1)
+
+pub is_image : (b : Bounds) (number : ℕ) (image : Image) → AreNumbers b → number ≤ b.lists → ImageUp number image → ImageWithin b image → IsImage image
+is_image b number image n low k h =
+    let lists = n.lists in
+    let rounds = n.rounds in
+    let requests = n.requests in
+    let view = k.view in
+    let round = h.round in
+    record {
+      places = h.places;
+      rows = λ place small. (let r = row_at_within b image.rows place h.rows in
+          let s = up_at number image.rows place k.rows in
+          let last = r.last in
+          let joined = s.joined in
+          let left = s.left in
+          record { life = r.life; unused = r.unused; used = r.used; joined = omega arith; left = omega arith; last = omega arith });
+      view = omega arith;
+      view_number = omega arith;
+      resilience = h.resilience;
+    }

@@ -1,0 +1,387 @@
+-- What a node has is within its limits, and each change keeps it so.
+use Rattle.std.proofs.Common.{◌≡◌, ℕ, ◌+◌, ◌<◌, ◌≤◌, ◌==◌, ◌&&◌, not, max, nat_le, false, if◌then◌else◌, List, [], ◌∷◌, length, drop, find, Option, Some, None, option_map, refl, sym, ap, subst, arith}
+use Rattle.std.specs.Prelude.{All}
+use Rattle.std.specs.List.{list_any}
+use Rattle.std.proofs.lemmas.Bool.Decides.{nat_tests}
+use Rattle.std.proofs.lemmas.List.Elements.{All-nil, All-cons, All-append, All-map, All-filter, All-drop, All-weaker}
+use Rattle.am_base.specs.declared.entry.Entry.{Entry}
+use Rattle.am_base.specs.declared.entry.Entry.TheVariants.{Data, Join, Leave, View}
+use Rattle.am_base.specs.declared.image.Vote.{Vote}
+use Rattle.am_base.specs.declared.image.Report.{Report}
+use Rattle.am_base.specs.declared.name.Stamp.{Stamp}
+use Rattle.am_base.specs.declared.outcome.Outcome.{Outcome}
+use Rattle.am_base.specs.declared.event.NodeEvent.TheVariants as does
+use Rattle.am_base.specs.Names.{IsSet}
+use Rattle.am_base.specs.Stamps.{stamp_lt}
+use Rattle.am_base.specs.Votes.{Shown, vote_lt, all_names, better_of, best_from}
+use Rattle.am_packet.specs.declared.packet.Packet.{Packet}
+use Rattle.am_packet.specs.declared.packet.Packet.TheVariants as packet
+use Rattle.am_sender.specs.declared.OwnSend.{OwnSend}
+use Rattle.am_sender.specs.Sends as own
+use Rattle.am_bodies.specs.declared.KeptBody.{KeptBody}
+use Rattle.am_bodies.specs.Bodies.{is_of, find_body, keep_body}
+use Rattle.am_model.specs.Node.{Node, Ballot, told, waiting, pushed}
+use Rattle.am_model.specs.Ballots.{Verdict, overtaken, own_vote, best_of, need_of, left_in}
+use Rattle.am_model.specs.Receiving.{own_body, first_body, body_of, bodies_after}
+use Rattle.am_model.specs.Refresh.{refresh, accepted_at, settled_at, settled, settle, refresh_at_end}
+use Rattle.am_model.proofs.Greatest.{split}
+use Rattle.am_effects.specs.Causes.{Cause, calls, hears, BringsSend, by_request, by_spread}
+use Rattle.am_effects.specs.Looks.{HasOpen, Balloting, with_more, without_one, as_it_is, Looks, finds_itself_out, waits, fetches_from_best, finds_too_few, finds_no_room, decides}
+use Rattle.am_effects.specs.Changes.{Numbers, asked_send, own_send, asked_join, asked_leave, Carries, whole_entry, by_number, Change, Changes, unchanged, changed, refreshes, settles, takes_report, admits, numbers, keeps_body, notes, stores, begins_list, departs, promises, opens, looks, fetches, stores_view, queues, collects, takes, asks_to_join, asks_to_leave, closes}
+use Rattle.am_effects.proofs.Items.{all_find}
+use Rattle.am_effects.proofs.Rests.{with_fronts, refresh_is, rests_refresh, rests_at_end, settle_is}
+use Rattle.am_laws.specs.Packets.{Bounds, up, sender_of}
+use Rattle.am_laws.proofs.Limits.{ImageWithin, EntryWithin, image_more, entry_more, members_within, told_within, set_those}
+
+-- ---- what a node has
+
+pub record SendWithin (b : Bounds) (s : OwnSend) : Type 0 where
+  pub req : s.req ≤ b.requests
+  pub body : length s.body ≤ 1024
+
+abbrev pub KeptWithin : KeptBody → Type 0
+KeptWithin kept = length kept.body ≤ 1024
+
+pub record VotesWithin (b : Bounds) (ballot : Ballot) : Type 0 where
+  pub round : ballot.stamp.round ≤ b.rounds
+  pub resilience : ballot.resilience ≤ 15
+  pub votes : (name : ℕ) (vote : Vote) → ballot.votes name ≡ Some vote → IsSet vote.members
+
+abbrev pub BallotWithin : Bounds → Option Ballot → Type 0
+BallotWithin b None = Unit {0}
+BallotWithin b (Some ballot) = VotesWithin b ballot
+
+pub record Within (b : Bounds) (m : Node) : Type 0 where
+  pub image : ImageWithin b m.core.log.image
+  pub entries : All (EntryWithin b) m.core.log.entries
+  pub sends : All (SendWithin b) m.sends.queue
+  pub bodies : All KeptWithin m.bodies
+  pub ballot : BallotWithin b m.ballot
+
+-- ---- what a packet tells
+
+abbrev pub PacketWithin : Bounds → Packet → Type 0
+PacketWithin b (packet.Request s v report req body) = (req ≤ b.requests) × (length body ≤ 1024)
+PacketWithin b (packet.Spread s v report req body) = (req ≤ b.requests) × (length body ≤ 1024)
+PacketWithin b (packet.Bcast s v base acc number e) = EntryWithin b e
+PacketWithin b (packet.Order s v base acc number from req) = req ≤ b.requests
+PacketWithin b (packet.Hold s v base high req) = req ≤ b.requests
+PacketWithin b (packet.Welcome s v base join image) = ImageWithin b image
+PacketWithin b (packet.Vote s v vote) = IsSet vote.members × (vote.view.round ≤ b.rounds)
+PacketWithin b (packet.Piece s v base number e) = EntryWithin b e
+PacketWithin b (packet.Result s v base number names resilience) = (number ≤ b.lists) × IsSet names × (resilience ≤ 15)
+PacketWithin b _ = Unit {0}
+
+-- what makes a node do a step
+pub record CauseWithin (b : Bounds) (c : Cause) : Type 0 where
+  pub heard : (p : Packet) → c ≡ hears p → PacketWithin b p
+  pub senders : (p : Packet) → c ≡ hears p → sender_of p < 256
+  pub called : (body : List ℕ) → c ≡ calls (does.Send body) → length body ≤ 1024
+
+-- ---- wider bounds
+
+votes_more : (b : Bounds) (ballot : Option Ballot) → BallotWithin b ballot → BallotWithin (up b) ballot
+votes_more b None h = tt
+votes_more b (Some ballot) h = let r = h.round in record { round = omega arith; resilience = h.resilience; votes = h.votes }
+
+send_more : (b : Bounds) (s : OwnSend) → SendWithin b s → SendWithin (up b) s
+send_more b s h = let r = h.req in record { req = omega arith; body = h.body }
+
+pub within_more : (b : Bounds) (m : Node) → Within b m → Within (up b) m
+within_more b m h = record {
+  image = image_more b m.core.log.image h.image;
+  entries = All-weaker (EntryWithin b) (EntryWithin (up b)) (entry_more b) m.core.log.entries h.entries;
+  sends = All-weaker (SendWithin b) (SendWithin (up b)) (send_more b) m.sends.queue h.sends;
+  bodies = h.bodies;
+  ballot = votes_more b m.ballot h.ballot;
+}
+
+pub packet_more : (b : Bounds) (p : Packet) → PacketWithin b p → PacketWithin (up b) p
+packet_more b (packet.Request s v report req body) h = let r = h.0 in (omega arith, h.1)
+packet_more b (packet.Spread s v report req body) h = let r = h.0 in (omega arith, h.1)
+packet_more b (packet.Bcast s v base acc number e) h = entry_more b e h
+packet_more b (packet.Order s v base acc number from req) h = omega arith
+packet_more b (packet.Hold s v base high req) h = omega arith
+packet_more b (packet.Welcome s v base join image) h = image_more b image h
+packet_more b (packet.Vote s v vote) h = let r = h.1 in (h.0, omega arith)
+packet_more b (packet.Piece s v base number e) h = entry_more b e h
+packet_more b (packet.Result s v base number names resilience) h = let r = h.0 in (omega arith, h.1, h.2)
+packet_more b (packet.Accept s v base acc high poll) h = tt
+packet_more b (packet.Ack s v report) h = tt
+packet_more b (packet.Nack s v report) h = tt
+packet_more b (packet.JoinAsk s v) h = tt
+packet_more b (packet.LeaveAsk s v report) h = tt
+packet_more b (packet.Gone s v number) h = tt
+packet_more b (packet.Invite s v) h = tt
+packet_more b (packet.Fetch s v stored) h = tt
+packet_more b (packet.HandOver s v) h = tt
+
+-- ---- entries
+
+pub pushed_within : (b : Bounds) (m : Node) (e : Entry) → EntryWithin b e → Within b m → Within b (pushed m e)
+pushed_within b m e is h = record {
+  image = h.image;
+  entries = All-append (EntryWithin b) m.core.log.entries (e ∷ []) h.entries (All-cons (EntryWithin b) e [] is (All-nil (EntryWithin b)));
+  sends = h.sends;
+  bodies = h.bodies;
+  ballot = h.ballot;
+}
+
+send_brought : (b : Bounds) (c : Cause) (s : ℕ) (v : Stamp) (report : Report) (req : ℕ) (body : List ℕ) → BringsSend c s v report req body → ((p : Packet) → c ≡ hears p → PacketWithin b p) → (req ≤ b.requests) × (length body ≤ 1024)
+send_brought b c s v report req body (by_request s1 v1 report1 req1 body1) heard = heard (packet.Request s v report req body) refl
+send_brought b c s v report req body (by_spread s1 v1 report1 req1 body1) heard = heard (packet.Spread s v report req body) refl
+
+pub req_brought : (b : Bounds) (c : Cause) (s : ℕ) (v : Stamp) (report : Report) (req : ℕ) (body : List ℕ) → BringsSend c s v report req body → ((p : Packet) → c ≡ hears p → PacketWithin b p) → req ≤ b.requests
+req_brought b c s v report req body by heard = (send_brought b c s v report req body by heard).0
+
+waiting_within : (b : Bounds) (m : Node) (s : OwnSend) → waiting m ≡ Some s → Within b m → SendWithin b s
+waiting_within b m s is h = (all_find (SendWithin b) own.is_unsettled m.sends.queue s h.sends is).0
+
+numbered_within : (b : Bounds) (c : Cause) (m : Node) (e : Entry) → Numbers c m e → CauseWithin b c → Within b m → EntryWithin b e
+numbered_within b c m e (asked_send s v report req body by known stays next) from h = send_brought b c s v report req body by from.heard
+numbered_within b c m e (own_send s is last) from h = let k = waiting_within b m s is h in (k.req, k.body)
+numbered_within b c m e (asked_join s v is other fit) from h = from.senders (packet.JoinAsk s v) is
+numbered_within b c m e (asked_leave s v report is other known stays) from h = tt
+
+-- ---- bodies
+
+abbrev OptionWithin : Option (List ℕ) → Type 0
+OptionWithin None = Unit {0}
+OptionWithin (Some body) = length body ≤ 1024
+
+own_body_within : (b : Bounds) (m : Node) (from req : ℕ) (w : Option OwnSend) → ((s : OwnSend) → w ≡ Some s → SendWithin b s) → OptionWithin (own_body m from req w)
+own_body_within b m from req None h = tt
+own_body_within b m from req (Some s) h = split ((from == m.core.who) && (s.req == req)) (λ t. rw t ((h s refl).body)) (λ f. rw f tt)
+
+found_within : (found : Option KeptBody) → ((kept : KeptBody) → found ≡ Some kept → KeptWithin kept) → OptionWithin (option_map (λ kept. kept.body) found)
+found_within None h = tt
+found_within (Some kept) h = h kept refl
+
+first_within : (x y : Option (List ℕ)) → OptionWithin x → OptionWithin y → OptionWithin (first_body x y)
+first_within None y h k = k
+first_within (Some body) y h k = h
+
+body_of_within : (b : Bounds) (m : Node) (from req : ℕ) → Within b m → OptionWithin (body_of m from req)
+body_of_within b m from req h =
+    first_within (own_body m from req (waiting m)) (find_body from req m.bodies)
+    (own_body_within b m from req (waiting m) (λ s is. waiting_within b m s is h))
+    (found_within (find (is_of from req) m.bodies) (λ kept is. (all_find KeptWithin (is_of from req) m.bodies kept h.bodies is).0))
+
+carried_within : (b : Bounds) (c : Cause) (m : Node) (s : ℕ) (v : Stamp) (base acc number : ℕ) (e : Entry) → Carries c m s v base acc number e → CauseWithin b c → Within b m → EntryWithin b e
+carried_within b c m s v base acc number e (whole_entry x is) from h = from.heard (packet.Bcast s v base acc number e) is
+carried_within b c m s v base acc number e (by_number name req body is found) from h =
+    (from.heard (packet.Order s v base acc number name req) is, subst OptionWithin found (body_of_within b m name req h))
+
+after_bodies : (bodies : List KeptBody) (e : Entry) → All KeptWithin bodies → All KeptWithin (bodies_after bodies e)
+after_bodies bodies (Data from req body) h = All-filter (λ kept. not ((kept.from == from) && nat_le kept.req req)) KeptWithin bodies h
+after_bodies bodies (Join name) h = h
+after_bodies bodies (Leave name) h = h
+after_bodies bodies (View stamp names resilience) h = h
+
+kept_within : (s req : ℕ) (body : List ℕ) (bodies : List KeptBody) → length body ≤ 1024 → All KeptWithin bodies → All KeptWithin (keep_body s req body bodies)
+kept_within s req body bodies low h = split (list_any (is_of s req) bodies)
+    (λ t. rw t h)
+    (λ f. rw f (All-append KeptWithin (if nat_le 16 (length bodies) then drop 1 bodies else bodies) _
+    (split (nat_le 16 (length bodies)) (λ t. rw t (All-drop KeptWithin 1 bodies h)) (λ g. rw g h))
+    (All-cons KeptWithin _ [] low (All-nil KeptWithin))))
+
+-- ---- sends
+
+settled_send : (b : Bounds) (req number : ℕ) (s : OwnSend) → SendWithin b s → SendWithin b (own.settle_send req number s)
+settled_send b req number s h = split (s.req == req) (λ t. rw t (record { req = h.req; body = h.body })) (λ f. rw f h)
+
+settled_at_within : (b : Bounds) (m : Node) (req : ℕ) (at : Option ℕ) → Within b m → Within b (settled_at m req at)
+settled_at_within b m req None h = h
+settled_at_within b m req (Some k) h =
+    let f = own.settle_send req (m.core.base + 1 + k) in
+    record {
+      image = h.image;
+      entries = h.entries;
+      sends = All-map (SendWithin b) f m.sends.queue (All-weaker (SendWithin b) (λ s. SendWithin b (f s)) (settled_send b req (m.core.base + 1 + k)) m.sends.queue h.sends);
+      bodies = h.bodies;
+      ballot = h.ballot;
+    }
+
+settled_within : (b : Bounds) (m : Node) (w : Option OwnSend) → Within b m → Within b (settled m w)
+settled_within b m None h = h
+settled_within b m (Some s) h = settled_at_within b m s.req (accepted_at m s.req) h
+
+settle_within : (b : Bounds) (m : Node) → Within b m → Within b (settle m)
+unfolding settle
+settle_within b m h = settled_within b m (waiting m) h
+
+collected_within : (b : Bounds) (req : ℕ) (sends : own.Sends) → All (SendWithin b) sends.queue → All (SendWithin b) (own.collect req sends).queue
+collected_within b req sends h = split (own.is_settled req sends)
+    (λ t. rw t (All-filter (λ send. not (own.is_request req send)) (SendWithin b) sends.queue h))
+    (λ f. rw f h)
+
+-- ---- refreshes
+
+refresh_within : (b : Bounds) (m : Node) → Within b m → Within b (refresh m)
+refresh_within b m h =
+    let same : refresh m ≡ with_fronts m (refresh m) = refresh_is m in
+    subst (Within b) (sym same) (record { image = h.image; entries = h.entries; sends = h.sends; bodies = h.bodies; ballot = h.ballot })
+
+at_end_within : (b : Bounds) (m : Node) → Within b m → Within b (refresh_at_end m)
+unfolding refresh_at_end
+at_end_within b m h = settle_within b (refresh m) (refresh_within b m h)
+
+-- ---- ballots
+
+overtaken_within : (b : Bounds) (by : Stamp) (ballot : Option Ballot) → BallotWithin b ballot → BallotWithin b (overtaken by ballot)
+overtaken_within b by None h = tt
+overtaken_within b by (Some x) h = split (not x.is_over && stamp_lt x.stamp by)
+    (λ t. rw t (record { round = h.round; resilience = h.resilience; votes = h.votes }))
+    (λ f. rw f h)
+
+open_within : (b : Bounds) (m : Node) (x : Ballot) → HasOpen m x → Within b m → VotesWithin b x
+open_within b m x open_ h = subst (BallotWithin b) open_.last h.ballot
+
+-- by what stands among the votes of a name
+vote_more : (votes : ℕ → Option Vote) (name : ℕ) (new : Option Vote) → ((v : Vote) → new ≡ Some v → IsSet v.members) → ((i : ℕ) (v : Vote) → votes i ≡ Some v → IsSet v.members)
+    → (i : ℕ) (v : Vote) → (if i == name then new else votes i) ≡ Some v → IsSet v.members
+vote_more votes name new f h i v = split (i == name) (λ t. rw t (f v)) (λ g. rw g (h i v))
+
+looked_within : (b : Bounds) (c : Cause) (m : Node) (x : Ballot) → Balloting c m x → CauseWithin b c → Within b m → VotesWithin b x
+looked_within b c m x (with_more old s v shown is by low high open_ same stays) from h =
+    let k = open_within b m old open_ h in
+    record { round = k.round; resilience = k.resilience; votes = vote_more old.votes s (Some shown) (λ u e. let r : shown ≡ u = cc in subst (λ (z : Vote). IsSet z.members) r ((from.heard (packet.Vote s v shown) is).0)) k.votes }
+looked_within b c m x (without_one old name is open_ other) from h =
+    let k = open_within b m old open_ h in
+    record { round = k.round; resilience = k.resilience; votes = vote_more old.votes name None (λ u e. absurd (cc)) k.votes }
+looked_within b c m x (as_it_is old open_ on) from h = open_within b m old open_ h
+
+-- what is so of all votes is so of the best
+better_is : (P : Vote → Type 0) (best : Shown) (name : ℕ) (o : Option Vote) → P best.vote → ((v : Vote) → o ≡ Some v → P v) → P (better_of best name o).vote
+better_is P best name None h f = h
+better_is P best name (Some vote) h f = split (vote_lt best.vote vote) (λ t. rw t (f vote refl)) (λ g. rw g h)
+
+best_is : (P : Vote → Type 0) (votes : ℕ → Option Vote) (best : Shown) (names : List ℕ) → P best.vote → ((name : ℕ) (v : Vote) → votes name ≡ Some v → P v) → P (best_from votes best names).vote
+unfolding best_from
+best_is P votes best [] h f = h
+best_is P votes best (name ∷ names) h f = best_is P votes (better_of best name (votes name)) names (better_is P best name (votes name) h (f name)) f
+
+need_within : (b : Bounds) (m : Node) (x : Ballot) → VotesWithin b x → Within b m → IsSet (need_of m x)
+unfolding best_of
+need_within b m x k h =
+    best_is (λ (v : Vote). IsSet v.members) x.votes (record { by = m.core.who; vote = own_vote m }) all_names
+    (members_within b (told m) (told_within b m.core.log h.entries h.image)) k.votes
+
+-- the View that is decided
+view_within : (b : Bounds) (m : Node) (x : Ballot) → VotesWithin b x → Within b m → EntryWithin b (View x.stamp (left_in x (need_of m x)) (max x.resilience (told m).resilience))
+view_within b m x k h =
+    let t = (told_within b m.core.log h.entries h.image).resilience in
+    let r = k.resilience in
+    (k.round, set_those (λ name. not (x.given_up name)) (need_of m x) (need_within b m x k h), omega arith)
+
+look_within : (b : Bounds) (m : Node) (x : Ballot) (v : Verdict) → Looks m x v → VotesWithin b x → Within b m → Within b v.node
+look_within b m x v look k h =
+    let l : (y : Ballot) → y.stamp ≡ x.stamp → y.resilience ≡ x.resilience → y.votes ≡ x.votes → VotesWithin b y = λ y s r w. record { round = rw s k.round; resilience = rw r k.resilience; votes = rw w k.votes } in
+    looked l look
+  where
+    looked : ((y : Ballot) → y.stamp ≡ x.stamp → y.resilience ≡ x.resilience → y.votes ≡ x.votes → VotesWithin b y) → {u : Verdict} → Looks m x u → Within b u.node
+    looked l (finds_itself_out y) = record { image = h.image; entries = h.entries; sends = h.sends; bodies = h.bodies; ballot = l _ refl refl refl }
+    looked l (waits y z) = record { image = h.image; entries = h.entries; sends = h.sends; bodies = h.bodies; ballot = l _ refl refl refl }
+    looked l (fetches_from_best y z w) = record { image = h.image; entries = h.entries; sends = h.sends; bodies = h.bodies; ballot = l _ refl refl refl }
+    looked l (finds_too_few y z) = record { image = h.image; entries = h.entries; sends = h.sends; bodies = h.bodies; ballot = l _ refl refl refl }
+    looked l (finds_no_room y) = record { image = h.image; entries = h.entries; sends = h.sends; bodies = h.bodies; ballot = l _ refl refl refl }
+    looked l (decides may) =
+        let p = pushed_within b m _ (view_within b m x k h) h in
+        record { image = p.image; entries = p.entries; sends = p.sends; bodies = p.bodies; ballot = l _ refl refl refl }
+
+-- ---- what only rises
+
+pub record Rises (m n : Node) : Type 0 where
+  pub round : m.core.promise.round ≤ n.core.promise.round
+  pub last : m.sends.last ≤ n.sends.last
+
+same_rises : (m n : Node) → n.core.promise ≡ m.core.promise → n.sends.last ≡ m.sends.last → Rises m n
+same_rises m n p s = record { round = rw p (omega arith); last = rw s (omega arith) }
+
+round_rises : (u v : Stamp) → stamp_lt v u ≡ false → u.round ≤ v.round
+round_rises u v h = grind (arith, nat_tests)
+
+look_rises : (m : Node) (x : Ballot) (v : Verdict) → Looks m x v → Rises m v.node
+look_rises m x v (finds_itself_out y) = same_rises m _ refl refl
+look_rises m x v (waits y z) = same_rises m _ refl refl
+look_rises m x v (fetches_from_best y z w) = same_rises m _ refl refl
+look_rises m x v (finds_too_few y z) = same_rises m _ refl refl
+look_rises m x v (finds_no_room y) = same_rises m _ refl refl
+look_rises m x v (decides may) = same_rises m _ refl refl
+
+last_collected : (req : ℕ) (sends : own.Sends) → (own.collect req sends).last ≡ sends.last
+last_collected req sends = split (own.is_settled req sends) (λ t. rw t refl) (λ f. rw f refl)
+
+pub change_rises : {c : Cause} {o : Outcome} (m n : Node) → Change c o m n → Rises m n
+change_rises m n refreshes = let r = (rests_refresh m).rests in same_rises m (refresh m) r.promise r.asked
+change_rises m n settles = same_rises m (settle m) (ap (λ (x : Node). x.core.promise) (settle_is m)) (ap (λ (x : Node). x.sends.last) (settle_is m))
+change_rises m n (takes_report s v report by may) = same_rises m n refl refl
+change_rises m n (admits s v is leads fit) = same_rises m n refl refl
+change_rises m n (numbers e leads room why) = same_rises m n refl refl
+change_rises m n (keeps_body s v report req body is by) = same_rises m n refl refl
+change_rises m n (notes s v base acc by from) = same_rises m n refl refl
+change_rises m n (stores s v base acc number e by from plain may) = same_rises m n refl refl
+change_rises m n (begins_list s v base join image is o may) = record { round = round_rises m.core.promise v may.promise; last = omega arith }
+change_rises m n (departs s v number is by leaves) = same_rises m n refl refl
+change_rises m n (promises v low why) = record { round = round_rises m.core.promise v low; last = omega arith }
+change_rises m n (opens least resilience by may) = record { round = omega arith; last = omega arith }
+change_rises m n (looks b verdict over why look is) = look_rises m b verdict look
+change_rises m n (fetches s v base number e is by promise below from may) = same_rises m n refl refl
+change_rises m n (stores_view s v base number names resilience is by own other promise below may) = same_rises m n refl refl
+change_rises m n (queues body is o member stays few) = record { round = omega arith; last = omega arith }
+change_rises m n (collects req is) = same_rises m n refl (last_collected req m.sends)
+change_rises m n (takes e is o member some there) = same_rises m n refl refl
+change_rises m n (asks_to_join is was) = same_rises m n refl refl
+change_rises m n (asks_to_leave is was stays done) = same_rises m n refl refl
+change_rises m n (closes leads leaves alone room) = let r = (rests_at_end (pushed m (Leave m.core.who))).rests in same_rises m n r.promise r.asked
+
+rises_on : (m n k : Node) → Rises m n → Rises n k → Rises m k
+rises_on m n k h l = let a = h.round in let b = l.round in let c = h.last in let d = l.last in record { round = omega arith; last = omega arith }
+
+pub changes_rise : {c : Cause} {o : Outcome} (m n : Node) → Changes c o m n → Rises m n
+changes_rise m n unchanged = same_rises m m refl refl
+changes_rise m n (changed {n = x} z zs) = rises_on m x n (change_rises m x z) (changes_rise x n zs)
+
+-- ---- each change
+
+pub change_within : (b : Bounds) {c : Cause} {o : Outcome} (m n : Node) → CauseWithin b c → n.core.promise.round ≤ b.rounds → n.sends.last ≤ b.requests → Change c o m n → Within b m → Within b n
+change_within b m n from round last refreshes h = refresh_within b m h
+change_within b m n from round last settles h = settle_within b m h
+change_within b m n from round last (takes_report s v report by may) h = record { image = h.image; entries = h.entries; sends = h.sends; bodies = h.bodies; ballot = h.ballot }
+change_within b m n from round last (admits s v is leads fit) h = record { image = h.image; entries = h.entries; sends = h.sends; bodies = h.bodies; ballot = h.ballot }
+change_within b m n from round last (numbers e leads room why) h = pushed_within b m e (numbered_within b _ m e why from h) h
+change_within b m n from round last (keeps_body s v report req body is by) h = record { image = h.image; entries = h.entries; sends = h.sends; bodies = kept_within s req body m.bodies ((from.heard (packet.Spread s v report req body) is).1) h.bodies; ballot = h.ballot }
+change_within b m n from round last (notes s v base acc by seq) h = record { image = h.image; entries = h.entries; sends = h.sends; bodies = h.bodies; ballot = h.ballot }
+change_within b m n from round last (stores s v base acc number e by seq plain may) h =
+    let k = pushed_within b m e (carried_within b _ m s v base acc number e by from h) h in
+    record { image = k.image; entries = k.entries; sends = k.sends; bodies = after_bodies m.bodies e h.bodies; ballot = k.ballot }
+change_within b m n from round last (begins_list s v base join image is o may) h = record { image = from.heard (packet.Welcome s v base join image) is; entries = All-nil (EntryWithin b); sends = h.sends; bodies = h.bodies; ballot = h.ballot }
+change_within b m n from round last (departs s v number is by leaves) h = record { image = h.image; entries = h.entries; sends = h.sends; bodies = h.bodies; ballot = h.ballot }
+change_within b m n from round last (promises v low why) h = record { image = h.image; entries = h.entries; sends = h.sends; bodies = h.bodies; ballot = overtaken_within b v m.ballot h.ballot }
+change_within b m n from round last (opens least resilience by may) h = record { image = h.image; entries = h.entries; sends = h.sends; bodies = h.bodies; ballot = record { round = round; resilience = omega arith; votes = λ name vote is. absurd (cc) } }
+change_within b m n from round last (looks x verdict over why look is) h = look_within b m x verdict look (looked_within b _ m x why from h) h
+change_within b m n from round last (fetches s v base number e is by promise below who may) h =
+    let k = pushed_within b m e (from.heard (packet.Piece s v base number e) is) h in
+    record { image = k.image; entries = k.entries; sends = k.sends; bodies = k.bodies; ballot = k.ballot }
+change_within b m n from round last (stores_view s v base number names resilience is by own other promise below may) h =
+    let heard = from.heard (packet.Result s v base number names resilience) is in
+    let low : v.round ≤ b.rounds = subst (λ (u : Stamp). u.round ≤ b.rounds) promise round in
+    let k = pushed_within b m (View v names resilience) (low, heard.1, heard.2) h in
+    record { image = k.image; entries = k.entries; sends = k.sends; bodies = k.bodies; ballot = k.ballot }
+change_within b m n from round last (queues body is o member stays few) h =
+    record { image = h.image; entries = h.entries; sends = All-append (SendWithin b) m.sends.queue _ h.sends (All-cons (SendWithin b) _ [] (record { req = last; body = from.called body is }) (All-nil (SendWithin b))); bodies = h.bodies; ballot = h.ballot }
+change_within b m n from round last (collects req is) h = record { image = h.image; entries = h.entries; sends = collected_within b req m.sends h.sends; bodies = h.bodies; ballot = h.ballot }
+change_within b m n from round last (takes e is o member some there) h = record { image = h.image; entries = h.entries; sends = h.sends; bodies = h.bodies; ballot = h.ballot }
+change_within b m n from round last (asks_to_join is was) h = record { image = h.image; entries = h.entries; sends = h.sends; bodies = h.bodies; ballot = h.ballot }
+change_within b m n from round last (asks_to_leave is was stays done) h = record { image = h.image; entries = h.entries; sends = h.sends; bodies = h.bodies; ballot = h.ballot }
+change_within b m n from round last (closes leads leaves alone room) h =
+    let k = at_end_within b (pushed m (Leave m.core.who)) (pushed_within b m (Leave m.core.who) tt h) in
+    record { image = k.image; entries = k.entries; sends = k.sends; bodies = k.bodies; ballot = k.ballot }
+
+pub changes_within : (b : Bounds) {c : Cause} {o : Outcome} (m n : Node) → CauseWithin b c → n.core.promise.round ≤ b.rounds → n.sends.last ≤ b.requests → Changes c o m n → Within b m → Within b n
+changes_within b m n from round last unchanged h = h
+changes_within b m n from round last (changed {n = x} z zs) h =
+    let r = changes_rise x n zs in
+    let p = r.round in
+    let q = r.last in
+    changes_within b x n from round last zs (change_within b m x from (omega arith) (omega arith) z h)

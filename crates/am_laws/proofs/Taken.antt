@@ -1,0 +1,618 @@
+-- A node trims no more than its own application has taken: who leads is a member of its own list, so its own report counts.
+use Rattle.std.proofs.Common.{◌≡◌, ◌≢◌, ⊎_elim, ℕ, zero, suc, ◌+◌, ◌-◌, ◌<◌, ◌≤◌, ◌==◌, ◌&&◌, ◌||◌, not, max, min, nat_lt, nat_le, Bool, true, false, if◌then◌else◌, List, [], ◌∷◌, length, set, Option, Some, None, slice_index, unwrap_or, refl, sym, ap, ◌∙◌, subst, arith, length-append}
+use Rattle.std.proofs.lemmas.Bool.{cases_lt}
+use Rattle.std.proofs.lemmas.Bool.Decides.{nat_tests}
+use Rattle.std.proofs.lemmas.List.{map-set}
+use Rattle.am_base.specs.declared.entry.Entry.{Entry}
+use Rattle.am_base.specs.declared.entry.Entry.TheVariants.{Data, Join, Leave, View}
+use Rattle.am_base.specs.declared.image.Vote.{Vote}
+use Rattle.am_base.specs.declared.image.Report.{Report}
+use Rattle.am_base.specs.declared.image.Image.{Image}
+use Rattle.am_base.specs.declared.name.Stamp.{Stamp}
+use Rattle.am_base.specs.declared.outcome.Outcome.{Outcome}
+use Rattle.am_base.specs.Names.{place_of, life_of, name_at, has, size, names_from, names_of}
+use Rattle.am_base.specs.Stamps.{stamp_lt, stamp_eq}
+use Rattle.am_base.specs.Votes.{Shown, vote_lt, all_names, better_of, best_from}
+use Rattle.am_base.specs.Lists.{Log, member_life, top_of, told_by, members_at, members_of, at_place, after, fits}
+use Rattle.am_base.proofs.Places.{slice_index-by_place, length-by_place}
+use Rattle.am_packet.specs.declared.packet.Packet.{Packet}
+use Rattle.am_packet.specs.declared.packet.Packet.TheVariants as packet
+use Rattle.am_core.specs.Cores.{CoreState, accept, pass_over, unions, since_accepted}
+use Rattle.am_core.proofs.Ends.{image-top, image-push}
+use Rattle.am_core.proofs.Lives.{IsUsed, row_at, used_fold, member_row, leave_life}
+use Rattle.am_fronts.specs.Reports as reports
+use Rattle.am_fronts.specs.Reports.{least_of, least_taken}
+use Rattle.am_fronts.specs.Refresh.{base_after, own_report, tell, go_on, let_go}
+use Rattle.am_fronts.proofs.Leaders.{least_in}
+use Rattle.am_fronts.proofs.ReportLaws.{count_cons}
+use Rattle.am_chain_lists.proofs.Rows.{Spares, mod16, long_after, in_after}
+use Rattle.am_model.specs.Node.{Node, Ballot, top, told, view, members, others, name_where, those, is_member, is_asking, acts, is_sequencer, pushed, trimmed}
+use Rattle.am_model.specs.Refresh.{advance, lead, refresh, settle, refresh_at_end}
+use Rattle.am_model.specs.Ballots.{Verdict, overtaken, promised, next_stamp, own_vote, best_of, need_of, left_in, taken_by, trimmed_for}
+use Rattle.am_model.specs.Receiving.{is_view}
+use Rattle.am_model.specs.Sequencing.{is_unknown}
+use Rattle.am_model.specs.Sequencing as sequencing
+use Rattle.am_model.specs.Hearing.{hears_member, hears_asking, hears_sequencer, hears_in_view}
+use Rattle.am_model.specs.Group.{has_log}
+use Rattle.am_model.proofs.Greatest.{split, and_both}
+use Rattle.am_effects.specs.Causes.{Cause, hears}
+use Rattle.am_effects.specs.Looks.{HasOpen, Balloting, with_more, without_one, as_it_is, Looks, finds_itself_out, waits, fetches_from_best, finds_too_few, finds_no_room, decides}
+use Rattle.am_effects.specs.Changes.{Promises, invited, overtaken as overtaken_by, told_result, Numbers, asked_send, own_send, asked_join, asked_leave, Fetches, without_ballot, for_ballot, Change, refreshes, settles, takes_report, admits, numbers, keeps_body, notes, stores, begins_list, departs, promises, opens, looks, fetches, stores_view, queues, collects, takes, asks_to_join, asks_to_leave, closes}
+use Rattle.am_effects.proofs.Rests.{rests_refresh, rests_at_end, settle_is}
+use Rattle.am_effects.proofs.Statuses.{asking_log}
+use Rattle.am_effects.proofs.Says.{told_pushed, view_pushed}
+use Rattle.am_bounded.proofs.Kept.{HasItself}
+use Rattle.am_bounded.proofs.Changes.{itself}
+use Rattle.am_laws.proofs.LeaderRows.{JoinFits, any_fits, JoinsFit, joins_push, is_in, in_is, data_member, view_member, least_within}
+use Rattle.am_laws.proofs.Stamps.{not_above_itself, at_most_below, same_stamp}
+use Rattle.am_laws.proofs.ViewSteps.{view_last}
+use Rattle.am_laws.proofs.ViewChanges.{Balloted, next_above}
+use Rattle.am_laws.proofs.Views.{same_is_equal}
+use Rattle.am_laws.proofs.Blank.{Blanked}
+
+-- ---- what a node has
+
+-- by the numbers and the list of a node
+pub record Fronts (m : Node) : Type 0 where
+  pub used : IsUsed m.core.log.image
+  pub joins : JoinsFit m.core.log.image (m.core.log.start + 1) m.core.log.entries
+  pub kept : m.core.log.start ≤ m.core.base
+  pub base : m.core.base ≤ m.core.taken
+  pub given : m.core.taken ≤ m.core.acc
+  pub accepted : m.core.acc ≤ top m
+  pub reported : (m.reports m.core.who).taken ≤ m.core.taken
+
+-- nobody has its own vote
+abbrev pub NoOwnVote : ℕ → Option Ballot → Type 0
+NoOwnVote who None = Unit {0}
+NoOwnVote who (Some b) = b.votes who ≡ None
+
+pub record Owned (m : Node) : Type 0 where
+  pub fronts : Fronts m
+  pub leads : is_sequencer m ≡ true → has (members m) m.core.who ≡ true
+  pub vote : NoOwnVote m.core.who m.ballot
+
+-- the image of a Welcome has sixteen rows, and no life where nobody joined
+abbrev pub WelcomeUsed : Packet → Type 0
+WelcomeUsed (packet.Welcome s v base join image) = IsUsed image
+WelcomeUsed _ = Unit {0}
+
+pub told_used : (m : Node) → Fronts m → IsUsed (told m)
+told_used m h = used_fold m.core.log.image (m.core.log.start + 1) m.core.log.entries (omega arith) h.used
+
+-- ---- an entry more
+
+pushed_fronts : (m : Node) (e : Entry) → JoinFits (told m) e → Fronts m → Fronts (pushed m e)
+pushed_fronts m e fit h =
+    let a = h.accepted in
+    record {
+      used = h.used;
+      joins = joins_push m.core.log.image (m.core.log.start + 1) m.core.log.entries e h.joins fit;
+      kept = h.kept;
+      base = h.base;
+      given = h.given;
+      accepted = simp length-append (omega arith);
+      reported = h.reported;
+    }
+
+trimmed_fronts : (m : Node) (base : ℕ) → base ≤ m.core.taken → Fronts m → Fronts (trimmed m base)
+trimmed_fronts m base low h =
+    let a = h.kept in let b = h.base in
+    record { used = h.used; joins = h.joins; kept = omega arith; base = omega arith; given = h.given; accepted = h.accepted; reported = h.reported }
+
+-- ---- a refresh
+
+-- its own membership, or its own Leave last
+pub record MayLead (m : Node) : Type 0 where
+  pub least : (reports : ℕ → Report) (c : CoreState) (to : ℕ) → c.log ≡ m.core.log → c.who ≡ m.core.who → c.log.start ≤ c.acc → c.acc ≤ top_of c.log → (reports c.who).taken ≤ c.taken → least_taken reports (since_accepted c) ≡ Some to → to ≤ c.taken
+
+member_leads : (m : Node) → Fronts m → has (members m) m.core.who ≡ true → MayLead m
+member_leads m h member = record {
+  least = λ reports c to log who low high own least.
+      (let used : IsUsed c.log.image = subst (λ (l : Log). IsUsed l.image) (sym log) h.used in
+      let joins : JoinsFit c.log.image (c.log.start + 1) c.log.entries = subst (λ (l : Log). JoinsFit l.image (l.start + 1) l.entries) (sym log) h.joins in
+      let here : has (members_of (told_by c.log)) c.who ≡ true = subst (λ (l : Log). has (members_of (told_by l)) c.who ≡ true) (sym log) (subst (λ w. has (members m) w ≡ true) (sym who) member) in
+      let at : has (members_at c.log (top_of c.log)) c.who ≡ true = ap (λ i. has (members_of i) c.who) (image-top c.log) ∙ here in
+      let told_is = used_fold c.log.image (c.log.start + 1) c.log.entries (omega arith) used in
+      least_within reports c (top_of c.log) to used joins low high (omega arith) at (member_row (told_by c.log) c.who told_is here) own least);
+}
+
+base_within : (taken base : ℕ) (least : Option ℕ) → base ≤ taken → ((to : ℕ) → least ≡ Some to → to ≤ taken) → base_after least base ≤ taken
+base_within taken base None low h = low
+base_within taken base (Some to) low h = let t = h to refl in omega arith
+
+base_up : (start base : ℕ) (least : Option ℕ) → start ≤ base → start ≤ base_after least base
+base_up start base None h = h
+base_up start base (Some to) h = omega arith
+
+passed_up : (taken acc start : ℕ) → taken ≤ (if nat_lt taken (start - 1) then max taken (min acc (start - 1)) else taken)
+passed_up taken acc start = split (nat_lt taken (start - 1)) (λ t. rw t (omega arith)) (λ f. rw f (omega arith))
+
+passed_low : (taken acc start : ℕ) → taken ≤ acc → (if nat_lt taken (start - 1) then max taken (min acc (start - 1)) else taken) ≤ acc
+passed_low taken acc start h = split (nat_lt taken (start - 1)) (λ t. rw t (omega arith)) (λ f. rw f h)
+
+-- a name's own report
+own_reported : (reports : ℕ → Report) (who stored taken : ℕ) → (reports who).taken ≤ taken → (if who == who then record { stored = max (reports who).stored stored; taken = max (reports who).taken taken } else reports who).taken ≤ taken
+own_reported reports who stored taken h = let t : (who == who) ≡ true = grind (arith, nat_tests) in rw t (omega arith)
+
+lead_fronts : (m : Node) → MayLead m → Fronts m → Fronts (lead m)
+unfolding lead own_report tell go_on let_go accept pass_over
+lead_fronts m leads h =
+    let c = (lead m).core in
+    let base = h.base in let kept = h.kept in let given = h.given in let accepted = h.accepted in
+    let first = own_reported m.reports m.core.who (top m) m.core.taken h.reported in
+    let up = passed_up m.core.taken c.acc m.core.start in
+    let low = passed_low m.core.taken c.acc m.core.start (omega arith) in
+    let second = own_reported (own_report (record { core = m.core; reports = m.reports })).reports m.core.who (top m) c.taken (omega arith) in
+    record {
+      used = h.used;
+      joins = h.joins;
+      kept = base_up m.core.log.start m.core.base _ h.kept;
+      base = base_within c.taken m.core.base _ (omega arith) (λ to is. leads.least (lead m).reports (record c { base = m.core.base }) to refl refl (omega arith) (omega arith) second is);
+      given = low;
+      accepted = omega arith;
+      reported = second;
+    }
+
+advance_fronts : (m : Node) → Fronts m → Fronts (advance m)
+unfolding accept pass_over
+advance_fronts m h =
+    let c = (advance m).core in
+    let base = h.base in let kept = h.kept in let given = h.given in let accepted = h.accepted in let reported = h.reported in
+    let up = passed_up m.core.taken c.acc m.core.start in
+    record {
+      used = h.used;
+      joins = h.joins;
+      kept = h.kept;
+      base = omega arith;
+      given = passed_low m.core.taken c.acc m.core.start (omega arith);
+      accepted = omega arith;
+      reported = omega arith;
+    }
+
+refresh_fronts : (m : Node) → (is_sequencer m ≡ true → MayLead m) → Fronts m → Fronts (refresh m)
+unfolding refresh
+refresh_fronts m leads h = split (is_sequencer m) (λ t. rw t (lead_fronts m (leads t) h)) (λ f. rw f (advance_fronts m h))
+
+settle_fronts : (m : Node) → Fronts m → Fronts (settle m)
+settle_fronts m h = subst Fronts (sym (settle_is m)) (record { used = h.used; joins = h.joins; kept = h.kept; base = h.base; given = h.given; accepted = h.accepted; reported = h.reported })
+
+closed_fronts : (m : Node) → MayLead m → Fronts m → Fronts (refresh_at_end m)
+unfolding refresh_at_end
+closed_fronts m leads h = settle_fronts (refresh m) (refresh_fronts m (λ t. leads) h)
+
+-- ---- the last member's own Leave
+
+closed_row : (image : Image) (n name : ℕ) → 0 < n → length image.rows ≡ 16 → has (members_of image) name ≡ true → members_of (after image n (Leave name)) ≡ set (members_of image) (place_of name) 0
+unfolding after
+closed_row image n name up long member =
+    let is = is_in image name long member in
+    let alive : ((at_place image name).life == life_of name) ≡ true = let l = is.is in grind (arith, nat_tests) in
+    let none : member_life (record (at_place image name) { left = n }) ≡ 0 = grind (arith, nat_tests) in
+    rw alive (map-set member_life image.rows (place_of name) (record (at_place image name) { left = n }) ∙ ap (set (members_of image) (place_of name)) none)
+
+-- nobody is in an empty set
+none_from : (names : List ℕ) (from : ℕ) → size names ≡ 0 → names_from from names ≡ []
+none_from [] from h = refl
+none_from (zero ∷ lives) from h = none_from lives (from + 1) (let c = count_cons (λ life. nat_lt 0 life) zero lives in omega arith)
+none_from (suc before ∷ lives) from h =
+    let t : nat_lt 0 (suc before) ≡ true = grind (arith, nat_tests) in
+    let more = count_cons (λ life. nat_lt 0 life) (suc before) lives ∙ ap (λ (b : Bool). (if b then 1 else 0) + size lives) t in
+    absurd (omega arith)
+
+none_least : (f : ℕ → ℕ) (names : List ℕ) (to : ℕ) → size names ≡ 0 → least_of f (names_of names) ≡ Some to → ⊥
+unfolding least_of
+none_least f names to none is = let e : None ≡ Some to = sym (ap (least_of f) (none_from names 0 none)) ∙ is in cc
+
+closed_leads : (m : Node) → Fronts m → has (members m) m.core.who ≡ true → nat_lt 0 (size (others m)) ≡ false → MayLead (pushed m (Leave m.core.who))
+unfolding unions
+closed_leads m h member alone =
+    let who = m.core.who in
+    let e = Leave who in
+    let p = pushed m e in
+    let n = top m + 1 in
+    let told_is = told_pushed m e in
+    let used = told_used m h in
+    let used_p = pushed_fronts m e tt h in
+    let high_p : top p ≡ n = simp length-append (omega arith) in
+    let members_p : members p ≡ others m = ap members_of told_is ∙ closed_row (told m) n who (omega arith) used.places member ∙ sym (ap (λ (b : Bool). if b then set (members m) (place_of who) 0 else members m) member) in
+    let nobody : size (members p) ≡ 0 = ap size members_p ∙ (let z : size (others m) ≡ 0 = grind (arith, nat_tests) in z) in
+    let before : has (members_at p.core.log (top m)) who ≡ true = ap (λ (i : Image). has (members_of i) who) (image-push m.core.log e (top m) (omega arith) ∙ image-top m.core.log) ∙ member in
+    let life : (row_at (told p) (place_of who)).life ≡ life_of who = ap (λ (i : Image). (row_at i (place_of who)).life) told_is ∙ leave_life (told m) n who (place_of who) (mod16 who) used ∙ member_row (told m) who used member in
+    record {
+      least = λ reports c to log is low high own least. (let used_c : IsUsed c.log.image = subst (λ (l : Log). IsUsed l.image) (sym log) used_p.used in
+          let joins : JoinsFit c.log.image (c.log.start + 1) c.log.entries = subst (λ (l : Log). JoinsFit l.image (l.start + 1) l.entries) (sym log) used_p.joins in
+          let top_c = ap top_of log in
+          let there : has (members_at c.log (top m)) c.who ≡ true = subst (λ (l : Log). has (members_at l (top m)) c.who ≡ true) (sym log) (subst (λ w. has (members_at p.core.log (top m)) w ≡ true) (sym is) before) in
+          let row : (row_at (told_by c.log) (place_of c.who)).life ≡ life_of c.who = subst (λ (l : Log). (row_at (told_by l) (place_of c.who)).life ≡ life_of c.who) (sym log) (subst (λ w. (row_at (told p) (place_of w)).life ≡ life_of w) (sym is) life) in
+          ⊎_elim
+          (λ (below : c.acc < n). least_within reports c (top m) to used_c joins low (omega arith) (omega arith) there row own least)
+          (λ (all : n ≤ c.acc).
+          let none : top_of c.log - c.acc ≡ 0 = omega arith in
+          let at : c.acc ≡ top_of c.log = omega arith in
+          let since : since_accepted c ≡ members p = ap (unions c.log c.acc) none ∙ ap (members_at c.log) at ∙ ap members_of (image-top c.log) ∙ ap (λ (l : Log). members_of (told_by l)) log in
+          let z : size (since_accepted c) ≡ 0 = ap size since ∙ nobody in
+          absurd (none_least (λ name. (reports name).taken) (since_accepted c) to z least))
+          (cases_lt c.acc n));
+    }
+
+-- ---- what a sequencer numbers
+
+-- who is known and hasn't left is a member
+known_member : (m : Node) (s : ℕ) → length (told m).rows ≡ 16 → is_unknown m s ≡ false → (sequencing.row_at m s).left ≡ 0 → has (members m) s ≡ true
+known_member m s long known stays = split ((at_place (told m) s).life == life_of s)
+    (λ t. let j : ((at_place (told m) s).joined == 0) ≡ false = rw t at known in
+    let l : (at_place (told m) s).left ≡ 0 = rw t at stays in
+    let is : (at_place (told m) s).life ≡ life_of s = grind (arith, nat_tests) in
+    in_is (told m) s long (record { joined = grind (arith, nat_tests); left = l; is = is }))
+    (λ f. absurd (let k = rw f at known in cc))
+
+leave_fits : (image : Image) (name : ℕ) → has (members_of image) name ≡ true → fits image (Leave name) ≡ true
+unfolding fits
+leave_fits image name h = h
+
+spared : (m : Node) (e : Entry) (name : ℕ) → Fronts m → fits (told m) e ≡ true → Spares name e → has (members m) name ≡ true → has (members (pushed m e)) name ≡ true
+spared m e name h fit spares member =
+    let used = told_used m h in
+    let longer = long_after (told m) (top m + 1) e used.places in
+    let k = in_after (told m) (top m + 1) e name used.places fit spares (is_in (told m) name used.places member) in
+    ap (λ (i : Image). has (members_of i) name) (told_pushed m e) ∙ in_is (after (told m) (top m + 1) e) name longer k
+
+sent_member : (m : Node) (from req : ℕ) (body : List ℕ) (name : ℕ) → Fronts m → has (members m) name ≡ true → has (members (pushed m (Data from req body))) name ≡ true
+sent_member m from req body name h member =
+    let used = told_used m h in
+    let e = Data from req body in
+    ap (λ (i : Image). has (members_of i) name) (told_pushed m e) ∙ data_member (told m) (top m + 1) from req body name used.places (long_after (told m) (top m + 1) e used.places) member
+
+record Numbered (m : Node) (e : Entry) : Type 0 where
+  plain : is_view e ≡ false
+  fit : JoinFits (told m) e
+  member : has (members (pushed m e)) m.core.who ≡ true
+
+numbered : (c : Cause) (m : Node) (e : Entry) → Numbers c m e → Fronts m → has (members m) m.core.who ≡ true → Numbered m e
+numbered c m e (asked_send s v report req body by known stays next) h member = record { plain = refl; fit = tt; member = sent_member m s req body m.core.who h member }
+numbered c m e (own_send s is last) h member = record { plain = refl; fit = tt; member = sent_member m m.core.who s.req s.body m.core.who h member }
+numbered c m e (asked_join s v is other fit) h member = record { plain = refl; fit = fit; member = spared m (Join s) m.core.who h fit tt member }
+numbered c m e (asked_leave s v report is other known stays) h member =
+    let left : (sequencing.row_at m s).left ≡ 0 = grind (arith, nat_tests) in
+    let fit = leave_fits (told m) s (known_member m s (told_used m h).places known left) in
+    let spares : s ≢ m.core.who = λ same. (let t : (s == m.core.who) ≡ true = grind (arith, nat_tests) in cc) in
+    record { plain = refl; fit = tt; member = spared m (Leave s) m.core.who h fit spares member }
+
+-- ---- ballots
+
+no_vote_overtaken : (who : ℕ) (by : Stamp) (ballot : Option Ballot) → NoOwnVote who ballot → NoOwnVote who (overtaken by ballot)
+no_vote_overtaken who by None h = tt
+no_vote_overtaken who by (Some b) h = split (not b.is_over && stamp_lt b.stamp by) (λ t. rw t h) (λ f. rw f h)
+
+open_vote : (m : Node) (b : Ballot) → HasOpen m b → NoOwnVote m.core.who m.ballot → b.votes m.core.who ≡ None
+open_vote m b o h = subst (NoOwnVote m.core.who) o.last h
+
+pub looked_vote : (c : Cause) (m : Node) (b : Ballot) → Balloting c m b → NoOwnVote m.core.who m.ballot → b.votes m.core.who ≡ None
+looked_vote c m b (as_it_is old open_ on) h = open_vote m old open_ h
+looked_vote c m b (with_more old s v shown is heard low high open_ same stays) h =
+    let other = (and_both (not (s == m.core.who)) (is_member m.status) heard).0 in
+    let flipped : (m.core.who == s) ≡ false = grind (arith, nat_tests) in
+    rw flipped (open_vote m old open_ h)
+looked_vote c m b (without_one old name is open_ other) h =
+    let flipped : (m.core.who == name) ≡ false = grind (arith, nat_tests) in
+    rw flipped (open_vote m old open_ h)
+
+-- the best vote, where it is the coordinator's own, is what it has
+OwnBest : ℕ → Vote → Shown → Type 0
+OwnBest own vote best = best.by ≡ own → best.vote ≡ vote
+
+own_better : (own : ℕ) (vote : Vote) (best : Shown) (name : ℕ) (o : Option Vote) → OwnBest own vote best → (name ≡ own → o ≡ None) → OwnBest own vote (better_of best name o)
+unfolding OwnBest
+own_better own vote best name None h f = h
+own_better own vote best name (Some v) h f = split (vote_lt best.vote v) (λ t. rw t (λ same. absurd (let none = f same in cc))) (λ g. rw g h)
+
+own_best : (votes : ℕ → Option Vote) (own : ℕ) (vote : Vote) (best : Shown) (names : List ℕ) → OwnBest own vote best → votes own ≡ None → OwnBest own vote (best_from votes best names)
+unfolding best_from
+own_best votes own vote best [] h none = h
+own_best votes own vote best (name ∷ names) h none = own_best votes own vote (better_of best name (votes name)) names (own_better own vote best name (votes name) h (λ same. ap votes same ∙ none)) none
+
+pub own_need : (m : Node) (b : Ballot) → ((best_of m b).by == m.core.who) ≡ true → b.votes m.core.who ≡ None → need_of m b ≡ members m
+unfolding best_of OwnBest
+own_need m b own none =
+    let same : (best_of m b).by ≡ m.core.who = grind (arith, nat_tests) in
+    ap (λ (v : Vote). v.members) (own_best b.votes m.core.who (own_vote m) (record { by = m.core.who; vote = own_vote m }) all_names (λ e. refl) none same)
+
+-- who passes is among those that pass
+those_at : (test : ℕ → Bool) (names : List ℕ) (who : ℕ) → has names who ≡ true → test who ≡ true → slice_index (those test names) (place_of who) ≡ life_of who
+unfolding those
+those_at test names who there passes =
+    let place = place_of who in
+    let is : slice_index names place ≡ life_of who = grind (arith, nat_tests) in
+    let some : (life_of who == 0) ≡ false = grind (arith, nat_tests) in
+    let same : name_at place (life_of who) ≡ who = omega arith in
+    let t : test (name_at place (life_of who)) ≡ true = ap test same ∙ passes in
+    slice_index-by_place (λ p. name_where test p (slice_index names p)) place (mod16 who) ∙ ap (name_where test place) is ∙ rw (some, t) refl
+
+-- the least that those of a view have taken is no more than its coordinator's own
+trimmed_own : (m : Node) (b : Ballot) (names : List ℕ) → length names ≡ 16 → slice_index names (place_of m.core.who) ≡ life_of m.core.who → unwrap_or (least_of (taken_by m.core.who m.core.taken b) (names_of names)) 0 ≤ m.core.taken
+trimmed_own m b names long there =
+    let who = m.core.who in
+    let low = mod16 who in
+    let found = least_in (taken_by who m.core.taken b) names 0 (place_of who) (omega arith) (omega arith) in
+    let name : name_at (0 + place_of who) (slice_index names (place_of who)) ≡ who = omega arith in
+    let itself_ : (who == who) ≡ true = grind (arith, nat_tests) in
+    let own : taken_by who m.core.taken b who ≡ m.core.taken = rw itself_ refl in
+    let at = ap (taken_by who m.core.taken b) name in
+    let most = found.2 in
+    let is = ap (λ o. unwrap_or o 0) found.1 in
+    omega arith
+
+-- the coordinator is in the view that it may decide
+in_view : (m : Node) (b : Ballot) → has (need_of m b) m.core.who ≡ true → b.given_up m.core.who ≡ false → slice_index (left_in b (need_of m b)) (place_of m.core.who) ≡ life_of m.core.who
+in_view m b needed stays = those_at (λ name. not (b.given_up name)) (need_of m b) m.core.who needed (ap not stays)
+
+trims_own : (m : Node) (b : Ballot) → has (need_of m b) m.core.who ≡ true → b.given_up m.core.who ≡ false → unwrap_or (least_of (taken_by m.core.who m.core.taken b) (names_of (left_in b (need_of m b)))) 0 ≤ m.core.taken
+unfolding those
+trims_own m b needed stays = trimmed_own m b (left_in b (need_of m b)) (length-by_place _) (in_view m b needed stays)
+
+restarted_own : (m : Node) (base : ℕ) → base ≤ m.core.taken → (reports.restarted base m.core.who).taken ≤ m.core.taken
+restarted_own m base low = split (nat_lt m.core.who 256) (λ t. rw t low) (λ f. rw f (omega arith))
+
+-- another answer, or an end
+answered_own : (m : Node) (ballot : Option Ballot) → NoOwnVote m.core.who ballot → Owned m → Owned (record m { ballot = ballot })
+answered_own m ballot none h = record {
+  fronts = record { used = h.fronts.used; joins = h.fronts.joins; kept = h.fronts.kept; base = h.fronts.base; given = h.fronts.given; accepted = h.fronts.accepted; reported = h.fronts.reported };
+  leads = h.leads;
+  vote = none;
+}
+
+look_own : (m : Node) (b : Ballot) (v : Verdict) → Looks m b v → b.votes m.core.who ≡ None → b.given_up m.core.who ≡ false → Owned m → Owned v.node
+look_own m b v (finds_itself_out x) none stays h = answered_own m _ none h
+look_own m b v (waits x y) none stays h = answered_own m _ none h
+look_own m b v (fetches_from_best x y z) none stays h = answered_own m _ none h
+look_own m b v (finds_too_few x y) none stays h = answered_own m _ none h
+look_own m b v (finds_no_room learned) none stays h =
+    let f = trimmed_fronts m _ (trims_own m b learned.needed stays) h.fronts in
+    record {
+      fronts = record { used = f.used; joins = f.joins; kept = f.kept; base = f.base; given = f.given; accepted = f.accepted; reported = f.reported };
+      leads = h.leads;
+      vote = none;
+    }
+look_own m b v (decides may) none stays h =
+    let needed = may.learned.needed in
+    let names = left_in b (need_of m b) in
+    let before = trimmed_for m b names in
+    let r = max b.resilience (told m).resilience in
+    let e = View b.stamp names r in
+    let f = trimmed_fronts m _ (trims_own m b needed stays) h.fronts in
+    let g = pushed_fronts before e tt f in
+    let used = told_used m h.fronts in
+    let member : has (members m) m.core.who ≡ true = subst (λ set. has set m.core.who ≡ true) (own_need m b may.learned.own none) needed in
+    let after_ = view_member (told m) (top m + 1) b.stamp names r m.core.who used.places (long_after (told m) (top m + 1) e used.places) member (in_view m b needed stays) in
+    record {
+      fronts = record { used = g.used; joins = g.joins; kept = g.kept; base = g.base; given = g.given; accepted = g.accepted; reported = restarted_own m before.core.base f.base };
+      leads = λ t. ap (λ (i : Image). has (members_of i) m.core.who) (told_pushed before e) ∙ after_;
+      vote = none;
+    }
+
+-- ---- who doesn't lead
+
+-- a view of another name
+not_own : (m : Node) (by : ℕ) → (view m).by ≡ by → (by == m.core.who) ≡ false → is_sequencer m ≡ true → ⊥
+not_own m by is other t =
+    let own = (and_both (acts m) ((view m).by == m.core.who) t).1 in
+    let z : ⊥ = grind (arith, nat_tests) in z
+
+-- a promise above the view
+not_above_view : (m : Node) → stamp_lt (view m) m.core.promise ≡ true → is_sequencer m ≡ true → ⊥
+not_above_view m above t =
+    let a = (and_both (acts m) ((view m).by == m.core.who) t).0 in
+    let e = (and_both (is_member m.status) (stamp_eq m.core.promise (view m)) a).1 in
+    let same = same_stamp m.core.promise (view m) e in
+    let z : stamp_lt (view m) (view m) ≡ true = subst (λ s. stamp_lt (view m) s ≡ true) same above in
+    let y = not_above_itself (view m) in cc
+
+promise_is : (m : Node) → is_sequencer m ≡ true → m.core.promise ≡ view m
+promise_is m t =
+    let a = (and_both (acts m) ((view m).by == m.core.who) t).0 in
+    same_stamp m.core.promise (view m) (and_both (is_member m.status) (stamp_eq m.core.promise (view m)) a).1
+
+-- who hears the sequencer
+heard_other : (m : Node) (s : ℕ) (v : Stamp) → hears_sequencer m s v ≡ true → (view m).by ≡ s × ((s == m.core.who) ≡ false)
+heard_other m s v t =
+    let a = and_both (hears_in_view m s v) (v.by == s) t in
+    let b = and_both (hears_member m s) (acts m && stamp_eq v (view m)) a.0 in
+    let other = (and_both (not (s == m.core.who)) (is_member m.status) b.0).0 in
+    let same = same_stamp v (view m) (and_both (acts m) (stamp_eq v (view m)) b.1).1 in
+    let by : v.by ≡ s = let x = a.1 in grind (arith, nat_tests) in
+    (ap (λ (x : Stamp). x.by) (sym same) ∙ by, grind arith)
+
+-- ---- each change
+
+-- with the same list, status, promise and name
+same_owned : (m n : Node) → n.core.who ≡ m.core.who → n.core.log ≡ m.core.log → n.core.promise ≡ m.core.promise → n.status ≡ m.status → Fronts n → NoOwnVote n.core.who n.ballot → Owned m → Owned n
+same_owned m n who log promise stays f none h = record {
+  fronts = f;
+  leads = λ t. (let same : is_sequencer n ≡ is_sequencer m = λ i. (is_member (stays i) && stamp_eq (promise i) (told_by (log i)).view) && ((told_by (log i)).view.by == who i) in
+      (λ i. has (members_of (told_by (log i))) (who i)) ∙ h.leads (sym same ∙ t));
+  vote = none;
+}
+
+asks_no_log : (m : Node) (s : ℕ) → (not (s == m.core.who) && (is_member m.status || is_asking m.status)) ≡ true → is_member m.status ≡ false → has_log m.status ≡ false
+asks_no_log m s asks none = let k = (and_both (not (s == m.core.who)) (is_member m.status || is_asking m.status) asks).1 in asking_log m.status (rw none at k)
+
+other_asks : (m : Node) (s : ℕ) → hears_asking m s ≡ true → (s == m.core.who) ≡ false
+other_asks m s h = let k = (and_both (not (s == m.core.who)) (is_member m.status || is_asking m.status) h).0 in grind arith
+
+other_member : (m : Node) (s : ℕ) → hears_member m s ≡ true → (s == m.core.who) ≡ false
+other_member m s h = let k = (and_both (not (s == m.core.who)) (is_member m.status) h).0 in grind arith
+
+stamp_by : (v : Stamp) (s : ℕ) → (v.by == s) ≡ true → v.by ≡ s
+stamp_by v s h = grind (arith, nat_tests)
+
+-- a fetched View is of another name
+fetched_view : (m : Node) (s : ℕ) (v : Stamp) (stamp : Stamp) (names : List ℕ) (resilience : ℕ) → Fetches m s v (View stamp names resilience) → (s == m.core.who) ≡ false → stamp ≡ v → (stamp.by == m.core.who) ≡ false
+fetched_view m s v stamp names resilience (without_ballot none own past) other same = let a = stamp_by v s own in let b = ap (λ (x : Stamp). x.by) same in grind (arith, nat_tests)
+fetched_view m s v stamp names resilience (for_ballot b open_ from past) other same = absurd (
+    let t : stamp_eq stamp v ≡ true = subst (λ x. stamp_eq stamp x ≡ true) same (same_is_equal stamp) in
+    split (stamp_lt v stamp) (λ u. let p = rw u at past in cc) (λ u. let p = rw (u, t) at past in cc))
+
+-- and no fetched entry makes a sequencer
+fetch_follows : (m : Node) (s : ℕ) (v : Stamp) (base : ℕ) (e : Entry) → Fetches m s v e → (s == m.core.who) ≡ false → stamp_eq v m.core.promise ≡ true → stamp_eq (view m) v ≡ false → is_sequencer (pushed (trimmed m base) e) ≡ true → ⊥
+fetch_follows m s v base (Data from req body) why other same below t =
+    let p = promise_is (pushed (trimmed m base) (Data from req body)) t ∙ view_pushed (trimmed m base) (Data from req body) refl in
+    let z : stamp_eq (view m) v ≡ true = subst (λ x. stamp_eq x v ≡ true) p (subst (λ x. stamp_eq m.core.promise x ≡ true) (sym (same_stamp v m.core.promise same)) (same_is_equal m.core.promise)) in
+    cc
+fetch_follows m s v base (Join name) why other same below t =
+    let p = promise_is (pushed (trimmed m base) (Join name)) t ∙ view_pushed (trimmed m base) (Join name) refl in
+    let z : stamp_eq (view m) v ≡ true = subst (λ x. stamp_eq x v ≡ true) p (subst (λ x. stamp_eq m.core.promise x ≡ true) (sym (same_stamp v m.core.promise same)) (same_is_equal m.core.promise)) in
+    cc
+fetch_follows m s v base (Leave name) why other same below t =
+    let p = promise_is (pushed (trimmed m base) (Leave name)) t ∙ view_pushed (trimmed m base) (Leave name) refl in
+    let z : stamp_eq (view m) v ≡ true = subst (λ x. stamp_eq x v ≡ true) p (subst (λ x. stamp_eq m.core.promise x ≡ true) (sym (same_stamp v m.core.promise same)) (same_is_equal m.core.promise)) in
+    cc
+fetch_follows m s v base (View stamp names resilience) why other same below t =
+    let n = pushed (trimmed m base) (View stamp names resilience) in
+    let last = view_last (trimmed m base) stamp names resilience in
+    let is : stamp ≡ v = sym (promise_is n t ∙ last) ∙ sym (same_stamp v m.core.promise same) in
+    not_own n stamp.by (ap (λ (x : Stamp). x.by) last) (fetched_view m s v stamp names resilience why other is) t
+
+-- a promise that isn't below the view, by whom it is made
+promised_follows : (c : Cause) (m : Node) (v : Stamp) → Promises c m v → stamp_lt v m.core.promise ≡ false → Balloted m → is_sequencer (promised m v) ≡ true → ⊥
+promised_follows c m v (invited s _ is heard own) low k t =
+    let p = promise_is (promised m v) t in
+    not_own (promised m v) s (ap (λ (x : Stamp). x.by) (sym p) ∙ stamp_by v s own) (other_asks m s heard) t
+promised_follows c m v (told_result s _ base number names resilience is heard own other) low k t =
+    let p = promise_is (promised m v) t in
+    not_own (promised m v) v.by (ap (λ (x : Stamp). x.by) (sym p)) other t
+promised_follows c m v (overtaken_by s _ shown is heard above) low k t =
+    not_above_view (promised m v) (at_most_below (view m) m.core.promise v k.high above) t
+
+abbrev pub HeardUsed : Cause → Type 0
+HeardUsed c = (p : Packet) → c ≡ hears p → WelcomeUsed p
+
+none_taken : (m : Node) → has_log m.status ≡ false → Blanked m → Fronts m → m.core.taken ≡ 0
+none_taken m none blanked h =
+    let b = blanked none in
+    let high = ap top_of b.blank_ in
+    let given = h.given in
+    let accepted = h.accepted in
+    omega arith
+
+pub change_owned : (c : Cause) (o : Outcome) (m n : Node) → HeardUsed c → HasItself m.core.who m.ballot → Balloted m → Blanked m → Change c o m n → Owned m → Owned n
+unfolding JoinsFit
+change_owned c o m n heard own k blanked refreshes h =
+    let r = rests_refresh m in
+    same_owned m (refresh m) r.rests.who r.log r.rests.promise r.rests.status
+    (refresh_fronts m (λ t. member_leads m h.fronts (h.leads t)) h.fronts)
+    (subst (NoOwnVote (refresh m).core.who) (sym r.rests.ballot) (subst (λ w. NoOwnVote w m.ballot) (sym r.rests.who) h.vote)) h
+change_owned c o m n heard own k blanked settles h = subst Owned (sym (settle_is m)) (record {
+  fronts = record { used = h.fronts.used; joins = h.fronts.joins; kept = h.fronts.kept; base = h.fronts.base; given = h.fronts.given; accepted = h.fronts.accepted; reported = h.fronts.reported };
+  leads = h.leads;
+  vote = h.vote;
+})
+change_owned c o m n heard own k blanked (takes_report s v report by may) h =
+    let f = h.fronts in
+    let other = may.other in
+    let flipped : (m.core.who == s) ≡ false = grind (arith, nat_tests) in
+    record {
+      fronts = record { used = f.used; joins = f.joins; kept = f.kept; base = f.base; given = f.given; accepted = f.accepted; reported = rw flipped f.reported };
+      leads = h.leads;
+      vote = h.vote;
+    }
+change_owned c o m n heard own k blanked (admits s v is leads fit) h =
+    let f = h.fronts in
+    record {
+      fronts = record { used = f.used; joins = f.joins; kept = f.kept; base = f.base; given = f.given; accepted = f.accepted; reported = split (m.core.who == s) (λ t. rw t f.base) (λ u. rw u f.reported) };
+      leads = h.leads;
+      vote = h.vote;
+    }
+change_owned c o m n heard own k blanked (numbers e leads room why) h =
+    let z = numbered c m e why h.fronts (h.leads leads) in
+    record { fronts = pushed_fronts m e z.fit h.fronts; leads = λ t. z.member; vote = h.vote }
+change_owned c o m n heard own k blanked (keeps_body s v report req body is by) h =
+    let f = h.fronts in
+    record { fronts = record { used = f.used; joins = f.joins; kept = f.kept; base = f.base; given = f.given; accepted = f.accepted; reported = f.reported }; leads = h.leads; vote = h.vote }
+change_owned c o m n heard own k blanked (notes s v base acc by from) h =
+    let f = h.fronts in
+    let kept = f.kept in
+    let low = f.base in
+    let within : (if nat_le base m.core.taken then base else m.core.base) ≤ m.core.taken = split (nat_le base m.core.taken) (λ t. rw t (grind (arith, nat_tests))) (λ u. rw u low) in
+    let g = trimmed_fronts m _ within f in
+    record { fronts = record { used = f.used; joins = f.joins; kept = g.kept; base = g.base; given = f.given; accepted = f.accepted; reported = f.reported }; leads = h.leads; vote = h.vote }
+change_owned c o m n heard own k blanked (stores s v base acc number e by from plain may) h =
+    let other = heard_other m s v from in
+    let g = pushed_fronts m e (any_fits (told m) e may.fits) h.fronts in
+    let by_s : (view n).by ≡ s = ap (λ (x : Stamp). x.by) (view_pushed m e plain) ∙ other.0 in
+    record {
+      fronts = record { used = g.used; joins = g.joins; kept = g.kept; base = g.base; given = g.given; accepted = g.accepted; reported = g.reported };
+      leads = λ t. absurd (not_own n s by_s other.1 t);
+      vote = h.vote;
+    }
+change_owned c o m n heard own k blanked (begins_list s v base join image is says may) h =
+    let none = asks_no_log m s may.asks may.no_member in
+    let taken = none_taken m none blanked h.fronts in
+    let reported = h.fronts.reported in
+    record {
+      fronts = record { used = heard (packet.Welcome s v base join image) is; joins = tt; kept = omega arith; base = omega arith; given = omega arith; accepted = omega arith; reported = omega arith };
+      leads = λ t. absurd (let p = promise_is n t in not_own n s (ap (λ (x : Stamp). x.by) (sym p) ∙ stamp_by v s may.own) (other_asks m s may.asks) t);
+      vote = h.vote;
+    }
+change_owned c o m n heard own k blanked (departs s v number is by leaves) h =
+    let f = h.fronts in
+    record { fronts = record { used = f.used; joins = f.joins; kept = f.kept; base = f.base; given = f.given; accepted = f.accepted; reported = f.reported }; leads = λ t. absurd (cc); vote = h.vote }
+change_owned c o m n heard own k blanked (promises v low why) h =
+    let f = h.fronts in
+    record {
+      fronts = record { used = f.used; joins = f.joins; kept = f.kept; base = f.base; given = f.given; accepted = f.accepted; reported = f.reported };
+      leads = λ t. absurd (promised_follows c m v why low k t);
+      vote = no_vote_overtaken m.core.who v m.ballot h.vote;
+    }
+change_owned c o m n heard own k blanked (opens least resilience by may) h =
+    let f = h.fronts in
+    record {
+      fronts = record { used = f.used; joins = f.joins; kept = f.kept; base = f.base; given = f.given; accepted = f.accepted; reported = f.reported };
+      leads = λ t. absurd (not_above_view n (at_most_below (view m) m.core.promise (next_stamp m) k.high (next_above m.core.promise m.core.who)) t);
+      vote = refl;
+    }
+change_owned c o m n heard own k blanked (looks b verdict over why look is) h = look_own m b verdict look (looked_vote c m b why h.vote) (itself c m b why own) h
+change_owned c o m n heard own k blanked (fetches s v base number e is by promise below why may) h =
+    let f = trimmed_fronts m base may.taken h.fronts in
+    record {
+      fronts = pushed_fronts (trimmed m base) e (any_fits (told m) e may.fits) f;
+      leads = λ t. absurd (fetch_follows m s v base e why (other_member m s by) promise below t);
+      vote = h.vote;
+    }
+change_owned c o m n heard own k blanked (stores_view s v base number names resilience is by whose other promise below may) h =
+    let f = trimmed_fronts m base may.taken h.fronts in
+    let e = View v names resilience in
+    record {
+      fronts = pushed_fronts (trimmed m base) e tt f;
+      leads = λ t. absurd (not_own n v.by (ap (λ (x : Stamp). x.by) (view_last (trimmed m base) v names resilience)) other t);
+      vote = h.vote;
+    }
+change_owned c o m n heard own k blanked (queues body is says member stays few) h =
+    let f = h.fronts in
+    record { fronts = record { used = f.used; joins = f.joins; kept = f.kept; base = f.base; given = f.given; accepted = f.accepted; reported = f.reported }; leads = h.leads; vote = h.vote }
+change_owned c o m n heard own k blanked (collects req is) h =
+    let f = h.fronts in
+    record { fronts = record { used = f.used; joins = f.joins; kept = f.kept; base = f.base; given = f.given; accepted = f.accepted; reported = f.reported }; leads = h.leads; vote = h.vote }
+change_owned c o m n heard own k blanked (takes e is says member some there) h =
+    let f = h.fronts in
+    let low = f.base in
+    let given = f.given in
+    let reported = f.reported in
+    let more : m.core.taken ≢ m.core.acc = λ same. (let t : (m.core.taken == m.core.acc) ≡ true = grind (arith, nat_tests) in cc) in
+    record { fronts = record { used = f.used; joins = f.joins; kept = f.kept; base = omega arith; given = omega arith; accepted = f.accepted; reported = omega arith }; leads = h.leads; vote = h.vote }
+change_owned c o m n heard own k blanked (asks_to_join is was) h =
+    let f = h.fronts in
+    record { fronts = record { used = f.used; joins = f.joins; kept = f.kept; base = f.base; given = f.given; accepted = f.accepted; reported = f.reported }; leads = λ t. absurd (cc); vote = h.vote }
+change_owned c o m n heard own k blanked (asks_to_leave is was stays done) h =
+    let f = h.fronts in
+    record { fronts = record { used = f.used; joins = f.joins; kept = f.kept; base = f.base; given = f.given; accepted = f.accepted; reported = f.reported }; leads = h.leads; vote = h.vote }
+change_owned c o m n heard own k blanked (closes leads leaves alone room) h =
+    let e = Leave m.core.who in
+    let p = pushed m e in
+    let r = rests_at_end p in
+    let f = closed_fronts p (closed_leads m h.fronts (h.leads leads) alone) (pushed_fronts m e tt h.fronts) in
+    record {
+      fronts = record { used = f.used; joins = f.joins; kept = f.kept; base = f.base; given = f.given; accepted = f.accepted; reported = f.reported };
+      leads = λ t. absurd (cc);
+      vote = subst (NoOwnVote (refresh_at_end p).core.who) (sym r.rests.ballot) (subst (λ w. NoOwnVote w m.ballot) (sym r.rests.who) h.vote);
+    }

@@ -1,0 +1,161 @@
+-- In each run no node trims more than its own application has taken.
+use Rattle.std.proofs.Common.{◌≡◌, ℕ, ◌+◌, ◌<◌, ◌==◌, true, List, slice_index, refl, subst, arith}
+use Rattle.std.specs.Prelude.{All}
+use Rattle.std.proofs.lemmas.Bool.Decides.{nat_tests}
+use Rattle.std.proofs.lemmas.List.Elements.{All-nil, All-append, All-weaker}
+use Rattle.am_base.specs.declared.outcome.Outcome.{Outcome}
+use Rattle.am_base.specs.Founding.{Rules, MayFound}
+use Rattle.am_base.specs.Names.{place_of, life_of, has}
+use Rattle.am_base.specs.Lists.{fold}
+use Rattle.am_packet.specs.declared.packet.Packet.{Packet}
+use Rattle.am_packet.specs.Boxes.{Letter}
+use Rattle.am_core.proofs.Lives.{used_fold}
+use Rattle.am_group.specs.declared.event.Event.{Event}
+use Rattle.am_model.specs.Node.{Node, founder, stranger, founding_stamp}
+use Rattle.am_model.specs.Emit.{Step}
+use Rattle.am_model.specs.World.{World, start, unchanged, stepped, run}
+use Rattle.am_model.specs.Claims.{heard_by}
+use Rattle.am_model.proofs.Greatest.{split}
+use Rattle.am_effects.specs.Causes.{Cause}
+use Rattle.am_effects.specs.Letters.{Says, request, spread, bcast, order, accept, ack, nack, hold, join_ask, welcome, leave_ask, gone, invite, vote, fetch, piece, result, hand_over, LetterSays}
+use Rattle.am_effects.specs.Changes.{Changes, unchanged as no_change, changed}
+use Rattle.am_effects.specs.Effects.{Effect}
+use Rattle.am_effects.specs.Events.{actor, WasSentTo, IsCause, idles, stops, returns, steps}
+use Rattle.am_effects.proofs.Items.{all_item}
+use Rattle.am_effects.proofs.Runs.{EachKeeps, runs_keep}
+use Rattle.am_bounded.proofs.Kept.{Keeps}
+use Rattle.am_bounded.proofs.Changes.{kept_change}
+use Rattle.am_bounded.proofs.Runs.{kept_founder, kept_stranger}
+use Rattle.am_laws.specs.Taken.{TakenHolds}
+use Rattle.am_laws.proofs.LeaderRows.{JoinsFit, first_member, used_blank}
+use Rattle.am_laws.proofs.Named.{few_names}
+use Rattle.am_laws.proofs.ViewNames.{HasNames, HeardNames, change_names}
+use Rattle.am_laws.proofs.ViewChanges.{Balloted, change_does}
+use Rattle.am_laws.proofs.Views.{heard_names, views_start}
+use Rattle.am_laws.proofs.Blank.{Blanked, change_blank, AllBlank, each_blank, first_blank}
+use Rattle.am_laws.proofs.Taken.{Fronts, Owned, WelcomeUsed, HeardUsed, change_owned}
+
+-- ---- what is so of each node along a step
+
+pub record Along (rules : Rules) (m : Node) : Type 0 where
+  pub names : HasNames m
+  pub balloted : Balloted m
+  pub blanked : Blanked m
+  pub kept : Keeps rules m
+  pub owned : Owned m
+
+pub along_changes : (rules : Rules) {c : Cause} {o : Outcome} (m n : Node) → HeardNames c → HeardUsed c → Changes c o m n → Along rules m → Along rules n
+along_changes rules m n heard used no_change h = h
+along_changes rules m n heard used (changed {n = x} one more) h =
+    along_changes rules x n heard used more (record {
+      names = change_names heard m x one h.names;
+      balloted = (change_does heard m x one h.names h.balloted).balloted;
+      blanked = change_blank m x one h.balloted h.blanked;
+      kept = kept_change rules m x one h.kept;
+      owned = change_owned _ _ m x used h.kept.itself h.balloted h.blanked one h.owned;
+    })
+
+-- ---- letters
+
+welcomes_used : (m n : Node) (c : Cause) (to : List ℕ) (p : Packet) → Fronts n → Says m c n to p → WelcomeUsed p
+welcomes_used m n c to p h (welcome s l may) = used_fold n.core.log.image (n.core.log.start + 1) _ (omega arith) h.used
+welcomes_used m n c to p h (request _ req body a f s) = tt
+welcomes_used m n c to p h (spread _ req body a f s) = tt
+welcomes_used m n c to p h (bcast _ number e l s) = tt
+welcomes_used m n c to p h (order _ number from_ req v report body is l s) = tt
+welcomes_used m n c to p h (accept _ poll l) = tt
+welcomes_used m n c to p h (ack _ a) = tt
+welcomes_used m n c to p h (nack _ a) = tt
+welcomes_used m n c to p h (hold _ s v report req body by l) = tt
+welcomes_used m n c to p h (join_ask _ a) = tt
+welcomes_used m n c to p h (leave_ask _ a l) = tt
+welcomes_used m n c to p h (gone s l may) = tt
+welcomes_used m n c to p h (invite _ may) = tt
+welcomes_used m n c to p h (vote s v is) = tt
+welcomes_used m n c to p h (fetch _ may) = tt
+welcomes_used m n c to p h (piece s v stored number e is may at) = tt
+welcomes_used m n c to p h (result _ number names is viewed may) = tt
+welcomes_used m n c to p h (hand_over _ l leaves) = tt
+
+-- ---- worlds
+
+abbrev UsedLetter : Letter → Type 0
+UsedLetter l = WelcomeUsed l.packet
+
+pub record AllOwned (rules : Rules) (w : World) : Type 0 where
+  pub blanks : AllBlank rules w
+  pub kept : (name : ℕ) → Keeps rules (w.nodes name)
+  pub each : (name : ℕ) → name < 256 → Owned (w.nodes name)
+  pub letters : All UsedLetter w.letters
+
+pub heard_used : (rules : Rules) (w : World) (e : Event) (c : Cause) → AllOwned rules w → IsCause w (actor w e) e.act c → HeardUsed c
+heard_used rules w e c h cause p is =
+    let was : WasSentTo w (actor w e) e.act p = subst (IsCause w (actor w e) e.act) is cause in
+    subst WelcomeUsed was.is (all_item UsedLetter w.letters (heard_by e.act) was.letter h.letters was.there)
+
+pub each_along : (rules : Rules) (w : World) (name : ℕ) → name < 256 → AllOwned rules w → Along rules (w.nodes name)
+each_along rules w name few h =
+    let k = h.blanks.views.each name few in
+    record { names = k.names; balloted = k.balloted; blanked = h.blanks.each name few; kept = h.kept name; owned = h.each name few }
+
+owned_step : (rules : Rules) (w : World) (e : Event) (c : Cause) (s : Step) → IsCause w (actor w e) e.act c → Effect (w.nodes (actor w e)) c s → AllBlank rules (stepped w e (actor w e) s) → AllOwned rules w → AllOwned rules (stepped w e (actor w e) s)
+unfolding stepped
+owned_step rules w e c s cause effect blanks h =
+    let name = actor w e in
+    let m = w.nodes name in
+    let n = s.node in
+    let few = few_names rules w e h.blanks.views.named in
+    let a = along_changes rules m n (heard_names rules w e c h.blanks.views cause) (heard_used rules w e c h cause) effect.changes (each_along rules w name few h) in
+    let sender = effect.sender in
+    let fronts : Fronts sender = (let k = subst Fronts effect.is a.owned.fronts in record { used = k.used; joins = k.joins; kept = k.kept; base = k.base; given = k.given; accepted = k.accepted; reported = k.reported }) in
+    record {
+      blanks = blanks;
+      kept = λ other. split (other == name) (λ t. rw t a.kept) (λ f. rw f (h.kept other));
+      each = λ other low. split (other == name) (λ t. rw t a.owned) (λ f. rw f (h.each other low));
+      letters = All-append UsedLetter w.letters s.letters h.letters
+          (All-weaker (LetterSays m c sender) UsedLetter (λ l x. welcomes_used m sender c l.to l.packet fronts x.says) s.letters effect.letters);
+    }
+
+owned_same : (rules : Rules) (w v : World) → v.nodes ≡ w.nodes → v.letters ≡ w.letters → AllBlank rules v → AllOwned rules w → AllOwned rules v
+owned_same rules w v nodes letters blanks h = record { blanks = blanks; kept = rw nodes h.kept; each = rw nodes h.each; letters = rw letters h.letters }
+
+pub each_owned : (rules : Rules) → EachKeeps (AllOwned rules)
+unfolding unchanged
+each_owned rules w e v (idles o idle) h = owned_same rules w v refl refl (each_blank rules w e v (idles o idle) h.blanks) h
+each_owned rules w e v (stops runs) h = owned_same rules w v refl refl (each_blank rules w e v (stops runs) h.blanks) h
+each_owned rules w e v (returns place is left more) h = owned_same rules w v refl refl (each_blank rules w e v (returns place is left more) h.blanks) h
+each_owned rules w e v (steps c s runs cause effect) h = owned_step rules w e c s cause effect (each_blank rules w e v (steps c s runs cause effect) h.blanks) h
+
+-- ---- the start
+
+founder_owned : (rules : Rules) (name : ℕ) → has rules.founders name ≡ true → Owned (founder rules name)
+unfolding JoinsFit fold
+founder_owned rules name there =
+    let given : slice_index rules.founders (place_of name) ≡ life_of name = grind (arith, nat_tests) in
+    record {
+      fronts = record { used = used_blank; joins = (tt, tt); kept = omega arith; base = omega arith; given = omega arith; accepted = omega arith; reported = rw there (omega arith) };
+      leads = λ t. first_member (founding_stamp rules) rules.founders rules.resilience name given;
+      vote = tt;
+    }
+
+stranger_owned : (rules : Rules) (name : ℕ) → Owned (stranger rules name)
+unfolding JoinsFit
+stranger_owned rules name = record {
+  fronts = record { used = used_blank; joins = tt; kept = omega arith; base = omega arith; given = omega arith; accepted = omega arith; reported = omega arith };
+  leads = λ t. absurd (cc);
+  vote = tt;
+}
+
+pub owned_start : (rules : Rules) → MayFound rules → AllOwned rules (start rules)
+owned_start rules may = record {
+  blanks = record { views = views_start rules may; each = λ name low. first_blank rules name };
+  kept = λ name. split (has rules.founders name) (λ t. rw t (kept_founder rules name)) (λ f. rw f (kept_stranger rules name));
+  each = λ name low. split (has rules.founders name) (λ t. rw t (founder_owned rules name t)) (λ f. rw f (stranger_owned rules name));
+  letters = All-nil UsedLetter;
+}
+
+pub run_owned : (rules : Rules) (events : List Event) → MayFound rules → AllOwned rules (run rules events)
+run_owned rules events may = runs_keep (AllOwned rules) (each_owned rules) (start rules) events (owned_start rules may)
+
+pub taken_holds : TakenHolds
+taken_holds rules events name may few = ((run_owned rules events may).each name few).fronts.base

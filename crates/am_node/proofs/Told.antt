@@ -1,0 +1,33 @@
+-- What a node tells of itself is the same of the end that is kept.
+use Rattle.std.proofs.Common.{◌≡◌, ℕ, ◌&&◌, ◌==◌, if◌then◌else◌, ap, ◌∙◌}
+use Rattle.am_base.specs.declared.image.Image.{Image}
+use Rattle.am_base.specs.Lists.{members_of}
+use Rattle.am_base.specs.Stamps.{stamp_eq}
+use Rattle.am_model.specs.Node.{Node, top, told, is_member}
+use Rattle.am_model.specs.Ends.{IsEndOf}
+use Rattle.am_handlers.proofs.Plans.{told_end, top_end}
+use Rattle.am_node.specs.declared.info.Info.{Info}
+use Rattle.am_node.specs.declared.info.Role.TheVariants as role
+use Rattle.am_node.specs.Info.{info_of, coordinates, role_by}
+
+-- by what the list tells, and by its top
+abbrev info_with : Node → Image → ℕ → Info
+info_with m image last = record {
+  role =
+      if coordinates m.ballot then role.Coordinator
+      else if (is_member m.status && stamp_eq m.core.promise image.view) && (image.view.by == m.core.who) then role.Sequencer
+      else role_by m.status;
+  view = image.view;
+  members = members_of image;
+  base = m.core.base;
+  taken = m.core.taken;
+  accepted = m.core.acc;
+  top = last;
+  promise = m.core.promise;
+}
+
+pub info_at_end : (x m : Node) → IsEndOf x m → info_of m ≡ info_of x
+info_at_end x m end =
+    ap (λ image. info_with m image (top m)) (told_end x m end)
+    ∙ ap (λ last. info_with m (told x) last) (top_end x m end)
+    ∙ ap info_of end.same

@@ -1,0 +1,19 @@
+-- The line that tells of a status on standard error, without its end.
+use Rattle.std.specs.Prelude.{ℕ, List, [], ◌++◌, codes, decimal}
+use Rattle.am_script.specs.declared.refusal.ScriptRefusal.{ScriptRefusal}
+use Rattle.am_script.specs.Refusals.{number_of, place_of}
+use Rattle.am_sim.specs.declared.simulate.Status.{Status}
+use Rattle.am_sim.specs.declared.simulate.Status.TheVariants.{Done, Usage, BadScript, TooLong, ReadFault, WriteFault, NoMemory, Spent}
+
+abbrev pub bad_script_line : ScriptRefusal → List ℕ
+bad_script_line cause = codes "bad script " ++ decimal (number_of cause) ++ codes " at " ++ decimal (place_of cause)
+
+abbrev pub line_of : Status → List ℕ
+line_of Done = []
+line_of Usage = codes "usage: play"
+line_of (BadScript cause) = bad_script_line cause
+line_of TooLong = codes "too long"
+line_of ReadFault = codes "read fault"
+line_of WriteFault = codes "write fault"
+line_of NoMemory = codes "no memory"
+line_of Spent = codes "spent"

@@ -1,0 +1,50 @@
+ghost use Rattle.std.specs.Prelude.{◌≡◌, ◌≤◌, ◌++◌, codes, decimal, length};
+ghost use Rattle.am_script.specs.Refusals as refusals;
+ghost use Rattle.am_sim.specs.Telling.{line_of, bad_script_line};
+
+use crate::simulate::Status;
+use am_script::refusal::ScriptRefusal;
+use arrayvec::ArrayString;
+use itoa::Buffer;
+
+/// A line that tells of a status.
+pub type Line = ArrayString<64>;
+
+/// Some words as a line.
+fn line(words: &str) -> Line
+    requires { length words.now ≤ 64 }
+    ensures { result.bytes ≡ words.now }
+{
+    let mut line = ArrayString::new();
+    line.push_str(words);
+    line
+}
+
+/// The line for an input that is no script, by its cause.
+fn bad_script_line(cause: ScriptRefusal) -> Line
+    ensures { result.bytes ≡ bad_script_line cause }
+{
+    let mut digits = Buffer::new();
+    let mut line = line("bad script ");
+    line.push_str(digits.format(cause.number()));
+    line.push_str(" at ");
+    line.push_str(digits.format(cause.place()));
+    line
+}
+
+/// The line that tells of a status on standard error, without its end; empty for Done, of which nothing is told. It takes no
+/// memory (docs/PROTOCOL.md, "Statuses").
+pub fn line_of(status: Status) -> Line
+    ensures { result.bytes ≡ line_of status }
+{
+    match status {
+        Status::Done => ArrayString::new(),
+        Status::Usage => line("usage: play"),
+        Status::BadScript(cause) => bad_script_line(cause),
+        Status::TooLong => line("too long"),
+        Status::ReadFault => line("read fault"),
+        Status::WriteFault => line("write fault"),
+        Status::NoMemory => line("no memory"),
+        Status::Spent => line("spent"),
+    }
+}

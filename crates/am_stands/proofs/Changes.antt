@@ -1,0 +1,290 @@
+-- The changes of a node that make no list longer, as moves of the group.
+use Rattle.std.proofs.Common.{◌≡◌, ◌≢◌, ℕ, ◌+◌, ◌<◌, ◌≤◌, ◌==◌, ◌||◌, not, Bool, true, false, List, ◌++◌, length, take, Option, Some, None, refl, sym, ap, ◌∙◌, subst, arith, nat_lt}
+use Rattle.std.proofs.lemmas.Bool.Decides.{nat_tests}
+use Rattle.std.proofs.lemmas.List.{length-take}
+use Rattle.am_base.specs.declared.name.Stamp.{Stamp}
+use Rattle.am_base.specs.declared.entry.Entry.{Entry}
+use Rattle.am_base.specs.declared.image.Image.{Image}
+use Rattle.am_base.specs.Stamps.{stamp_lt}
+use Rattle.am_base.specs.Names.{has}
+use Rattle.am_base.specs.Lists.{Log, blank, members_of, fold}
+use Rattle.am_chain_lists.specs.Whole.{told, mem, key}
+use Rattle.am_chain_lists.proofs.Order.{key_lt}
+use Rattle.am_chain_moves.specs.Group as groups
+use Rattle.am_chain_moves.specs.Group.{Group, Views, put, IsThere, IsUp}
+use Rattle.am_chain_moves.specs.Moves.{Move, IsAbove, MayDepart, with_node, own_stamp}
+use Rattle.am_chain_moves.specs.Moves as group
+use Rattle.am_model.specs.declared.status.Status.{Status}
+use Rattle.am_model.specs.declared.status.Status.TheVariants as status
+use Rattle.am_model.specs.Node as nodes
+use Rattle.am_model.specs.Node.{Node, Ballot, members, is_member, is_asking, unsettled, set_at}
+use Rattle.am_model.specs.Calls.{is_unfinished}
+use Rattle.am_model.specs.Ballots.{Verdict, overtaken, promised, next_stamp}
+use Rattle.am_model.specs.Refresh.{refresh}
+use Rattle.am_model.specs.Hearing.{hears_member}
+use Rattle.am_model.specs.Group.{has_log}
+use Rattle.am_model.specs.World.{World, is_stopped, has_departed}
+use Rattle.am_model.proofs.Folds.{fold_append}
+use Rattle.am_model.proofs.Greatest.{split, and_both}
+use Rattle.am_effects.specs.Causes.{Cause, hears}
+use Rattle.am_effects.specs.Looks.{Balloting, with_more, without_one, as_it_is, Looks, finds_itself_out, waits, fetches_from_best, finds_too_few, finds_no_room, decides}
+use Rattle.am_effects.specs.Changes.{Promises, invited, overtaken as overtaken_by, told_result, refreshes, settles, takes_report, admits, numbers, keeps_body, notes, stores, begins_list, departs, promises, opens, looks, fetches, stores_view, queues, collects, takes, asks_to_join, asks_to_leave, closes}
+use Rattle.am_effects.proofs.Rests.{rests_refresh, settle_is}
+use Rattle.am_effects.proofs.Statuses.{logged}
+use Rattle.am_laws.proofs.Stamps.{equal_stamps}
+use Rattle.am_packet.specs.declared.packet.Packet.TheVariants as packet
+use Rattle.am_stands.specs.Standing.{NameStands, FrontsStand, StandsBut, within}
+use Rattle.am_stands.specs.Letters.{GoneSays, has_stopped, may_go}
+use Rattle.am_stands.specs.Moving.{Leads}
+use Rattle.am_stands.specs.Steps.{MayMove, DecidesNothing, ChangesStand}
+use Rattle.am_stands.proofs.Names.{one_move, no_move, name_in, views_in, lines_within, each_within, fronts_within}
+
+-- ---- a node that is the same to the group
+
+pub record Unmoved (x y : Node) : Type 0 where
+  log : y.core.log ≡ x.core.log
+  log_ : has_log y.status ≡ has_log x.status
+  departed : has_departed y.status ≡ has_departed x.status
+  leaving : y.leaving ≡ x.leaving
+  promise : y.core.promise ≡ x.core.promise
+  ballot : is_unfinished y.ballot ≡ is_unfinished x.ballot
+  start : y.core.start ≡ x.core.start
+
+-- the same to what stands for it
+same_name : (w : World) (name i : ℕ) (x y : Node) (a : groups.Node) → Unmoved x y → NameStands (within w name x) i x a → NameStands (within w name y) i y a
+same_name w name i x y a u h = record {
+  begins = record {
+    within = subst (λ (l : Log). l.start ≤ length w.group) (sym u.log) h.begins.within;
+    image = subst (λ (l : Log). l.image ≡ told (take l.start w.group)) (sym u.log) h.begins.image;
+  };
+  list = h.list ∙ ap (λ (l : Log). take l.start w.group ++ l.entries) (sym u.log);
+  log_ = h.log_ ∙ sym u.log_;
+  stopped = h.stopped;
+  departed = h.departed ∙ sym u.departed;
+  leaving = h.leaving ∙ sym u.leaving;
+  promise = h.promise ∙ sym u.promise;
+  ballot = h.ballot ∙ sym u.ballot;
+  start = λ t. h.start (sym u.log_ ∙ t) ∙ sym u.start;
+}
+
+-- another name's part, in a world where this name's node is another
+pub others_same : (w : World) (name : ℕ) (x y : Node) (s : Group) → Unmoved x y
+    → ((i : ℕ) → i < 256 → NameStands (within w name x) i ((within w name x).nodes i) (s.node i))
+    → (i : ℕ) → i < 256 → NameStands (within w name y) i ((within w name y).nodes i) (s.node i)
+others_same w name x y s u h i few = split (i == name)
+    (λ t. let old : NameStands (within w name x) i x (s.node i) = rw t at (h i few) in rw t (same_name w name i x y (s.node i) u old))
+    (λ f. let old : NameStands (within w name x) i (w.nodes i) (s.node i) = rw f at (h i few) in rw f (name_in (within w name x) (within w name y) i (w.nodes i) (s.node i) refl refl old))
+
+others_fronts : (w : World) (name : ℕ) (x y : Node) (s : Group)
+    → ((i : ℕ) → i < 256 → i ≢ name → has_departed ((within w name x).nodes i).status ≡ false → FrontsStand ((within w name x).nodes i) (s.node i))
+    → (i : ℕ) → i < 256 → i ≢ name → has_departed ((within w name y).nodes i).status ≡ false → FrontsStand ((within w name y).nodes i) (s.node i)
+others_fronts w name x y s h i few other = split (i == name)
+    (λ t. absurd (let same : i ≡ name = grind (arith, nat_tests) in other same))
+    (λ f. rw f (λ d. (let old : has_departed (w.nodes i).status ≡ false → FrontsStand (w.nodes i) (s.node i) = rw f at (h i few other) in old d)))
+
+unmoved : (w : World) (name : ℕ) (x y : Node) (s : Group) → Unmoved x y → StandsBut name (within w name x) s → Leads (StandsBut name (within w name y)) s
+unmoved w name x y s u h = no_move (StandsBut name (within w name y)) s (record {
+  each = others_same w name x y s u h.each;
+  fronts = others_fronts w name x y s h.fronts;
+  views = views_in (within w name x) (within w name y) s.views refl (lines_within w name x y u.log) h.views;
+  group = h.group;
+})
+
+-- ---- a move of one node, whose list stays
+
+moved : (w : World) (name : ℕ) (x y : Node) (s : Group) (b : groups.Node) → y.core.log ≡ x.core.log → Move s (with_node s name b)
+    → (NameStands (within w name x) name x (s.node name) → NameStands (within w name y) name y b)
+    → StandsBut name (within w name x) s → Leads (StandsBut name (within w name y)) s
+moved w name x y s b log move f h = one_move (StandsBut name (within w name y)) s (with_node s name b) move (record {
+  each = each_within w name x y s b f h.each;
+  fronts = fronts_within w name x y s b h.fronts;
+  views = views_in (within w name x) (within w name y) s.views refl (lines_within w name x y log) h.views;
+  group = h.group;
+})
+
+is_itself : (name : ℕ) → (name == name) ≡ true
+is_itself name = grind (arith, nat_tests)
+
+-- what stands for the name itself
+pub own_name : (w : World) (name : ℕ) (x : Node) (s : Group) → name < 256 → StandsBut name (within w name x) s → NameStands (within w name x) name x (s.node name)
+own_name w name x s few h = rw (is_itself name) at (h.each name few)
+
+-- who runs and hasn't departed is there
+pub is_there : (w : World) (name : ℕ) (x : Node) (a : groups.Node) → is_stopped w name ≡ false → has_departed x.status ≡ false → NameStands (within w name x) name x a → IsThere a
+is_there w name x a runs stays h = record { goes = h.stopped ∙ runs; stays = h.departed ∙ stays }
+
+member_stays : (t : Status) → is_member t ≡ true → has_departed t ≡ false
+member_stays status.Stranger h = refl
+member_stays status.Asking h = refl
+member_stays status.Member h = refl
+member_stays status.Departed h = absurd (cc)
+
+asking_stays : (t : Status) → (is_member t || is_asking t) ≡ true → has_departed t ≡ false
+asking_stays status.Stranger h = refl
+asking_stays status.Asking h = refl
+asking_stays status.Member h = refl
+asking_stays status.Departed h = absurd (cc)
+
+pub is_up : (w : World) (name : ℕ) (x : Node) (a : groups.Node) → is_stopped w name ≡ false → is_member x.status ≡ true → NameStands (within w name x) name x a → IsUp a
+is_up w name x a runs member h = record { log = h.log_ ∙ logged x.status member; there = is_there w name x a runs (member_stays x.status member) h }
+
+-- ---- what a whole list tells
+
+pub told_whole : (w : World) (name i : ℕ) (x : Node) (a : groups.Node) → NameStands (within w name x) i x a → told a.list ≡ nodes.told x
+told_whole w name i x a h =
+    let start_ = x.core.log.start in
+    let front = take start_ w.group in
+    let long : length front ≡ start_ = (let b = h.begins.within in let c = length-take start_ w.group in omega arith) in
+    let one : 1 + length front ≡ start_ + 1 = omega arith in
+    ap told h.list ∙ fold_append blank 1 front x.core.log.entries ∙ ap (λ (i : Image). fold i (1 + length front) x.core.log.entries) (sym h.begins.image) ∙ ap (λ n. fold x.core.log.image n x.core.log.entries) one
+
+-- ---- promises
+
+-- an unfinished ballot of the promise is overtaken by what is above it
+over : (v : Stamp) (ballot : Option Ballot) → ((b : Ballot) → ballot ≡ Some b → b.is_over ≡ false → stamp_lt b.stamp v ≡ true) → is_unfinished (overtaken v ballot) ≡ false
+over v None f = refl
+over v (Some b) f = split b.is_over
+    (λ t. rw t refl)
+    (λ n. let low = f b refl n in rw (n, low) refl)
+
+-- and by nothing else
+kept : (v : Stamp) (ballot : Option Ballot) → ((b : Ballot) → ballot ≡ Some b → b.is_over ≡ false → stamp_lt b.stamp v ≡ false) → is_unfinished (overtaken v ballot) ≡ is_unfinished ballot
+kept v None f = refl
+kept v (Some b) f = split b.is_over
+    (λ t. rw t refl)
+    (λ n. let low = f b refl n in rw (n, low) refl)
+
+promiser_stays : (c : Cause) (x : Node) (v : Stamp) → Promises c x v → has_departed x.status ≡ false
+promiser_stays c x v (invited s _ is heard own) = asking_stays x.status (and_both (not (s == x.core.who)) (is_member x.status || is_asking x.status) heard).1
+promiser_stays c x v (overtaken_by s _ shown is heard above) = member_stays x.status (and_both (not (s == x.core.who)) (is_member x.status) heard).1
+promiser_stays c x v (told_result s _ base number names resilience is heard own other) = member_stays x.status (and_both (not (s == x.core.who)) (is_member x.status) heard).1
+
+promise_stands : (w : World) (name : ℕ) (c : Cause) (x : Node) (v : Stamp) (s : Group) → MayMove w name c x s → stamp_lt v x.core.promise ≡ false → Promises c x v → StandsBut name (within w name x) s → Leads (StandsBut name (within w name (promised x v))) s
+promise_stands w name c x v s may low why h =
+    let old = own_name w name x s may.few h in
+    let begun = may.stamps v why in
+    let small = may.promise in
+    split (stamp_lt x.core.promise v)
+    (λ t.
+    let up : key x.core.promise < key v = key_lt x.core.promise v small begun.small t in
+    let same : key (s.node name).promise ≡ key x.core.promise = ap key old.promise in
+    let other : v.by ≢ name = λ e. (let b : key v ≤ key (s.node name).promise = subst (λ k. key v ≤ key (s.node k).promise) e begun.begun in let z : ⊥ = omega arith in z) in
+    let above : IsAbove s.node name v = record { greater = omega arith; small = begun.small; other = other; begun = begun.begun } in
+    let ends : is_unfinished (overtaken v x.ballot) ≡ false = over v x.ballot (λ b is open_. subst (λ u. stamp_lt u v ≡ true) (sym (may.ballot b is open_)) t) in
+    moved w name x (promised x v) s (record (s.node name) { promise = v; ballot = false }) refl
+    (group.raises name v (is_there w name x (s.node name) may.runs (promiser_stays c x v why) old) above)
+    (λ k. record { begins = record { within = k.begins.within; image = k.begins.image }; list = k.list; log_ = k.log_; stopped = k.stopped; departed = k.departed; leaving = k.leaving; promise = refl; ballot = sym ends; start = k.start }) h)
+    (λ f.
+    let same : v ≡ x.core.promise = equal_stamps v x.core.promise begun.small small low f in
+    let stays : is_unfinished (overtaken v x.ballot) ≡ is_unfinished x.ballot = kept v x.ballot (λ b is open_. subst (λ u. stamp_lt u v ≡ false) (sym (may.ballot b is open_)) f) in
+    unmoved w name x (promised x v) s (record { log = refl; log_ = refl; departed = refl; leaving = refl; promise = same; ballot = stays; start = refl }) h)
+
+-- ---- ballots
+
+-- a ballot that ends without a decision
+given_over : (w : World) (name : ℕ) (x y : Node) (s : Group) → y.core.log ≡ x.core.log → y.status ≡ x.status → y.leaving ≡ x.leaving → y.core.promise ≡ x.core.promise → is_unfinished y.ballot ≡ false → y.core.start ≡ x.core.start → StandsBut name (within w name x) s → Leads (StandsBut name (within w name y)) s
+given_over w name x y s log stays leaving promise ends start_ h =
+    moved w name x y s (record (s.node name) { ballot = false }) log (group.gives_over name)
+    (λ k. record {
+      begins = record { within = subst (λ (l : Log). l.start ≤ length w.group) (sym log) k.begins.within; image = subst (λ (l : Log). l.image ≡ told (take l.start w.group)) (sym log) k.begins.image };
+      list = k.list ∙ ap (λ (l : Log). take l.start w.group ++ l.entries) (sym log);
+      log_ = k.log_ ∙ ap has_log (sym stays);
+      stopped = k.stopped;
+      departed = k.departed ∙ ap has_departed (sym stays);
+      leaving = k.leaving ∙ sym leaving;
+      promise = k.promise ∙ sym promise;
+      ballot = sym ends;
+      start = λ t. k.start (ap has_log (sym stays) ∙ t) ∙ sym start_;
+    }) h
+
+open_stands : (w : World) (name : ℕ) (c : Cause) (x y : Node) (s : Group) → MayMove w name c x s → is_member x.status ≡ true → has (members x) x.core.who ≡ true → x.leaving ≡ false → y.core.log ≡ x.core.log → y.status ≡ x.status → y.leaving ≡ x.leaving → y.core.promise ≡ next_stamp x → is_unfinished y.ballot ≡ true → y.core.start ≡ x.core.start → StandsBut name (within w name x) s → Leads (StandsBut name (within w name y)) s
+unfolding mem
+open_stands w name c x y s may member listed stays log same_status same_leaving promise open_ start_ h =
+    let old = own_name w name x s may.few h in
+    let up = is_up w name x (s.node name) may.runs member old in
+    let who = may.who in
+    let in_list : mem (s.node name).list name ≡ true = ap (λ (i : Image). has (members_of i) name) (told_whole w name name x (s.node name) old) ∙ ap (has (members x)) (sym who) ∙ listed in
+    let own : own_stamp name (s.node name) ≡ y.core.promise = (λ i. record { round = (old.promise i).round + 1; by = sym who i }) ∙ sym promise in
+    moved w name x y s (record (s.node name) { promise = own_stamp name (s.node name); ballot = true }) log
+    (group.begins name may.few up (old.leaving ∙ stays) in_list)
+    (λ k. record {
+      begins = record { within = subst (λ (l : Log). l.start ≤ length w.group) (sym log) k.begins.within; image = subst (λ (l : Log). l.image ≡ told (take l.start w.group)) (sym log) k.begins.image };
+      list = k.list ∙ ap (λ (l : Log). take l.start w.group ++ l.entries) (sym log);
+      log_ = k.log_ ∙ ap has_log (sym same_status);
+      stopped = k.stopped;
+      departed = k.departed ∙ ap has_departed (sym same_status);
+      leaving = k.leaving ∙ sym same_leaving;
+      promise = own;
+      ballot = sym open_;
+      start = λ t. k.start (ap has_log (sym same_status) ∙ t) ∙ sym start_;
+    }) h
+
+-- a ballot that goes on is the same to the group, and one that ends is given over
+look_stands : (w : World) (name : ℕ) (c : Cause) (x : Node) (b : Ballot) (v : Verdict) (s : Group) → MayMove w name c x s → is_unfinished x.ballot ≡ true → (look : Looks x b v) → DecidesNothing look → StandsBut name (within w name x) s → Leads (StandsBut name (within w name v.node)) s
+look_stands w name c x b v s may open_ (waits y z) nothing h = unmoved w name x v.node s (record { log = refl; log_ = refl; departed = refl; leaving = refl; promise = refl; ballot = sym open_; start = refl }) h
+look_stands w name c x b v s may open_ (fetches_from_best y z u) nothing h = unmoved w name x v.node s (record { log = refl; log_ = refl; departed = refl; leaving = refl; promise = refl; ballot = sym open_; start = refl }) h
+look_stands w name c x b v s may open_ (finds_itself_out y) nothing h = given_over w name x v.node s refl refl refl refl refl refl h
+look_stands w name c x b v s may open_ (finds_too_few y z) nothing h = given_over w name x v.node s refl refl refl refl refl refl h
+look_stands w name c x b v s may open_ (finds_no_room y) nothing h = given_over w name x v.node s refl refl refl refl refl refl h
+look_stands w name c x b v s may open_ (decides y) nothing h = absurd nothing
+
+looked_open : (c : Cause) (x : Node) (b : Ballot) → Balloting c x b → is_unfinished x.ballot ≡ true
+looked_open c x b (with_more old s v shown is heard low high o same stays) = ap is_unfinished o.last ∙ ap not o.open_
+looked_open c x b (without_one old name is o other) = ap is_unfinished o.last ∙ ap not o.open_
+looked_open c x b (as_it_is old o on) = ap is_unfinished o.last ∙ ap not o.open_
+
+-- ---- leaving
+
+or_last : (a b : Bool) → (a || b) ≡ false → b ≡ false
+or_last true b h = absurd (cc)
+or_last false b h = h
+
+ask_stands : (w : World) (name : ℕ) (c : Cause) (x : Node) (s : Group) → MayMove w name c x s → x.status ≡ status.Member → is_unfinished x.ballot ≡ false → StandsBut name (within w name x) s → Leads (StandsBut name (within w name (record x { leaving = true }))) s
+ask_stands w name c x s may was none h =
+    let old = own_name w name x s may.few h in
+    moved w name x (record x { leaving = true }) s (record (s.node name) { leaving = true }) refl
+    (group.asks name (is_up w name x (s.node name) may.runs (ap is_member was) old) (old.ballot ∙ none))
+    (λ k. record { begins = record { within = k.begins.within; image = k.begins.image }; list = k.list; log_ = k.log_; stopped = k.stopped; departed = k.departed; leaving = refl; promise = k.promise; ballot = k.ballot; start = k.start }) h
+
+-- it is told to go only once it may
+may_depart : (w : World) (name number : ℕ) (x : Node) (s : Group) → is_stopped w name ≡ false → IsUp (s.node name) → (s.node name).leaving ≡ true → NameStands (within w name x) name x (s.node name) → GoneSays s number name → (before : List Entry) × MayDepart s name before
+may_depart w name number x s runs up leaves old (has_stopped t) = absurd (let f : (s.node name).stopped ≡ false = old.stopped ∙ runs in cc)
+may_depart w name number x s runs up leaves old (may_go before is accepted stored) = (before, record { up = up; leaving = leaves; accepted = accepted; stored = stored })
+
+depart_stands : (w : World) (name from number : ℕ) (v : Stamp) (c : Cause) (x : Node) (s : Group) → MayMove w name c x s → c ≡ hears (packet.Gone from v number) → hears_member x from ≡ true → x.leaving ≡ true → StandsBut name (within w name x) s → Leads (StandsBut name (within w name (record x { status = status.Departed }))) s
+depart_stands w name from number v c x s may is heard leaves h =
+    let old = own_name w name x s may.few h in
+    let member = (and_both (not (from == x.core.who)) (is_member x.status) heard).1 in
+    let up = is_up w name x (s.node name) may.runs member old in
+    let go = may_depart w name number x s may.runs up (old.leaving ∙ leaves) old (may.gone from v number is) in
+    moved w name x (record x { status = status.Departed }) s (record (s.node name) { departed = true }) refl
+    (group.departs name go.0 go.1)
+    (λ k. record { begins = record { within = k.begins.within; image = k.begins.image }; list = k.list; log_ = up.log; stopped = k.stopped; departed = refl; leaving = k.leaving; promise = k.promise; ballot = k.ballot; start = λ t. k.start (logged x.status member) }) h
+
+-- ---- each change
+
+same_to_it : (w : World) (name : ℕ) (x y : Node) (s : Group) → y.core.log ≡ x.core.log → y.status ≡ x.status → y.leaving ≡ x.leaving → y.core.promise ≡ x.core.promise → y.ballot ≡ x.ballot → y.core.start ≡ x.core.start → StandsBut name (within w name x) s → Leads (StandsBut name (within w name y)) s
+same_to_it w name x y s log stays leaving promise ballot start_ h = unmoved w name x y s (record { log = log; log_ = ap has_log stays; departed = ap has_departed stays; leaving = leaving; promise = promise; ballot = ap is_unfinished ballot; start = start_ }) h
+
+pub changes_stand : ChangesStand
+changes_stand w name c o x y s refreshes may is h = let r = rests_refresh x in same_to_it w name x (refresh x) s r.log r.rests.status r.rests.leaving r.rests.promise r.rests.ballot r.begins h
+changes_stand w name c o x y s settles may is h = subst (λ n. Leads (StandsBut name (within w name n)) s) (sym (settle_is x)) (same_to_it w name x _ s refl refl refl refl refl refl h)
+changes_stand w name c o x y s (takes_report from v report by may_) may is h = same_to_it w name x y s refl refl refl refl refl refl h
+changes_stand w name c o x y s (admits from v was leads fit) may is h = same_to_it w name x y s refl refl refl refl refl refl h
+changes_stand w name c o x y s (numbers e leads room why) may is h = absurd is
+changes_stand w name c o x y s (keeps_body from v report req body was by) may is h = same_to_it w name x y s refl refl refl refl refl refl h
+changes_stand w name c o x y s (notes from v base acc by heard) may is h = same_to_it w name x y s refl refl refl refl refl refl h
+changes_stand w name c o x y s (stores from v base acc number e by heard plain may_) may is h = absurd is
+changes_stand w name c o x y s (begins_list from v base join image was says may_) may is h = absurd is
+changes_stand w name c o x y s (departs from v number was by leaves) may is h = depart_stands w name from number v c x s may was by leaves h
+changes_stand w name c o x y s (promises v low why) may is h = promise_stands w name c x v s may low why h
+changes_stand w name c o x y s (opens least resilience by may_) may is h = open_stands w name c x y s may may_.member may_.listed may_.stays refl refl refl refl refl refl h
+changes_stand w name c o x y s (looks b verdict over_ why look was) may is h = look_stands w name c x b verdict s may (looked_open c x b why) look is h
+changes_stand w name c o x y s (fetches from v base number e was by promise below why may_) may is h = absurd is
+changes_stand w name c o x y s (stores_view from v base number names resilience was by own other promise below may_) may is h = absurd is
+changes_stand w name c o x y s (queues body was says member stays few) may is h = same_to_it w name x y s refl refl refl refl refl refl h
+changes_stand w name c o x y s (collects req was) may is h = same_to_it w name x y s refl refl refl refl refl refl h
+changes_stand w name c o x y s (takes e was says member some there) may is h = same_to_it w name x y s refl refl refl refl refl refl h
+changes_stand w name c o x y s (asks_to_join was asked) may is h = unmoved w name x y s (record { log = refl; log_ = sym (ap has_log asked); departed = sym (ap has_departed asked); leaving = refl; promise = refl; ballot = refl; start = refl }) h
+changes_stand w name c o x y s (asks_to_leave was member stays done) may is h = ask_stands w name c x s may member (or_last (nat_lt 0 (unsettled x)) (is_unfinished x.ballot) done) h
+changes_stand w name c o x y s (closes leads leaves alone room) may is h = absurd is

@@ -1,0 +1,92 @@
+-- What one name has stands for what it had, where only some of it changes.
+use Rattle.std.proofs.Common.{◌≡◌, ◌≢◌, ℕ, ◌<◌, ◌≤◌, ◌==◌, false, List, ◌++◌, length, take, slice_get, refl, sym, ap, ◌∙◌, subst, arith}
+use Rattle.std.proofs.lemmas.Bool.Decides.{nat_tests}
+use Rattle.am_base.specs.declared.name.Stamp.{Stamp}
+use Rattle.am_base.specs.declared.entry.Entry.{Entry}
+use Rattle.am_base.specs.Lists.{Log}
+use Rattle.am_chain_lists.specs.Whole.{told}
+use Rattle.am_chain_moves.specs.Group as groups
+use Rattle.am_chain_moves.specs.Group.{Group, Views, put}
+use Rattle.am_chain_moves.specs.Moves.{Move}
+use Rattle.am_model.specs.Node.{Node}
+use Rattle.am_model.specs.World.{Decided, World, is_stopped, has_departed}
+use Rattle.am_model.specs.Claims.{up_to_next, line_of}
+use Rattle.am_model.proofs.Greatest.{split}
+use Rattle.am_stands.specs.Standing.{NameStands, FrontsStand, ViewsStand, within}
+use Rattle.am_stands.specs.Moving.{none, moves, Leads}
+
+-- ---- moves in turn
+
+pub one_move : (P : Group → Type 0) (s t : Group) → Move s t → P t → Leads P s
+one_move P s t m h = record { to = t; path = moves m none; is = h }
+
+pub no_move : (P : Group → Type 0) (s : Group) → P s → Leads P s
+no_move P s h = record { to = s; path = none; is = h }
+
+-- ---- one name
+
+-- in another world with the same group list
+pub name_in : (w v : World) (i : ℕ) (m : Node) (a : groups.Node) → v.group ≡ w.group → is_stopped v i ≡ is_stopped w i → NameStands w i m a → NameStands v i m a
+name_in w v i m a group stopped h = record {
+  begins = record {
+    within = subst (λ (g : List Entry). m.core.log.start ≤ length g) (sym group) h.begins.within;
+    image = h.begins.image ∙ ap (λ (g : List Entry). told (take m.core.log.start g)) (sym group);
+  };
+  list = h.list ∙ ap (λ (g : List Entry). take m.core.log.start g ++ m.core.log.entries) (sym group);
+  log_ = h.log_;
+  stopped = h.stopped ∙ sym stopped;
+  departed = h.departed;
+  leaving = h.leaving;
+  promise = h.promise;
+  ballot = h.ballot;
+  start = h.start;
+}
+
+-- ---- views
+
+pub views_in : (w v : World) (views : Views) → v.views ≡ w.views → ((stamp : Stamp) → line_of v stamp ≡ line_of w stamp) → ViewsStand w views → ViewsStand v views
+views_in w v views same lines h = record {
+  noted = λ k d at. (let n = h.noted k d (ap (λ (l : List Decided). slice_get l k) (sym same) ∙ at) in record {
+    decided = n.decided;
+    stamp = n.stamp;
+    members = n.members;
+    resilience = n.resilience;
+    number = n.number;
+    line = n.line ∙ sym (lines d.stamp);
+    opens = n.opens;
+  });
+  decided = λ x t. (let n = h.decided x t in record { index = n.index; view = n.view; there = ap (λ (l : List Decided). slice_get l n.index) same ∙ n.there; is = n.is });
+  current = λ d last. h.current d (record { before = last.before; is = sym same ∙ last.is });
+}
+
+-- ---- a world within a step
+
+-- the lines where a node keeps its list
+pub lines_within : (w : World) (name : ℕ) (x y : Node) → y.core.log ≡ x.core.log → (stamp : Stamp) → line_of (within w name y) stamp ≡ line_of (within w name x) stamp
+lines_within w name x y log stamp = split (stamp.by == name)
+    (λ t. rw t (ap (λ (l : Log). up_to_next stamp (take l.start w.group ++ l.entries)) log))
+    (λ f. rw f refl)
+
+-- a node that takes another's place, for a changed part of the group
+pub each_within : (w : World) (name : ℕ) (x y : Node) (s : Group) (b : groups.Node) → (NameStands (within w name x) name x (s.node name) → NameStands (within w name y) name y b)
+    → ((i : ℕ) → i < 256 → NameStands (within w name x) i ((within w name x).nodes i) (s.node i))
+    → (i : ℕ) → i < 256 → NameStands (within w name y) i ((within w name y).nodes i) (put s.node name b i)
+unfolding put
+each_within w name x y s b f h i few = split (i == name)
+    (λ t.
+    let same : i ≡ name = grind (arith, nat_tests) in
+    let old : NameStands (within w name x) i x (s.node i) = rw t at (h i few) in
+    let mine : NameStands (within w name x) name x (s.node name) = subst (λ k. NameStands (within w name x) k x (s.node k)) same old in
+    let new : NameStands (within w name y) i y b = subst (λ k. NameStands (within w name y) k y b) (sym same) (f mine) in
+    rw t new)
+    (λ g.
+    let old : NameStands (within w name x) i (w.nodes i) (s.node i) = rw g at (h i few) in
+    rw g (name_in (within w name x) (within w name y) i (w.nodes i) (s.node i) refl refl old))
+
+pub fronts_within : (w : World) (name : ℕ) (x y : Node) (s : Group) (b : groups.Node)
+    → ((i : ℕ) → i < 256 → i ≢ name → has_departed ((within w name x).nodes i).status ≡ false → FrontsStand ((within w name x).nodes i) (s.node i))
+    → (i : ℕ) → i < 256 → i ≢ name → has_departed ((within w name y).nodes i).status ≡ false → FrontsStand ((within w name y).nodes i) (put s.node name b i)
+unfolding put
+fronts_within w name x y s b h i few other = split (i == name)
+    (λ t. absurd (let same : i ≡ name = grind (arith, nat_tests) in other same))
+    (λ f. rw f (λ d. (let old : has_departed (w.nodes i).status ≡ false → FrontsStand (w.nodes i) (s.node i) = rw f at (h i few other) in old d)))

@@ -1,0 +1,5 @@
+use Rattle.am_stands.proofs.Changes.{changes_stand}
+use Rattle.am_stands.proofs.changes_stand.Goals as goal
+
+pub returns : goal.returns
+returns c = changes_stand

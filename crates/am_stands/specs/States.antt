@@ -1,0 +1,32 @@
+-- What states keep besides what they share with the group.
+use Rattle.std.specs.Prelude.{◌≡◌, ◌≢◌, ℕ, ◌<◌, ◌≤◌, List, [], take, Option, Some, None, true, false}
+use Rattle.am_base.specs.declared.image.Vote.{Vote}
+use Rattle.am_base.specs.declared.entry.Entry.{Entry}
+use Rattle.am_base.specs.Names.{has}
+use Rattle.am_chain_lists.specs.Whole.{Begins, view_of, key}
+use Rattle.am_chain_moves.specs.Group.{Group, opening}
+use Rattle.am_model.specs.Node.{Node, Ballot}
+use Rattle.am_model.specs.Group.{has_log}
+use Rattle.am_stands.specs.Letters.{VoteTells, IsDecided}
+
+-- a list that isn't empty opens with what its view chose, and is the beginning of that view's line
+pub record ListStands (s : Group) (i : ℕ) : Type 0 where
+  pub decided : (s.node i).list ≢ [] → IsDecided s (view_of (s.node i).list)
+  pub promised : key (view_of (s.node i).list) ≤ key (s.node i).promise
+  pub opens : (s.node i).list ≢ [] → Begins (opening (s.views.chosen (key (view_of (s.node i).list)))) (s.node i).list
+  pub line : (s.node i).list ≢ [] → Begins (s.node i).list (s.views.line (key (view_of (s.node i).list)))
+
+-- an unfinished ballot's kept votes tell what was shown
+abbrev pub VotesStand : Group → Option Ballot → Type 0
+VotesStand s None = Unit {0}
+VotesStand s (Some b) = b.is_over ≡ false → (name : ℕ) (vote : Vote) → b.votes name ≡ Some vote → VoteTells s name b.stamp vote
+
+-- a sequencer's report above its base is true of who made it
+pub record ReportsStand (s : Group) (m : Node) : Type 0 where
+  pub told_ : (name : ℕ) → m.core.base < (m.reports name).stored → name < 256 → has_log m.status ≡ true
+      → Begins (take (m.reports name).stored (s.node m.core.who).list) (s.node name).list
+
+-- at a decision each other name of the View, whether it stopped or not, had shown a beginning of what was chosen
+pub record ChosenShown (s : Group) (x : ℕ) : Type 0 where
+  pub each : (name : ℕ) → has (s.views.chosen x).members name ≡ true → name ≢ (s.views.chosen x).stamp.by
+      → (list : List Entry) × (s.shown x name ≡ Some list) × Begins list (s.views.chosen x).before

@@ -1,0 +1,37 @@
+/* Loaded before a program, makes its allocation of the number FAIL_AT fail, and tells on standard error how many there were
+   where COUNT_ALLOCATIONS is set. */
+#define _GNU_SOURCE
+#include <dlfcn.h>
+#include <errno.h>
+#include <stdio.h>
+#include <stdlib.h>
+
+static long seen;
+
+static int fails(void)
+{
+    const char *at = getenv("FAIL_AT");
+    seen += 1;
+    if (at == NULL || seen != atol(at))
+        return 0;
+    errno = ENOMEM;
+    return 1;
+}
+
+void *malloc(size_t size)
+{
+    void *(*next)(size_t) = (void *(*)(size_t))dlsym(RTLD_NEXT, "malloc");
+    return fails() ? NULL : next(size);
+}
+
+void *realloc(void *block, size_t size)
+{
+    void *(*next)(void *, size_t) = (void *(*)(void *, size_t))dlsym(RTLD_NEXT, "realloc");
+    return fails() ? NULL : next(block, size);
+}
+
+__attribute__((destructor)) static void tell(void)
+{
+    if (getenv("COUNT_ALLOCATIONS") != NULL)
+        fprintf(stderr, "%ld\n", seen);
+}

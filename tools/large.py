@@ -1,0 +1,43 @@
+"""Writes a script that is large in each direction, or the checksum that its text must have.
+
+Sixteen founders, bodies of 1,024 bytes, over 19,000 events and 2,000 packets, a window of 1,008 that fills, a thousand
+entries taken: a program that gives up at some number or size doesn't write its text.
+
+Usage: large.py [sum]
+"""
+
+import json
+import sys
+
+# of the text that an unproved program of the same rules wrote
+SUM = "89f67fb194b1012f9c53e9ae20781a932b073c6d32d4cc362eca46fa8f75f572"
+
+SENDS = 1009
+
+
+def body(request):
+    return (f"{request:04x}" * 512)[:2048]
+
+
+def events():
+    for request in range(1, SENDS + 1):
+        yield {"do": "send", "node": 1, "body": body(request)}
+        yield {"do": "hear", "node": 0, "packet": 2 * request - 1}
+        yield {"do": "hear", "node": 1, "packet": 2 * request}
+        yield {"do": "done", "node": 1, "req": request}
+    for node in range(2, 16):
+        for request in range(1, SENDS + 1):
+            yield {"do": "hear", "node": node, "packet": 2 * request}
+    for _ in range(1000):
+        yield {"do": "take", "node": 15}
+
+
+def script():
+    return {"play": {"founders": list(range(16)), "window": 1008, "pb_up_to": 1024, "events": list(events())}}
+
+
+if __name__ == "__main__":
+    if sys.argv[1:] == ["sum"]:
+        print(SUM)
+    else:
+        json.dump(script(), sys.stdout, separators=(",", ":"))

@@ -1,0 +1,292 @@
+"""Reads the text of a play: its events, and what they come to at each name.
+
+What the text doesn't say outright, this has by docs/PROTOCOL.md: the stamps of letters, and so of views, from who promised
+what; the number of an entry that the sequencer sent by itself, as the one above the last that it has. What the only member
+sends counts as numbered where it was sent, or, where a tick says that there was no room, at the next one that doesn't.
+"""
+
+from dataclasses import dataclass, field
+
+# what a ballot answers as long as it goes on or where it ends
+BALLOT = {"waiting", "fetching", "not-in", "too-few", "crowded", "decided"}
+# the answers of calls that go without saying
+PLAIN = {"took", "ticked", "stopped", "queued", "asked"}
+# what a hearing answers where nothing reached the node
+UNHEARD = {"no-packet", "not-addressed", "is-stopped"}
+# what a Result answers where its stamp was promised
+PROMISED = {"known", "unfit", "behind", "catching", "stored"}
+
+
+@dataclass
+class Letter:
+    number: int
+    kind: str
+    to: list            # names, or None for all
+    row: int            # the row of the event that sent it
+    sender: str
+    stamp: tuple = None
+    heard: list = field(default_factory=list)   # (row, name, event)
+
+
+@dataclass
+class Event:
+    number: int
+    name: str
+    act: str
+    arguments: list
+    outcome: list       # its words
+    letters: list       # (number, kind, addressees)
+    text: str           # as in the margin
+    line: str
+    mark: str = "dot"   # or numbered, stored, taken, stop, end, begin
+    entry: int = 0      # its number
+    view: tuple = None  # the stamp of a view that its name has from here on
+    label: str = ""
+    row: int = 0
+
+
+@dataclass
+class Node:
+    """What the text tells of a name so far."""
+    has: dict = field(default_factory=dict)     # an entry's number -> its kind, and the View's stamp or who comes or goes
+    promise: tuple = (0, "0")
+    view: tuple = None
+    bands: list = field(default_factory=list)   # (row, stamp)
+    queued: int = 0                             # the last request that it sent
+    member_from: int = None
+    ends: int = None
+    begins: int = None
+
+    def top(self):
+        return max(self.has, default=0)
+
+
+def key_of(name):
+    """The order of names: by place, then by life."""
+    place, _, life = name.partition("/")
+    return int(place), int(life or 1)
+
+
+def short(word):
+    """A long body's beginning."""
+    return word if len(word) <= 14 else word[:8] + "\u2026"
+
+
+def stamp_of(word):
+    """A stamp from its text, as 2.1 or 2.1/2."""
+    number, _, name = word.partition(".")
+    return int(number), name
+
+
+def read(lines):
+    """The events, the group list and the last line of a text."""
+    events, group, mark, lives = [], [], "", {}
+    for line in lines:
+        words = line.split()
+        if not words:
+            continue
+        if words[0] == "group":
+            group.append(words[1:])
+        elif words[0] in ("lawful", "void"):
+            mark = line
+        elif words[0].isdigit():
+            events.append(event_of(line, lives))
+        elif words[0] != "log":
+            raise SystemExit("this is no text of a play: " + line)
+    return events, group, mark
+
+
+def event_of(line, lives):
+    """An event from its line; `lives` has each place's current life."""
+    parts = line.split(" | ")
+    said, _, answered = parts[0].partition(" : ")
+    said, answered = said.split(), answered.split()
+    place = said[2]
+    life = lives.get(place, 1)
+    letters = []
+    for part in parts[1:]:
+        number, kind, _, to = part.split()
+        letters.append((int(number), kind, None if to == "all" else to.split(",")))
+    if answered[0] == "returned":
+        lives[place] = int(answered[1])
+    text = " ".join([short(w) for w in said] + [":"] + [short(w) for w in answered])
+    name = place if life == 1 else f"{place}/{life}"
+    return Event(int(said[0]), name, said[1], said[3:], answered, letters, text, line)
+
+
+class Run:
+    """The events of a text, with what they come to at each name."""
+
+    def __init__(self, events, group):
+        self.group = group
+        self.letters = {}
+        self.nodes = {}
+        self.members = {}
+        self.events = self.drawn(events)
+        self.found(group)
+        for event in self.events:
+            self.follow(event)
+
+    def drawn(self, events):
+        """The events of names that take part, each with its row."""
+        partners = {e.name for e in events if e.outcome != ["idle"]}
+        kept = [e for e in events if e.outcome != ["idle"] or e.name in partners]
+        for row, event in enumerate(kept):
+            event.row = row
+        return kept
+
+    def node(self, name):
+        return self.nodes.setdefault(name, Node())
+
+    def found(self, group):
+        """The founders, by the first entry of the group list."""
+        stamp = stamp_of(group[0][2])
+        self.members[stamp] = group[0][3].split(",")
+        for name in self.members[stamp]:
+            node = self.node(name)
+            node.has, node.promise, node.member_from = {1: ("view", stamp)}, stamp, -1
+            self.turn(node, -1, stamp)
+
+    def turn(self, node, row, stamp):
+        """A node comes into a view."""
+        node.view = stamp
+        node.bands.append((row, stamp))
+
+    def store(self, event, mark, number, entry=("data", None)):
+        """The event's name has an entry from here on."""
+        node = self.node(event.name)
+        node.has[number] = entry
+        event.mark, event.entry = mark, number
+        if entry[0] == "view":
+            event.view = entry[1]
+            self.turn(node, event.row, entry[1])
+
+    def is_alone(self, name):
+        """Whether a name is the sequencer, and the only member that it knows of."""
+        node = self.node(name)
+        if node.view is None or node.view[1] != name or node.promise != node.view:
+            return False
+        now = set()
+        for _, (kind, what) in sorted(node.has.items()):
+            now = {"view": lambda: set(self.members[what]), "join": lambda: now | {what}, "leave": lambda: now - {what}}.get(
+                kind, lambda: now)()
+        return now == {name}
+
+    def sent_alone(self, event, node):
+        """The only member numbers what it sends, unless its next tick says that there was no room."""
+        number = node.top() + 1
+        entry = next((rest for at, *rest in self.group if int(at) == number), [])
+        if entry[:2] != ["data", event.name] or node.queued < int(entry[2]):
+            return
+        later = (e for e in self.events[event.row + 1:] if e.name == event.name and e.act == "tick")
+        if next((e.outcome[:2] for e in later), []) != ["put-off", entry[2]]:
+            self.store(event, "numbered", number)
+
+    def follow(self, event):
+        node = self.node(event.name)
+        event.label = " ".join(event.outcome)
+        if event.act in ("hear", "cut"):
+            self.hear(event, node)
+        else:
+            self.call(event, node)
+        if event.outcome[0] == "departed" and event.act != "state" and node.ends is None:
+            node.ends = event.row
+            event.mark = "end" if event.mark == "dot" else event.mark
+        for number, kind, to in event.letters:
+            for name in to or []:
+                self.node(name)
+            self.letters[number] = Letter(number, kind, to, event.row, event.name, node.promise)
+
+    def call(self, event, node):
+        """What a call or a tick comes to."""
+        word = event.outcome[0]
+        kinds = [kind for _, kind, _ in event.letters]
+        event.label = event.act if word in PLAIN else f"{event.act}: {' '.join(event.outcome[:2])}"
+        if word == "queued":
+            node.queued = int(event.outcome[1])
+        if word == "took":
+            event.mark, event.entry, event.label = "taken", int(event.outcome[1]), ""
+        elif word == "stopped":
+            event.mark, node.ends = "stop", event.row
+        elif word == "returned":
+            self.come_back(event, node)
+        elif event.act == "reset" and word in BALLOT:
+            node.promise = (node.promise[0] + 1, event.name)
+            self.ballot(event, "reset")
+        elif event.act == "giveup" and word in BALLOT:
+            self.ballot(event, f"give up {event.arguments[0]}")
+        elif "Bcast" in kinds:
+            self.store(event, "numbered", node.top() + 1)
+        elif word in ("queued", "ticked") and node.ends is None and self.is_alone(event.name):
+            self.sent_alone(event, node)
+        elif word == "departed" and event.act in ("leave", "tick") and node.ends is None:
+            for number, kind, *rest in self.group:
+                if [kind, *rest] == ["leave", event.name]:
+                    self.store(event, "numbered", int(number), ("leave", event.name))
+
+    def come_back(self, event, node):
+        """A place goes on with its next life."""
+        node.ends = event.row if node.ends is None else node.ends
+        name = f"{event.name.partition('/')[0]}/{event.outcome[1]}"
+        self.node(name).begins = event.row
+        event.mark, event.label = "begin", "return"
+
+    def ballot(self, event, before):
+        """What a ballot comes to."""
+        event.label = f"{before}: {event.outcome[0]}" if before else event.outcome[0]
+        if event.outcome[0] == "waiting" and len(event.outcome[1]) <= 7:
+            event.label += " " + event.outcome[1]
+        if event.outcome[0] == "decided":
+            stamp = self.node(event.name).promise
+            self.members[stamp] = event.outcome[2].split(",")
+            self.store(event, "numbered", int(event.outcome[1]), ("view", stamp))
+
+    def hear(self, event, node):
+        """What a hearing comes to."""
+        word = event.outcome[0]
+        letter = self.letters.get(int(event.arguments[0]))
+        kind = letter.kind if letter else "packet " + event.arguments[0]
+        told = word if word in BALLOT | {"served"} else " ".join(event.outcome[:2])
+        event.label = f"{kind}: {told}"
+        if letter is None or word in ("no-packet", "not-addressed"):
+            return
+        letter.heard.append((event.row, event.name, event))
+        if word in UNHEARD or word == "refused":
+            return
+        if word == "numbered":
+            comes = {"JoinAsk": "join", "LeaveAsk": "leave"}.get(kind, "data")
+            self.store(event, "numbered", int(event.outcome[1]), (comes, letter.sender))
+            event.label = kind
+        elif kind == "Piece" and (word in BALLOT or word == "stored"):
+            self.piece(event, node, letter)
+        elif word == "stored":
+            number = int(event.outcome[1])
+            entry = self.node(letter.sender).has.get(number, ("data", None))
+            self.store(event, "stored", number, ("view", letter.stamp) if kind == "Result" else entry)
+            event.label = kind
+        elif kind in ("Vote", "HandOver") and word in BALLOT:
+            if kind == "HandOver":
+                node.promise = (node.promise[0] + 1, event.name)
+            self.ballot(event, kind)
+        elif word == "welcomed" and kind == "Welcome":
+            self.welcome(event, node, letter)
+        if kind == "Invite" and word == "voted" or kind == "Result" and word in PROMISED:
+            node.promise = max(node.promise, letter.stamp, key=lambda s: (s[0], key_of(s[1])))
+        elif word == "overtaken":
+            node.promise = stamp_of(event.outcome[1])
+
+    def piece(self, event, node, letter):
+        """An entry of another's list, brought to one that catches up."""
+        number = int(event.outcome[1]) if event.outcome[0] == "stored" else node.top() + 1
+        self.store(event, "stored", number, self.node(letter.sender).has.get(number, ("data", None)))
+        event.label = "Piece"
+        if event.outcome[0] != "stored":
+            self.ballot(event, "Piece")
+
+    def welcome(self, event, node, letter):
+        """A joiner's list begins."""
+        node.member_from, node.promise = event.row, letter.stamp
+        event.label = f"Welcome: entry {event.outcome[1]}"
+        if any(kind == "Nack" for _, kind, _ in event.letters):
+            self.turn(node, event.row, letter.stamp)
+            event.view = letter.stamp

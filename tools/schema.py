@@ -1,0 +1,204 @@
+"""Validates scripts against docs/script.schema.json, and tries that the schema agrees with the reader.
+
+    python3 tools/schema.py SCRIPT...               says what is wrong with each script
+    python3 tools/schema.py --cases PROGRAM FOLDER..  tries the schema
+
+With --cases, each script of the folders that has a text must be valid, and each that has a NAME.cause must not be, but for those
+of UNSAID, whose cause a schema can't say. So must the schema's own examples be. And at each number of a play's keys, the least
+and the greatest must be valid and taken by `PROGRAM play`, and what is beyond them neither.
+
+It reads the keywords of JSON Schema that the schema has, and refuses others.
+"""
+
+import copy
+import json
+import pathlib
+import re
+import subprocess
+import sys
+
+SCHEMA = pathlib.Path(__file__).resolve().parent.parent / "docs" / "script.schema.json"
+
+# a schema sees the value of a number and not how it is written
+UNSAID = {"node_exponent", "window_fraction"}
+
+TYPES = {
+    "object": lambda v: isinstance(v, dict),
+    "array": lambda v: isinstance(v, list),
+    "string": lambda v: isinstance(v, str),
+    "boolean": lambda v: isinstance(v, bool),
+    "integer": lambda v: not isinstance(v, bool) and (isinstance(v, int) or isinstance(v, float) and v.is_integer()),
+}
+SAID_ELSEWHERE = {"$schema", "title", "description", "default", "examples", "$defs"}
+
+
+def no_number(word):
+    raise ValueError(f"{word} is no number")
+
+
+def read(data):
+    """A document from bytes; a ValueError where they aren't JSON."""
+    return json.loads(data.decode(), parse_constant=no_number)
+
+
+class Schema:
+    def __init__(self, text):
+        self.whole = read(text)
+
+    def resolved(self, schema):
+        """A schema itself, or the one that it refers to."""
+        if "$ref" not in schema:
+            return schema
+        return self.whole["$defs"][schema["$ref"].removeprefix("#/$defs/")]
+
+    def faults(self, value, schema=None, where=""):
+        """What is wrong with a value, and where."""
+        schema = self.resolved(self.whole if schema is None else schema)
+        for word, said in schema.items():
+            if word not in SAID_ELSEWHERE:
+                yield from getattr(self, "of_" + word)(value, said, schema, where)
+
+    def of_type(self, value, said, schema, where):
+        if not TYPES[said](value):
+            yield f"{where or '/'}: {json.dumps(value)[:40]} is of another type than {said}"
+
+    def of_properties(self, value, said, schema, where):
+        for key in value if isinstance(value, dict) else ():
+            if key in said:
+                yield from self.faults(value[key], said[key], f"{where}/{key}")
+
+    def of_required(self, value, said, schema, where):
+        for key in said if isinstance(value, dict) else ():
+            if key not in value:
+                yield f"{where or '/'}: {key} isn't there"
+
+    def of_additionalProperties(self, value, said, schema, where):
+        for key in value if isinstance(value, dict) and said is False else ():
+            if key not in schema["properties"]:
+                yield f"{where or '/'}: {key} doesn't belong there"
+
+    def of_items(self, value, said, schema, where):
+        for k, item in enumerate(value if isinstance(value, list) else ()):
+            yield from self.faults(item, said, f"{where}/{k}")
+
+    def of_minItems(self, value, said, schema, where):
+        if isinstance(value, list) and len(value) < said:
+            yield f"{where}: fewer than {said}"
+
+    def of_maxItems(self, value, said, schema, where):
+        if isinstance(value, list) and said < len(value):
+            yield f"{where}: more than {said}"
+
+    def of_uniqueItems(self, value, said, schema, where):
+        if said and isinstance(value, list) and len({json.dumps(item) for item in value}) < len(value):
+            yield f"{where}: one stands there twice"
+
+    def of_minimum(self, value, said, schema, where):
+        if TYPES["integer"](value) and value < said:
+            yield f"{where}: {value} is below {said}"
+
+    def of_maximum(self, value, said, schema, where):
+        if TYPES["integer"](value) and said < value:
+            yield f"{where}: {value} is above {said}"
+
+    def of_maxLength(self, value, said, schema, where):
+        if isinstance(value, str) and said < len(value):
+            yield f"{where}: longer than {said}"
+
+    def of_pattern(self, value, said, schema, where):
+        if isinstance(value, str) and not re.search(said.replace("$", r"\Z"), value):
+            yield f"{where}: {value[:40]!r} isn't of the form {said}"
+
+    def of_const(self, value, said, schema, where):
+        if value != said:
+            yield f"{where}: it isn't {said!r}"
+
+    def of_oneOf(self, value, said, schema, where):
+        """Of several schemas exactly one; what is told is what is wrong with the one that the value's first key, or its `do`, means."""
+        each = [(self.resolved(one), list(self.faults(value, one, where))) for one in said]
+        if sum(not wrong for _, wrong in each) == 1:
+            return
+        key = value.get("do") if isinstance(value, dict) and "do" in value else next(iter(value), None) if isinstance(value, dict) else None
+        meant = [wrong for one, wrong in each if one["properties"].get("do", {}).get("const") == key or key in one["properties"]]
+        yield from meant[0] if meant else [f"{where or '/'}: it is none of the {len(said)} forms"]
+
+
+def faults_of(schema, data):
+    """What is wrong with a script's bytes."""
+    try:
+        return list(schema.faults(read(data)))
+    except (ValueError, RecursionError) as error:
+        return [f"no JSON: {error}"]
+
+
+def edges(schema):
+    """Play scripts at and beyond the limits of each number, each with whether it is valid."""
+    play = schema.whole["$defs"]["play"]["properties"]
+    empty = {"founders": [0], "events": []}
+    for key in play:
+        for value, fits in around(schema.resolved(play[key])):
+            yield {"play": {**empty, key: value}}, fits
+    for value, fits in around(schema.whole["$defs"]["place"]):
+        yield {"play": {**empty, "founders": [value]}}, fits
+    for event in schema.whole["$defs"]["event"]["oneOf"]:
+        lawful = {key: lawful_of(schema.resolved(said)) for key, said in event["properties"].items()}
+        for key, said in event["properties"].items():
+            for value, fits in around(schema.resolved(said)):
+                yield {"play": {**empty, "events": [{**copy.deepcopy(lawful), key: value}]}}, fits
+
+
+def lawful_of(said):
+    return said.get("const", said.get("minimum", ""))
+
+
+def around(said):
+    """Values at and beyond the limits of a number, an array's length or a text's."""
+    if said.get("type") == "integer":
+        least, most = said["minimum"], said["maximum"]
+        yield from ((least, True), (most, True), (most + 1, False), (least - 1, False))
+    elif "maxLength" in said:
+        yield from (("", True), ("0" * said["maxLength"], True), ("0" * (said["maxLength"] + 2), False))
+    elif "maxItems" in said:
+        yield from (([*range(said["maxItems"])], True), ([], False), ([*range(said["maxItems"]), 0], False))
+
+
+def is_taken(program, data):
+    ran = subprocess.run([program, "play"], input=data, stdout=subprocess.DEVNULL, stderr=subprocess.PIPE)
+    return ran.returncode == 0
+
+
+def try_cases(schema, program, folders):
+    """What is wrong with the schema."""
+    for example in schema.whole["examples"]:
+        yield from (f"an example: {wrong}" for wrong in schema.faults(example))
+    scripts = [script for folder in folders for script in sorted(pathlib.Path(folder).glob("*.json"))]
+    for script in scripts:
+        wrong = faults_of(schema, script.read_bytes())
+        wanted = not script.with_suffix(".cause").exists() or script.stem in UNSAID
+        if (not wrong) != wanted:
+            yield f"{script}: {wrong or 'nothing is wrong'}"
+    for absent in sorted(UNSAID - {script.stem for script in scripts}):
+        yield f"there is no script {absent}"
+    count = 0
+    for script, fits in edges(schema):
+        data = json.dumps(script).encode()
+        answers = not faults_of(schema, data), is_taken(program, data)
+        count += 1
+        if answers != (fits, fits):
+            yield f"valid, taken: {answers} and not {fits}: {data[:160].decode()}"
+    print(f"{len(scripts)} scripts and {count} at limits tried; a schema can't say why these are refused: {', '.join(sorted(UNSAID))}")
+
+
+def main(words):
+    schema = Schema(SCHEMA.read_bytes())
+    if words[:1] == ["--cases"]:
+        wrong = list(try_cases(schema, words[1], words[2:]))
+    else:
+        wrong = [f"{name}: {fault}" for name in words for fault in faults_of(schema, pathlib.Path(name).read_bytes())]
+    for line in wrong:
+        print(line)
+    return 1 if wrong else 0
+
+
+if __name__ == "__main__":
+    sys.exit(main(sys.argv[1:]))

@@ -1,0 +1,115 @@
+"""Runs the program once for each status and each way to it, and looks at the whole line on standard error, the status and what was written.
+
+Usage: statuses.py PROGRAM
+"""
+
+import os
+import subprocess
+import sys
+import tempfile
+
+FOUNDERS = b'{"play":{"founders":[0],"events":['
+TICK = b'{"do":"tick","node":0}'
+SMALL = FOUNDERS + b"]}}"
+
+
+def script(*events):
+    return FOUNDERS + b",".join(events) + b"]}}"
+
+
+def settled(count):
+    """So many ticks, and then the whole settling."""
+    return b'{"play":{"founders":[0],"settle":true,"events":[' + b",".join([TICK] * count) + b"]}}"
+
+
+TEXT = b"group 1 view 1.0 0\nlog 0 empty\nlawful\n"
+LONG_WORD = "gen" * 100
+
+# the words, the input, the line on standard error, the status, and what is written
+CASES = [
+    (["play"], SMALL, "", 0, TEXT),
+    ([], SMALL, "usage: play", 1, b""),
+    ([""], SMALL, "usage: play", 1, b""),
+    (["Play"], SMALL, "usage: play", 1, b""),
+    (["play", "play"], SMALL, "usage: play", 1, b""),
+    (["race"], SMALL, "usage: play", 1, b""),
+    ([LONG_WORD], SMALL, "usage: play", 1, b""),
+    (["play"], b"", "bad script 1 at 0", 2, b""),
+    (["play"], SMALL[:-1], "bad script 1 at 0", 2, b""),
+    (["play"], script(TICK, b'{"do":"send","node":0}'), "bad script 2 at 2", 2, b""),
+    (["play"], script(TICK, TICK, b'{"do":"tick","node":0,"body":""}'), "bad script 3 at 3", 2, b""),
+    (["play"], script(TICK, b'{"do":"send","node":0,"body":"a"}'), "bad script 4 at 2", 2, b""),
+    (["play"], script(TICK, b'{"do":"tick","node":16}'), "bad script 5 at 2", 2, b""),
+    (["play"], b" " * 16777217, "too long", 3, b""),
+    (["play"], b" " * 16777216, "bad script 1 at 0", 2, b""),
+    (["play"], settled(100000), "spent", 7, b""),
+]
+
+
+def run(program, words, **how):
+    done = subprocess.run([program, *words], timeout=110, check=False, **how)
+    return done.returncode
+
+
+def tell(failed, name, got, wanted):
+    if got != wanted:
+        print(f"refused: {name} gave {got} and not {wanted}")
+        failed.append(name)
+
+
+def on_its_input(program, failed):
+    for words, text, line, status, written in CASES:
+        with tempfile.TemporaryFile() as source, tempfile.TemporaryFile() as told, tempfile.TemporaryFile() as out:
+            source.write(text)
+            source.seek(0)
+            got = run(program, words, stdin=source, stdout=out, stderr=told)
+            told.seek(0)
+            out.seek(0)
+            wanted = (status, (line + "\n").encode() if line else b"", written)
+            tell(failed, f"{words} on {text[:60]!r}", (got, told.read(), out.read()), wanted)
+
+
+def where_something_fails(program, failed):
+    """A directory as input, a full or closed output, a full or closed standard error, and little memory."""
+    folder = os.open("/", os.O_RDONLY)
+    full = os.open("/dev/full", os.O_WRONLY)
+    nothing = subprocess.DEVNULL
+
+    def line(words, source, sink, **how):
+        done = subprocess.run([program, *words], stdin=source, stdout=sink, stderr=subprocess.PIPE, timeout=110, check=False, **how)
+        return done.returncode, done.stderr
+
+    with tempfile.TemporaryFile() as small, tempfile.TemporaryFile() as large:
+        small.write(SMALL)
+        large.write(script(*[TICK] * 100000))
+
+        def again(source):
+            source.seek(0)
+            return source
+
+        tell(failed, "a directory", line(["play"], folder, nothing), (4, b"read fault\n"))
+        tell(failed, "a full device", line(["play"], again(small), full), (5, b"write fault\n"))
+        tell(failed, "usage to a full device", run(program, ["x"], stdin=again(small), stdout=nothing, stderr=full), 1)
+        closed = run(program, ["x"], stdin=again(small), stdout=nothing, preexec_fn=lambda: os.close(2))
+        tell(failed, "usage with standard error closed", closed, 1)
+        closed = run(program, ["play"], stdin=again(small), stdout=nothing, preexec_fn=lambda: os.close(2))
+        tell(failed, "a script with standard error closed", closed, 0)
+        tell(failed, "little memory", with_memory(line, again(large), 24), (6, b"no memory\n"))
+
+
+def with_memory(line, source, megabytes):
+    import resource
+
+    most = megabytes << 20
+    return line(["play"], source, subprocess.DEVNULL, preexec_fn=lambda: resource.setrlimit(resource.RLIMIT_AS, (most, most)))
+
+
+def main(program):
+    failed = []
+    on_its_input(program, failed)
+    where_something_fails(program, failed)
+    return 1 if failed else 0
+
+
+if __name__ == "__main__":
+    sys.exit(main(sys.argv[1]))

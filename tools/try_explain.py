@@ -1,0 +1,107 @@
+"""Tries the program and tools/explain.py on scripts that are refused.
+
+    python3 tools/try_explain.py PROGRAM FOLDER COMMAND
+
+FOLDER has scripts NAME.json, and beside each NAME.cause, the line that `PROGRAM play < NAME.json` must write on standard error,
+with status 2 and nothing on standard output; and sentences.txt, a line `NAME: SENTENCE` with what tools/explain.py must say of
+each. Each cause must be there, and of each key every cause that it can have. COMMAND, which is ./muoswyld, must write the line
+alone, and the sentence below it where standard error is a terminal. It prints what fails, and how many passed.
+"""
+
+import os
+import pathlib
+import pty
+import re
+import subprocess
+import sys
+
+import explain
+
+
+def wanted():
+    """Each key with each cause that it can have, as its sentence names it."""
+    keys = [("play", key, explain.PLAY[key]) for key in explain.PLAY]
+    keys += [("event", key, value) for act in explain.ACTS for key, value in explain.keys_of({"do": act}).items()]
+    for where, key, (_, lawful) in keys:
+        yield where, key, explain.BAD_VALUE
+        if lawful is not None:
+            yield where, key, explain.MISSING
+        if key not in ("do", "settle", "events"):
+            yield where, key, explain.OUT_OF_RANGE
+    yield from (("document", "play", cause) for cause in (explain.BAD_VALUE, explain.MISSING))
+
+
+def covered(cause, sentence):
+    """The key with the cause that a sentence speaks of."""
+    where = re.match("the document|play|event", sentence)
+    key = re.search("`([a-z_]+)`", sentence)
+    return (where[0].removeprefix("the "), key[1], cause) if where and key else None
+
+
+def faults(program, script, sentences):
+    """What is wrong with the answers to a script."""
+    data = script.read_bytes()
+    ran = subprocess.run([program, "play"], input=data, capture_output=True)
+    want = script.with_suffix(".cause").read_bytes()
+    if (ran.returncode, ran.stdout, ran.stderr) != (2, b"", want):
+        yield f"status {ran.returncode}, {ran.stderr!r} and not {want!r}"
+    said = explain.answer(explain.Asked(program), data)
+    if said != sentences.get(script.stem):
+        yield f"'{said}' and not '{sentences.get(script.stem)}'"
+
+
+def at_a_terminal(command, script):
+    """What a command writes on standard error where that is a terminal, and its status."""
+    ours, theirs = pty.openpty()
+    with script.open("rb") as words:
+        ran = subprocess.run([command, "play"], stdin=words, stdout=subprocess.DEVNULL, stderr=theirs)
+    os.close(theirs)
+    said = b""
+    try:
+        while part := os.read(ours, 4096):
+            said += part
+    except OSError:
+        pass
+    os.close(ours)
+    return said.replace(b"\r\n", b"\n"), ran.returncode
+
+
+def faults_of_command(command, script, sentence):
+    """What is wrong with what ./muoswyld writes of a refusal."""
+    line = script.with_suffix(".cause").read_bytes()
+    with script.open("rb") as words:
+        ran = subprocess.run([command, "play"], stdin=words, capture_output=True)
+    if (ran.stdout, ran.stderr, ran.returncode) != (b"", line, 2):
+        yield f"{command} wrote {ran.stderr!r}, status {ran.returncode}"
+    if at_a_terminal(command, script) != (line + sentence.encode() + b"\n", 2):
+        yield f"{command} wrote {at_a_terminal(command, script)} at a terminal"
+
+
+def main():
+    program, folder, command = sys.argv[1], pathlib.Path(sys.argv[2]), sys.argv[3]
+    lines = (folder / "sentences.txt").read_text().splitlines()
+    sentences = dict(line.split(": ", 1) for line in lines)
+    scripts = sorted(folder.glob("*.json"))
+    passed, failed, seen = 0, 0, set()
+    for script in scripts:
+        wrong = list(faults(program, script, sentences))
+        passed, failed = passed + (not wrong), failed + len(wrong)
+        for line in wrong:
+            print(f"{script}: {line}")
+        cause = int(script.with_suffix(".cause").read_text().split()[2])
+        seen |= {cause, covered(cause, sentences.get(script.stem, ""))}
+    for absent in sorted(map(str, (set(wanted()) | set(range(1, 6))) - seen)):
+        print(f"there is no script for {absent}")
+        failed += 1
+    for line in faults_of_command(command, scripts[0], sentences[scripts[0].stem]):
+        print(line)
+        failed += 1
+    if sorted(sentences) != [script.stem for script in scripts]:
+        print("sentences.txt doesn't have a line for each script, in order")
+        failed += 1
+    print(f"{passed} refusals passed, {failed} failed")
+    sys.exit(1 if failed else 0)
+
+
+if __name__ == "__main__":
+    main()
