@@ -24,16 +24,33 @@ def settled(count):
 
 TEXT = b"group 1 view 1.0 0\nlog 0 empty\nlawful\n"
 LONG_WORD = "gen" * 100
+USAGE = "usage: play | gen --seed N --count N"
+SUMMARY = b"events 50\npackets 18\nentries 2\ntook 5\nsent 0\nheld 0\nlawful\n"
+
+
+def gen(seed, count):
+    return ["gen", "--seed", seed, "--count", count]
+
 
 # the words, the input, the line on standard error, the status, and what is written
 CASES = [
     (["play"], SMALL, "", 0, TEXT),
-    ([], SMALL, "usage: play", 1, b""),
-    ([""], SMALL, "usage: play", 1, b""),
-    (["Play"], SMALL, "usage: play", 1, b""),
-    (["play", "play"], SMALL, "usage: play", 1, b""),
-    (["race"], SMALL, "usage: play", 1, b""),
-    ([LONG_WORD], SMALL, "usage: play", 1, b""),
+    ([], SMALL, USAGE, 1, b""),
+    ([""], SMALL, USAGE, 1, b""),
+    (["Play"], SMALL, USAGE, 1, b""),
+    (["play", "play"], SMALL, USAGE, 1, b""),
+    (["race"], SMALL, USAGE, 1, b""),
+    ([LONG_WORD], SMALL, USAGE, 1, b""),
+    (gen("1", "50"), SMALL, "", 0, SUMMARY),
+    (["gen", "--count", "0050", "--seed", "1"], b"{", "", 0, SUMMARY),
+    (["gen"], SMALL, USAGE, 1, b""),
+    (["gen", "--seed", "1"], SMALL, USAGE, 1, b""),
+    (["gen", "--seed", "1", "--seed", "1"], SMALL, USAGE, 1, b""),
+    (gen("1", "50") + ["x"], SMALL, USAGE, 1, b""),
+    (gen("1", "0"), SMALL, USAGE, 1, b""),
+    (gen("1", "100001"), SMALL, USAGE, 1, b""),
+    (gen("18446744073709551616", "1"), SMALL, USAGE, 1, b""),
+    (gen("1", "+5"), SMALL, USAGE, 1, b""),
     (["play"], b"", "bad script 1 at 0", 2, b""),
     (["play"], SMALL[:-1], "bad script 1 at 0", 2, b""),
     (["play"], script(TICK, b'{"do":"send","node":0}'), "bad script 2 at 2", 2, b""),

@@ -40,7 +40,7 @@ life_there test who t =
     let passes : test (name_at (place_of who) (life_of who)) ≡ true = ap test same ∙ t in
     rw (some, passes) refl
 
-some_left : (test : ℕ → Bool) (set : List ℕ) (who : ℕ) → has set who ≡ true → test who ≡ true → 0 < size (those test set)
+pub some_left : (test : ℕ → Bool) (set : List ℕ) (who : ℕ) → has set who ≡ true → test who ≡ true → 0 < size (those test set)
 unfolding those
 some_left test set who there passes =
     let f : ℕ → ℕ = λ place. name_where test place (slice_index set place) in

@@ -108,11 +108,11 @@ start_lawful founders first resilience view h g =
     let z = none_pass (λ name. counts_for (start founders first resilience) view name && (false && not false)) 256 (λ j. and_false (counts_for (start founders first resilience) view j) (not false)) in
     rw z (omega arith)
 
-record KeptLawful (s : Group) : Type 0 where
-  kept : Kept s
-  lawful : IsLawful s
+pub record KeptLawful (s : Group) : Type 0 where
+  pub kept : Kept s
+  pub lawful : IsLawful s
 
-run_keeps : (founders : List ℕ) (first resilience : ℕ) (s : Group) → Run founders first resilience s → KeptLawful s
+pub run_keeps : (founders : List ℕ) (first resilience : ℕ) (s : Group) → Run founders first resilience s → KeptLawful s
 run_keeps founders first resilience s (founded may) = record { kept = start_kept founders first resilience may; lawful = start_lawful founders first resilience }
 run_keeps founders first resilience t (more {s = s} run step law) = let o = run_keeps founders first resilience s run in record { kept = step_keeps s t o.kept o.lawful step; lawful = law }
 

@@ -22,5 +22,7 @@ pub mod NodeLimits
 pub mod LetterLimits
 pub mod RunLimits
 pub mod LeaderRows
+pub mod Trims
 pub mod Taken
 pub mod TakenRuns
+pub mod ViewMembers

@@ -49,197 +49,12 @@ use Rattle.am_laws.proofs.ViewSteps.{view_last}
 use Rattle.am_laws.proofs.ViewChanges.{Balloted, next_above}
 use Rattle.am_laws.proofs.Views.{same_is_equal}
 use Rattle.am_laws.proofs.Blank.{Blanked}
-
--- ---- what a node has
-
--- by the numbers and the list of a node
-pub record Fronts (m : Node) : Type 0 where
-  pub used : IsUsed m.core.log.image
-  pub joins : JoinsFit m.core.log.image (m.core.log.start + 1) m.core.log.entries
-  pub kept : m.core.log.start ≤ m.core.base
-  pub base : m.core.base ≤ m.core.taken
-  pub given : m.core.taken ≤ m.core.acc
-  pub accepted : m.core.acc ≤ top m
-  pub reported : (m.reports m.core.who).taken ≤ m.core.taken
-
--- nobody has its own vote
-abbrev pub NoOwnVote : ℕ → Option Ballot → Type 0
-NoOwnVote who None = Unit {0}
-NoOwnVote who (Some b) = b.votes who ≡ None
-
-pub record Owned (m : Node) : Type 0 where
-  pub fronts : Fronts m
-  pub leads : is_sequencer m ≡ true → has (members m) m.core.who ≡ true
-  pub vote : NoOwnVote m.core.who m.ballot
-
--- the image of a Welcome has sixteen rows, and no life where nobody joined
-abbrev pub WelcomeUsed : Packet → Type 0
-WelcomeUsed (packet.Welcome s v base join image) = IsUsed image
-WelcomeUsed _ = Unit {0}
-
-pub told_used : (m : Node) → Fronts m → IsUsed (told m)
-told_used m h = used_fold m.core.log.image (m.core.log.start + 1) m.core.log.entries (omega arith) h.used
-
--- ---- an entry more
-
-pushed_fronts : (m : Node) (e : Entry) → JoinFits (told m) e → Fronts m → Fronts (pushed m e)
-pushed_fronts m e fit h =
-    let a = h.accepted in
-    record {
-      used = h.used;
-      joins = joins_push m.core.log.image (m.core.log.start + 1) m.core.log.entries e h.joins fit;
-      kept = h.kept;
-      base = h.base;
-      given = h.given;
-      accepted = simp length-append (omega arith);
-      reported = h.reported;
-    }
-
-trimmed_fronts : (m : Node) (base : ℕ) → base ≤ m.core.taken → Fronts m → Fronts (trimmed m base)
-trimmed_fronts m base low h =
-    let a = h.kept in let b = h.base in
-    record { used = h.used; joins = h.joins; kept = omega arith; base = omega arith; given = h.given; accepted = h.accepted; reported = h.reported }
-
--- ---- a refresh
-
--- its own membership, or its own Leave last
-pub record MayLead (m : Node) : Type 0 where
-  pub least : (reports : ℕ → Report) (c : CoreState) (to : ℕ) → c.log ≡ m.core.log → c.who ≡ m.core.who → c.log.start ≤ c.acc → c.acc ≤ top_of c.log → (reports c.who).taken ≤ c.taken → least_taken reports (since_accepted c) ≡ Some to → to ≤ c.taken
-
-member_leads : (m : Node) → Fronts m → has (members m) m.core.who ≡ true → MayLead m
-member_leads m h member = record {
-  least = λ reports c to log who low high own least.
-      (let used : IsUsed c.log.image = subst (λ (l : Log). IsUsed l.image) (sym log) h.used in
-      let joins : JoinsFit c.log.image (c.log.start + 1) c.log.entries = subst (λ (l : Log). JoinsFit l.image (l.start + 1) l.entries) (sym log) h.joins in
-      let here : has (members_of (told_by c.log)) c.who ≡ true = subst (λ (l : Log). has (members_of (told_by l)) c.who ≡ true) (sym log) (subst (λ w. has (members m) w ≡ true) (sym who) member) in
-      let at : has (members_at c.log (top_of c.log)) c.who ≡ true = ap (λ i. has (members_of i) c.who) (image-top c.log) ∙ here in
-      let told_is = used_fold c.log.image (c.log.start + 1) c.log.entries (omega arith) used in
-      least_within reports c (top_of c.log) to used joins low high (omega arith) at (member_row (told_by c.log) c.who told_is here) own least);
-}
-
-base_within : (taken base : ℕ) (least : Option ℕ) → base ≤ taken → ((to : ℕ) → least ≡ Some to → to ≤ taken) → base_after least base ≤ taken
-base_within taken base None low h = low
-base_within taken base (Some to) low h = let t = h to refl in omega arith
-
-base_up : (start base : ℕ) (least : Option ℕ) → start ≤ base → start ≤ base_after least base
-base_up start base None h = h
-base_up start base (Some to) h = omega arith
-
-passed_up : (taken acc start : ℕ) → taken ≤ (if nat_lt taken (start - 1) then max taken (min acc (start - 1)) else taken)
-passed_up taken acc start = split (nat_lt taken (start - 1)) (λ t. rw t (omega arith)) (λ f. rw f (omega arith))
-
-passed_low : (taken acc start : ℕ) → taken ≤ acc → (if nat_lt taken (start - 1) then max taken (min acc (start - 1)) else taken) ≤ acc
-passed_low taken acc start h = split (nat_lt taken (start - 1)) (λ t. rw t (omega arith)) (λ f. rw f h)
-
--- a name's own report
-own_reported : (reports : ℕ → Report) (who stored taken : ℕ) → (reports who).taken ≤ taken → (if who == who then record { stored = max (reports who).stored stored; taken = max (reports who).taken taken } else reports who).taken ≤ taken
-own_reported reports who stored taken h = let t : (who == who) ≡ true = grind (arith, nat_tests) in rw t (omega arith)
-
-lead_fronts : (m : Node) → MayLead m → Fronts m → Fronts (lead m)
-unfolding lead own_report tell go_on let_go accept pass_over
-lead_fronts m leads h =
-    let c = (lead m).core in
-    let base = h.base in let kept = h.kept in let given = h.given in let accepted = h.accepted in
-    let first = own_reported m.reports m.core.who (top m) m.core.taken h.reported in
-    let up = passed_up m.core.taken c.acc m.core.start in
-    let low = passed_low m.core.taken c.acc m.core.start (omega arith) in
-    let second = own_reported (own_report (record { core = m.core; reports = m.reports })).reports m.core.who (top m) c.taken (omega arith) in
-    record {
-      used = h.used;
-      joins = h.joins;
-      kept = base_up m.core.log.start m.core.base _ h.kept;
-      base = base_within c.taken m.core.base _ (omega arith) (λ to is. leads.least (lead m).reports (record c { base = m.core.base }) to refl refl (omega arith) (omega arith) second is);
-      given = low;
-      accepted = omega arith;
-      reported = second;
-    }
-
-advance_fronts : (m : Node) → Fronts m → Fronts (advance m)
-unfolding accept pass_over
-advance_fronts m h =
-    let c = (advance m).core in
-    let base = h.base in let kept = h.kept in let given = h.given in let accepted = h.accepted in let reported = h.reported in
-    let up = passed_up m.core.taken c.acc m.core.start in
-    record {
-      used = h.used;
-      joins = h.joins;
-      kept = h.kept;
-      base = omega arith;
-      given = passed_low m.core.taken c.acc m.core.start (omega arith);
-      accepted = omega arith;
-      reported = omega arith;
-    }
-
-refresh_fronts : (m : Node) → (is_sequencer m ≡ true → MayLead m) → Fronts m → Fronts (refresh m)
-unfolding refresh
-refresh_fronts m leads h = split (is_sequencer m) (λ t. rw t (lead_fronts m (leads t) h)) (λ f. rw f (advance_fronts m h))
-
-settle_fronts : (m : Node) → Fronts m → Fronts (settle m)
-settle_fronts m h = subst Fronts (sym (settle_is m)) (record { used = h.used; joins = h.joins; kept = h.kept; base = h.base; given = h.given; accepted = h.accepted; reported = h.reported })
-
-closed_fronts : (m : Node) → MayLead m → Fronts m → Fronts (refresh_at_end m)
-unfolding refresh_at_end
-closed_fronts m leads h = settle_fronts (refresh m) (refresh_fronts m (λ t. leads) h)
-
--- ---- the last member's own Leave
-
-closed_row : (image : Image) (n name : ℕ) → 0 < n → length image.rows ≡ 16 → has (members_of image) name ≡ true → members_of (after image n (Leave name)) ≡ set (members_of image) (place_of name) 0
-unfolding after
-closed_row image n name up long member =
-    let is = is_in image name long member in
-    let alive : ((at_place image name).life == life_of name) ≡ true = let l = is.is in grind (arith, nat_tests) in
-    let none : member_life (record (at_place image name) { left = n }) ≡ 0 = grind (arith, nat_tests) in
-    rw alive (map-set member_life image.rows (place_of name) (record (at_place image name) { left = n }) ∙ ap (set (members_of image) (place_of name)) none)
-
--- nobody is in an empty set
-none_from : (names : List ℕ) (from : ℕ) → size names ≡ 0 → names_from from names ≡ []
-none_from [] from h = refl
-none_from (zero ∷ lives) from h = none_from lives (from + 1) (let c = count_cons (λ life. nat_lt 0 life) zero lives in omega arith)
-none_from (suc before ∷ lives) from h =
-    let t : nat_lt 0 (suc before) ≡ true = grind (arith, nat_tests) in
-    let more = count_cons (λ life. nat_lt 0 life) (suc before) lives ∙ ap (λ (b : Bool). (if b then 1 else 0) + size lives) t in
-    absurd (omega arith)
-
-none_least : (f : ℕ → ℕ) (names : List ℕ) (to : ℕ) → size names ≡ 0 → least_of f (names_of names) ≡ Some to → ⊥
-unfolding least_of
-none_least f names to none is = let e : None ≡ Some to = sym (ap (least_of f) (none_from names 0 none)) ∙ is in cc
-
-closed_leads : (m : Node) → Fronts m → has (members m) m.core.who ≡ true → nat_lt 0 (size (others m)) ≡ false → MayLead (pushed m (Leave m.core.who))
-unfolding unions
-closed_leads m h member alone =
-    let who = m.core.who in
-    let e = Leave who in
-    let p = pushed m e in
-    let n = top m + 1 in
-    let told_is = told_pushed m e in
-    let used = told_used m h in
-    let used_p = pushed_fronts m e tt h in
-    let high_p : top p ≡ n = simp length-append (omega arith) in
-    let members_p : members p ≡ others m = ap members_of told_is ∙ closed_row (told m) n who (omega arith) used.places member ∙ sym (ap (λ (b : Bool). if b then set (members m) (place_of who) 0 else members m) member) in
-    let nobody : size (members p) ≡ 0 = ap size members_p ∙ (let z : size (others m) ≡ 0 = grind (arith, nat_tests) in z) in
-    let before : has (members_at p.core.log (top m)) who ≡ true = ap (λ (i : Image). has (members_of i) who) (image-push m.core.log e (top m) (omega arith) ∙ image-top m.core.log) ∙ member in
-    let life : (row_at (told p) (place_of who)).life ≡ life_of who = ap (λ (i : Image). (row_at i (place_of who)).life) told_is ∙ leave_life (told m) n who (place_of who) (mod16 who) used ∙ member_row (told m) who used member in
-    record {
-      least = λ reports c to log is low high own least. (let used_c : IsUsed c.log.image = subst (λ (l : Log). IsUsed l.image) (sym log) used_p.used in
-          let joins : JoinsFit c.log.image (c.log.start + 1) c.log.entries = subst (λ (l : Log). JoinsFit l.image (l.start + 1) l.entries) (sym log) used_p.joins in
-          let top_c = ap top_of log in
-          let there : has (members_at c.log (top m)) c.who ≡ true = subst (λ (l : Log). has (members_at l (top m)) c.who ≡ true) (sym log) (subst (λ w. has (members_at p.core.log (top m)) w ≡ true) (sym is) before) in
-          let row : (row_at (told_by c.log) (place_of c.who)).life ≡ life_of c.who = subst (λ (l : Log). (row_at (told_by l) (place_of c.who)).life ≡ life_of c.who) (sym log) (subst (λ w. (row_at (told p) (place_of w)).life ≡ life_of w) (sym is) life) in
-          ⊎_elim
-          (λ (below : c.acc < n). least_within reports c (top m) to used_c joins low (omega arith) (omega arith) there row own least)
-          (λ (all : n ≤ c.acc).
-          let none : top_of c.log - c.acc ≡ 0 = omega arith in
-          let at : c.acc ≡ top_of c.log = omega arith in
-          let since : since_accepted c ≡ members p = ap (unions c.log c.acc) none ∙ ap (members_at c.log) at ∙ ap members_of (image-top c.log) ∙ ap (λ (l : Log). members_of (told_by l)) log in
-          let z : size (since_accepted c) ≡ 0 = ap size since ∙ nobody in
-          absurd (none_least (λ name. (reports name).taken) (since_accepted c) to z least))
-          (cases_lt c.acc n));
-    }
+use Rattle.am_laws.proofs.Trims.{Fronts, NoOwnVote, Owned, WelcomeUsed, told_used, pushed_fronts, trimmed_fronts, member_leads, refresh_fronts, closed_fronts, closed_leads}
 
 -- ---- what a sequencer numbers
 
 -- who is known and hasn't left is a member
-known_member : (m : Node) (s : ℕ) → length (told m).rows ≡ 16 → is_unknown m s ≡ false → (sequencing.row_at m s).left ≡ 0 → has (members m) s ≡ true
+pub known_member : (m : Node) (s : ℕ) → length (told m).rows ≡ 16 → is_unknown m s ≡ false → (sequencing.row_at m s).left ≡ 0 → has (members m) s ≡ true
 known_member m s long known stays = split ((at_place (told m) s).life == life_of s)
     (λ t. let j : ((at_place (told m) s).joined == 0) ≡ false = rw t at known in
     let l : (at_place (told m) s).left ≡ 0 = rw t at stays in
@@ -247,7 +62,7 @@ known_member m s long known stays = split ((at_place (told m) s).life == life_of
     in_is (told m) s long (record { joined = grind (arith, nat_tests); left = l; is = is }))
     (λ f. absurd (let k = rw f at known in cc))
 
-leave_fits : (image : Image) (name : ℕ) → has (members_of image) name ≡ true → fits image (Leave name) ≡ true
+pub leave_fits : (image : Image) (name : ℕ) → has (members_of image) name ≡ true → fits image (Leave name) ≡ true
 unfolding fits
 leave_fits image name h = h
 
@@ -319,7 +134,7 @@ own_need m b own none =
     ap (λ (v : Vote). v.members) (own_best b.votes m.core.who (own_vote m) (record { by = m.core.who; vote = own_vote m }) all_names (λ e. refl) none same)
 
 -- who passes is among those that pass
-those_at : (test : ℕ → Bool) (names : List ℕ) (who : ℕ) → has names who ≡ true → test who ≡ true → slice_index (those test names) (place_of who) ≡ life_of who
+pub those_at : (test : ℕ → Bool) (names : List ℕ) (who : ℕ) → has names who ≡ true → test who ≡ true → slice_index (those test names) (place_of who) ≡ life_of who
 unfolding those
 those_at test names who there passes =
     let place = place_of who in

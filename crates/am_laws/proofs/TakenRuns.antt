@@ -33,7 +33,8 @@ use Rattle.am_laws.proofs.ViewNames.{HasNames, HeardNames, change_names}
 use Rattle.am_laws.proofs.ViewChanges.{Balloted, change_does}
 use Rattle.am_laws.proofs.Views.{heard_names, views_start}
 use Rattle.am_laws.proofs.Blank.{Blanked, change_blank, AllBlank, each_blank, first_blank}
-use Rattle.am_laws.proofs.Taken.{Fronts, Owned, WelcomeUsed, HeardUsed, change_owned}
+use Rattle.am_laws.proofs.Trims.{Fronts, Owned, WelcomeUsed}
+use Rattle.am_laws.proofs.Taken.{HeardUsed, change_owned}
 
 -- ---- what is so of each node along a step
 

@@ -24,7 +24,8 @@ fn who_runs_ticks_in_each_round(rt: HostRuntime) -> Result<(), Fail> {
     let mut ticks = [0u32; 16];
     for record in world.journal().records() {
         if matches!(record.event.act, Act::Tick) {
-            ticks[usize::from(record.event.node.place())] += 1;
+            let place = usize::from(record.event.node.place());
+            ticks[place] = ticks[place].saturating_add(1);
         }
     }
     assert_eq!(rt; ticks, [0, 4, 4, 4, 4, 4, 4, 4, 4, 4, 4, 4, 4, 4, 4, 4]);

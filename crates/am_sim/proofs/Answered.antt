@@ -7,12 +7,15 @@ use Rattle.am_base.specs.Founding.{Rules}
 use Rattle.am_group.specs.declared.event.Event.{Event}
 use Rattle.am_model.specs.World.{run}
 use Rattle.am_model.specs.Lawful.{Watch, watch_start, watch, watch_all, watched}
-use Rattle.am_model.specs.Play.{watched_text, text_of}
+use Rattle.am_model.specs.Play.{watched_text, text_of, summary_text_of}
 use Rattle.am_model.specs.Settle.{settle_events}
 use Rattle.am_model.proofs.Runs.{watched_is_run}
 use Rattle.am_bounded.proofs.Runs.{bounded_holds}
 use Rattle.am_sent.proofs.Runs.{sent_holds}
 use Rattle.am_unballoted.proofs.Holds.{unballoted_holds}
+use Rattle.am_pump.specs.Generating.{generated_rules, generated}
+use Rattle.am_pump.proofs.Rules.{may_found}
+use Rattle.am_words.specs.declared.form.Numbers.{Numbers}
 use Rattle.am_script.specs.declared.script.Script.{Script}
 use Rattle.am_script.specs.declared.script.Script.TheVariants.{Play}
 use Rattle.am_script.specs.declared.key.Key.TheVariants as key
@@ -21,7 +24,7 @@ use Rattle.am_script.specs.Limits.{ScriptWithin}
 use Rattle.am_sim.specs.declared.simulate.Unplayed.{Unplayed}
 use Rattle.am_sim.specs.declared.simulate.Unplayed.TheVariants as unplayed
 use Rattle.am_sim.specs.Playing.{done_of, IsRunText}
-use Rattle.am_sim.specs.Simulation.{IsPlay, Played, IsText, IsUnrun, IsUnplayed, script_text}
+use Rattle.am_sim.specs.Simulation.{Played, Generated, IsText, IsUnrun, IsUnplayed, script_text}
 
 -- ---- a run that is settled behind its own events
 
@@ -62,21 +65,22 @@ unplayed_by bytes (Play founding events settle) (unplayed.BadScript cause) is h 
 unplayed_by bytes (Play founding events settle) unplayed.Spent is h = (founding, events, settle, is, h)
 unplayed_by bytes (Play founding events settle) unplayed.NoMemory is h = tt
 
-first_of : List (List ℕ) → List ℕ
-first_of [] = []
-first_of (word ∷ words) = word
+-- ---- a generated run
 
--- whether a word is play
-told : (word : List ℕ) (r : Bool) → r ≡ pointwise nat_eq word (codes "play") → IsTrue r ↔ IsPlay (word ∷ [])
-unfolding first_of
-told word true is = (λ _. ap (λ w. w ∷ []) (same_text word (codes "play") is), λ _. refl)
-told word false is = (λ yes. absurd (true≢false (sym yes)), λ same. absurd (other_text word (codes "play") is (ap first_of same)))
+-- its run keeps what is claimed
+pub generated_by : (numbers : Numbers) (text : List ℕ) → text ≡ summary_text_of generated_rules (generated numbers.seed numbers.count)
+    → length (generated numbers.seed numbers.count) ≡ numbers.count → Generated numbers text
+generated_by numbers text is many =
+    let done = generated numbers.seed numbers.count in
+    record {
+      written = is;
+      count = many;
+      bounded = bounded_holds generated_rules done may_found;
+      sent = sent_holds generated_rules done may_found;
+      unballoted = λ none. unballoted_holds generated_rules done may_found none;
+    }
 
--- and whether words are this one
-pub only_play : (words : List (Bor (List ℕ))) (r : Bool) → 1 ≤ length words → length words < 2 → r ≡ pointwise nat_eq (slice_index_or words 0 record { ref_ptr = (0, 0); now = [] }).now (codes "play") → IsTrue r ↔ IsPlay (map (λ w. w.now) words)
-only_play [] r some few is = absurd (omega arith)
-only_play (word ∷ []) r some few is = told word.now r is
-only_play (word ∷ other ∷ words) r some few is = absurd (omega arith)
+-- ---- what was given
 
 -- what was read whole was given
 pub gave_whole : (limit : ℕ) (before after : Option (List ℕ)) (bytes : List ℕ) → ReadToEnd before after bytes → length bytes ≤ limit → GaveAtMost limit before after

@@ -1,10 +1,11 @@
 -- What a call of the program did.
-use Rattle.std.specs.Prelude.{◌≡◌, ℕ, ◌<◌, ◌≤◌, List, [], ◌∷◌, length, take, codes, Option, Ok, Err, Bool, if◌then◌else◌}
+use Rattle.std.specs.Prelude.{◌≡◌, ℕ, ◌<◌, ◌≤◌, List, length, map, take, Option, Some, None, Ok, Err, Bool, if◌then◌else◌}
+use Rattle.std.specs.Borrow.{Bor}
 use Rattle.std.specs.Io.KnownBytes.{Appends}
 use Rattle.am_base.specs.Founding.{Rules}
 use Rattle.am_group.specs.declared.event.Event.{Event}
 use Rattle.am_model.specs.World.{run}
-use Rattle.am_model.specs.Play.{text_of, settled_text_of}
+use Rattle.am_model.specs.Play.{text_of, settled_text_of, summary_text_of}
 use Rattle.am_model.specs.Claims.{Bounded, Sent, NoBallot, HoldsUnballoted}
 use Rattle.am_script.specs.Scripts.{reading}
 use Rattle.am_script.specs.declared.key.Key.TheVariants as key
@@ -14,15 +15,20 @@ use Rattle.am_sim.specs.declared.simulate.Unplayed.TheVariants as unplayed
 use Rattle.am_world.specs.declared.world.WorldRefusal.{WorldRefusal}
 use Rattle.am_world.specs.declared.world.WorldRefusal.TheVariants as refusals
 use Rattle.am_sim.specs.Playing.{done_of, IsRunText, IsLong}
-use Rattle.am_io.specs.Outside.{next}
+use Rattle.am_io.specs.Outside.{next, ReadToEnd}
+use Rattle.am_pump.specs.Generating.{generated_rules, generated}
+use Rattle.am_words.specs.Forms.{form_of}
+use Rattle.am_words.specs.declared.form.Form.{Form}
+use Rattle.am_words.specs.declared.form.Form.TheVariants as form
+use Rattle.am_words.specs.declared.form.Numbers.{Numbers}
 use Rattle.am_script.specs.declared.script.Script.{Script}
 use Rattle.am_script.specs.declared.script.Script.TheVariants.{Play}
 use Rattle.am_sim.specs.declared.simulate.Status.{Status}
 use Rattle.am_sim.specs.declared.simulate.Status.TheVariants.{Done, Usage, BadScript, TooLong, ReadFault, WriteFault, NoMemory, Spent}
 
--- the one word play
-abbrev pub IsPlay : List (List ℕ) → Type 0
-IsPlay words = words ≡ codes "play" ∷ []
+-- the form of words
+abbrev pub asked : List (Bor (List ℕ)) → Option Form
+asked words = form_of (map (λ word. word.now) words)
 
 -- the text of a script's run, which is settled behind its own events where that is asked for
 abbrev pub script_text : Rules → List Event → Bool → List ℕ
@@ -42,6 +48,35 @@ pub record Played (bytes text : List ℕ) : Type 0 where
   pub bounded : Bounded founding (done_of founding events settles)
   pub sent : Sent founding (done_of founding events settles)
   pub unballoted : NoBallot (run founding (done_of founding events settles)) → HoldsUnballoted founding (done_of founding events settles)
+
+-- what was written is the summary of the run of two numbers, and that run keeps what is claimed of every run
+pub record Generated (numbers : Numbers) (text : List ℕ) : Type 0 where
+  pub written : text ≡ summary_text_of generated_rules (generated numbers.seed numbers.count)
+  pub count : length (generated numbers.seed numbers.count) ≡ numbers.count
+  pub bounded : Bounded generated_rules (generated numbers.seed numbers.count)
+  pub sent : Sent generated_rules (generated numbers.seed numbers.count)
+  pub unballoted : NoBallot (run generated_rules (generated numbers.seed numbers.count)) → HoldsUnballoted generated_rules (generated numbers.seed numbers.count)
+
+-- a text is that of the script that was read to the end of what was left
+abbrev pub IsPlayed : Option (List ℕ) → Option (List ℕ) → List ℕ → Type 0
+IsPlayed before after text = (bytes : List ℕ) × ReadToEnd before after bytes × Played bytes text
+
+-- a text is the summary that words of gen ask for
+abbrev pub IsSummary : Option Form → List ℕ → Type 0
+IsSummary (Some (form.Gen numbers)) text = Generated numbers text
+IsSummary _ text = ⊥
+
+-- a text is what words of a form ask for
+abbrev pub IsAnswer : Option Form → Option (List ℕ) → Option (List ℕ) → List ℕ → Type 0
+IsAnswer (Some form.Play) before after text = IsPlayed before after text
+IsAnswer other before after text = IsSummary other text
+
+-- how gen ends
+abbrev pub EndsGen : Status → Type 0
+EndsGen Done = Unit {0}
+EndsGen WriteFault = Unit {0}
+EndsGen NoMemory = Unit {0}
+EndsGen _ = ⊥
 
 -- the statuses that come with writing
 abbrev pub Writes : Status → Type 0

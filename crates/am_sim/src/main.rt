@@ -1,6 +1,7 @@
-//! The program: runs a script and prints what comes of it.
+//! The program: runs a script and prints what comes of it, or makes a run from two numbers and prints its summary.
 #![tactic(auto)]
 
+mod generating;
 mod playing;
 pub mod simulate;
 mod telling;

@@ -1,18 +1,24 @@
-ghost use Rattle.std.specs.Prelude.{◌≡◌, ◌≢◌, ◌↔◌, ℕ, List, map, Err, IfOk, IfErr, string_bytes, IsTrue};
+ghost use Rattle.std.specs.Prelude.{◌≡◌, ◌≢◌, ◌↔◌, ℕ, List, None, Some, Err, IfOk, IfErr, string_bytes};
 ghost use Rattle.std.specs.Io.KnownBytes.{Appends};
 ghost use Rattle.am_io.specs.Outside.{ReadToEnd, GaveMore, GaveAtMost};
 ghost use Rattle.am_script.specs.declared.key.Key.TheVariants as key;
 ghost use Rattle.am_script.specs.Scripts.{reading};
 ghost use Rattle.am_sim.specs.declared.simulate.Unplayed.TheVariants as unplayed;
-ghost use Rattle.am_sim.specs.Simulation.{IsPlay, OnDone, OnWriteFault, IfBadScript, Writes, Played, WrotePart, IsSpent, IsText, IsUnrun, IsUnplayed, unplayed_for, reads_after, writes_after, number_of};
+ghost use Rattle.am_words.specs.declared.form.Form.TheVariants as form;
+ghost use Rattle.am_words.specs.Forms.{IsGen};
+ghost use Rattle.am_sim.specs.Simulation.{asked, EndsGen, IsAnswer, IsPlayed, IsSummary, OnDone, OnWriteFault, IfBadScript, Writes, Played, WrotePart, IsSpent, IsText, IsUnrun, IsUnplayed, unplayed_for, reads_after, writes_after, number_of};
 
+use crate::generating::summary_of_run;
 use crate::playing::text_of_run;
+use am_base::NoMemory;
 use am_io::outside::{Sink, Source};
 use am_io::whole::{ReadRefusal, read_all, write_all};
 use am_script::key::Key;
 use am_script::read::read_script;
 use am_script::refusal::ScriptRefusal;
 use am_script::script::Script;
+use am_words::form::{Form, form_of};
+use am_words::options::gen_numbers;
 use am_world::world::WorldRefusal;
 use std::alloc::Global;
 
@@ -24,7 +30,7 @@ const INPUT_MOST: u32 = 16777216;
 pub enum Status {
     /// All was read, done and written.
     Done,
-    /// The words are no form of the program.
+    /// The words have no form of the program.
     Usage,
     /// The input isn't a script, by this cause.
     BadScript(ScriptRefusal),
@@ -58,17 +64,9 @@ impl Status {
     }
 }
 
-fn is_play(words: &[&str]) -> bool
-    ensures { IsTrue result ↔ IsPlay (map (λ word. word.now) words.now) }
-{
-    match words {
-        [word] => *word == "play",
-        _ => false,
-    }
-}
-
-/// Does what the words ask for. `play` reads a script of at most 16,777,216 bytes to its end, runs it, and writes the text
-/// of its run (docs/PROTOCOL.md, "Play text"); no other words are a form yet. On every status but Done and WriteFault nothing is written, and on Usage nothing is read.
+/// Does what the words ask for (`form_of` of am_words). `play` reads a script of at most 16,777,216 bytes to its end, runs it,
+/// and writes the text of its run (docs/PROTOCOL.md, "Play text"). `gen` reads nothing, makes the run of its two numbers,
+/// and writes its summary. On every status but Done and WriteFault nothing is written.
 #[tactic(auto, using(crate::proofs::Answered::gave_none))]
 pub fn simulate<S: Source, K: Sink>(
     alloc: Global,
@@ -76,22 +74,51 @@ pub fn simulate<S: Source, K: Sink>(
     source: &mut S,
     sink: &mut K,
 ) -> Status
-    ensures usage { (result ≡ Status.Usage) ↔ (IsPlay (map (λ word. word.now) words.now) → ⊥) }
-    ensures unread { result ≡ Status.Usage → source.new ≡ source.old }
+    ensures usage { (result ≡ Status.Usage) ↔ (asked words.now ≡ None) }
+    ensures unread { asked words.now ≢ Some form.Play → source.new ≡ source.old }
+    ensures generates { IsGen (asked words.now) → EndsGen result }
     ensures reads { S.count source.new ≡ reads_after result (S.count source.old) }
     ensures writes { K.count sink.new ≡ writes_after result (K.count sink.old) }
     ensures too_long { result ≡ Status.TooLong → GaveMore 16777216 (S.left source.old) (S.left source.new) }
     ensures within { result ≢ Status.TooLong → GaveAtMost 16777216 (S.left source.old) (S.left source.new) }
     ensures bad_script { IfBadScript result (λ cause. (bytes : List ℕ) × ReadToEnd (S.left source.old) (S.left source.new) bytes × (reading key.Play bytes ≡ Err cause)) }
     ensures spent { result ≡ Status.Spent → (bytes : List ℕ) × ReadToEnd (S.left source.old) (S.left source.new) bytes × IsSpent bytes }
-    ensures part { OnWriteFault result ((bytes text : List ℕ) × ReadToEnd (S.left source.old) (S.left source.new) bytes × Played bytes text × WrotePart (K.contents sink.old) (K.contents sink.new) text) }
-    ensures done { OnDone result ((bytes text : List ℕ) × ReadToEnd (S.left source.old) (S.left source.new) bytes × Played bytes text × Appends (K.contents sink.old) (K.contents sink.new) text) }
+    ensures part { OnWriteFault result ((text : List ℕ) × IsAnswer (asked words.now) (S.left source.old) (S.left source.new) text × WrotePart (K.contents sink.old) (K.contents sink.new) text) }
+    ensures done { OnDone result ((text : List ℕ) × IsAnswer (asked words.now) (S.left source.old) (S.left source.new) text × Appends (K.contents sink.old) (K.contents sink.new) text) }
     ensures unwritten { (Writes result → ⊥) → sink.new ≡ sink.old }
 {
-    if !is_play(words) {
-        return Status::Usage;
+    match form_of(words) {
+        Some(Form::Play) => play(alloc, source, sink),
+        Some(Form::Gen(_)) => generate_run(alloc, words, sink),
+        None => Status::Usage,
     }
-    play(alloc, source, sink)
+}
+
+/// Makes the run of the words of `gen`, and writes its summary.
+fn generate_run<K: Sink>(alloc: Global, words: &[&str], sink: &mut K) -> Status
+    requires { IsGen (asked words.now) }
+    ensures generates { EndsGen result }
+    ensures writes { K.count sink.new ≡ writes_after result (K.count sink.old) }
+    ensures part { OnWriteFault result ((text : List ℕ) × IsSummary (asked words.now) text × WrotePart (K.contents sink.old) (K.contents sink.new) text) }
+    ensures done { OnDone result ((text : List ℕ) × IsSummary (asked words.now) text × Appends (K.contents sink.old) (K.contents sink.new) text) }
+    ensures unwritten { (Writes result → ⊥) → sink.new ≡ sink.old }
+{
+    let Ok(text) = summary_of(alloc, words) else {
+        return Status::NoMemory;
+    };
+    if write_all(sink, text.as_bytes()).is_err() {
+        return Status::WriteFault;
+    }
+    Status::Done
+}
+
+/// The summary of the run of the words of `gen`.
+fn summary_of(alloc: Global, words: &[&str]) -> Result<String, NoMemory>
+    requires { IsGen (asked words.now) }
+    ensures { IfOk result (λ text. IsSummary (asked words.now) (string_bytes text)) }
+{
+    let numbers = gen_numbers(alloc, words)?;
+    summary_of_run(alloc, numbers)
 }
 
 /// Reads a script to its end, runs it, and writes the text of its run.
@@ -104,8 +131,8 @@ fn play<S: Source, K: Sink>(alloc: Global, source: &mut S, sink: &mut K) -> Stat
     ensures within { result ≢ Status.TooLong → GaveAtMost 16777216 (S.left source.old) (S.left source.new) }
     ensures bad_script { IfBadScript result (λ cause. (bytes : List ℕ) × ReadToEnd (S.left source.old) (S.left source.new) bytes × (reading key.Play bytes ≡ Err cause)) }
     ensures spent { result ≡ Status.Spent → (bytes : List ℕ) × ReadToEnd (S.left source.old) (S.left source.new) bytes × IsSpent bytes }
-    ensures part { OnWriteFault result ((bytes text : List ℕ) × ReadToEnd (S.left source.old) (S.left source.new) bytes × Played bytes text × WrotePart (K.contents sink.old) (K.contents sink.new) text) }
-    ensures done { OnDone result ((bytes text : List ℕ) × ReadToEnd (S.left source.old) (S.left source.new) bytes × Played bytes text × Appends (K.contents sink.old) (K.contents sink.new) text) }
+    ensures part { OnWriteFault result ((text : List ℕ) × IsPlayed (S.left source.old) (S.left source.new) text × WrotePart (K.contents sink.old) (K.contents sink.new) text) }
+    ensures done { OnDone result ((text : List ℕ) × IsPlayed (S.left source.old) (S.left source.new) text × Appends (K.contents sink.old) (K.contents sink.new) text) }
     ensures unwritten { (Writes result → ⊥) → sink.new ≡ sink.old }
 {
     let bytes = match read_all(alloc, source, INPUT_MOST) {
@@ -191,7 +218,7 @@ mod tests {
 
     const TICK: &str = "{\"play\":{\"founders\":[0],\"events\":[{\"do\":\"tick\",\"node\":0}]}}";
 
-    const TICKED: &str = "1 tick 0 ticked\ngroup 1 view 1.0 0\nlog 0 empty\nlawful\n";
+    const TICKED: &str = "1 tick 0 : ticked\ngroup 1 view 1.0 0\nlog 0 empty\nlawful\n";
 
     const TEXT: &str = "group 1 view 1.0 0,1\nlog 0 empty\nlog 1 empty\nlawful\n";
 

@@ -1,7 +1,7 @@
 -- The changes of a node that make no list longer, as moves of the group.
 use Rattle.std.proofs.Common.{◌≡◌, ◌≢◌, ℕ, ◌+◌, ◌<◌, ◌≤◌, ◌==◌, ◌||◌, not, Bool, true, false, List, ◌++◌, length, take, Option, Some, None, refl, sym, ap, ◌∙◌, subst, arith, nat_lt}
 use Rattle.std.proofs.lemmas.Bool.Decides.{nat_tests}
-use Rattle.std.proofs.lemmas.List.{length-take}
+use Rattle.std.proofs.lemmas.List.{length-append, length-take}
 use Rattle.am_base.specs.declared.name.Stamp.{Stamp}
 use Rattle.am_base.specs.declared.entry.Entry.{Entry}
 use Rattle.am_base.specs.declared.image.Image.{Image}
@@ -36,19 +36,19 @@ use Rattle.am_packet.specs.declared.packet.Packet.TheVariants as packet
 use Rattle.am_stands.specs.Standing.{NameStands, FrontsStand, StandsBut, within}
 use Rattle.am_stands.specs.Letters.{GoneSays, has_stopped, may_go}
 use Rattle.am_stands.specs.Moving.{Leads}
-use Rattle.am_stands.specs.Steps.{MayMove, DecidesNothing, ChangesStand}
+use Rattle.am_stands.specs.Steps.{MayMove, ChangesStand}
 use Rattle.am_stands.proofs.Names.{one_move, no_move, name_in, views_in, lines_within, each_within, fronts_within}
 
 -- ---- a node that is the same to the group
 
 pub record Unmoved (x y : Node) : Type 0 where
-  log : y.core.log ≡ x.core.log
-  log_ : has_log y.status ≡ has_log x.status
-  departed : has_departed y.status ≡ has_departed x.status
-  leaving : y.leaving ≡ x.leaving
-  promise : y.core.promise ≡ x.core.promise
-  ballot : is_unfinished y.ballot ≡ is_unfinished x.ballot
-  start : y.core.start ≡ x.core.start
+  pub log : y.core.log ≡ x.core.log
+  pub log_ : has_log y.status ≡ has_log x.status
+  pub departed : has_departed y.status ≡ has_departed x.status
+  pub leaving : y.leaving ≡ x.leaving
+  pub promise : y.core.promise ≡ x.core.promise
+  pub ballot : is_unfinished y.ballot ≡ is_unfinished x.ballot
+  pub start : y.core.start ≡ x.core.start
 
 -- the same to what stands for it
 same_name : (w : World) (name i : ℕ) (x y : Node) (a : groups.Node) → Unmoved x y → NameStands (within w name x) i x a → NameStands (within w name y) i y a
@@ -82,7 +82,7 @@ others_fronts w name x y s h i few other = split (i == name)
     (λ t. absurd (let same : i ≡ name = grind (arith, nat_tests) in other same))
     (λ f. rw f (λ d. (let old : has_departed (w.nodes i).status ≡ false → FrontsStand (w.nodes i) (s.node i) = rw f at (h i few other) in old d)))
 
-unmoved : (w : World) (name : ℕ) (x y : Node) (s : Group) → Unmoved x y → StandsBut name (within w name x) s → Leads (StandsBut name (within w name y)) s
+pub unmoved : (w : World) (name : ℕ) (x y : Node) (s : Group) → Unmoved x y → StandsBut name (within w name x) s → Leads (StandsBut name (within w name y)) s
 unmoved w name x y s u h = no_move (StandsBut name (within w name y)) s (record {
   each = others_same w name x y s u h.each;
   fronts = others_fronts w name x y s h.fronts;
@@ -130,13 +130,25 @@ is_up w name x a runs member h = record { log = h.log_ ∙ logged x.status membe
 
 -- ---- what a whole list tells
 
-pub told_whole : (w : World) (name i : ℕ) (x : Node) (a : groups.Node) → NameStands (within w name x) i x a → told a.list ≡ nodes.told x
-told_whole w name i x a h =
+pub told_all : (v : World) (i : ℕ) (x : Node) (a : groups.Node) → NameStands v i x a → told a.list ≡ nodes.told x
+told_all v i x a h =
     let start_ = x.core.log.start in
-    let front = take start_ w.group in
-    let long : length front ≡ start_ = (let b = h.begins.within in let c = length-take start_ w.group in omega arith) in
+    let front = take start_ v.group in
+    let long : length front ≡ start_ = (let b = h.begins.within in let c = length-take start_ v.group in omega arith) in
     let one : 1 + length front ≡ start_ + 1 = omega arith in
     ap told h.list ∙ fold_append blank 1 front x.core.log.entries ∙ ap (λ (i : Image). fold i (1 + length front) x.core.log.entries) (sym h.begins.image) ∙ ap (λ n. fold x.core.log.image n x.core.log.entries) one
+
+pub told_whole : (w : World) (name i : ℕ) (x : Node) (a : groups.Node) → NameStands (within w name x) i x a → told a.list ≡ nodes.told x
+told_whole w name i x a h = told_all (within w name x) i x a h
+
+-- and how long it is
+pub long_all : (v : World) (i : ℕ) (x : Node) (a : groups.Node) → NameStands v i x a → length a.list ≡ nodes.top x
+long_all v i x a h =
+    let b = h.begins.within in
+    let t = length-take x.core.log.start v.group in
+    let m = length-append (take x.core.log.start v.group) x.core.log.entries in
+    let l = ap length h.list in
+    omega arith
 
 -- ---- promises
 
@@ -159,7 +171,7 @@ promiser_stays c x v (invited s _ is heard own) = asking_stays x.status (and_bot
 promiser_stays c x v (overtaken_by s _ shown is heard above) = member_stays x.status (and_both (not (s == x.core.who)) (is_member x.status) heard).1
 promiser_stays c x v (told_result s _ base number names resilience is heard own other) = member_stays x.status (and_both (not (s == x.core.who)) (is_member x.status) heard).1
 
-promise_stands : (w : World) (name : ℕ) (c : Cause) (x : Node) (v : Stamp) (s : Group) → MayMove w name c x s → stamp_lt v x.core.promise ≡ false → Promises c x v → StandsBut name (within w name x) s → Leads (StandsBut name (within w name (promised x v))) s
+pub promise_stands : (w : World) (name : ℕ) (c : Cause) (x : Node) (v : Stamp) (s : Group) → MayMove w name c x s → stamp_lt v x.core.promise ≡ false → Promises c x v → StandsBut name (within w name x) s → Leads (StandsBut name (within w name (promised x v))) s
 promise_stands w name c x v s may low why h =
     let old = own_name w name x s may.few h in
     let begun = may.stamps v why in
@@ -182,7 +194,7 @@ promise_stands w name c x v s may low why h =
 -- ---- ballots
 
 -- a ballot that ends without a decision
-given_over : (w : World) (name : ℕ) (x y : Node) (s : Group) → y.core.log ≡ x.core.log → y.status ≡ x.status → y.leaving ≡ x.leaving → y.core.promise ≡ x.core.promise → is_unfinished y.ballot ≡ false → y.core.start ≡ x.core.start → StandsBut name (within w name x) s → Leads (StandsBut name (within w name y)) s
+pub given_over : (w : World) (name : ℕ) (x y : Node) (s : Group) → y.core.log ≡ x.core.log → y.status ≡ x.status → y.leaving ≡ x.leaving → y.core.promise ≡ x.core.promise → is_unfinished y.ballot ≡ false → y.core.start ≡ x.core.start → StandsBut name (within w name x) s → Leads (StandsBut name (within w name y)) s
 given_over w name x y s log stays leaving promise ends start_ h =
     moved w name x y s (record (s.node name) { ballot = false }) log (group.gives_over name)
     (λ k. record {
@@ -197,7 +209,7 @@ given_over w name x y s log stays leaving promise ends start_ h =
       start = λ t. k.start (ap has_log (sym stays) ∙ t) ∙ sym start_;
     }) h
 
-open_stands : (w : World) (name : ℕ) (c : Cause) (x y : Node) (s : Group) → MayMove w name c x s → is_member x.status ≡ true → has (members x) x.core.who ≡ true → x.leaving ≡ false → y.core.log ≡ x.core.log → y.status ≡ x.status → y.leaving ≡ x.leaving → y.core.promise ≡ next_stamp x → is_unfinished y.ballot ≡ true → y.core.start ≡ x.core.start → StandsBut name (within w name x) s → Leads (StandsBut name (within w name y)) s
+pub open_stands : (w : World) (name : ℕ) (c : Cause) (x y : Node) (s : Group) → MayMove w name c x s → is_member x.status ≡ true → has (members x) x.core.who ≡ true → x.leaving ≡ false → y.core.log ≡ x.core.log → y.status ≡ x.status → y.leaving ≡ x.leaving → y.core.promise ≡ next_stamp x → is_unfinished y.ballot ≡ true → y.core.start ≡ x.core.start → StandsBut name (within w name x) s → Leads (StandsBut name (within w name y)) s
 unfolding mem
 open_stands w name c x y s may member listed stays log same_status same_leaving promise open_ start_ h =
     let old = own_name w name x s may.few h in
@@ -219,27 +231,31 @@ open_stands w name c x y s may member listed stays log same_status same_leaving 
       start = λ t. k.start (ap has_log (sym same_status) ∙ t) ∙ sym start_;
     }) h
 
+abbrev pub IsDecision : {m : Node} {b : Ballot} {v : Verdict} → Looks m b v → Type 0
+IsDecision (decides may) = Unit {0}
+IsDecision _ = ⊥
+
 -- a ballot that goes on is the same to the group, and one that ends is given over
-look_stands : (w : World) (name : ℕ) (c : Cause) (x : Node) (b : Ballot) (v : Verdict) (s : Group) → MayMove w name c x s → is_unfinished x.ballot ≡ true → (look : Looks x b v) → DecidesNothing look → StandsBut name (within w name x) s → Leads (StandsBut name (within w name v.node)) s
+pub look_stands : (w : World) (name : ℕ) (c : Cause) (x : Node) (b : Ballot) (v : Verdict) (s : Group) → MayMove w name c x s → is_unfinished x.ballot ≡ true → (look : Looks x b v) → (IsDecision look → ⊥) → StandsBut name (within w name x) s → Leads (StandsBut name (within w name v.node)) s
 look_stands w name c x b v s may open_ (waits y z) nothing h = unmoved w name x v.node s (record { log = refl; log_ = refl; departed = refl; leaving = refl; promise = refl; ballot = sym open_; start = refl }) h
 look_stands w name c x b v s may open_ (fetches_from_best y z u) nothing h = unmoved w name x v.node s (record { log = refl; log_ = refl; departed = refl; leaving = refl; promise = refl; ballot = sym open_; start = refl }) h
 look_stands w name c x b v s may open_ (finds_itself_out y) nothing h = given_over w name x v.node s refl refl refl refl refl refl h
 look_stands w name c x b v s may open_ (finds_too_few y z) nothing h = given_over w name x v.node s refl refl refl refl refl refl h
 look_stands w name c x b v s may open_ (finds_no_room y) nothing h = given_over w name x v.node s refl refl refl refl refl refl h
-look_stands w name c x b v s may open_ (decides y) nothing h = absurd nothing
+look_stands w name c x b v s may open_ (decides y) nothing h = absurd (nothing tt)
 
-looked_open : (c : Cause) (x : Node) (b : Ballot) → Balloting c x b → is_unfinished x.ballot ≡ true
+pub looked_open : (c : Cause) (x : Node) (b : Ballot) → Balloting c x b → is_unfinished x.ballot ≡ true
 looked_open c x b (with_more old s v shown is heard low high o same stays) = ap is_unfinished o.last ∙ ap not o.open_
 looked_open c x b (without_one old name is o other) = ap is_unfinished o.last ∙ ap not o.open_
 looked_open c x b (as_it_is old o on) = ap is_unfinished o.last ∙ ap not o.open_
 
 -- ---- leaving
 
-or_last : (a b : Bool) → (a || b) ≡ false → b ≡ false
+pub or_last : (a b : Bool) → (a || b) ≡ false → b ≡ false
 or_last true b h = absurd (cc)
 or_last false b h = h
 
-ask_stands : (w : World) (name : ℕ) (c : Cause) (x : Node) (s : Group) → MayMove w name c x s → x.status ≡ status.Member → is_unfinished x.ballot ≡ false → StandsBut name (within w name x) s → Leads (StandsBut name (within w name (record x { leaving = true }))) s
+pub ask_stands : (w : World) (name : ℕ) (c : Cause) (x : Node) (s : Group) → MayMove w name c x s → x.status ≡ status.Member → is_unfinished x.ballot ≡ false → StandsBut name (within w name x) s → Leads (StandsBut name (within w name (record x { leaving = true }))) s
 ask_stands w name c x s may was none h =
     let old = own_name w name x s may.few h in
     moved w name x (record x { leaving = true }) s (record (s.node name) { leaving = true }) refl
@@ -251,7 +267,7 @@ may_depart : (w : World) (name number : ℕ) (x : Node) (s : Group) → is_stopp
 may_depart w name number x s runs up leaves old (has_stopped t) = absurd (let f : (s.node name).stopped ≡ false = old.stopped ∙ runs in cc)
 may_depart w name number x s runs up leaves old (may_go before is accepted stored) = (before, record { up = up; leaving = leaves; accepted = accepted; stored = stored })
 
-depart_stands : (w : World) (name from number : ℕ) (v : Stamp) (c : Cause) (x : Node) (s : Group) → MayMove w name c x s → c ≡ hears (packet.Gone from v number) → hears_member x from ≡ true → x.leaving ≡ true → StandsBut name (within w name x) s → Leads (StandsBut name (within w name (record x { status = status.Departed }))) s
+pub depart_stands : (w : World) (name from number : ℕ) (v : Stamp) (c : Cause) (x : Node) (s : Group) → MayMove w name c x s → c ≡ hears (packet.Gone from v number) → hears_member x from ≡ true → x.leaving ≡ true → StandsBut name (within w name x) s → Leads (StandsBut name (within w name (record x { status = status.Departed }))) s
 depart_stands w name from number v c x s may is heard leaves h =
     let old = own_name w name x s may.few h in
     let member = (and_both (not (from == x.core.who)) (is_member x.status) heard).1 in
@@ -260,31 +276,3 @@ depart_stands w name from number v c x s may is heard leaves h =
     moved w name x (record x { status = status.Departed }) s (record (s.node name) { departed = true }) refl
     (group.departs name go.0 go.1)
     (λ k. record { begins = record { within = k.begins.within; image = k.begins.image }; list = k.list; log_ = up.log; stopped = k.stopped; departed = refl; leaving = k.leaving; promise = k.promise; ballot = k.ballot; start = λ t. k.start (logged x.status member) }) h
-
--- ---- each change
-
-same_to_it : (w : World) (name : ℕ) (x y : Node) (s : Group) → y.core.log ≡ x.core.log → y.status ≡ x.status → y.leaving ≡ x.leaving → y.core.promise ≡ x.core.promise → y.ballot ≡ x.ballot → y.core.start ≡ x.core.start → StandsBut name (within w name x) s → Leads (StandsBut name (within w name y)) s
-same_to_it w name x y s log stays leaving promise ballot start_ h = unmoved w name x y s (record { log = log; log_ = ap has_log stays; departed = ap has_departed stays; leaving = leaving; promise = promise; ballot = ap is_unfinished ballot; start = start_ }) h
-
-pub changes_stand : ChangesStand
-changes_stand w name c o x y s refreshes may is h = let r = rests_refresh x in same_to_it w name x (refresh x) s r.log r.rests.status r.rests.leaving r.rests.promise r.rests.ballot r.begins h
-changes_stand w name c o x y s settles may is h = subst (λ n. Leads (StandsBut name (within w name n)) s) (sym (settle_is x)) (same_to_it w name x _ s refl refl refl refl refl refl h)
-changes_stand w name c o x y s (takes_report from v report by may_) may is h = same_to_it w name x y s refl refl refl refl refl refl h
-changes_stand w name c o x y s (admits from v was leads fit) may is h = same_to_it w name x y s refl refl refl refl refl refl h
-changes_stand w name c o x y s (numbers e leads room why) may is h = absurd is
-changes_stand w name c o x y s (keeps_body from v report req body was by) may is h = same_to_it w name x y s refl refl refl refl refl refl h
-changes_stand w name c o x y s (notes from v base acc by heard) may is h = same_to_it w name x y s refl refl refl refl refl refl h
-changes_stand w name c o x y s (stores from v base acc number e by heard plain may_) may is h = absurd is
-changes_stand w name c o x y s (begins_list from v base join image was says may_) may is h = absurd is
-changes_stand w name c o x y s (departs from v number was by leaves) may is h = depart_stands w name from number v c x s may was by leaves h
-changes_stand w name c o x y s (promises v low why) may is h = promise_stands w name c x v s may low why h
-changes_stand w name c o x y s (opens least resilience by may_) may is h = open_stands w name c x y s may may_.member may_.listed may_.stays refl refl refl refl refl refl h
-changes_stand w name c o x y s (looks b verdict over_ why look was) may is h = look_stands w name c x b verdict s may (looked_open c x b why) look is h
-changes_stand w name c o x y s (fetches from v base number e was by promise below why may_) may is h = absurd is
-changes_stand w name c o x y s (stores_view from v base number names resilience was by own other promise below may_) may is h = absurd is
-changes_stand w name c o x y s (queues body was says member stays few) may is h = same_to_it w name x y s refl refl refl refl refl refl h
-changes_stand w name c o x y s (collects req was) may is h = same_to_it w name x y s refl refl refl refl refl refl h
-changes_stand w name c o x y s (takes e was says member some there) may is h = same_to_it w name x y s refl refl refl refl refl refl h
-changes_stand w name c o x y s (asks_to_join was asked) may is h = unmoved w name x y s (record { log = refl; log_ = sym (ap has_log asked); departed = sym (ap has_departed asked); leaving = refl; promise = refl; ballot = refl; start = refl }) h
-changes_stand w name c o x y s (asks_to_leave was member stays done) may is h = ask_stands w name c x s may member (or_last (nat_lt 0 (unsettled x)) (is_unfinished x.ballot) done) h
-changes_stand w name c o x y s (closes leads leaves alone room) may is h = absurd is

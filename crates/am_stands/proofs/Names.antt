@@ -1,5 +1,5 @@
 -- What one name has stands for what it had, where only some of it changes.
-use Rattle.std.proofs.Common.{◌≡◌, ◌≢◌, ℕ, ◌<◌, ◌≤◌, ◌==◌, false, List, ◌++◌, length, take, slice_get, refl, sym, ap, ◌∙◌, subst, arith}
+use Rattle.std.proofs.Common.{◌≡◌, ◌≢◌, ℕ, ◌<◌, ◌≤◌, ◌==◌, false, List, ◌++◌, length, take, slice_get, refl, sym, ap, ◌∙◌, subst, arith, Some}
 use Rattle.std.proofs.lemmas.Bool.Decides.{nat_tests}
 use Rattle.am_base.specs.declared.name.Stamp.{Stamp}
 use Rattle.am_base.specs.declared.entry.Entry.{Entry}
@@ -44,20 +44,24 @@ name_in w v i m a group stopped h = record {
 
 -- ---- views
 
-pub views_in : (w v : World) (views : Views) → v.views ≡ w.views → ((stamp : Stamp) → line_of v stamp ≡ line_of w stamp) → ViewsStand w views → ViewsStand v views
-views_in w v views same lines h = record {
-  noted = λ k d at. (let n = h.noted k d (ap (λ (l : List Decided). slice_get l k) (sym same) ∙ at) in record {
+-- where the lines of the noted views stay
+pub views_noted : (w v : World) (views : Views) → v.views ≡ w.views → ((k : ℕ) (d : Decided) → slice_get w.views k ≡ Some d → line_of v d.stamp ≡ line_of w d.stamp) → ViewsStand w views → ViewsStand v views
+views_noted w v views same lines h = record {
+  noted = λ k d at. (let there = ap (λ (l : List Decided). slice_get l k) (sym same) ∙ at in let n = h.noted k d there in record {
     decided = n.decided;
     stamp = n.stamp;
     members = n.members;
     resilience = n.resilience;
     number = n.number;
-    line = n.line ∙ sym (lines d.stamp);
+    line = n.line ∙ sym (lines k d there);
     opens = n.opens;
   });
   decided = λ x t. (let n = h.decided x t in record { index = n.index; view = n.view; there = ap (λ (l : List Decided). slice_get l n.index) same ∙ n.there; is = n.is });
   current = λ d last. h.current d (record { before = last.before; is = sym same ∙ last.is });
 }
+
+pub views_in : (w v : World) (views : Views) → v.views ≡ w.views → ((stamp : Stamp) → line_of v stamp ≡ line_of w stamp) → ViewsStand w views → ViewsStand v views
+views_in w v views same lines h = views_noted w v views same (λ k d at. lines d.stamp) h
 
 -- ---- a world within a step
 

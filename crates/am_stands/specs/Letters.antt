@@ -60,6 +60,7 @@ pub record OrderSays (w : World) (s : Group) (sender : ℕ) (v : Stamp) (acc num
 
 -- what a member has stored in its view
 pub record ReportSays (s : Group) (sender : ℕ) (v : Stamp) (report : Report) : Type 0 where
+  pub decided : IsDecided s v
   pub within : report.stored ≤ length (s.node sender).list
   pub begins : Begins (take report.stored (s.node sender).list) (line s v)
 
@@ -116,7 +117,7 @@ pub record ShownEntry (s : Group) (sender : ℕ) (v : Stamp) (number : ℕ) (e :
   pub stands : item_at list number ≡ Some e
 
 pub data PieceSays (s : Group) (sender : ℕ) (v : Stamp) (number : ℕ) (e : Entry) : Type 0 where
-  of_line : v.by ≡ sender → item_at (line s v) number ≡ Some e → PieceSays s sender v number e
+  of_line : v.by ≡ sender → IsDecided s v → item_at (line s v) number ≡ Some e → PieceSays s sender v number e
   of_shown : ShownEntry s sender v number e → PieceSays s sender v number e
   over : v.by ≢ sender → IsDecided s v → PieceSays s sender v number e
 

@@ -1,5 +1,8 @@
+pub mod Moving
 pub mod Standing
 pub mod Letters
 pub mod States
-pub mod Moving
 pub mod Steps
+pub mod Ends
+pub mod Growing
+pub mod Lawful

@@ -4,10 +4,13 @@ use Rattle.am_base.specs.Lists.{Log}
 use Rattle.am_chain_lists.specs.Whole.{Begins, told, key}
 use Rattle.am_chain_moves.specs.Group as groups
 use Rattle.am_chain_moves.specs.Group.{Group, Views, opening}
-use Rattle.am_model.specs.Node.{Node, set_at}
+use Rattle.am_chain_moves.specs.Runs as begun
+use Rattle.am_base.specs.Founding.{Rules, MayFound}
+use Rattle.am_stands.specs.Moving.{Leads}
+use Rattle.am_model.specs.Node.{Node, set_at, lowest_or_first}
 use Rattle.am_model.specs.Calls.{is_unfinished}
 use Rattle.am_model.specs.Group.{has_log}
-use Rattle.am_model.specs.World.{Decided, World, is_stopped, has_departed}
+use Rattle.am_model.specs.World.{Decided, World, start, is_stopped, has_departed}
 use Rattle.am_model.specs.Lawful.{whole}
 use Rattle.am_model.specs.Claims.{line_of}
 
@@ -84,3 +87,9 @@ pub record Stands (w : World) (s : Group) : Type 0 where
 -- a world within a step of a name, whose node is this so far
 abbrev pub within : World → ℕ → Node → World
 within w name x = record w { nodes = set_at w.nodes name x }
+
+-- ---- the start
+
+-- from the group's own start some moves lead to one that stands for the world's: each founder is told of the first entry
+abbrev pub StartStands : Type 0
+StartStands = (rules : Rules) → MayFound rules → Leads (Stands (start rules)) (begun.start rules.founders (lowest_or_first rules.founders) rules.resilience)

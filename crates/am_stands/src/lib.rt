@@ -1,16 +1,44 @@
 //! How a world of the whole definitions stands for a group of whole lists, of which it is proved that it has one list
-//! (docs/SAFETY.md), and which changes of a node are carried by moves of that group.
+//! (docs/SAFETY.md), and how each event is moves of that group, with what it needs of it.
 #![tactic(auto)]
 
+ghost use Rattle.am_stands.specs.Ends.{EndsStand, CloseStands};
+ghost use Rattle.am_stands.specs.Growing.{LettersStay, MovesGrow};
+ghost use Rattle.am_stands.specs.Lawful.{RunsGoOn};
+ghost use Rattle.am_stands.specs.Standing.{StartStands};
 ghost use Rattle.am_stands.specs.Steps.{ChangesStand, EventsStand};
+
+/// At the start each founder is told of the first entry, and then the group stands for the world.
+pub fn start_stands()
+    ensures { StartStands }
+{}
 
 /// An event that no node does is no move of the group, or that a name stops.
 pub fn events_stand()
     ensures { EventsStand }
 {}
 
-/// A change of a node that makes no list longer is no move of the group, or one of its own: a promise is raised, a ballot begins or ends
-/// without a decision, a member asks to leave, or is let go.
+/// Each change of a node is no move of the group, or one of its own, where what it needs is so: from a world and a group that stand for
+/// each other it leads to such a group for the world after it. The last member's own Leave isn't among these.
 pub fn changes_stand()
     ensures { ChangesStand }
+{}
+
+/// At the end of a step the group accepts what its sequencer does, and the name learns how far that is. A last member that numbers its own
+/// Leave ends its step by that one move.
+pub fn ends_stand()
+    ensures end { EndsStand }
+    ensures close { CloseStands }
+{}
+
+/// With each move the group goes on so that what a letter says of it stays so, where a decided view is a new one that found all that was
+/// accepted.
+pub fn letters_stay()
+    ensures moves { MovesGrow }
+    ensures letters { LettersStay }
+{}
+
+/// A lawful run of the group that goes on by a move that is no stop is lawful: so between the moves of one event all is kept.
+pub fn runs_go_on()
+    ensures { RunsGoOn }
 {}

@@ -28,7 +28,8 @@ use Rattle.am_laws.proofs.Founders.{first_founder}
 use Rattle.am_laws.proofs.ViewNames.{HeardNames}
 use Rattle.am_laws.proofs.ViewChanges.{Does, change_does, changes_do, log_of_member}
 use Rattle.am_laws.proofs.Views.{heard_names, same_is_equal}
-use Rattle.am_laws.proofs.Taken.{HeardUsed, told_used}
+use Rattle.am_laws.proofs.Trims.{told_used}
+use Rattle.am_laws.proofs.Taken.{HeardUsed}
 use Rattle.am_laws.proofs.TakenRuns.{Along, along_changes, AllOwned, each_along, heard_used, each_owned, owned_start}
 use Rattle.am_watched.specs.Members.{MembersHold}
 use Rattle.am_watched.proofs.Own.{HeardOwn, view_rises}

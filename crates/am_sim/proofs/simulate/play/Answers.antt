@@ -3,18 +3,14 @@ use Rattle.am_sim.proofs.simulate.play.Goals as goal
 
 pub returns-in-Ok-write_all-clause-done : goal.returns-in-Ok-write_all-clause-done
 returns-in-Ok-write_all-clause-done g c = (
-  c.as_slice.result.now,
   string_bytes c.in-Ok-answer.text,
-  rw (sym c.as_slice.ensures.value) at (c.in-Ok.ensures.ok),
-  c.in-Ok-answer.ensures.played,
+  (c.as_slice.result.now, rw (sym c.as_slice.ensures.value) at (c.in-Ok.ensures.ok), c.in-Ok-answer.ensures.played),
   rw c.as_bytes.ensures.value at (c.in-Ok-write_all.ensures.ok),
 )
 
 pub returns-clause-part : goal.returns-clause-part
 returns-clause-part g c = (
-  c.as_slice.result.now,
   string_bytes c.in-Ok-answer.text,
-  rw (sym c.as_slice.ensures.value) at (c.in-Ok.ensures.ok),
-  c.in-Ok-answer.ensures.played,
+  (c.as_slice.result.now, rw (sym c.as_slice.ensures.value) at (c.in-Ok.ensures.ok), c.in-Ok-answer.ensures.played),
   (c.in-Err.field-0.written, rw c.as_bytes.ensures.value at (c.in-Err.ensures.part)),
 )

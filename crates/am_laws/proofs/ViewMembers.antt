@@ -1,0 +1,84 @@
+-- The members after a send, and after a View of some of them.
+use Rattle.std.proofs.Common.{◌≡◌, ◌⊎◌, inl, inr, ⊎_elim, ℕ, ◌+◌, ◌<◌, ◌==◌, ◌&&◌, not, nat_lt, Bool, true, false, List, length, set, get_or, slice_index, refl, sym, ap, ◌∙◌, arith}
+use Rattle.std.proofs.lemmas.Bool.Decides.{nat_tests}
+use Rattle.std.proofs.lemmas.List.{map-set, set-get_or, ext_get_or, length-map}
+use Rattle.am_base.specs.declared.entry.Entry.TheVariants.{Data, View}
+use Rattle.am_base.specs.declared.image.Row.{Row}
+use Rattle.am_base.specs.declared.image.Image.{Image}
+use Rattle.am_base.specs.declared.name.Stamp.{Stamp}
+use Rattle.am_base.specs.Names.{place_of, life_of, name_at}
+use Rattle.am_base.specs.Lists.{is_blank, at_place, member_life, members_of, viewed, after}
+use Rattle.am_base.proofs.Places.{slice_index-by_place, length-by_place}
+use Rattle.am_core.proofs.Lives.{row_at, member_at}
+use Rattle.am_chain_lists.proofs.Rows.{mod16, row_view, long_after, blank_joined}
+use Rattle.am_model.specs.Node.{name_where, those}
+use Rattle.am_model.proofs.Greatest.{split}
+
+-- ---- members, place by place
+
+pub members_at : (image : Image) (place : ℕ) → length image.rows ≡ 16 → place < 16 → slice_index (members_of image) place ≡ member_life (row_at image place)
+members_at image place long low = member_at image place (omega arith)
+
+-- a send changes none of them
+same_life : (r : Row) (req : ℕ) → member_life (record r { last = req }) ≡ member_life r
+same_life r req = refl
+
+pub data_members : (image : Image) (n from req : ℕ) (body : List ℕ) → length image.rows ≡ 16 → members_of (after image n (Data from req body)) ≡ members_of image
+unfolding after
+data_members image n from req body long = split ((at_place image from).life == life_of from)
+    (λ t.
+    let low = mod16 from in
+    let same : member_life (at_place image from) ≡ get_or (members_of image) (place_of from) 0 = sym (members_at image (place_of from) long low) in
+    rw t (map-set member_life image.rows (place_of from) (record (at_place image from) { last = req }) ∙ ap (set (members_of image) (place_of from)) same ∙ set-get_or (members_of image) (place_of from) 0))
+    (λ f. rw f refl)
+
+-- a View of some of the members makes them the members
+view_life : (n given : ℕ) (r : Row) → 0 < n → (given ≡ 0) ⊎ (given ≡ member_life r) → member_life (viewed false n given r) ≡ given
+view_life n given r up why = split (nat_lt 0 (member_life r) && not (member_life r == given))
+    (λ t. rw t (⊎_elim
+    (λ (none : given ≡ 0). (let gone : member_life (record r { left = n }) ≡ 0 = grind (arith, nat_tests) in gone ∙ sym none))
+    (λ (is : given ≡ member_life r). absurd (let z : ⊥ = grind (arith, nat_tests) in z))
+    why))
+    (λ f. rw f (⊎_elim
+    (λ (none : given ≡ 0). (let z : member_life r ≡ given = grind (arith, nat_tests) in z))
+    (λ (is : given ≡ member_life r). sym is)
+    why))
+
+first_life : (n given : ℕ) (r : Row) → r.joined ≡ 0 → (given ≡ 0) ⊎ (given ≡ member_life r) → member_life (viewed true n given r) ≡ given
+first_life n given r free why =
+    let none : member_life r ≡ 0 = grind (arith, nat_tests) in
+    let zero_ : given ≡ 0 = ⊎_elim (λ (z : given ≡ 0). z) (λ (is : given ≡ member_life r). is ∙ none) why in
+    let t : (given == 0) ≡ true = grind (arith, nat_tests) in
+    rw t (none ∙ sym zero_)
+
+any_life : (first : Bool) (n given : ℕ) (r : Row) → 0 < n → (first ≡ true → r.joined ≡ 0) → (given ≡ 0) ⊎ (given ≡ member_life r) → member_life (viewed first n given r) ≡ given
+any_life true n given r up free why = first_life n given r (free refl) why
+any_life false n given r up free why = view_life n given r up why
+
+pub viewed_members : (image : Image) (n : ℕ) (stamp : Stamp) (names : List ℕ) (resilience : ℕ) → length image.rows ≡ 16 → 0 < n → length names ≡ 16 → ((place : ℕ) → place < 16 → (slice_index names place ≡ 0) ⊎ (slice_index names place ≡ slice_index (members_of image) place)) → members_of (after image n (View stamp names resilience)) ≡ names
+viewed_members image n stamp names resilience long up sixteen some =
+    let next = after image n (View stamp names resilience) in
+    let longer = long_after image n (View stamp names resilience) long in
+    let many : length (members_of next) ≡ 16 = length-map next.rows member_life ∙ longer in
+    ext_get_or 0 (members_of next) names (many ∙ sym sixteen) (λ place low.
+    (let few : place < 16 = omega arith in
+    let is = row_view image n stamp names resilience place few in
+    let why : (slice_index names place ≡ 0) ⊎ (slice_index names place ≡ member_life (row_at image place)) =
+    ⊎_elim (λ (z : slice_index names place ≡ 0). inl z) (λ (z : slice_index names place ≡ slice_index (members_of image) place). inr (z ∙ members_at image place long few)) (some place few) in
+    members_at next place longer few ∙ ap member_life is ∙ any_life (is_blank image) n (slice_index names place) (row_at image place) up (λ t. blank_joined image place t) why))
+
+-- those that pass are some of the set
+pub those_some : (test : ℕ → Bool) (names : List ℕ) (place : ℕ) → place < 16 → (slice_index (those test names) place ≡ 0) ⊎ (slice_index (those test names) place ≡ slice_index names place)
+unfolding those
+those_some test names place low =
+    let life = slice_index names place in
+    let at = slice_index-by_place (λ p. name_where test p (slice_index names p)) place low in
+    split (life == 0)
+    (λ t. inl (at ∙ rw t refl))
+    (λ f. split (test (name_at place life))
+    (λ t. inr (at ∙ rw (f, t) refl))
+    (λ g. inl (at ∙ rw (f, g) refl)))
+
+pub those_long : (test : ℕ → Bool) (names : List ℕ) → length (those test names) ≡ 16
+unfolding those
+those_long test names = length-by_place (λ p. name_where test p (slice_index names p))

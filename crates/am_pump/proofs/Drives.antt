@@ -1,0 +1,115 @@
+-- Generated runs, event by event.
+use Rattle.std.proofs.Common.{◌≡◌, ◌≢◌, ℕ, zero, suc, ◌+◌, ◌<◌, ◌≤◌, ◌==◌, List, [], ◌∷◌, ◌++◌, length, map, cond, Bool, true, false, ◌&&◌, Option, Some, None, count_by, slice_index, slice_set, refl, sym, ap, ◌∙◌, subst, arith}
+use Rattle.std.proofs.lemmas.List.{length-append, length-set, get_or-set_same, get_or-set_other}
+use Rattle.std.proofs.lemmas.List.Sums.{sum_by_push, count_by-le-length}
+use Rattle.std.proofs.lemmas.Bool.Decides.{nat_tests}
+use Rattle.am_base.specs.declared.outcome.Outcome.{Outcome}
+use Rattle.am_packet.specs.Boxes.{Letter}
+use Rattle.am_base.specs.Founding.{Rules}
+use Rattle.am_group.specs.declared.event.Act.{Act}
+use Rattle.am_group.specs.declared.event.Event.{Event}
+use Rattle.am_model.specs.World.{World, record_of}
+use Rattle.am_model.specs.Play.{is_sent}
+use Rattle.am_model.specs.Settle.{event_at}
+use Rattle.am_model.proofs.Greatest.{split}
+use Rattle.am_world.specs.Runs.{Play, after}
+use Rattle.am_pump.specs.Choices.{draw, drawn}
+use Rattle.am_pump.specs.Generating.{Drive, generated_rules, sent_by, begun, turn_of, act_at, turned, done_at, driven, drive, generated}
+use Rattle.am_pump.specs.Counts.{AreSent}
+use Rattle.am_pump.specs.declared.generator.Turn.{Turn}
+use Rattle.am_pump.specs.declared.generator.Turn.TheVariants as turn
+
+-- ---- how often a place was told that a send of its own stands in the list
+
+sent_more : (w v : World) (e : Event) (o : Outcome) (letters : List Letter) (place : ℕ) → v.records ≡ w.records ++ record_of w e o letters ∷ []
+    → sent_by v place ≡ sent_by w place + cond (is_sent o && (e.node == place)) 1 0
+sent_more w v e o letters place is =
+    ap (count_by (λ r. is_sent r.outcome && (r.event.node == place))) is
+    ∙ sum_by_push (λ r. cond (is_sent r.outcome && (r.event.node == place)) 1 0) w.records (record_of w e o letters)
+
+here_or_not : (b : Bool) → (b && true) ≡ b
+here_or_not true = refl
+here_or_not false = refl
+
+nowhere : (b : Bool) → (b && false) ≡ false
+nowhere true = refl
+nowhere false = refl
+
+pub counts_go : (sent : List ℕ) (w v : World) (e : Event) (o : Outcome) (letters : List Letter) (at : ℕ) → v.records ≡ w.records ++ record_of w e o letters ∷ []
+    → e.node ≡ at → at < 4 → AreSent sent w → AreSent (slice_set sent at (sent_by w at + cond (is_sent o) 1 0)) v
+counts_go sent w v e o letters at is here low are = record {
+  count = length-set sent at (sent_by w at + cond (is_sent o) 1 0) ∙ are.count;
+  each = λ place within.
+      let b = is_sent o in
+      let next = sent_by w at + cond b 1 0 in
+      let more : sent_by v place ≡ sent_by w place + cond (b && (at == place)) 1 0 =
+      sent_more w v e o letters place is ∙ ap (λ n. sent_by w place + cond (b && (n == place)) 1 0) here in
+      split (at == place)
+      (λ t.
+      let same : at ≡ place = grind (arith, nat_tests) in
+      ap (slice_index (slice_set sent at next)) (sym same)
+      ∙ get_or-set_same sent at next 0 (omega (arith, are.count))
+      ∙ ap (λ n. sent_by w n + cond b 1 0) same
+      ∙ ap (λ c. sent_by w place + cond c 1 0) (sym (here_or_not b) ∙ ap (λ c. b && c) (sym t))
+      ∙ sym more)
+      (λ f.
+      let other : place ≢ at = λ e. grind (arith, nat_tests) in
+      let none : sent_by v place ≡ sent_by w place + 0 = more ∙ ap (λ c. sent_by w place + cond c 1 0) (ap (λ c. b && c) f ∙ nowhere b) in
+      get_or-set_other sent at place next 0 other ∙ are.each place within ∙ omega (arith, none));
+}
+
+pub few_sent : (w : World) (place : ℕ) → sent_by w place ≤ length w.records
+few_sent w place = count_by-le-length (λ r. is_sent r.outcome && (r.event.node == place)) w.records
+
+-- ---- one event
+
+turned_play : (d : Drive) (place : ℕ) (t : Turn) → (turned d place t).play ≡ d.play
+unfolding turned
+turned_play d place turn.Send = refl
+turned_play d place turn.Done = refl
+turned_play d place turn.Take = refl
+turned_play d place turn.Tick = refl
+turned_play d place turn.Choose = refl
+
+-- all is drawn, a place turns, and its act happens
+pub step_is : (d mid next new : Drive) (place : ℕ) (t : Turn) (a : Act) → mid ≡ record d { words = drawn (drawn d.words) } → place ≡ draw d.words 4 → t ≡ turn_of (draw (drawn d.words) 16)
+    → a ≡ act_at mid place t → next ≡ turned mid place t → new ≡ record next { play = after next.play (event_at place a) } → new ≡ driven d
+unfolding driven
+step_is d mid next new place t a words at turns acts goes is =
+    let done : Play → Drive = λ p. record (turned mid place t) { play = after p (event_at place (act_at mid place t)) } in
+    is
+    ∙ (λ k. record (goes k) { play = after (goes k).play (event_at place (acts k)) })
+    ∙ ap done (turned_play mid place t)
+    ∙ (λ k. done_at (words k) (at k) (turns k))
+
+pub same_play : (d mid next : Drive) (place : ℕ) (t : Turn) → mid ≡ record d { words = drawn (drawn d.words) } → next ≡ turned mid place t → next.play ≡ d.play
+same_play d mid next place t words goes = ap (λ x. x.play) goes ∙ turned_play mid place t ∙ ap (λ x. x.play) words
+
+-- ---- how many events there are
+
+pub one_more : (d : Drive) → length (driven d).play.events ≡ length d.play.events + 1
+unfolding driven
+one_more d = length-append d.play.events (_ ∷ [])
+
+pub rules_stay : (d : Drive) → (driven d).play.rules ≡ d.play.rules
+unfolding driven
+rules_stay d = refl
+
+pub so_many : (count : ℕ) (d : Drive) → length (drive count d).play.events ≡ length d.play.events + count
+unfolding drive
+so_many zero d = omega arith
+so_many (suc count) d = let one = one_more (drive count d) in let before = so_many count d in omega arith
+
+pub same_rules : (count : ℕ) (d : Drive) → (drive count d).play.rules ≡ d.play.rules
+unfolding drive
+same_rules zero d = refl
+same_rules (suc count) d = rules_stay (drive count d) ∙ same_rules count d
+
+pub drive_next : (count : ℕ) (d : Drive) → drive (count + 1) d ≡ driven (drive count d)
+unfolding drive
+drive_next count d = let next : count + 1 ≡ suc count = omega arith in ap (λ k. drive k d) next
+
+-- the whole run
+pub play_is : (seed count : ℕ) → (drive count (begun seed)).play ≡ record { rules = generated_rules; events = generated seed count }
+unfolding generated
+play_is seed count = ap (λ (r : Rules). record { rules = r; events = (drive count (begun seed)).play.events }) (same_rules count (begun seed))

@@ -1,0 +1,8 @@
+use Rattle.std.proofs.Common.{◌≡◌, ◌∙◌, arith}
+use Rattle.am_pump.proofs.Bodies.{filled}
+use Rattle.am_pump.proofs.generator.counting.Goals as goal
+
+pub returns : goal.returns
+returns c =
+    c.in-Some.ensures.value
+    ∙ filled c.loop-index.bytes c.args.number c.args.size c.loop-index.index c.loop-index.invariant.0 c.requires.size c.loop-index-test.false c.loop-index.invariant.1

@@ -1,0 +1,106 @@
+-- Runs from a seed: which events its words make, one by one.
+use Rattle.std.specs.Prelude.{ℕ, zero, suc, ◌+◌, ◌%◌, List, [], ◌∷◌, length, map, replicate, count_by, None, ◌==◌, ◌&&◌, nat_lt, if◌then◌else◌, slice_index_or, slice_set}
+use Rattle.std.specs.List.{range_with_len}
+use Rattle.rand_pcg.specs.Lcg.{Lcg}
+use Rattle.am_base.specs.Founding.{Rules}
+use Rattle.am_base.specs.Names.{of_mask}
+use Rattle.am_group.specs.declared.event.Act.{Act}
+use Rattle.am_group.specs.declared.event.Act.TheVariants as act
+use Rattle.am_group.specs.declared.event.Event.{Event}
+use Rattle.am_group.specs.Addressed.{next_for}
+use Rattle.am_model.specs.World.{World}
+use Rattle.am_model.specs.Play.{is_sent}
+use Rattle.am_model.specs.Settle.{event_at}
+use Rattle.am_world.specs.Runs.{Play, replay, after}
+use Rattle.am_pump.specs.Choices.{words_of, draw, drawn, Luck, choice_of, luck_after, act_of, progressed}
+use Rattle.am_pump.specs.declared.chooser.Choice.{Choice}
+use Rattle.am_pump.specs.declared.generator.Turn.{Turn}
+use Rattle.am_pump.specs.declared.generator.Turn.TheVariants as turn
+use Rattle.am_pump.specs.declared.progress.Progress.{Progress}
+
+-- the founders of generated runs are places 0 to 3
+abbrev pub generated_rules : Rules
+generated_rules = record { founders = of_mask 15; resilience = 1; window = 16; pb_up_to = 256 }
+
+-- a run on its way: what was done, the words and the chooser from here on, and how far each place has come
+pub record Drive : Type 0 where
+  pub play : Play
+  pub words : Lcg
+  pub luck : Luck
+  pub progress : List Progress
+
+abbrev pub unheard : Progress
+unheard = record { cursor = 0; last = None }
+
+-- of a hundred letters ten are lost, and five more repeated
+abbrev pub begun : ℕ → Drive
+begun seed = record {
+  play = record { rules = generated_rules; events = [] };
+  words = words_of seed 1000;
+  luck = record { words = words_of seed 1001; loss = 10; repeat = 5 };
+  progress = replicate 4 unheard;
+}
+
+-- what a number below 16 asks for
+abbrev pub turn_of : ℕ → Turn
+turn_of number =
+    if nat_lt number 2 then turn.Send
+    else if nat_lt number 3 then turn.Done
+    else if nat_lt number 6 then turn.Take
+    else if nat_lt number 7 then turn.Tick
+    else turn.Choose
+
+-- a body whose bytes count on from a number
+abbrev pub counting : ℕ → ℕ → List ℕ
+counting number size = map (λ i. (number + i) % 256) (range_with_len 0 size)
+
+-- the number of the event that comes next
+abbrev pub number_after : World → ℕ
+number_after w = length w.records + 1
+
+-- how often a place was told that a send of its own stands in the list
+abbrev pub sent_by : World → ℕ → ℕ
+sent_by w place = count_by (λ r. is_sent r.outcome && (r.event.node == place)) w.records
+
+abbrev pub progress_at : Drive → ℕ → Progress
+progress_at d place = slice_index_or d.progress place unheard
+
+-- what the chooser says for a place
+abbrev pub chosen : Drive → ℕ → Choice
+chosen d place = choice_of d.luck (next_for (replay d.play).letters place (progress_at d place).cursor) (progress_at d place).last
+
+-- what a place does at a turn
+unfoldable pub act_at : Drive → ℕ → Turn → Act
+act_at d place turn.Send = act.Send (counting (number_after (replay d.play)) (draw d.words 513))
+act_at d place turn.Done = act.Done (sent_by (replay d.play) place + 1)
+act_at d place turn.Take = act.Take
+act_at d place turn.Tick = act.Tick
+act_at d place turn.Choose = act_of (chosen d place)
+
+-- what is drawn for that, and how far the place is then
+unfoldable pub turned : Drive → ℕ → Turn → Drive
+turned d place turn.Send = record d { words = drawn d.words }
+turned d place turn.Done = d
+turned d place turn.Take = d
+turned d place turn.Tick = d
+turned d place turn.Choose = record d {
+  luck = luck_after d.luck (next_for (replay d.play).letters place (progress_at d place).cursor);
+  progress = slice_set d.progress place (progressed (progress_at d place) (chosen d place));
+}
+
+-- a place's turn is done
+abbrev pub done_at : Drive → ℕ → Turn → Drive
+done_at d place t = record (turned d place t) { play = after d.play (event_at place (act_at d place t)) }
+
+-- one event more: the first word says which place it is, and the second what it does
+unfoldable pub driven : Drive → Drive
+driven d = done_at (record d { words = drawn (drawn d.words) }) (draw d.words 4) (turn_of (draw (drawn d.words) 16))
+
+-- so many events more
+unfoldable pub drive : ℕ → Drive → Drive
+drive zero d = d
+drive (suc count) d = driven (drive count d)
+
+-- the first events of a seed
+unfoldable pub generated : ℕ → ℕ → List Event
+generated seed count = (drive count (begun seed)).play.events

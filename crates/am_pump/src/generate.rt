@@ -1,0 +1,22 @@
+ghost use Rattle.std.specs.Prelude.{◌≡◌, ◌<◌, length, IfOk, IfErr};
+ghost use Rattle.am_pump.specs.Generating.{generated_rules, generated};
+ghost use Rattle.am_world.specs.declared.world.WorldRefusal.TheVariants as refusals;
+
+use crate::generator::Generator;
+use am_world::world::{World, WorldRefusal};
+use std::alloc::Global;
+
+/// The group of a seed after so many events: four members, of whose letters ten of a hundred are lost and five repeated
+/// (docs/PROTOCOL.md, "Generated runs"). NoMemory where there was no memory for an event, Spent only where there are to be
+/// more than 100,000.
+pub fn generate(alloc: Global, seed: u64, count: u32) -> Result<World, WorldRefusal>
+    ensures world { IfOk result (λ world. world ≡ record { rules = generated_rules; events = generated seed count }) }
+    ensures count { IfOk result (λ world. length world.events ≡ count) }
+    ensures spent { IfErr result (λ refusal. refusal ≡ refusals.Spent → 100000 < count) }
+{
+    let mut generator = Generator::new(alloc, seed)?;
+    for _done in 0..count {
+        generator.step()?;
+    }
+    Ok(generator.into_world())
+}

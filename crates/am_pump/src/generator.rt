@@ -1,0 +1,222 @@
+ghost use Rattle.std.specs.Prelude.{◌≡◌, ◌<◌, ◌≤◌};
+ghost use Rattle.am_model.specs.Play.{is_sent};
+ghost use Rattle.am_pump.specs.Choices.{draw, drawn};
+ghost use Rattle.am_pump.specs.Generating.{generated_rules, turn_of, counting};
+
+use crate::chooser::Chooser;
+use crate::progress::Progress;
+use am_base::NoMemory;
+use am_base::body::Body;
+use am_base::founding::Founding;
+use am_base::name::Name;
+use am_base::names::Names;
+use am_base::outcome::Outcome;
+use am_group::event::{Act, Event};
+use am_world::world::{World, WorldRefusal};
+use rand_pcg::Lcg64Xsh32;
+use rand_pcg::rand_core::utils::NextWord;
+use std::alloc::Global;
+use std::marker::Model;
+
+/// The most bytes of a body that is drawn.
+const MOST_DRAWN: usize = 512;
+
+/// What a place does at its turn.
+#[derive(Clone, Copy, PartialEq, Eq, Debug)]
+pub enum Turn {
+    /// It sends a body of a drawn size.
+    Send,
+    /// It asks what came of its next send.
+    Done,
+    /// It takes the next accepted entry.
+    Take,
+    /// Time passes.
+    Tick,
+    /// What the chooser says.
+    Choose,
+}
+
+/// What a number below 16 asks for.
+fn turn_of(number: u32) -> Turn
+    ensures { result ≡ turn_of number }
+{
+    match number {
+        0..=1 => Turn::Send,
+        2 => Turn::Done,
+        3..=5 => Turn::Take,
+        6 => Turn::Tick,
+        _ => Turn::Choose,
+    }
+}
+
+/// The next word modulo a number.
+fn draw(words: &mut Lcg64Xsh32, bound: u32) -> u32
+    requires { 0 < bound }
+    ensures value { result ≡ draw words.old bound }
+    ensures drawn { words.new ≡ drawn words.old }
+{
+    words.next_word() % bound
+}
+
+/// A body whose bytes count on from a number.
+fn counting(number: usize, size: usize) -> Body
+    requires number { number ≤ 100001 }
+    requires size { size ≤ 512 }
+    ensures { result ≡ counting number size }
+{
+    let mut bytes = [0; MOST_DRAWN];
+    for index in 0..size {
+        bytes[index] = ((number + index) % 256) as u8;
+    }
+    match Body::of(&bytes[..size]) {
+        Some(body) => body,
+        None => unreachable!(),
+    }
+}
+
+/// Whether a send was answered as sent.
+fn is_sent(outcome: &Outcome) -> bool
+    ensures { result ≡ is_sent outcome.now }
+{
+    matches!(outcome, Outcome::Sent { .. })
+}
+
+/// Places 0 to 3 found the group of a generated run.
+#[tactic(auto, using(crate::proofs::Rules::may_found))]
+fn founding() -> Founding
+    ensures { result ≡ generated_rules }
+{
+    match Founding::new(Names::of_mask(15), 1, 16, 256) {
+        Some(founding) => founding,
+        None => unreachable!(),
+    }
+}
+
+/// A run that goes on by the words of a seed.
+#[derive(Drop)]
+pub struct Generator {
+    world: World,
+    words: Lcg64Xsh32,
+    chooser: Chooser,
+    progress: [Progress; 4],
+    sent: [u32; 4],
+}
+
+impl Model for Generator {
+    ghost use Rattle.am_pump.specs.Generating.{Drive};
+    ghost use Rattle.am_pump.specs.Counts.{AreSent};
+    ghost use Rattle.am_world.specs.Runs.{replay};
+
+    ghost Value = { Drive };
+
+    ghost view = { λ g. record { play = g.world; words = g.words; luck = g.chooser; progress = g.progress } };
+
+    ghost invariant = { λ g. AreSent g.sent (replay g.world) };
+}
+
+impl Generator {
+    ghost use Rattle.std.specs.Prelude.{OnOk, IfOk, IfErr, length};
+    ghost use Rattle.am_model.specs.Settle.{event_at};
+    ghost use Rattle.am_pump.specs.Generating.{begun, act_at, sent_by, turned, driven};
+    ghost use Rattle.am_world.specs.Runs.{after, replay};
+    ghost use Rattle.am_world.specs.declared.world.WorldRefusal.TheVariants as refusals;
+
+    /// The run of a seed, to which nothing has happened.
+    pub fn new(alloc: Global, seed: u64) -> Result<Generator, NoMemory>
+        ensures { IfOk result (λ g. g ≡ begun seed) }
+    {
+        Ok(Generator {
+            world: World::new(alloc, &founding())?,
+            words: Lcg64Xsh32::new(seed, 1000),
+            chooser: Chooser::new(seed, 1001, 10, 5),
+            progress: [Progress::new(); 4],
+            sent: [0; 4],
+        })
+    }
+
+    /// How often a place was told that a send of its own stands in the list.
+    #[tactic(auto, using(crate::proofs::Drives::few_sent))]
+    fn sent_by(&self, place: u8) -> u32
+        requires { place < 4 }
+        ensures value { result ≡ sent_by (replay self.now.play) place }
+        ensures few { result ≤ 100000 }
+    {
+        let _few = self.world.journal().records().len();
+        self.sent[usize::from(place)]
+    }
+
+    /// What the chooser says for a place.
+    #[tactic(auto, unfolding(crate::specs::Generating::act_at, crate::specs::Generating::turned))]
+    fn choose(&mut self, place: u8) -> Act
+        requires { place < 4 }
+        ensures act { result ≡ act_at self.old place Turn.Choose }
+        ensures turned { self.new ≡ turned self.old place Turn.Choose }
+    {
+        let at = usize::from(place);
+        let progress = self.progress[at];
+        let ahead = progress.ahead(self.world.journal(), Name::of_byte(place));
+        let choice = self.chooser.choose(ahead, progress.last);
+        self.progress[at] = progress.after(choice);
+        choice.act()
+    }
+
+    /// A place sends a body of a drawn size.
+    #[tactic(auto, unfolding(crate::specs::Generating::act_at, crate::specs::Generating::turned))]
+    fn send(&mut self, place: u8) -> Act
+        ensures act { result ≡ act_at self.old place Turn.Send }
+        ensures turned { self.new ≡ turned self.old place Turn.Send }
+    {
+        let number = self.world.journal().records().len() + 1;
+        let size = draw(&mut self.words, 513) as usize;
+        Act::Send(counting(number, size))
+    }
+
+    /// What a place does at its turn, where all is drawn that is to be drawn for it.
+    #[tactic(auto, unfolding(crate::specs::Generating::act_at, crate::specs::Generating::turned))]
+    fn act(&mut self, place: u8, turn: Turn) -> Act
+        requires { place < 4 }
+        ensures act { result ≡ act_at self.old place turn }
+        ensures turned { self.new ≡ turned self.old place turn }
+    {
+        match turn {
+            Turn::Send => self.send(place),
+            Turn::Done => Act::Done(self.sent_by(place) + 1),
+            Turn::Take => Act::Take,
+            Turn::Tick => Act::Tick,
+            Turn::Choose => self.choose(place),
+        }
+    }
+
+    /// A place does an act.
+    fn happen(&mut self, place: u8, act: Act) -> Result<(), WorldRefusal>
+        requires { place < 4 }
+        ensures ok { OnOk result (self.new ≡ record self.old { play = after self.old.play (event_at place act) }) }
+        ensures spent { IfErr result (λ refusal. refusal ≡ refusals.Spent → length self.old.play.events ≡ 100000) }
+    {
+        let sent = self.sent_by(place);
+        let node = Name::of_byte(place);
+        let outcome = self.world.step(&Event { node, act })?;
+        self.sent[usize::from(place)] = sent + u32::from(is_sent(&outcome));
+        Ok(())
+    }
+
+    /// Does the next event. After a refusal nothing more is to be done: NoMemory where there is no memory for it, and Spent
+    /// only where 100,000 events were done.
+    #[tactic(auto, unfolding(crate::specs::Generating::driven))]
+    pub fn step(&mut self) -> Result<(), WorldRefusal>
+        ensures ok { OnOk result (self.new ≡ driven self.old) }
+        ensures spent { IfErr result (λ refusal. refusal ≡ refusals.Spent → length self.old.play.events ≡ 100000) }
+    {
+        let place = draw(&mut self.words, 4) as u8;
+        let turn = turn_of(draw(&mut self.words, 16));
+        let act = self.act(place, turn);
+        self.happen(place, act)
+    }
+
+    /// The group, after all that was done.
+    pub fn into_world(self) -> World
+        ensures { result ≡ self.play }
+    {
+        self.world
+    }
+}

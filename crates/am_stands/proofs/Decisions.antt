@@ -1,0 +1,206 @@
+-- A decision, as a move of the group.
+use Rattle.std.proofs.Common.{◌≡◌, ◌≢◌, ◌⊎◌, inl, inr, ⊎_elim, ℕ, zero, suc, ◌+◌, ◌<◌, ◌≤◌, ◌==◌, ◌||◌, max, not, Bool, true, false, if◌then◌else◌, List, [], ◌∷◌, ◌++◌, length, take, Option, Some, None, slice_get, refl, sym, ap, ◌∙◌, subst, arith}
+use Rattle.std.specs.List.{list_any}
+use Rattle.std.proofs.lemmas.Bool.Decides.{nat_tests}
+use Rattle.std.proofs.lemmas.List.{append_assoc, append-nil, length-append}
+use Rattle.am_base.specs.declared.name.Stamp.{Stamp}
+use Rattle.am_base.specs.declared.image.Image.{Image}
+use Rattle.am_base.specs.declared.entry.Entry.{Entry}
+use Rattle.am_base.specs.declared.entry.Entry.TheVariants.{View}
+use Rattle.am_base.specs.Stamps.{stamp_eq}
+use Rattle.am_base.specs.Lists.{Log}
+use Rattle.am_chain_lists.specs.Whole.{Begins, told, view_of, key}
+use Rattle.am_chain_moves.specs.Group as groups
+use Rattle.am_chain_moves.specs.Group.{Group, Views, put, opening}
+use Rattle.am_chain_moves.specs.Moves.{Move, with_choice, choice_of}
+use Rattle.am_chain_moves.specs.Moves as group
+use Rattle.am_model.specs.Node as nodes
+use Rattle.am_model.specs.Node.{Node, Ballot, view, members, pushed, set_at}
+use Rattle.am_base.specs.declared.outcome.Outcome.TheVariants as said
+use Rattle.am_model.specs.Ballots.{Verdict, need_of, left_in, trimmed_for, restarted, finished}
+use Rattle.am_model.specs.Calls.{is_unfinished}
+use Rattle.am_model.specs.Receiving.{is_view}
+use Rattle.am_model.specs.World.{Decided, World, last_view}
+use Rattle.am_model.specs.Lawful.{whole, is_view_of}
+use Rattle.am_model.specs.Claims.{up_to_view, up_to_next, line_of}
+use Rattle.am_model.proofs.Greatest.{split}
+use Rattle.am_effects.specs.Causes.{Cause}
+use Rattle.am_effects.specs.Looks as looks
+use Rattle.am_effects.specs.Looks.{MayDecide, HasOpen, Balloting, with_more, without_one, as_it_is}
+use Rattle.am_effects.proofs.Items.{get_front, get_last, get_push}
+use Rattle.am_effects.proofs.Says.{told_pushed}
+use Rattle.am_laws.proofs.ViewSteps.{after_view}
+use Rattle.am_stands.specs.Standing.{BeginsIn, NameStands, NotedStands, IsLast, WasNoted, ViewsStand, StandsBut, within}
+use Rattle.am_stands.specs.Moving.{Leads}
+use Rattle.am_stands.specs.Steps.{MayMove, NeedsDecision, noting}
+use Rattle.am_stands.proofs.Names.{one_move, name_in, each_within, fronts_within}
+use Rattle.am_stands.proofs.Changes.{own_name, long_all}
+use Rattle.am_stands.proofs.Lines.{HasViewOf, line_ends}
+use Rattle.am_stands.proofs.Entries.{noted_stands, line_here}
+
+-- ---- lists
+
+-- a View that wasn't there ends the line that it opens
+line_opens : (v : Stamp) (es : List Entry) (names : List ℕ) (resilience : ℕ) → list_any (is_view_of v) es ≡ false → up_to_next v (es ++ View v names resilience ∷ []) ≡ es ++ View v names resilience ∷ []
+unfolding up_to_next up_to_view
+line_opens v [] names resilience h = let t : stamp_eq v v ≡ true = grind (arith, nat_tests) in rw t refl
+line_opens v (x ∷ es) names resilience h = split (is_view_of v x)
+    (λ t. absurd (let z = rw t at h in cc))
+    (λ f. rw f (ap (λ l. x ∷ l) (line_opens v es names resilience (rw f at h))))
+
+pub last_same : {A : Type 0} (a b : List A) (x y : A) → a ++ x ∷ [] ≡ b ++ y ∷ [] → x ≡ y
+last_same a b x y h =
+    let long = ap length h in
+    let m = length-append a (x ∷ []) in
+    let n = length-append b (y ∷ []) in
+    let same : length a ≡ length b = omega arith in
+    let at : slice_get (b ++ y ∷ []) (length b) ≡ Some x = ap (slice_get (b ++ y ∷ [])) (sym same) ∙ ap (λ l. slice_get l (length a)) (sym h) ∙ get_last a x in
+    let z : Some x ≡ Some y = sym at ∙ get_last b y in
+    cc
+
+-- ---- the ballot that is looked at
+
+open_promise : (w : World) (name : ℕ) (c : Cause) (x : Node) (b : Ballot) (s : Group) → MayMove w name c x s → HasOpen x b → b.stamp ≡ x.core.promise
+open_promise w name c x b s may o = may.ballot b o.last o.open_
+
+pub looked_promise : (w : World) (name : ℕ) (c : Cause) (x : Node) (b : Ballot) (s : Group) → MayMove w name c x s → Balloting c x b → b.stamp ≡ x.core.promise
+looked_promise w name c x b s may (with_more old from v vote is heard low high o same stays) = open_promise w name c x old s may o
+looked_promise w name c x b s may (without_one old other is o differs) = open_promise w name c x old s may o
+looked_promise w name c x b s may (as_it_is old o on) = open_promise w name c x old s may o
+
+-- ---- the views
+
+module _ (w : World) (name : ℕ) (x y : Node) (a : groups.Node) (views : Views) (v : Stamp) (names : List ℕ) (r : ℕ)
+    (promised : a.promise ≡ v) (mine : v.by ≡ name) (old : NameStands (within w name x) name x a)
+    (log : y.core.log ≡ (pushed x (View v names r)).core.log) (same_members : members y ≡ names)
+    (fresh : views.decided (key v) ≡ false) (unseen : list_any (is_view_of v) a.list ≡ false) (h : ViewsStand (within w name x) views) where
+  e : Entry
+  e = View v names r
+
+  next : World
+  next = noting w (last_view y)
+
+  made : Views
+  made = record views {
+    decided = put views.decided (key a.promise) true;
+    chosen = put views.chosen (key a.promise) (choice_of a names r);
+    line = put views.line (key a.promise) (opening (choice_of a names r));
+    current = a.promise;
+  }
+
+  is_whole : whole (within next name y) y ≡ a.list ++ View v names r ∷ []
+  unfolding next
+  is_whole = ap (λ (g : Log). take g.start w.group ++ g.entries) log ∙ sym (append_assoc (take x.core.log.start w.group) x.core.log.entries (View v names r ∷ [])) ∙ ap (λ l. l ++ View v names r ∷ []) (sym old.list)
+
+  told_is : nodes.told y ≡ nodes.told (pushed x (View v names r))
+  told_is = ap (λ (g : Log). nodes.told (record y { core = record (y.core) { log = g } })) log
+
+  is_stamp : view y ≡ v
+  is_stamp = ap (λ (i : Image). i.view) (told_is ∙ told_pushed x (View v names r)) ∙ (after_view (nodes.told x) (nodes.top x + 1) v names r).0
+
+  is_number : (nodes.told y).view_number ≡ nodes.top x + 1
+  is_number = ap (λ (i : Image). i.view_number) (told_is ∙ told_pushed x (View v names r)) ∙ (after_view (nodes.told x) (nodes.top x + 1) v names r).1
+
+  is_resilience : (nodes.told y).resilience ≡ r
+  is_resilience = ap (λ (i : Image). i.resilience) (told_is ∙ told_pushed x (View v names r)) ∙ (after_view (nodes.told x) (nodes.top x + 1) v names r).2
+
+  long : length a.list ≡ nodes.top x
+  long = long_all (within w name x) name x a old
+
+  -- what was noted before
+  old_noted : (k : ℕ) (d : Decided) → slice_get w.views k ≡ Some d → NotedStands (within next name y) made d
+  unfolding next made put
+  old_noted k d at =
+      let n = h.noted k d at in
+      let list = whole (within w name x) x in
+      let other : (key d.stamp == key a.promise) ≡ false = split (key d.stamp == key a.promise)
+      (λ t. absurd (let keys : key d.stamp ≡ key v = (let z : key d.stamp ≡ key a.promise = grind (arith, nat_tests) in z ∙ ap key promised) in let z : views.decided (key v) ≡ true = ap views.decided (sym keys) ∙ n.decided in cc))
+      (λ f. f) in
+      let stays : line_of (within next name y) d.stamp ≡ line_of (within w name x) d.stamp = split (d.stamp.by == name)
+      (λ u.
+      let own : d.stamp.by ≡ name = grind (arith, nat_tests) in
+      let here = line_here w name x d.stamp own in
+      let stands = noted_stands (within w name x) views d list n here in
+      line_here next name y d.stamp own ∙ ap (up_to_next d.stamp) (is_whole ∙ ap (λ l. l ++ View v names r ∷ []) old.list) ∙ line_ends d.stamp list (View v names r) stands refl ∙ sym here)
+      (λ g. rw g refl) in
+      record {
+        decided = rw other n.decided;
+        stamp = rw other n.stamp;
+        members = rw other n.members;
+        resilience = rw other n.resilience;
+        number = rw other n.number;
+        line = rw other (n.line ∙ sym stays);
+        opens = rw other n.opens;
+      }
+
+  -- and the view that was decided
+  new_noted : NotedStands (within next name y) made (last_view y)
+  unfolding next made put
+  new_noted =
+      let keys : key (view y) ≡ key a.promise = ap key (is_stamp ∙ sym promised) in
+      let t : (key (view y) == key a.promise) ≡ true = grind (arith, nat_tests) in
+      let own : (view y).by ≡ name = ap (λ (z : Stamp). z.by) is_stamp ∙ mine in
+      let opened_ : opening (choice_of a names r) ≡ a.list ++ View v names r ∷ [] = λ i. a.list ++ View (promised i) names r ∷ [] in
+      let line_ : line_of (within next name y) (view y) ≡ a.list ++ View v names r ∷ [] =
+      line_here next name y (view y) own ∙ ap (up_to_next (view y)) is_whole ∙ ap (λ (z : Stamp). up_to_next z (a.list ++ View v names r ∷ [])) is_stamp ∙ line_opens v a.list names r unseen in
+      record {
+        decided = rw t refl;
+        stamp = rw t (promised ∙ sym is_stamp);
+        members = rw t (sym same_members);
+        resilience = rw t (sym is_resilience);
+        number = rw t (omega (arith, long, is_number));
+        line = rw t (opened_ ∙ sym line_);
+        opens = rw t (record { rest = []; same = append-nil (opening (choice_of a names r)) });
+      }
+
+  views_decided : ViewsStand (within next name y) made
+  unfolding next made put
+  views_decided = record {
+    noted = λ k d at. ⊎_elim
+        (λ (p : slice_get w.views k ≡ Some d). old_noted k d p)
+        (λ (p : (k ≡ length w.views) × (last_view y ≡ d)). subst (NotedStands (within next name y) made) p.1 new_noted)
+        (get_push w.views (last_view y) k d at);
+    decided = λ i t. split (i == key a.promise)
+        (λ u. (let is : i ≡ key a.promise = grind (arith, nat_tests) in
+        record { index = length w.views; view = last_view y; there = get_last w.views (last_view y); is = ap key (is_stamp ∙ sym promised) ∙ sym is }))
+        (λ f. (let n = h.decided i (rw f at t) in record { index = n.index; view = n.view; there = get_front w.views (last_view y ∷ []) n.index n.view n.there; is = n.is }));
+    current = λ d last. promised ∙ sym is_stamp ∙ ap (λ (z : Decided). z.stamp) (last_same w.views last.before (last_view y) d last.is);
+  }
+
+-- ---- the decision
+
+pub decision_stands : (w : World) (name : ℕ) (c : Cause) (x : Node) (b : Ballot) (s : Group) → MayMove w name c x s → Balloting c x b → NeedsDecision s name x b → StandsBut name (within w name x) s
+    → Leads (StandsBut name (within (noting w (last_view (restarted (looks.view_of x b)))) name (record (restarted (looks.view_of x b)) { ballot = Some (finished b (said.Decided (nodes.top x + 1) (left_in b (need_of x b)))) }))) s
+unfolding next made
+decision_stands w name c x b s may why needs h =
+    let names = left_in b (need_of x b) in
+    let r = max b.resilience (nodes.told x).resilience in
+    let y = record (restarted (looks.view_of x b)) { ballot = Some (finished b (said.Decided (nodes.top x + 1) names)) } in
+    let w2 = noting w (last_view (restarted (looks.view_of x b))) in
+    let a = s.node name in
+    let old = own_name w name x s may.few h in
+    let same = looked_promise w name c x b s may why in
+    let promised : a.promise ≡ b.stamp = old.promise ∙ sym same in
+    let mine : b.stamp.by ≡ name = ap (λ (z : Stamp). z.by) same ∙ needs.own in
+    let fresh : s.views.decided (key b.stamp) ≡ false = ap (λ (z : Stamp). s.views.decided (key z)) same ∙ needs.fresh in
+    let unseen : list_any (is_view_of b.stamp) a.list ≡ false = ap (λ (z : Stamp). list_any (is_view_of z) a.list) same ∙ needs.unseen in
+    let chosen = record a { list = opening (choice_of a names r); ballot = false } in
+    let list_ : opening (choice_of a names r) ≡ whole (within w name y) y = (λ i. a.list ++ View (promised i) names r ∷ []) ∙ sym (is_whole w name x y a s.views b.stamp names r promised mine old refl needs.members_ fresh unseen h.views) in
+    let name_ : NameStands (within w name x) name x a → NameStands (within w name y) name y chosen = λ k. record {
+      begins = record { within = k.begins.within; image = k.begins.image };
+      list = list_;
+      log_ = k.log_;
+      stopped = k.stopped;
+      departed = k.departed;
+      leaving = k.leaving;
+      promise = k.promise;
+      ballot = refl;
+      start = k.start;
+    } in
+    one_move (StandsBut name (within w2 name y)) s (with_choice s name names r) (group.decides name names r needs.may)
+    (record {
+      each = λ i few. name_in (within w name y) (within w2 name y) i _ _ refl refl (each_within w name x y s chosen name_ h.each i few);
+      fronts = fronts_within w name x y s chosen h.fronts;
+      views = views_decided w name x y a s.views b.stamp names r promised mine old refl needs.members_ fresh unseen h.views;
+      group = h.group;
+    })

@@ -1,0 +1,167 @@
+-- At the end of a step the group accepts what its sequencer does, and the name learns how far that is.
+use Rattle.std.proofs.Common.{◌≡◌, ◌≢◌, ℕ, zero, suc, ◌+◌, ◌<◌, ◌≤◌, ◌==◌, max, Bool, true, false, if◌then◌else◌, List, [], ◌∷◌, ◌++◌, length, take, Some, slice_get, refl, sym, ap, ◌∙◌, subst, arith}
+use Rattle.std.proofs.lemmas.Bool.Decides.{nat_tests}
+use Rattle.am_base.specs.declared.entry.Entry.{Entry}
+use Rattle.am_base.specs.declared.name.Stamp.{Stamp}
+use Rattle.am_group.specs.declared.event.Event.{Event}
+use Rattle.am_chain_lists.specs.Whole.{Begins, told, key}
+use Rattle.am_chain_lists.proofs.Prefixes.{begins_length}
+use Rattle.am_chain_moves.specs.Group as groups
+use Rattle.am_chain_moves.specs.Group.{Group, put}
+use Rattle.am_chain_moves.specs.Moves.{Move, with_node}
+use Rattle.am_chain_moves.specs.Moves as group
+use Rattle.am_model.specs.Node.{Node, set_at}
+use Rattle.am_model.specs.Emit.{Step}
+use Rattle.am_model.specs.World.{Decided, World, is_stopped, has_departed, group_after, views_after, stepped}
+use Rattle.am_model.specs.Lawful.{whole}
+use Rattle.am_model.specs.Claims.{up_to_next, line_of}
+use Rattle.am_model.proofs.Greatest.{split}
+use Rattle.am_stands.specs.Standing.{BeginsIn, NameStands, FrontsStand, NotedStands, WasNoted, IsLast, ViewsStand, StandsBut, Stands}
+use Rattle.am_stands.specs.Moving.{Moves, none, moves, Leads}
+use Rattle.am_stands.specs.Ends.{Accepts, no_more, rises, MayLearn, Learns, departed, bare, learns, NeedsEnd, before_end, EndsStand}
+use Rattle.am_stands.proofs.Names.{no_move, one_move, views_noted}
+
+-- ---- a longer group list
+
+take_front : {A : Type 0} (n : ℕ) (xs ys : List A) → n ≤ length xs → take n (xs ++ ys) ≡ take n xs
+take_front zero xs ys h = refl
+take_front (suc n) [] ys h = absurd (omega arith)
+take_front (suc n) (x ∷ xs) ys h = ap (λ l. x ∷ l) (take_front n xs ys (omega arith))
+
+pub taken_more : (n : ℕ) (old new : List Entry) → Begins old new → n ≤ length old → take n new ≡ take n old
+taken_more n old new h low = ap (take n) (sym h.same) ∙ take_front n old h.rest low
+
+pub name_grows : (w v : World) (i : ℕ) (m : Node) (a : groups.Node) → Begins w.group v.group → is_stopped v i ≡ is_stopped w i → NameStands w i m a → NameStands v i m a
+name_grows w v i m a grows stopped h =
+    let low = h.begins.within in
+    let more = begins_length grows in
+    let same = taken_more m.core.log.start w.group v.group grows low in
+    record {
+      begins = record { within = omega arith; image = h.begins.image ∙ ap told (sym same) };
+      list = h.list ∙ ap (λ l. l ++ m.core.log.entries) (sym same);
+      log_ = h.log_;
+      stopped = h.stopped ∙ sym stopped;
+      departed = h.departed;
+      leaving = h.leaving;
+      promise = h.promise;
+      ballot = h.ballot;
+      start = h.start;
+    }
+
+-- ---- the world at the end
+
+module _ (w : World) (e : Event) (name : ℕ) (step : Step) where
+  before : World
+  before = before_end w name step.node
+
+  after_ : World
+  after_ = stepped w e name step
+
+  each_grows : (s : Group) → Begins w.group (group_after w.group step.node) → ((i : ℕ) → i < 256 → NameStands (before_end w name step.node) i ((before_end w name step.node).nodes i) (s.node i))
+      → (i : ℕ) → i < 256 → NameStands (stepped w e name step) i ((stepped w e name step).nodes i) (s.node i)
+  unfolding stepped
+  each_grows s grows h i few = name_grows (before_end w name step.node) (stepped w e name step) i (set_at w.nodes name step.node i) (s.node i) grows refl (h i few)
+
+  lines_grow : (s : Group) → Begins w.group (group_after w.group step.node) → ((i : ℕ) → i < 256 → NameStands (before_end w name step.node) i ((before_end w name step.node).nodes i) (s.node i))
+      → (v : Stamp) → v.by < 256 → line_of (stepped w e name step) v ≡ line_of (before_end w name step.node) v
+  unfolding stepped
+  lines_grow s grows h v few =
+      let m = set_at w.nodes name step.node v.by in
+      ap (λ l. up_to_next v (l ++ m.core.log.entries)) (taken_more m.core.log.start w.group (group_after w.group step.node) grows (h v.by few).begins.within)
+
+  views_grow : (s : Group) → Begins w.group (group_after w.group step.node) → ((k : ℕ) (v : Decided) → slice_get (views_after w.views (w.nodes name) step.node) k ≡ Some v → v.stamp.by < 256)
+      → ((i : ℕ) → i < 256 → NameStands (before_end w name step.node) i ((before_end w name step.node).nodes i) (s.node i))
+      → ViewsStand (before_end w name step.node) s.views → ViewsStand (stepped w e name step) s.views
+  unfolding stepped
+  views_grow s grows small each h = views_noted (before_end w name step.node) (stepped w e name step) s.views refl (λ k d at. lines_grow s grows each d.stamp (small k d at)) h
+
+-- ---- what is accepted
+
+accept_moves : (w : World) (s : Group) (name : ℕ) (n : Node) → s.group ≡ w.group → Accepts w s name n → Moves s (record s { group = group_after w.group n })
+accept_moves w s name n same (no_more is) = subst (λ (g : List Entry). Moves s (record s { group = g })) (same ∙ sym is) none
+accept_moves w s name n same (rises lead may is) = subst (λ (g : List Entry). Moves s (record s { group = g })) (sym is) (moves (group.accepts name n.core.acc lead may) none)
+
+pub then_moves : {s t u : Group} → Moves s t → Moves t u → Moves s u
+then_moves none m = m
+then_moves (moves x xs) m = moves x (then_moves xs m)
+
+-- ---- what is learned
+
+is_itself : (name : ℕ) → (name == name) ≡ true
+is_itself name = grind (arith, nat_tests)
+
+-- all stands, but for the name's own fronts
+record Ended (w : World) (e : Event) (name : ℕ) (step : Step) (s : Group) : Type 0 where
+  each : (i : ℕ) → i < 256 → NameStands (stepped w e name step) i (set_at w.nodes name step.node i) (s.node i)
+  fronts : (i : ℕ) → i < 256 → i ≢ name → has_departed (set_at w.nodes name step.node i).status ≡ false → FrontsStand (set_at w.nodes name step.node i) (s.node i)
+  views : ViewsStand (stepped w e name step) s.views
+  group_ : s.group ≡ group_after w.group step.node
+
+-- and with them
+all_stands : (w : World) (e : Event) (name : ℕ) (step : Step) (s : Group) → Ended w e name step s → (has_departed step.node.status ≡ false → FrontsStand step.node (s.node name)) → Stands (stepped w e name step) s
+unfolding stepped
+all_stands w e name step s h own = record {
+  each = h.each;
+  fronts = λ i few. split (i == name)
+      (λ t. (let same : i ≡ name = grind (arith, nat_tests) in
+      let mine : has_departed step.node.status ≡ false → FrontsStand step.node (s.node i) = subst (λ k. has_departed step.node.status ≡ false → FrontsStand step.node (s.node k)) (sym same) own in
+      rw t mine))
+      (λ f. h.fronts i few (λ same. (let t : (i == name) ≡ true = grind (arith, nat_tests) in cc)));
+  views = h.views;
+  group = h.group_;
+}
+
+learned : (w : World) (e : Event) (name : ℕ) (step : Step) (s : Group) (told_ acc_ : ℕ) → Ended w e name step s → Ended w e name step (with_node s name (record (s.node name) { told = told_; acc = acc_ }))
+unfolding put
+learned w e name step s told_ acc_ h = record {
+  each = λ i few. split (i == name)
+      (λ t. (let same : i ≡ name = grind (arith, nat_tests) in
+      let old : NameStands (stepped w e name step) i (set_at w.nodes name step.node i) (s.node name) = subst (λ k. NameStands (stepped w e name step) i (set_at w.nodes name step.node i) (s.node k)) same (h.each i few) in
+      let new : NameStands (stepped w e name step) i (set_at w.nodes name step.node i) (record (s.node name) { told = told_; acc = acc_ }) = record { begins = old.begins; list = old.list; log_ = old.log_; stopped = old.stopped; departed = old.departed; leaving = old.leaving; promise = old.promise; ballot = old.ballot; start = old.start } in
+      subst (λ (a : groups.Node). NameStands (stepped w e name step) i (set_at w.nodes name step.node i) a) (λ j. if sym t j then record (s.node name) { told = told_; acc = acc_ } else s.node i) new))
+      (λ f. subst (λ (a : groups.Node). NameStands (stepped w e name step) i (set_at w.nodes name step.node i) a) (λ j. if sym f j then record (s.node name) { told = told_; acc = acc_ } else s.node i) (h.each i few));
+  fronts = λ i few other. split (i == name)
+      (λ t. absurd (let same : i ≡ name = grind (arith, nat_tests) in other same))
+      (λ f. λ d. subst (λ (a : groups.Node). FrontsStand (set_at w.nodes name step.node i) a) (λ j. if sym f j then record (s.node name) { told = told_; acc = acc_ } else s.node i) (h.fronts i few other d));
+  views = h.views;
+  group_ = h.group_;
+}
+
+own_fronts : (n : Node) (name : ℕ) (s : Group) (told_ : ℕ) → n.core.told ≤ told_ → FrontsStand n ((with_node s name (record (s.node name) { told = told_; acc = n.core.acc })).node name)
+unfolding put
+own_fronts n name s told_ low = rw (is_itself name) (record { told = low; acc = refl })
+
+learn_stands : (w : World) (e : Event) (name : ℕ) (step : Step) (s : Group) → s.group ≡ group_after w.group step.node → Ended w e name step s → (name < 256) → Learns w s name step.node → Leads (Stands (stepped w e name step)) s
+learn_stands w e name step s same h few (departed d) = no_move (Stands (stepped w e name step)) s (all_stands w e name step s h (λ f. absurd (cc)))
+learn_stands w e name step s same h few (bare f) = no_move (Stands (stepped w e name step)) s (all_stands w e name step s h (λ d. f))
+learn_stands w e name step s same h few (learns m) =
+    let n = step.node in
+    let told_ = max (s.node name).told n.core.told in
+    let long : told_ ≤ length s.group = subst (λ (g : List Entry). told_ ≤ length g) (sym same) m.told in
+    let t = with_node s name (record (s.node name) { told = told_; acc = n.core.acc }) in
+    one_move (Stands (stepped w e name step)) s t (group.learns name told_ n.core.acc m.up (omega arith) long m.before m.up_to m.given m.within)
+    (all_stands w e name step t (learned w e name step s told_ n.core.acc h) (λ d. own_fronts n name s told_ (omega arith)))
+
+-- ---- the end
+
+-- what is learned looks at no group list but that after the step
+same_learns : (w : World) (s : Group) (g : List Entry) (name : ℕ) (n : Node) → Learns w s name n → Learns w (record s { group = g }) name n
+same_learns w s g name n (departed d) = departed d
+same_learns w s g name n (bare f) = bare f
+same_learns w s g name n (learns m) = learns (record { up = m.up; told = m.told; before = m.before; up_to = m.up_to; given = m.given; within = m.within })
+
+pub ends_stand : EndsStand
+unfolding stepped
+ends_stand w e name step s needs h =
+    let n = step.node in
+    let g = group_after w.group n in
+    let t = record s { group = g } in
+    let path = accept_moves w s name n h.group needs.accepts in
+    let ended : Ended w e name step t = record {
+      each = each_grows w e name step s needs.grows h.each;
+      fronts = h.fronts;
+      views = views_grow w e name step s needs.grows needs.noted h.each h.views;
+      group_ = refl;
+    } in
+    let last = learn_stands w e name step t refl ended needs.few (same_learns w s g name n needs.learns) in
+    record { to = last.to; path = then_moves path last.path; is = last.is }

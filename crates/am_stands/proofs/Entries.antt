@@ -1,0 +1,278 @@
+-- The changes of a node that make its list longer, or let it begin, as moves of the group.
+use Rattle.std.proofs.Common.{◌≡◌, ◌≢◌, ◌⊎◌, inl, inr, ⊎_elim, ℕ, ◌+◌, ◌<◌, ◌≤◌, ◌==◌, ◌&&◌, Bool, true, false, if◌then◌else◌, List, [], ◌∷◌, ◌++◌, length, take, Option, Some, None, slice_get, refl, sym, ap, ◌∙◌, subst, arith}
+use Rattle.std.proofs.lemmas.Bool.Decides.{nat_tests}
+use Rattle.std.proofs.lemmas.List.{append_assoc, append-nil}
+use Rattle.am_base.specs.declared.name.Stamp.{Stamp}
+use Rattle.am_base.specs.declared.image.Image.{Image}
+use Rattle.am_base.specs.declared.entry.Entry.{Entry}
+use Rattle.am_base.specs.declared.entry.Entry.TheVariants.{Data, Join, Leave, View}
+use Rattle.am_base.specs.Names.{rank_of}
+use Rattle.am_base.specs.Stamps.{stamp_eq}
+use Rattle.am_base.specs.Lists.{Log, fits}
+use Rattle.am_chain_lists.specs.Whole.{Begins, told, view_of, key}
+use Rattle.am_chain_lists.proofs.Order.{key_by}
+use Rattle.am_chain_lists.proofs.Prefixes.{begins_trans, begins_more}
+use Rattle.am_chain_moves.specs.Group as groups
+use Rattle.am_chain_moves.specs.Group.{Group, Views, put, IsUp, opening}
+use Rattle.am_chain_moves.specs.Moves.{Move, with_node, with_line, longer}
+use Rattle.am_chain_moves.specs.Moves as group
+use Rattle.am_model.specs.Node as nodes
+use Rattle.am_model.specs.Node.{Node, view, is_member, acts, is_sequencer, pushed, set_at}
+use Rattle.am_model.specs.Calls.{is_unfinished}
+use Rattle.am_model.specs.Receiving.{is_view}
+use Rattle.am_model.specs.Group.{has_log}
+use Rattle.am_model.specs.World.{Decided, World, is_stopped, has_departed}
+use Rattle.am_model.specs.Lawful.{whole}
+use Rattle.am_model.specs.Claims.{up_to_next, line_of}
+use Rattle.am_model.proofs.Greatest.{split, and_both}
+use Rattle.am_model.specs.Joining.{begun}
+use Rattle.am_effects.specs.Causes.{Cause}
+use Rattle.am_effects.specs.Changes.{Numbers, asked_send, own_send, asked_join, asked_leave}
+use Rattle.am_laws.proofs.Stamps.{same_stamp}
+use Rattle.am_stands.specs.Standing.{BeginsIn, NameStands, FrontsStand, NotedStands, ViewsStand, StandsBut, within}
+use Rattle.am_stands.specs.Moving.{Leads}
+use Rattle.am_stands.specs.Steps.{MayMove, NeedsNumber, IsOthers, NeedsEntry, NeedsShown, NeedsPiece, of_line, of_shown, NeedsWelcome}
+use Rattle.am_stands.proofs.Names.{one_move, views_noted, each_within, fronts_within}
+use Rattle.am_stands.proofs.Changes.{own_name, is_up, told_whole}
+use Rattle.am_stands.proofs.Lines.{HasViewOf, next_of_list, line_stays, line_ends, line_grows, opened}
+
+-- ---- one entry more
+
+pub record Longer (x y : Node) (e : Entry) : Type 0 where
+  pub log : y.core.log ≡ (pushed x e).core.log
+  pub stays : y.status ≡ x.status
+  pub leaving : y.leaving ≡ x.leaving
+  pub promise : y.core.promise ≡ x.core.promise
+  pub ballot : y.ballot ≡ x.ballot
+  pub start : y.core.start ≡ x.core.start
+
+whole_longer : (w : World) (name : ℕ) (x y : Node) (e : Entry) → Longer x y e → whole (within w name y) y ≡ whole (within w name x) x ++ e ∷ []
+whole_longer w name x y e l = ap (λ (g : Log). take g.start w.group ++ g.entries) l.log ∙ sym (append_assoc (take x.core.log.start w.group) x.core.log.entries (e ∷ []))
+
+pub name_longer : (w : World) (name : ℕ) (x y : Node) (e : Entry) (a : groups.Node) → Longer x y e → NameStands (within w name x) name x a → NameStands (within w name y) name y (longer a e)
+name_longer w name x y e a l h = record {
+  begins = record {
+    within = subst (λ (g : Log). g.start ≤ length w.group) (sym l.log) h.begins.within;
+    image = subst (λ (g : Log). g.image ≡ told (take g.start w.group)) (sym l.log) h.begins.image;
+  };
+  list = ap (λ k. k ++ e ∷ []) h.list ∙ sym (whole_longer w name x y e l);
+  log_ = h.log_ ∙ ap has_log (sym l.stays);
+  stopped = h.stopped;
+  departed = h.departed ∙ ap has_departed (sym l.stays);
+  leaving = h.leaving ∙ sym l.leaving;
+  promise = h.promise ∙ sym l.promise;
+  ballot = h.ballot ∙ ap is_unfinished (sym l.ballot);
+  start = λ t. h.start (ap has_log (sym l.stays) ∙ t) ∙ sym l.start;
+}
+
+-- ---- the lines
+
+-- a noted view's View stands in its coordinator's list
+pub noted_stands : (w : World) (views : Views) (v : Decided) (list : List Entry) → NotedStands w views v → line_of w v.stamp ≡ up_to_next v.stamp list → HasViewOf v.stamp list
+noted_stands w views v list h is =
+    let ch = views.chosen (key v.stamp) in
+    opened v.stamp ch.before ch.members ch.resilience list (subst (λ (s : Stamp). Begins (ch.before ++ View s ch.members ch.resilience ∷ []) (up_to_next v.stamp list)) h.stamp
+    (subst (λ l. Begins (opening ch) l) (h.line ∙ is) h.opens))
+
+pub line_here : (w : World) (name : ℕ) (x : Node) (v : Stamp) → v.by ≡ name → line_of (within w name x) v ≡ up_to_next v (whole (within w name x) x)
+line_here w name x v same = let t : (v.by == name) ≡ true = grind (arith, nat_tests) in rw t refl
+
+-- what the whole list's view is
+pub view_whole : (w : World) (name : ℕ) (x : Node) (a : groups.Node) → NameStands (within w name x) name x a → view_of a.list ≡ view x
+unfolding view_of
+view_whole w name x a h = ap (λ (i : Image). i.view) (told_whole w name name x a h)
+
+-- of the name's own views only that which its list ends with may go on, and not by a View
+lines_longer : (w : World) (name : ℕ) (x y : Node) (e : Entry) (a : groups.Node) (views : Views) → Longer x y e → NameStands (within w name x) name x a → IsOthers name x e → ViewsStand (within w name x) views
+    → (k : ℕ) (d : Decided) → slice_get w.views k ≡ Some d → line_of (within w name y) d.stamp ≡ line_of (within w name x) d.stamp
+lines_longer w name x y e a views l old others h k d at = split (d.stamp.by == name)
+    (λ t.
+    let same : d.stamp.by ≡ name = grind (arith, nat_tests) in
+    let v = d.stamp in
+    let list = whole (within w name x) x in
+    let here = line_here w name x v same in
+    let stands = noted_stands (within w name x) views d list (h.noted k d at) here in
+    let viewed : view_of list ≡ view x = ap view_of (sym old.list) ∙ view_whole w name x a old in
+    let stays : up_to_next v (list ++ e ∷ []) ≡ up_to_next v list = split (is_view e)
+    (λ u. line_ends v list e stands u)
+    (λ f. line_stays v list e (next_of_list v list stands (λ is. (let own : (view x).by ≡ name = ap (λ (s : Stamp). s.by) (sym viewed ∙ is) ∙ same in let z = others own in cc)))) in
+    line_here w name y v same ∙ ap (up_to_next v) (whole_longer w name x y e l) ∙ stays ∙ sym here)
+    (λ f. rw f refl)
+
+-- a move that makes one list longer, and no line of its own
+grows : (w : World) (name : ℕ) (x y : Node) (e : Entry) (s : Group) → name < 256 → Longer x y e → IsOthers name x e → Move s (with_node s name (longer (s.node name) e)) → StandsBut name (within w name x) s → Leads (StandsBut name (within w name y)) s
+grows w name x y e s few l others move h =
+    let old = own_name w name x s few h in
+    let b = longer (s.node name) e in
+    one_move (StandsBut name (within w name y)) s (with_node s name b) move (record {
+      each = each_within w name x y s b (name_longer w name x y e (s.node name) l) h.each;
+      fronts = fronts_within w name x y s b h.fronts;
+      views = views_noted (within w name x) (within w name y) s.views refl (lines_longer w name x y e (s.node name) s.views l old others h.views) h.views;
+      group = h.group;
+    })
+
+-- ---- entries of a line, or of a list that was shown
+
+entry_stands : (w : World) (name : ℕ) (x y : Node) (e : Entry) (s : Group) → name < 256 → is_stopped w name ≡ false → is_member x.status ≡ true → Longer x y e → NeedsEntry s name x e → StandsBut name (within w name x) s → Leads (StandsBut name (within w name y)) s
+entry_stands w name x y e s few runs member l needs h =
+    let old = own_name w name x s few h in
+    grows w name x y e s few l needs.others (group.stores name e (is_up w name x (s.node name) runs member old) needs.decided needs.other needs.stays needs.next) h
+
+pub piece_stands : (w : World) (name : ℕ) (x y : Node) (e : Entry) (s : Group) → name < 256 → is_stopped w name ≡ false → is_member x.status ≡ true → Longer x y e → NeedsPiece s name x e → StandsBut name (within w name x) s → Leads (StandsBut name (within w name y)) s
+piece_stands w name x y e s few runs member l (of_line needs) h = entry_stands w name x y e s few runs member l needs h
+piece_stands w name x y e s few runs member l (of_shown open_ needs) h =
+    let old = own_name w name x s few h in
+    grows w name x y e s few l needs.others (group.fetches name needs.from needs.list e (is_up w name x (s.node name) runs member old) (old.ballot ∙ open_) needs.served needs.shown needs.next) h
+
+-- ---- a sequencer's own entry
+
+numbers_plain : (c : Cause) (m : Node) (e : Entry) → Numbers c m e → is_view e ≡ false
+numbers_plain c m e (asked_send s v report req body by known stays next) = refl
+numbers_plain c m e (own_send s is last) = refl
+numbers_plain c m e (asked_join s v is other fit) = refl
+numbers_plain c m e (asked_leave s v report is other known stays) = refl
+
+-- equal keys are of equal stamps
+key_stamp : (a b : Stamp) → a.by < 256 → b.by < 256 → key a ≡ key b → a ≡ b
+unfolding key
+key_stamp a b h k same =
+    let by = key_by a b h k same in
+    let rank = ap rank_of by in
+    let round : a.round ≡ b.round = omega arith in
+    λ i. record { round = round i; by = by i }
+
+-- the lines once a sequencer's list, and its view's line with it, is longer
+views_numbered : (w : World) (name : ℕ) (x y : Node) (e : Entry) (a : groups.Node) (views : Views) → Longer x y e → NameStands (within w name x) name x a → is_view e ≡ false
+    → (view_of a.list).by ≡ name → name < 256 → ((k : ℕ) (v : Decided) → slice_get w.views k ≡ Some v → v.stamp.by < 256) → views.line (key (view_of a.list)) ≡ a.list
+    → ViewsStand (within w name x) views → ViewsStand (within w name y) (record views { line = put views.line (key (view_of a.list)) (a.list ++ e ∷ []) })
+unfolding put
+views_numbered w name x y e a views l old plain by few small chain h = record {
+  noted = λ k d at. (let n = h.noted k d at in
+      let v = d.stamp in
+      let list = whole (within w name x) x in
+      let is_list : a.list ≡ list = old.list in
+      let next : whole (within w name y) y ≡ a.list ++ e ∷ [] = whole_longer w name x y e l ∙ ap (λ g. g ++ e ∷ []) (sym is_list) in
+      split (key v == key (view_of a.list))
+      (λ t.
+      let keys : key v ≡ key (view_of a.list) = grind (arith, nat_tests) in
+      let same : v ≡ view_of a.list = key_stamp v (view_of a.list) (small k d at) (omega arith) keys in
+      let mine : v.by ≡ name = ap (λ (s : Stamp). s.by) same ∙ by in
+      let was : views.line (key v) ≡ a.list = ap views.line keys ∙ chain in
+      let whole_line : up_to_next v a.list ≡ a.list = ap (up_to_next v) is_list ∙ sym (line_here w name x v mine) ∙ sym n.line ∙ was in
+      let now : line_of (within w name y) v ≡ a.list ++ e ∷ [] = line_here w name y v mine ∙ ap (up_to_next v) next ∙ line_grows v a.list e plain whole_line in
+      record {
+        decided = n.decided;
+        stamp = n.stamp;
+        members = n.members;
+        resilience = n.resilience;
+        number = n.number;
+        line = rw t (sym now);
+        opens = rw t (begins_trans (subst (Begins (opening (views.chosen (key v)))) was n.opens) (begins_more a.list (e ∷ [])));
+      })
+      (λ f.
+      let stays : line_of (within w name y) v ≡ line_of (within w name x) v = split (v.by == name)
+      (λ u.
+      let mine : v.by ≡ name = grind (arith, nat_tests) in
+      let here = line_here w name x v mine in
+      let stands = noted_stands (within w name x) views d list n here in
+      let other : view_of list ≢ v = λ is. (let k2 : key v ≡ key (view_of a.list) = ap key (sym is ∙ ap view_of (sym is_list)) in let z : ⊥ = grind (arith, nat_tests) in z) in
+      line_here w name y v mine ∙ ap (up_to_next v) (whole_longer w name x y e l) ∙ line_stays v list e (next_of_list v list stands other) ∙ sym here)
+      (λ g. rw g refl) in
+      record {
+        decided = n.decided;
+        stamp = n.stamp;
+        members = n.members;
+        resilience = n.resilience;
+        number = n.number;
+        line = rw f (n.line ∙ sym stays);
+        opens = rw f n.opens;
+      }));
+  decided = λ i t. (let n = h.decided i t in record { index = n.index; view = n.view; there = n.there; is = n.is });
+  current = λ d last. h.current d (record { before = last.before; is = last.is });
+}
+
+-- what a sequencer's node shows of what stands for it
+pub record IsLeading (name : ℕ) (x : Node) (a : groups.Node) : Type 0 where
+  pub member : is_member x.status ≡ true
+  pub by : (view_of a.list).by ≡ name
+  pub acts_ : a.promise ≡ view_of a.list
+
+pub is_leading : (w : World) (name : ℕ) (x : Node) (a : groups.Node) → x.core.who ≡ name → is_sequencer x ≡ true → NameStands (within w name x) name x a → IsLeading name x a
+is_leading w name x a who leads old =
+    let both = and_both (acts x) ((view x).by == x.core.who) leads in
+    let acting = and_both (is_member x.status) (stamp_eq x.core.promise (view x)) both.0 in
+    let viewed = view_whole w name x a old in
+    let own : (view x).by ≡ x.core.who = let t = both.1 in grind (arith, nat_tests) in
+    record {
+      member = acting.0;
+      by = ap (λ (v : Stamp). v.by) viewed ∙ own ∙ who;
+      acts_ = old.promise ∙ same_stamp x.core.promise (view x) acting.1 ∙ sym viewed;
+    }
+
+-- the group with a sequencer's entry stands for the world with it
+pub numbered_stands : (w : World) (name : ℕ) (x : Node) (e : Entry) (s : Group) → name < 256 → IsLeading name x (s.node name) → ((k : ℕ) (v : Decided) → slice_get w.views k ≡ Some v → v.stamp.by < 256) → is_view e ≡ false → s.views.line (key (view_of (s.node name).list)) ≡ (s.node name).list
+    → StandsBut name (within w name x) s → StandsBut name (within w name (pushed x e)) (with_line s name (longer (s.node name) e))
+numbered_stands w name x e s few leading small plain chain h =
+    let y = pushed x e in
+    let a = s.node name in
+    let old = own_name w name x s few h in
+    let l : Longer x y e = record { log = refl; stays = refl; leaving = refl; promise = refl; ballot = refl; start = refl } in
+    let b = longer a e in
+    record {
+      each = each_within w name x y s b (name_longer w name x y e a l) h.each;
+      fronts = fronts_within w name x y s b h.fronts;
+      views = views_numbered w name x y e a s.views l old plain leading.by few small chain h.views;
+      group = h.group;
+    }
+
+pub number_stands : (w : World) (name : ℕ) (c : Cause) (x : Node) (e : Entry) (s : Group) → MayMove w name c x s → is_sequencer x ≡ true → Numbers c x e → NeedsNumber s name x e → StandsBut name (within w name x) s → Leads (StandsBut name (within w name (pushed x e))) s
+number_stands w name c x e s may leads why needs h =
+    let y = pushed x e in
+    let a = s.node name in
+    let old = own_name w name x s may.few h in
+    let leading = is_leading w name x a may.who leads old in
+    let fit : fits (told a.list) e ≡ true = ap (λ (i : Image). fits i e) (told_whole w name name x a old) ∙ needs.fit in
+    one_move (StandsBut name (within w name y)) s (with_line s name (longer a e))
+    (group.numbers name e (record { up = is_up w name x a may.runs leading.member old; acts = leading.acts_; by = leading.by }) fit needs.may)
+    (numbered_stands w name x e s may.few leading may.noted (numbers_plain c x e why) needs.chain h)
+
+-- ---- a joiner's list begins
+
+none_opens : (before : List Entry) (e : Entry) → Begins (before ++ e ∷ []) [] → ⊥
+none_opens [] e h = let z = h.same in absurd (cc)
+none_opens (x ∷ before) e h = let z = h.same in absurd (cc)
+
+pub welcome_stands : (w : World) (name : ℕ) (c : Cause) (x : Node) (v : Stamp) (base join : ℕ) (image : Image) (s : Group) → MayMove w name c x s → NeedsWelcome s name v base join image → StandsBut name (within w name x) s → Leads (StandsBut name (within w name (begun x v base join image))) s
+unfolding up_to_next
+welcome_stands w name c x v base join image s may needs h =
+    let y = begun x v base join image in
+    let old = own_name w name x s may.few h in
+    let a = s.node name in
+    let b = record a { list = take base s.group; has_log = true; start = join; promise = v; told = base; acc = base } in
+    let bare : whole (within w name x) x ≡ [] = sym old.list ∙ needs.blank in
+    let all_of : take base s.group ≡ take base w.group = ap (take base) h.group in
+    let lines : (k : ℕ) (d : Decided) → slice_get w.views k ≡ Some d → line_of (within w name y) d.stamp ≡ line_of (within w name x) d.stamp = λ k d at. split (d.stamp.by == name)
+    (λ t.
+    let mine : d.stamp.by ≡ name = grind (arith, nat_tests) in
+    let n = h.views.noted k d at in
+    let none : line_of (within w name x) d.stamp ≡ [] = line_here w name x d.stamp mine ∙ ap (up_to_next d.stamp) bare in
+    let ch = s.views.chosen (key d.stamp) in
+    absurd (none_opens ch.before (View ch.stamp ch.members ch.resilience) (subst (Begins (opening ch)) (n.line ∙ none) n.opens)))
+    (λ f. rw f refl) in
+    one_move (StandsBut name (within w name y)) s (with_node s name b) (group.welcomes name v base join needs.may)
+    (record {
+      each = each_within w name x y s b (λ k. record {
+        begins = record { within = subst (λ (g : List Entry). base ≤ length g) h.group needs.within; image = needs.image_ ∙ ap told all_of };
+        list = all_of ∙ sym (append-nil (take base w.group));
+        log_ = refl;
+        stopped = k.stopped;
+        departed = needs.may.there.stays;
+        leaving = k.leaving;
+        promise = refl;
+        ballot = k.ballot;
+        start = λ t. refl;
+      }) h.each;
+      fronts = fronts_within w name x y s b h.fronts;
+      views = views_noted (within w name x) (within w name y) s.views refl lines h.views;
+      group = h.group;
+    })

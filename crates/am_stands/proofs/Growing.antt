@@ -1,0 +1,152 @@
+-- With each move a group goes on as letters need it.
+use Rattle.std.proofs.Common.{◌≡◌, ◌≢◌, ◌⊎◌, inl, inr, ⊎_elim, ℕ, ◌+◌, ◌<◌, ◌≤◌, ◌==◌, List, [], ◌∷◌, ◌++◌, length, take, Bool, true, false, Option, Some, None, slice_get, refl, sym, ap, ◌∙◌, subst, arith}
+use Rattle.std.proofs.lemmas.Bool.Decides.{nat_tests}
+use Rattle.am_base.specs.declared.entry.Entry.{Entry}
+use Rattle.am_base.specs.declared.entry.Entry.TheVariants.{Leave}
+use Rattle.am_base.specs.declared.name.Stamp.{Stamp}
+use Rattle.am_base.specs.Names.{has}
+use Rattle.am_chain_lists.specs.Whole.{Begins, view_of, key}
+use Rattle.am_chain_lists.proofs.Prefixes.{begins_refl, begins_nil, begins_more, begins_trans, begins_both, begins_take, length_take}
+use Rattle.am_chain_moves.specs.Group as groups
+use Rattle.am_chain_moves.specs.Group.{Group, Views, put, put2, chain_of, opening, Leads, MayAccept}
+use Rattle.am_chain_moves.specs.Moves.{Move, with_node, with_line, with_choice, choice_of, longer, numbers, stores, accepts, learns, begins, raises, shows, serves, fetches, decides, gives_over, welcomes, asks, departs, closes, stops}
+use Rattle.am_chain_moves.specs.Kept.{Kept}
+use Rattle.am_chain_moves.proofs.Puts.{by_cases, put_at, put2_cases}
+use Rattle.am_stands.specs.Growing.{NameGrows, NewView, Grows, DecidesNew, MovesGrow}
+
+-- ---- one name
+
+same_name : (a : groups.Node) → NameGrows a a
+same_name a = record { list = begins_refl a.list; stopped = λ t. t; departed = λ t. t; leaving = λ t. t }
+
+longer_name : (a : groups.Node) (e : Entry) → NameGrows a (longer a e)
+longer_name a e = record { list = begins_more a.list (e ∷ []); stopped = λ t. t; departed = λ t. t; leaving = λ t. t }
+
+put_grows : (s : Group) (i : ℕ) (b : groups.Node) → NameGrows (s.node i) b → (j : ℕ) → NameGrows (s.node j) (put s.node i b j)
+put_grows s i b h j = put_at (λ k n. NameGrows (s.node k) n) s.node i b h (λ k other. same_name (s.node k)) j
+
+-- a move of one node alone
+node_grows : (s : Group) (i : ℕ) (b : groups.Node) → NameGrows (s.node i) b → Grows s (with_node s i b)
+node_grows s i b h = record {
+  each = put_grows s i b h;
+  group = begins_refl s.group;
+  lines = λ x d. begins_refl (s.views.line x);
+  decided = λ x d. (d, refl);
+  new = λ x d. inl d;
+  shown = λ x j list is. is;
+  served = λ x j is. is;
+}
+
+-- ---- a sequencer
+
+pub leads_line : (s : Group) (i : ℕ) → Kept s → Leads i (s.node i) → s.views.line (key (view_of (s.node i).list)) ≡ (s.node i).list
+leads_line s i k leads =
+    let ok = (k.each i).leads leads in
+    let viewed : view_of (s.node i).list ≡ s.views.current = ap view_of ok.chain ∙ k.views.view in
+    ap s.views.line (ap key viewed) ∙ sym ok.chain
+
+line_grows : (s : Group) (i : ℕ) (b : groups.Node) (list : List Entry) → s.views.line (key (view_of (s.node i).list)) ≡ (s.node i).list → Begins (s.node i).list list → (x : ℕ) → Begins (s.views.line x) (put s.views.line (key (view_of (s.node i).list)) list x)
+line_grows s i b list chain grows x = put_at (λ y l. Begins (s.views.line y) l) s.views.line (key (view_of (s.node i).list)) list
+    (subst (λ l. Begins l list) (sym chain) grows) (λ y other. begins_refl (s.views.line y)) x
+
+number_grows : (s : Group) (i : ℕ) (e : Entry) → Kept s → Leads i (s.node i) → Grows s (with_line s i (longer (s.node i) e))
+number_grows s i e k leads = record {
+  each = put_grows s i (longer (s.node i) e) (longer_name (s.node i) e);
+  group = begins_refl s.group;
+  lines = λ x d. line_grows s i (longer (s.node i) e) ((s.node i).list ++ e ∷ []) (leads_line s i k leads) (begins_more (s.node i).list (e ∷ [])) x;
+  decided = λ x d. (d, refl);
+  new = λ x d. inl d;
+  shown = λ x j list is. is;
+  served = λ x j is. is;
+}
+
+-- what is accepted stands in what may be accepted
+accepted_grows : (s : Group) (node : ℕ → groups.Node) (list : List Entry) (n : ℕ) → Begins s.group list → MayAccept node list (length s.group) n → Begins s.group (take n list)
+accepted_grows s node list n h may =
+    let up = may.rises in
+    let long = length_take n list may.within in
+    begins_both h (begins_take n list) (omega arith)
+
+group_in : (s : Group) (i : ℕ) → Kept s → Leads i (s.node i) → Begins s.group (s.node i).list
+group_in s i k leads = subst (Begins s.group) (sym ((k.each i).leads leads).chain) k.group
+
+-- ---- a decision
+
+decision_grows : (s : Group) (i : ℕ) (members : List ℕ) (resilience : ℕ) → s.views.decided (key (s.node i).promise) ≡ false → NewView s (with_choice s i members resilience) (key (s.node i).promise) → Grows s (with_choice s i members resilience)
+unfolding put
+decision_grows s i members resilience fresh new = record {
+  each = λ j. put_grows s i (record (s.node i) { list = opening (choice_of (s.node i) members resilience); ballot = false }) (record { list = begins_more (s.node i).list _; stopped = λ t. t; departed = λ t. t; leaving = λ t. t }) j;
+  group = begins_refl s.group;
+  lines = λ x d. (let f = other x d in rw f (begins_refl (s.views.line x)));
+  decided = λ x d. (let f = other x d in (rw f d, rw f refl));
+  new = λ x d. by_cases (x == key (s.node i).promise)
+      (λ t. inr (let same : x ≡ key (s.node i).promise = grind (arith, nat_tests) in subst (NewView s (with_choice s i members resilience)) (sym same) new))
+      (λ f. inl (rw f at d));
+  shown = λ x j list is. is;
+  served = λ x j is. is;
+}
+  where
+    other : (x : ℕ) → s.views.decided x ≡ true → (x == key (s.node i).promise) ≡ false
+    other x d = by_cases (x == key (s.node i).promise)
+        (λ t. absurd (let same : x ≡ key (s.node i).promise = grind (arith, nat_tests) in let z = ap s.views.decided same in cc))
+        (λ f. f)
+
+-- ---- each move
+
+pub moves_grow : MovesGrow
+moves_grow s t (numbers i e leads fit may) k new = number_grows s i e k leads
+moves_grow s t (stores i e up decided other stays next) k new = node_grows s i (longer (s.node i) e) (longer_name (s.node i) e)
+moves_grow s t (accepts i n leads may) k new = record {
+  each = λ j. same_name (s.node j);
+  group = accepted_grows s s.node (s.node i).list n (group_in s i k leads) may;
+  lines = λ x d. begins_refl (s.views.line x);
+  decided = λ x d. (d, refl);
+  new = λ x d. inl d;
+  shown = λ x j list is. is;
+  served = λ x j is. is;
+}
+moves_grow s t (learns i told acc up rises within before up_to given low) k new = node_grows s i (record (s.node i) { told = told; acc = acc }) (record { list = begins_refl (s.node i).list; stopped = λ z. z; departed = λ z. z; leaving = λ z. z })
+moves_grow s t (begins i few up stays member) k new = node_grows s i _ (record { list = begins_refl (s.node i).list; stopped = λ z. z; departed = λ z. z; leaving = λ z. z })
+moves_grow s t (raises i stamp there above) k new = node_grows s i _ (record { list = begins_refl (s.node i).list; stopped = λ z. z; departed = λ z. z; leaving = λ z. z })
+moves_grow s t (shows i there small other begun none) k new = record {
+  each = λ j. same_name (s.node j);
+  group = begins_refl s.group;
+  lines = λ x d. begins_refl (s.views.line x);
+  decided = λ x d. (d, refl);
+  new = λ x d. inl d;
+  shown = λ x j list is. ⊎_elim
+      (λ (z : (x ≡ key (s.node i).promise) × (j ≡ i) × (put2 s.shown (key (s.node i).promise) i (Some (s.node i).list) x j ≡ Some (s.node i).list)).
+      (let same : s.shown (key (s.node i).promise) i ≡ Some list = (λ q. s.shown (sym z.0 q) (sym z.1 q)) ∙ is in absurd (cc)))
+      (λ (z : ((x ≡ key (s.node i).promise) × (j ≡ i) → ⊥) × (put2 s.shown (key (s.node i).promise) i (Some (s.node i).list) x j ≡ s.shown x j)). z.1 ∙ is)
+      (put2_cases s.shown (key (s.node i).promise) i (Some (s.node i).list) x j);
+  served = λ x j is. is;
+}
+moves_grow s t (serves i list up shown others) k new = record {
+  each = λ j. same_name (s.node j);
+  group = begins_refl s.group;
+  lines = λ x d. begins_refl (s.views.line x);
+  decided = λ x d. (d, refl);
+  new = λ x d. inl d;
+  shown = λ x j l is. is;
+  served = λ x j is. ⊎_elim
+      (λ (z : (x ≡ key (s.node i).promise) × (j ≡ i) × (put2 s.served (key (s.node i).promise) i true x j ≡ true)). z.2)
+      (λ (z : ((x ≡ key (s.node i).promise) × (j ≡ i) → ⊥) × (put2 s.served (key (s.node i).promise) i true x j ≡ s.served x j)). z.1 ∙ is)
+      (put2_cases s.served (key (s.node i).promise) i true x j);
+}
+moves_grow s t (fetches i h list e up ballot served shown next) k new = node_grows s i (longer (s.node i) e) (longer_name (s.node i) e)
+moves_grow s t (decides i members resilience may) k new = decision_grows s i members resilience new.0 new.1
+moves_grow s t (gives_over i) k new = node_grows s i _ (record { list = begins_refl (s.node i).list; stopped = λ z. z; departed = λ z. z; leaving = λ z. z })
+moves_grow s t (welcomes j stamp base join may) k new = node_grows s j (record (s.node j) { list = take base s.group; has_log = true; start = join; promise = stamp; told = base; acc = base })
+    (record { list = subst (λ l. Begins l (take base s.group)) (sym ((k.each j).blank may.no_log)) (begins_nil (take base s.group)); stopped = λ z. z; departed = λ z. z; leaving = λ z. z })
+moves_grow s t (asks i up none) k new = node_grows s i _ (record { list = begins_refl (s.node i).list; stopped = λ z. z; departed = λ z. z; leaving = λ z. refl })
+moves_grow s t (departs i before may) k new = node_grows s i _ (record { list = begins_refl (s.node i).list; stopped = λ z. z; departed = λ z. refl; leaving = λ z. z })
+moves_grow s t (closes i n leads leaving alone may) k new = record {
+  each = put_grows s i (record (longer (s.node i) (Leave i)) { departed = true }) (record { list = begins_more (s.node i).list (Leave i ∷ []); stopped = λ z. z; departed = λ z. refl; leaving = λ z. z });
+  group = accepted_grows s (put s.node i (longer (s.node i) (Leave i))) ((s.node i).list ++ Leave i ∷ []) n (begins_trans (group_in s i k leads) (begins_more (s.node i).list (Leave i ∷ []))) may;
+  lines = λ x d. line_grows s i (longer (s.node i) (Leave i)) ((s.node i).list ++ Leave i ∷ []) (leads_line s i k leads) (begins_more (s.node i).list (Leave i ∷ [])) x;
+  decided = λ x d. (d, refl);
+  new = λ x d. inl d;
+  shown = λ x j list is. is;
+  served = λ x j is. is;
+}
+moves_grow s t (stops i) k new = node_grows s i _ (record { list = begins_refl (s.node i).list; stopped = λ z. refl; departed = λ z. z; leaving = λ z. z })

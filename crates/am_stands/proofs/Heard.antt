@@ -1,0 +1,131 @@
+-- What a change needs of the group, from what a letter says and what every run of the group keeps.
+use Rattle.std.proofs.Common.{◌≡◌, ◌≢◌, ◌⊎◌, inl, inr, ⊎_elim, ℕ, zero, suc, ◌+◌, ◌<◌, ◌≤◌, ◌==◌, ◌&&◌, not, nat_lt, List, [], ◌∷◌, ◌++◌, length, take, Bool, true, false, Some, slice_get, refl, sym, ap, ◌∙◌, subst, arith}
+use Rattle.std.proofs.lemmas.Bool.Decides.{nat_tests}
+use Rattle.am_base.specs.declared.entry.Entry.{Entry}
+use Rattle.am_base.specs.declared.entry.Entry.TheVariants.{Data, Join, Leave, View}
+use Rattle.am_base.specs.declared.name.Stamp.{Stamp}
+use Rattle.am_base.specs.declared.image.Image.{Image}
+use Rattle.am_base.specs.declared.image.Report.{Report}
+use Rattle.am_base.specs.Names.{has}
+use Rattle.am_base.specs.Stamps.{stamp_eq}
+use Rattle.am_base.specs.Lists.{row_of, fits, members_of}
+use Rattle.am_packet.specs.declared.packet.Packet.TheVariants as packet
+use Rattle.am_sender.specs.declared.OwnSend.{OwnSend}
+use Rattle.am_group.specs.Journals.{item_at}
+use Rattle.am_chain_lists.specs.Whole.{Begins, told, view_of, key}
+use Rattle.am_chain_moves.specs.Group as groups
+use Rattle.am_chain_moves.specs.Group.{Group, IsUp}
+use Rattle.am_chain_moves.specs.Moves.{MayNumber}
+use Rattle.am_chain_moves.specs.Kept.{Kept}
+use Rattle.am_model.specs.Node as nodes
+use Rattle.am_model.specs.Node.{Node, view, members, is_member, acts, is_sequencer, has_own_leave}
+use Rattle.am_model.specs.Receiving.{is_view}
+use Rattle.am_model.specs.Sequencing as sequencing
+use Rattle.am_model.specs.Hearing.{hears_member, hears_in_view, hears_sequencer}
+use Rattle.am_model.specs.World.{World, is_stopped}
+use Rattle.am_model.proofs.Greatest.{split, and_both}
+use Rattle.am_effects.specs.Causes.{Cause, hears}
+use Rattle.am_effects.specs.Changes.{MayStore, Numbers, asked_send, own_send, asked_join, asked_leave}
+use Rattle.am_laws.proofs.Stamps.{same_stamp}
+use Rattle.am_laws.proofs.Taken.{known_member, leave_fits}
+use Rattle.am_stands.specs.Standing.{NameStands, StandsBut, within}
+use Rattle.am_stands.specs.Letters.{line, IsDecided, EntrySays, LeaverSays, ResultSays}
+use Rattle.am_stands.specs.Steps.{MayMove, NeedsNumber, IsOthers, NeedsEntry}
+use Rattle.am_stands.proofs.Changes.{told_whole, long_all, is_up}
+use Rattle.am_stands.proofs.Entries.{IsLeading}
+use Rattle.am_stands.proofs.Growing.{leads_line}
+use Rattle.am_stands.proofs.Ongoing.{is_ongoing}
+
+-- ---- an entry of a decided view's line
+
+item_next : (list : List Entry) (n : ℕ) (e : Entry) (number : ℕ) → number ≡ n + 1 → item_at list number ≡ Some e → slice_get list n ≡ Some e
+item_next list n e number is at = let z : number ≡ suc n = omega arith in ap (item_at list) (sym z) ∙ at
+
+pub entry_needs : (w : World) (name number : ℕ) (x : Node) (v : Stamp) (e : Entry) (s : Group) → Kept s → x.core.who ≡ name → NameStands (within w name x) name x (s.node name) → IsUp (s.node name)
+    → x.core.promise ≡ v → v.by ≢ name → IsOthers name x e → IsDecided s v → item_at (line s v) number ≡ Some e → number ≡ nodes.top x + 1 → has_own_leave x ≡ false → NeedsEntry s name x e
+entry_needs w name number x v e s k who old up promise other others decided at next stays =
+    let a = s.node name in
+    let promised : a.promise ≡ v = old.promise ∙ promise in
+    let long = long_all (within w name x) name x a old in
+    let told_is = told_whole w name name x a old in
+    let left : (row_of (told a.list) name).left ≡ 0 =
+    (let row : (row_of (told a.list) name).left ≡ (nodes.own_row x).left = ap (λ (i : Image). (row_of i name).left) told_is ∙ ap (λ n. (row_of (nodes.told x) n).left) (sym who) in
+    let none : (nodes.own_row x).left ≡ 0 = grind (arith, nat_tests) in
+    row ∙ none) in
+    record {
+      others = others;
+      decided = ap (λ (u : Stamp). s.views.decided (key u)) promised ∙ decided;
+      other = λ same. other (ap (λ (u : Stamp). u.by) (sym promised) ∙ same);
+      stays = is_ongoing s name k up left;
+      next = (λ i. slice_get (s.views.line (key (promised i))) (long i)) ∙ item_next (line s v) (nodes.top x) e number next at;
+    }
+
+-- who hears the sequencer of a view acts in it, and isn't its name
+record OfSequencer (name : ℕ) (x : Node) (v : Stamp) : Type 0 where
+  member : is_member x.status ≡ true
+  promise : x.core.promise ≡ v
+  view_ : view x ≡ v
+  other : v.by ≢ name
+
+of_sequencer : (name from : ℕ) (x : Node) (v : Stamp) → x.core.who ≡ name → hears_sequencer x from v ≡ true → OfSequencer name x v
+of_sequencer name from x v who h =
+    let a = and_both (hears_in_view x from v) (v.by == from) h in
+    let b = and_both (hears_member x from) (acts x && stamp_eq v (view x)) a.0 in
+    let d = and_both (not (from == x.core.who)) (is_member x.status) b.0 in
+    let c = and_both (acts x) (stamp_eq v (view x)) b.1 in
+    let acting = and_both (is_member x.status) (stamp_eq x.core.promise (view x)) c.0 in
+    let viewed : view x ≡ v = sym (same_stamp v (view x) c.1) in
+    let differs = d.0 in
+    let by = a.1 in
+    record {
+      member = d.1;
+      promise = same_stamp x.core.promise (view x) acting.1 ∙ viewed;
+      view_ = viewed;
+      other = λ same. (let z : (from == x.core.who) ≡ true = grind (arith, nat_tests) in let y = differs in grind arith);
+    }
+
+-- what its sequencer numbered
+pub bcast_needs : (w : World) (name from above base acc number : ℕ) (x : Node) (v : Stamp) (e : Entry) (s : Group) → Kept s → x.core.who ≡ name → is_stopped w name ≡ false → NameStands (within w name x) name x (s.node name)
+    → hears_sequencer x from v ≡ true → MayStore x above base number e → EntrySays s from v acc number e → NeedsEntry s name x e
+bcast_needs w name from above base acc number x v e s k who runs old heard may says =
+    let q = of_sequencer name from x v who heard in
+    entry_needs w name number x v e s k who old (is_up w name x (s.node name) runs q.member old) q.promise q.other
+    (λ own. absurd (q.other (ap (λ (u : Stamp). u.by) (sym q.view_) ∙ own))) says.sequencer.decided says.stands may.next may.stays
+
+-- and the View of the ballot that it promised
+pub result_needs : (w : World) (name from above base number : ℕ) (x : Node) (v : Stamp) (names : List ℕ) (resilience : ℕ) (s : Group) → Kept s → x.core.who ≡ name → is_stopped w name ≡ false → NameStands (within w name x) name x (s.node name)
+    → hears_member x from ≡ true → (v.by == x.core.who) ≡ false → x.core.promise ≡ v → MayStore x above base number (View v names resilience) → ResultSays s from v number names resilience → NeedsEntry s name x (View v names resilience)
+result_needs w name from above base number x v names resilience s k who runs old heard other promise may says =
+    let member = (and_both (not (from == x.core.who)) (is_member x.status) heard).1 in
+    entry_needs w name number x v (View v names resilience) s k who old (is_up w name x (s.node name) runs member old) promise
+    (λ same. (let z : (v.by == x.core.who) ≡ true = grind (arith, nat_tests) in cc)) (λ own. refl) says.decided says.stands may.next may.stays
+
+-- ---- what a sequencer numbers
+
+fits_data : (image : Image) (name req : ℕ) (body : List ℕ) → has (members_of image) name ≡ true → req ≡ (row_of image name).last + 1 → fits image (Data name req body) ≡ true
+unfolding fits
+fits_data image name req body member next = let t : (req == (row_of image name).last + 1) ≡ true = grind (arith, nat_tests) in rw (member, t) refl
+
+-- but for its own waiting send, of which it is to be known that it is the next one
+abbrev pub OwnFits : Node → Type 0
+OwnFits x = (q : OwnSend) → nodes.waiting x ≡ Some q → nat_lt (nodes.own_row x).last q.req ≡ true → fits (nodes.told x) (Data x.core.who q.req q.body) ≡ true
+
+number_fits : (c : Cause) (x : Node) (e : Entry) → length (nodes.told x).rows ≡ 16 → OwnFits x → Numbers c x e → fits (nodes.told x) e ≡ true
+number_fits c x e long own (asked_send from v report req body by known stays next) = fits_data (nodes.told x) from req body (known_member x from long known (let z = stays in grind (arith, nat_tests))) next
+number_fits c x e long own (own_send q is last) = own q is last
+number_fits c x e long own (asked_join from v is other f) = f
+number_fits c x e long own (asked_leave from v report is other known stays) = leave_fits (nodes.told x) from (known_member x from long known (let z = stays in grind (arith, nat_tests)))
+
+number_may : (name : ℕ) (c : Cause) (x : Node) (e : Entry) (s : Group) → x.core.who ≡ name → ((from : ℕ) (v : Stamp) (report : Report) → c ≡ hears (packet.LeaveAsk from v report) → LeaverSays s from v report) → Numbers c x e → MayNumber s.node name e
+number_may name c x e s who asks (asked_send from v report req body by known stays next) = tt
+number_may name c x e s who asks (own_send q is last) = tt
+number_may name c x e s who asks (asked_join from v is other f) = tt
+number_may name c x e s who asks (asked_leave from v report is other known stays) = ((asks from v report is).leaves, λ same. (let z : (from == x.core.who) ≡ true = grind (arith, nat_tests) in cc))
+
+pub number_needs : (w : World) (name : ℕ) (c : Cause) (x : Node) (e : Entry) (s : Group) → Kept s → x.core.who ≡ name → is_stopped w name ≡ false → NameStands (within w name x) name x (s.node name) → IsLeading name x (s.node name) → length (nodes.told x).rows ≡ 16
+    → OwnFits x → ((from : ℕ) (v : Stamp) (report : Report) → c ≡ hears (packet.LeaveAsk from v report) → LeaverSays s from v report) → Numbers c x e → NeedsNumber s name x e
+number_needs w name c x e s k who runs old leading long own asks why = record {
+  chain = leads_line s name k (record { up = is_up w name x (s.node name) runs leading.member old; acts = leading.acts_; by = leading.by });
+  fit = number_fits c x e long own why;
+  may = number_may name c x e s who asks why;
+}

@@ -1,0 +1,177 @@
+-- What a letter says stays so as the group goes on.
+use Rattle.std.proofs.Common.{◌≡◌, ◌≢◌, ◌⊎◌, inl, inr, ⊎_elim, ℕ, zero, suc, ◌+◌, ◌<◌, ◌≤◌, List, [], ◌∷◌, ◌++◌, length, take, drop, Bool, true, false, Some, None, slice_get, refl, sym, ap, ◌∙◌, subst, arith}
+use Rattle.std.proofs.lemmas.Option.{slice_get_within}
+use Rattle.am_base.specs.declared.name.Stamp.{Stamp}
+use Rattle.am_base.specs.declared.image.Report.{Report}
+use Rattle.am_base.specs.declared.image.Vote.{Vote}
+use Rattle.am_base.specs.declared.image.Image.{Image}
+use Rattle.am_base.specs.declared.entry.Entry.{Entry}
+use Rattle.am_base.specs.declared.entry.Entry.TheVariants.{Data, Join, Leave, View}
+use Rattle.am_base.specs.Names.{has}
+use Rattle.am_packet.specs.declared.packet.Packet.{Packet}
+use Rattle.am_packet.specs.declared.packet.Packet.TheVariants.{Request, Spread, Bcast, Order, Accept, Ack, Nack, Hold, JoinAsk, Welcome, LeaveAsk, Gone, Invite, Vote as VoteOf, Fetch, Piece, Result, HandOver}
+use Rattle.am_group.specs.Journals.{item_at}
+use Rattle.am_group.specs.declared.event.Record.{Record}
+use Rattle.am_chain_lists.specs.Whole.{Begins, told, mem, key}
+use Rattle.am_chain_lists.proofs.Prefixes.{begins_trans, begins_take, begins_length}
+use Rattle.am_chain_moves.specs.Group as groups
+use Rattle.am_chain_moves.specs.Group.{Group, Chosen, IsThere}
+use Rattle.am_model.specs.World.{World}
+use Rattle.am_effects.proofs.Items.{get_front}
+use Rattle.am_stands.specs.Letters.{line, IsDecided, AllShown, SequencerSays, EntrySays, WasAsked, OrderSays, ReportSays, SendSays, LeaverSays, WelcomeSays, GoneSays, has_stopped, may_go, VoteTells, VoteSays, own, tells, over as over_vote, FetchSays, for_ballot, of_promise, ShownEntry, PieceSays, of_line, of_shown, over, ResultSays, PacketSays}
+use Rattle.am_stands.specs.Growing.{NameGrows, NewView, Grows, LettersStay}
+use Rattle.am_stands.proofs.Ends.{taken_more}
+
+-- ---- lists
+
+item_stays : (a b : List Entry) (n : ℕ) (e : Entry) → Begins a b → item_at a n ≡ Some e → item_at b n ≡ Some e
+item_stays a b zero e h is = absurd (cc)
+item_stays a b (suc n) e h is = ap (λ l. slice_get l n) (sym h.same) ∙ get_front a h.rest n e is
+
+pub item_within : (a : List Entry) (n : ℕ) (e : Entry) → item_at a n ≡ Some e → n ≤ length a
+item_within a zero e is = absurd (cc)
+item_within a (suc n) e is = (let z = slice_get_within a n e is in omega arith)
+
+part_stays : (a b : List Entry) (n : ℕ) (l : List Entry) → Begins a b → n ≤ length a → Begins (take n a) l → Begins (take n b) l
+part_stays a b n l h low k = subst (λ x. Begins x l) (sym (taken_more n a b h low)) k
+
+-- the beginning of a beginning
+part_begins : (a b : List Entry) (n : ℕ) → Begins a b → Begins (take n a) b
+part_begins a b n h = begins_trans (begins_take n a) h
+
+-- ---- of a group
+
+module _ (w v : World) (s t : Group) (g : Grows s t) (more : (rest : List Record) × (v.records ≡ w.records ++ rest)) where
+  decided_stays : (x : ℕ) → s.views.decided x ≡ true → t.views.decided x ≡ true
+  decided_stays x h = (g.decided x h).0
+
+  there_before : (i : ℕ) → IsThere (t.node i) → IsThere (s.node i)
+  there_before i h = record {
+    goes = no_more (s.node i).stopped (t.node i).stopped (g.each i).stopped h.goes;
+    stays = no_more (s.node i).departed (t.node i).departed (g.each i).departed h.stays;
+  }
+    where
+      no_more : (a b : Bool) → (a ≡ true → b ≡ true) → b ≡ false → a ≡ false
+      no_more true b f k = absurd (let z = f refl in cc)
+      no_more false b f k = refl
+
+  asked_stays : (name req : ℕ) (body : List ℕ) → WasAsked w name req body → WasAsked v name req body
+  asked_stays name req body h = record { index = h.index; done = h.done; there = ap (λ l. slice_get l h.index) more.1 ∙ get_front w.records more.0 h.index h.done h.there; is = h.is }
+
+  sequencer_stays : (i : ℕ) (u : Stamp) (acc : ℕ) → SequencerSays s i u acc → SequencerSays t i u acc
+  sequencer_stays i u acc h =
+      let low = h.accepted in
+      let up = begins_length g.group in
+      record {
+        by = h.by;
+        decided = decided_stays (key u) h.decided;
+        accepted = omega arith;
+        before = λ x d above. ⊎_elim
+            (λ (old : s.views.decided x ≡ true). subst (λ (c : Chosen). acc ≤ length c.before) (sym (g.decided x old).1) (h.before x old above))
+            (λ (new : NewView s t x). (let z = begins_length new.accepted in omega arith))
+            (g.new x d);
+      }
+
+  entry_stays : (i : ℕ) (u : Stamp) (acc number : ℕ) (e : Entry) → EntrySays s i u acc number e → EntrySays t i u acc number e
+  entry_stays i u acc number e h = record {
+    sequencer = sequencer_stays i u acc h.sequencer;
+    stands = item_stays (line s u) (line t u) number e (g.lines (key u) h.sequencer.decided) h.stands;
+  }
+
+  report_stays : (i : ℕ) (u : Stamp) (report : Report) → ReportSays s i u report → ReportSays t i u report
+  report_stays i u report h =
+      let low = h.within in
+      let up = begins_length (g.each i).list in
+      record {
+        decided = decided_stays (key u) h.decided;
+        within = omega arith;
+        begins = part_stays (s.node i).list (t.node i).list report.stored (line t u) (g.each i).list h.within (begins_trans h.begins (g.lines (key u) h.decided));
+      }
+
+  leaver_stays : (i : ℕ) (u : Stamp) (report : Report) → LeaverSays s i u report → LeaverSays t i u report
+  leaver_stays i u report h =
+      let low = h.within in
+      let up = begins_length (g.each i).list in
+      record {
+        leaves = (g.each i).leaving h.leaves;
+        within = omega arith;
+        begins = λ d member. part_stays (s.node i).list (t.node i).list report.stored (line t u) (g.each i).list h.within (⊎_elim
+            (λ (old : s.views.decided (key u) ≡ true). begins_trans (h.begins old (subst (λ (c : Chosen). has c.members i ≡ true) (g.decided (key u) old).1 member)) (g.lines (key u) old))
+            (λ (new : NewView s t (key u)). part_begins (s.node i).list (line t u) report.stored (new.leavers i h.leaves member))
+            (g.new (key u) d));
+      }
+
+  welcome_stays : (i : ℕ) (u : Stamp) (base join : ℕ) (image : Image) (name : ℕ) → WelcomeSays s i u base join image name → WelcomeSays t i u base join image name
+  welcome_stays i u base join image name h =
+      let above = h.above in
+      let low : join ≤ length s.group = item_within s.group join (Join name) h.accepted in
+      record {
+        by = h.by;
+        decided = decided_stays (key u) h.decided;
+        above = h.above;
+        accepted = item_stays s.group t.group join (Join name) g.group h.accepted;
+        image_ = h.image_ ∙ ap told (sym (taken_more base s.group t.group g.group (omega arith)));
+        later = λ x d up. subst (λ l. Begins l (t.views.chosen x).before) (sym (taken_more join s.group t.group g.group low)) (⊎_elim
+            (λ (old : s.views.decided x ≡ true). subst (λ (c : Chosen). Begins (take join s.group) c.before) (sym (g.decided x old).1) (h.later x old up))
+            (λ (new : NewView s t x). part_begins s.group (t.views.chosen x).before join new.accepted)
+            (g.new x d));
+      }
+
+  gone_stays : (number name : ℕ) → GoneSays s number name → GoneSays t number name
+  gone_stays number name (has_stopped h) = has_stopped ((g.each name).stopped h)
+  gone_stays number name (may_go before is accepted stored) = may_go before is (begins_trans accepted g.group)
+      (λ j member there stays. begins_trans (stored j member (there_before j there) (not_yet (s.node j).leaving (t.node j).leaving (g.each j).leaving stays)) (g.each j).list)
+    where
+      not_yet : (a b : Bool) → (a ≡ true → b ≡ true) → b ≡ false → a ≡ false
+      not_yet true b f k = absurd (let z = f refl in cc)
+      not_yet false b f k = refl
+
+  vote_stays : (i : ℕ) (u : Stamp) (shown : Vote) → VoteSays s i u shown → VoteSays t i u shown
+  vote_stays i u shown (own h) = own h
+  vote_stays i u shown (tells h) = tells (record { list = h.list; shown = g.shown (key u) i h.list h.shown; view = h.view; top = h.top; members = h.members; taken = h.taken })
+  vote_stays i u shown (over_vote d) = over_vote (decided_stays (key u) d)
+
+  all_stay : (u : Stamp) (h : ℕ) → AllShown s u h → AllShown t u h
+  all_stay u h k = record {
+    list = k.list;
+    shown = g.shown (key u) h k.list k.shown;
+    others = λ j member there. ⊎_elim
+        (λ (z : j ≡ u.by). inl z)
+        (λ (z : (other : List Entry) × (s.shown (key u) j ≡ Some other)). inr (z.0, g.shown (key u) j z.0 z.1))
+        (k.others j member (there_before j there));
+  }
+
+  fetch_stays : (i : ℕ) (u : Stamp) (to : List ℕ) → FetchSays s i u to → FetchSays t i u to
+  fetch_stays i u to (for_ballot by h) = for_ballot by (λ j in_. all_stay u j (h j in_))
+  fetch_stays i u to (of_promise by h) = of_promise by h
+
+  piece_stays : (i : ℕ) (u : Stamp) (number : ℕ) (e : Entry) → PieceSays s i u number e → PieceSays t i u number e
+  piece_stays i u number e (of_line by d h) = of_line by (decided_stays (key u) d) (item_stays (line s u) (line t u) number e (g.lines (key u) d) h)
+  piece_stays i u number e (of_shown h) = of_shown (record { served = g.served (key u) i h.served; list = h.list; shown = g.shown (key u) i h.list h.shown; stands = h.stands })
+  piece_stays i u number e (over by d) = over by (decided_stays (key u) d)
+
+-- ---- each kind
+
+pub letters_stay : LettersStay
+letters_stay w v s t to (Request i u report req body) more g h = record { reports = report_stays w v s t g more i u report h.reports; asked = asked_stays w v s t g more i req body h.asked }
+letters_stay w v s t to (Spread i u report req body) more g h = record { reports = report_stays w v s t g more i u report h.reports; asked = asked_stays w v s t g more i req body h.asked }
+letters_stay w v s t to (Bcast i u base acc number e) more g h = entry_stays w v s t g more i u acc number e h
+letters_stay w v s t to (Order i u base acc number from req) more g h = record { body = h.body; entry = entry_stays w v s t g more i u acc number (Data from req h.body) h.entry; asked = asked_stays w v s t g more from req h.body h.asked }
+letters_stay w v s t to (Accept i u base acc high poll) more g h = sequencer_stays w v s t g more i u acc h
+letters_stay w v s t to (Ack i u report) more g h = report_stays w v s t g more i u report h
+letters_stay w v s t to (Nack i u report) more g h = report_stays w v s t g more i u report h
+letters_stay w v s t to (Hold i u base high req) more g h = tt
+letters_stay w v s t to (JoinAsk i u) more g h = tt
+letters_stay w v s t to (Welcome i u base join image) more g h = λ name in_. welcome_stays w v s t g more i u base join image name (h name in_)
+letters_stay w v s t to (LeaveAsk i u report) more g h = leaver_stays w v s t g more i u report h
+letters_stay w v s t to (Gone i u number) more g h = λ name in_. gone_stays w v s t g more number name (h name in_)
+letters_stay w v s t to (Invite i u) more g h = h
+letters_stay w v s t to (VoteOf i u shown) more g h = vote_stays w v s t g more i u shown h
+letters_stay w v s t to (Fetch i u stored) more g h = fetch_stays w v s t g more i u to h
+letters_stay w v s t to (Piece i u base number e) more g h = piece_stays w v s t g more i u number e h
+letters_stay w v s t to (Result i u base number names resilience) more g h = record {
+  by = h.by;
+  decided = decided_stays w v s t g more (key u) h.decided;
+  stands = item_stays (line s u) (line t u) number (View u names resilience) (g.lines (key u) h.decided) h.stands;
+}
+letters_stay w v s t to (HandOver i u) more g h = tt

@@ -1,0 +1,157 @@
+-- The line of a view, where its coordinator's list gets one entry more.
+use Rattle.std.proofs.Common.{◌≡◌, ◌≢◌, ◌⊎◌, inl, inr, ⊎_elim, ℕ, ◌+◌, ◌<◌, ◌≤◌, ◌==◌, ◌&&◌, ◌||◌, Bool, true, false, if◌then◌else◌, List, [], ◌∷◌, ◌++◌, length, refl, sym, ap, ◌∙◌, subst, arith}
+use Rattle.std.specs.List.{list_any}
+use Rattle.std.proofs.lemmas.Bool.Decides.{nat_tests}
+use Rattle.std.proofs.lemmas.List.{append_assoc}
+use Rattle.am_base.specs.declared.name.Stamp.{Stamp}
+use Rattle.am_base.specs.declared.entry.Entry.{Entry}
+use Rattle.am_base.specs.declared.entry.Entry.TheVariants.{Data, Join, Leave, View}
+use Rattle.am_base.specs.declared.image.Image.{Image}
+use Rattle.am_base.specs.Stamps.{stamp_eq}
+use Rattle.am_base.specs.Lists.{blank, after, fold}
+use Rattle.am_chain_lists.specs.Whole.{Begins, told, view_of}
+use Rattle.am_model.specs.Receiving.{is_view}
+use Rattle.am_model.specs.Lawful.{is_view_of}
+use Rattle.am_model.specs.Claims.{up_to_view, up_to_next}
+use Rattle.am_model.proofs.Greatest.{split}
+use Rattle.am_laws.proofs.Stamps.{same_stamp}
+use Rattle.am_laws.proofs.ViewSteps.{after_same, after_view}
+
+-- ---- a View stands in a list, and another behind it
+
+-- some View
+abbrev pub HasView : List Entry → Type 0
+HasView es = list_any is_view es ≡ true
+
+-- the View of this stamp
+abbrev pub HasViewOf : Stamp → List Entry → Type 0
+HasViewOf v es = list_any (is_view_of v) es ≡ true
+
+unfoldable pub is_passed : Stamp → List Entry → Bool
+is_passed v [] = false
+is_passed v (e ∷ es) = if is_view_of v e then list_any is_view es else is_passed v es
+
+abbrev pub NextIn : Stamp → List Entry → Type 0
+NextIn v es = is_passed v es ≡ true
+
+-- without another View the list tells the same view
+same_view : (image : Image) (n : ℕ) (es : List Entry) → list_any is_view es ≡ false → (fold image n es).view ≡ image.view
+unfolding fold
+same_view image n [] h = refl
+same_view image n (e ∷ es) h = split (is_view e)
+    (λ t. absurd (let z = rw t at h in cc))
+    (λ f. same_view (after image n e) (n + 1) es (rw f at h) ∙ (after_same image n e f).view)
+
+is_a_view : (v : Stamp) (e : Entry) → is_view_of v e ≡ true → is_view e ≡ true
+is_a_view v (Data from req body) h = absurd (cc)
+is_a_view v (Join name) h = absurd (cc)
+is_a_view v (Leave name) h = absurd (cc)
+is_a_view v (View stamp names resilience) h = refl
+
+pub viewed_as : (v : Stamp) (image : Image) (n : ℕ) (e : Entry) → is_view_of v e ≡ true → (after image n e).view ≡ v
+viewed_as v image n (Data from req body) h = absurd (cc)
+viewed_as v image n (Join name) h = absurd (cc)
+viewed_as v image n (Leave name) h = absurd (cc)
+viewed_as v image n (View stamp names resilience) h = (after_view image n stamp names resilience).0 ∙ same_stamp stamp v h
+
+-- where the list ends in another view
+next_in : (v : Stamp) (image : Image) (n : ℕ) (es : List Entry) → HasViewOf v es → (fold image n es).view ≢ v → NextIn v es
+unfolding fold is_passed
+next_in v image n [] h other = absurd (cc)
+next_in v image n (e ∷ es) h other = split (is_view_of v e)
+    (λ t. rw t (split (list_any is_view es)
+    (λ u. u)
+    (λ f. absurd (other (same_view (after image n e) (n + 1) es f ∙ viewed_as v image n e t)))))
+    (λ f. rw f (next_in v (after image n e) (n + 1) es (rw f at h) other))
+
+pub next_of_list : (v : Stamp) (list : List Entry) → HasViewOf v list → view_of list ≢ v → NextIn v list
+unfolding view_of
+next_of_list v list h other = next_in v blank 1 list h other
+
+-- ---- one entry more
+
+view_stays : (es : List Entry) (e : Entry) → HasView es → up_to_view (es ++ e ∷ []) ≡ up_to_view es
+unfolding up_to_view
+view_stays [] e h = absurd (cc)
+view_stays (x ∷ es) e h = split (is_view x)
+    (λ t. rw t refl)
+    (λ f. rw f (ap (λ l. x ∷ l) (view_stays es e (rw f at h))))
+
+-- behind another View it changes nothing of the line
+pub line_stays : (v : Stamp) (es : List Entry) (e : Entry) → NextIn v es → up_to_next v (es ++ e ∷ []) ≡ up_to_next v es
+unfolding up_to_next is_passed
+line_stays v [] e h = absurd (cc)
+line_stays v (x ∷ es) e h = split (is_view_of v x)
+    (λ t. rw t (ap (λ l. x ∷ l) (view_stays es e (rw t at h))))
+    (λ f. rw f (ap (λ l. x ∷ l) (line_stays v es e (rw f at h))))
+
+view_ends : (es : List Entry) (e : Entry) → is_view e ≡ true → up_to_view (es ++ e ∷ []) ≡ up_to_view es
+unfolding up_to_view
+view_ends [] e h = rw h refl
+view_ends (x ∷ es) e h = split (is_view x)
+    (λ t. rw t refl)
+    (λ f. rw f (ap (λ l. x ∷ l) (view_ends es e h)))
+
+-- and a View ends it
+pub line_ends : (v : Stamp) (es : List Entry) (e : Entry) → HasViewOf v es → is_view e ≡ true → up_to_next v (es ++ e ∷ []) ≡ up_to_next v es
+unfolding up_to_next
+line_ends v [] e h is = absurd (cc)
+line_ends v (x ∷ es) e h is = split (is_view_of v x)
+    (λ t. rw t (ap (λ l. x ∷ l) (view_ends es e is)))
+    (λ f. rw f (ap (λ l. x ∷ l) (line_ends v es e (rw f at h) is)))
+
+tail_of : (x : Entry) (a b : List Entry) → x ∷ a ≡ x ∷ b → a ≡ b
+tail_of x a b h = ap (λ l. rest l) h
+  where
+    rest : List Entry → List Entry
+    rest [] = []
+    rest (y ∷ ys) = ys
+
+view_grows : (es : List Entry) (e : Entry) → is_view e ≡ false → up_to_view es ≡ es → up_to_view (es ++ e ∷ []) ≡ es ++ e ∷ []
+unfolding up_to_view
+view_grows [] e plain h = rw plain refl
+view_grows (x ∷ es) e plain h = split (is_view x)
+    (λ t. absurd (let z = rw t at h in cc))
+    (λ f. rw f (ap (λ l. x ∷ l) (view_grows es e plain (tail_of x (up_to_view es) es (rw f at h)))))
+
+-- else the line grows with the list
+pub line_grows : (v : Stamp) (es : List Entry) (e : Entry) → is_view e ≡ false → up_to_next v es ≡ es → up_to_next v (es ++ e ∷ []) ≡ es ++ e ∷ []
+unfolding up_to_next
+line_grows v [] e plain h = split (is_view_of v e) (λ t. absurd (let z = is_a_view v e t in cc)) (λ f. rw f refl)
+line_grows v (x ∷ es) e plain h = split (is_view_of v x)
+    (λ t. rw t (ap (λ l. x ∷ l) (view_grows es e plain (tail_of x (up_to_view es) es (rw t at h)))))
+    (λ f. rw f (ap (λ l. x ∷ l) (line_grows v es e plain (tail_of x (up_to_next v es) es (rw f at h)))))
+
+-- ---- what stands in a line stands in the list
+
+part_any : (p : Entry → Bool) (es : List Entry) → list_any p (up_to_view es) ≡ true → list_any p es ≡ true
+unfolding up_to_view
+part_any p [] h = h
+part_any p (x ∷ es) h = split (is_view x)
+    (λ t. absurd (let z = rw t at h in cc))
+    (λ f. let z = rw f at h in split (p x) (λ t. rw t refl) (λ g. rw g (part_any p es (rw g at z))))
+
+line_any : (p : Entry → Bool) (v : Stamp) (es : List Entry) → list_any p (up_to_next v es) ≡ true → list_any p es ≡ true
+unfolding up_to_next
+line_any p v [] h = h
+line_any p v (x ∷ es) h = split (is_view_of v x)
+    (λ t. let z = rw t at h in split (p x) (λ u. rw u refl) (λ g. rw g (part_any p es (rw g at z))))
+    (λ f. let z = rw f at h in split (p x) (λ u. rw u refl) (λ g. rw g (line_any p v es (rw g at z))))
+
+any_front : (p : Entry → Bool) (a b : List Entry) → list_any p a ≡ true → list_any p (a ++ b) ≡ true
+any_front p [] b h = absurd (cc)
+any_front p (x ∷ a) b h = split (p x) (λ t. rw t refl) (λ f. rw f (any_front p a b (rw f at h)))
+
+any_last : (p : Entry → Bool) (a : List Entry) (e : Entry) → p e ≡ true → list_any p (a ++ e ∷ []) ≡ true
+any_last p [] e h = rw h refl
+any_last p (x ∷ a) e h = split (p x) (λ t. rw t refl) (λ f. rw f (any_last p a e h))
+
+itself : (v : Stamp) → stamp_eq v v ≡ true
+itself v = grind (arith, nat_tests)
+
+-- a view's line opens with its View
+pub opened : (v : Stamp) (before : List Entry) (names : List ℕ) (resilience : ℕ) (list : List Entry) → Begins (before ++ View v names resilience ∷ []) (up_to_next v list) → HasViewOf v list
+opened v before names resilience list h =
+    let e = View v names resilience in
+    let there = any_front (is_view_of v) (before ++ e ∷ []) h.rest (any_last (is_view_of v) before e (itself v)) in
+    line_any (is_view_of v) v list (subst (λ l. list_any (is_view_of v) l ≡ true) h.same there)

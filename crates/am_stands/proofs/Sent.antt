@@ -1,0 +1,147 @@
+-- What a sender says is so.
+use Rattle.std.proofs.Common.{◌≡◌, ◌≢◌, ◌⊎◌, inl, inr, ⊎_elim, ℕ, zero, suc, ◌+◌, ◌-◌, ◌<◌, ◌≤◌, ◌==◌, ◌&&◌, ◌||◌, not, List, [], ◌∷◌, ◌++◌, length, take, Bool, true, false, Some, slice_get, refl, sym, ap, ◌∙◌, subst, arith}
+use Rattle.std.proofs.lemmas.Bool.{cases_lt}
+use Rattle.std.proofs.lemmas.List.{length-take}
+use Rattle.std.proofs.lemmas.Bool.Decides.{nat_tests}
+use Rattle.am_base.specs.declared.entry.Entry.{Entry}
+use Rattle.am_base.specs.declared.entry.Entry.TheVariants.{Data, Join, Leave, View}
+use Rattle.am_base.specs.declared.name.Stamp.{Stamp}
+use Rattle.am_base.specs.declared.image.Image.{Image}
+use Rattle.am_base.specs.Names.{has}
+use Rattle.am_base.specs.Stamps.{stamp_eq}
+use Rattle.am_base.specs.Lists.{Log, top_of}
+use Rattle.am_group.specs.Journals.{item_at}
+use Rattle.am_chain_lists.specs.Whole.{Begins, told, view_of, key}
+use Rattle.am_chain_lists.proofs.Prefixes.{begins_trans, take_begins, begins_refl}
+use Rattle.am_chain_moves.specs.Group as groups
+use Rattle.am_chain_moves.specs.Group.{Group, IsUp, chain_of}
+use Rattle.am_chain_moves.specs.Kept.{Kept}
+use Rattle.am_model.specs.Node as nodes
+use Rattle.am_model.specs.Node.{Node, view, is_member, acts, is_sequencer}
+use Rattle.am_model.specs.World.{World}
+use Rattle.am_model.proofs.Greatest.{split, and_both}
+use Rattle.am_effects.specs.Letters as letters
+use Rattle.am_laws.proofs.Stamps.{same_stamp}
+use Rattle.am_stands.specs.Standing.{NameStands, FrontsStand}
+use Rattle.am_stands.specs.Letters.{line, IsDecided, SequencerSays, EntrySays, ReportSays, LeaverSays, PieceSays, of_line}
+use Rattle.am_stands.proofs.Changes.{told_all, long_all}
+use Rattle.am_stands.proofs.Growing.{leads_line}
+
+-- ---- what is known of who sends
+
+-- it stands for a name of the group, which is up, as it is after the step
+pub record Speaks (v : World) (i : ℕ) (n : Node) (s : Group) : Type 0 where
+  pub kept : Kept s
+  pub stands : NameStands v i n (s.node i)
+  pub up : IsUp (s.node i)
+  pub who : n.core.who ≡ i
+
+-- where its promise was decided, its list begins that view's line
+pub promise_line : (v : World) (i : ℕ) (n : Node) (s : Group) → Speaks v i n s → IsDecided s n.core.promise → Begins (s.node i).list (line s n.core.promise)
+promise_line v i n s h d =
+    let ok = h.kept.each i in
+    let a = s.node i in
+    let same : a.promise ≡ n.core.promise = h.stands.promise in
+    let decided : s.views.decided (key a.promise) ≡ true = ap (λ (u : Stamp). s.views.decided (key u)) same ∙ d in
+    let most = h.kept.views.order (key a.promise) decided in
+    subst (λ (u : Stamp). Begins a.list (line s u)) same (⊎_elim
+    (λ (below : key a.promise < key s.views.current). (let late = ok.late h.up below in begins_trans late.list (late.lines (key a.promise) decided (omega arith))))
+    (λ (above : key s.views.current ≤ key a.promise). (let keys : key s.views.current ≡ key a.promise = omega arith in subst (λ x. Begins a.list (s.views.line x)) keys (ok.list h.up)))
+    (cases_lt (key a.promise) (key s.views.current)))
+
+all_taken : (list : List Entry) (n : ℕ) → n ≡ length list → take n list ≡ list
+all_taken list n is = ap (λ k. take k list) is ∙ take_begins (begins_refl list)
+
+-- ---- reports
+
+pub report_said : (v : World) (i : ℕ) (n : Node) (s : Group) → Speaks v i n s → IsDecided s n.core.promise → ReportSays s i n.core.promise (nodes.report_of n)
+report_said v i n s h d =
+    let long = long_all v i n (s.node i) h.stands in
+    record {
+      decided = d;
+      within = omega arith;
+      begins = subst (λ l. Begins l (line s n.core.promise)) (sym (all_taken (s.node i).list (nodes.top n) (sym long))) (promise_line v i n s h d);
+    }
+
+pub leaver_said : (v : World) (i : ℕ) (n : Node) (s : Group) → Speaks v i n s → n.leaving ≡ true → LeaverSays s i n.core.promise (nodes.report_of n)
+leaver_said v i n s h leaves =
+    let long = long_all v i n (s.node i) h.stands in
+    record {
+      leaves = h.stands.leaving ∙ leaves;
+      within = omega arith;
+      begins = λ d member. subst (λ l. Begins l (line s n.core.promise)) (sym (all_taken (s.node i).list (nodes.top n) (sym long))) (promise_line v i n s h d);
+    }
+
+-- ---- a sequencer
+
+pub record Leading (i : ℕ) (n : Node) (s : Group) : Type 0 where
+  pub leads : groups.Leads i (s.node i)
+  pub viewed : view_of (s.node i).list ≡ n.core.promise
+  pub decided : IsDecided s n.core.promise
+  pub line_ : line s n.core.promise ≡ (s.node i).list
+  pub current : key n.core.promise ≡ key s.views.current
+
+pub leading : (v : World) (i : ℕ) (n : Node) (s : Group) → Speaks v i n s → is_sequencer n ≡ true → Leading i n s
+unfolding view_of
+leading v i n s h t =
+    let a = s.node i in
+    let both = and_both (acts n) ((view n).by == n.core.who) t in
+    let acting = and_both (is_member n.status) (stamp_eq n.core.promise (view n)) both.0 in
+    let whole_view : view_of a.list ≡ view n = ap (λ (g : Image). g.view) (told_all v i n a h.stands) in
+    let promise : n.core.promise ≡ view n = same_stamp n.core.promise (view n) acting.1 in
+    let own : (view n).by ≡ i = (let z : (view n).by ≡ n.core.who = (let y = both.1 in grind (arith, nat_tests)) in z ∙ h.who) in
+    let leads : groups.Leads i a = record { up = h.up; acts = h.stands.promise ∙ promise ∙ sym whole_view; by = ap (λ (u : Stamp). u.by) whole_view ∙ own } in
+    let ok = (h.kept.each i).leads leads in
+    let now : view_of a.list ≡ s.views.current = ap view_of ok.chain ∙ h.kept.views.view in
+    let viewed : view_of a.list ≡ n.core.promise = whole_view ∙ sym promise in
+    let keys : key n.core.promise ≡ key s.views.current = ap key (sym viewed ∙ now) in
+    record {
+      leads = leads;
+      viewed = viewed;
+      decided = ap s.views.decided keys ∙ h.kept.views.now;
+      line_ = ap s.views.line (ap key (sym viewed)) ∙ leads_line s i h.kept leads;
+      current = keys;
+    }
+
+-- it has accepted no more than the group, and no later ballot was decided
+pub sequencer_said : (v : World) (i : ℕ) (n : Node) (s : Group) → Speaks v i n s → is_sequencer n ≡ true → FrontsStand n (s.node i) → SequencerSays s i n.core.promise n.core.acc
+sequencer_said v i n s h t f =
+    let l = leading v i n s h t in
+    let fronts = (h.kept.each i).fronts in
+    let told_ = fronts.told in
+    let given = fronts.acc in
+    let acc = f.acc in
+    record {
+      by = ap (λ (u : Stamp). u.by) (sym l.viewed) ∙ l.leads.by;
+      decided = l.decided;
+      accepted = omega arith;
+      before = λ x d above. absurd (let most = h.kept.views.order x d in let c = l.current in omega arith);
+    }
+
+-- what stands in its list stands in its line
+whole_item : (front entries : List Entry) (index : ℕ) (e : Entry) → slice_get entries index ≡ Some e → slice_get (front ++ entries) (length front + index) ≡ Some e
+whole_item [] entries index e h = let z : length {A = Entry} [] + index ≡ index = omega arith in ap (slice_get entries) z ∙ h
+whole_item (x ∷ front) entries index e h = let z : length (x ∷ front) + index ≡ suc (length front + index) = omega arith in ap (slice_get ((x ∷ front) ++ entries)) z ∙ whole_item front entries index e h
+
+pub list_item : (v : World) (i : ℕ) (n : Node) (a : groups.Node) (base number : ℕ) (e : Entry) → NameStands v i n a → n.core.log.start ≤ base → letters.Stands n.core.log base number e → item_at a.list number ≡ Some e
+list_item v i n a base number e h low at =
+    let start_ = n.core.log.start in
+    let front = take start_ v.group in
+    let long : length front ≡ start_ = (let b = h.begins.within in let c = length-take start_ v.group in omega arith) in
+    let number_ : number ≡ start_ + at.index + 1 = at.at low in
+    let is : number ≡ suc (length front + at.index) = omega arith in
+    ap (item_at a.list) is ∙ ap (λ l. slice_get l (length front + at.index)) h.list ∙ whole_item front n.core.log.entries at.index e at.there
+
+pub entry_said : (v : World) (i : ℕ) (n : Node) (s : Group) (base number : ℕ) (e : Entry) → Speaks v i n s → is_sequencer n ≡ true → FrontsStand n (s.node i) → n.core.log.start ≤ base → letters.Stands n.core.log base number e → EntrySays s i n.core.promise n.core.acc number e
+entry_said v i n s base number e h t f low at =
+    let l = leading v i n s h t in
+    record {
+      sequencer = sequencer_said v i n s h t f;
+      stands = ap (λ g. item_at g number) l.line_ ∙ list_item v i n (s.node i) base number e h.stands low at;
+    }
+
+-- a Piece of its own view
+pub piece_said : (v : World) (i : ℕ) (n : Node) (s : Group) (base number : ℕ) (e : Entry) → Speaks v i n s → is_sequencer n ≡ true → n.core.log.start ≤ base → letters.Stands n.core.log base number e → PieceSays s i n.core.promise number e
+piece_said v i n s base number e h t low at =
+    let l = leading v i n s h t in
+    of_line (ap (λ (u : Stamp). u.by) (sym l.viewed) ∙ l.leads.by) l.decided (ap (λ g. item_at g number) l.line_ ∙ list_item v i n (s.node i) base number e h.stands low at)

@@ -1,0 +1,255 @@
+-- At the start each founder is told of the first entry, and then the group stands for the world.
+use Rattle.std.proofs.Common.{◌≡◌, ◌≢◌, ◌⊎◌, inl, inr, ⊎_elim, ℕ, zero, suc, ◌+◌, ◌<◌, ◌≤◌, ◌==◌, ◌&&◌, nat_lt, if◌then◌else◌, List, [], ◌∷◌, ◌++◌, length, Bool, true, false, Some, slice_get, refl, sym, ap, ◌∙◌, subst, arith}
+use Rattle.std.proofs.lemmas.Bool.Decides.{nat_tests}
+use Rattle.am_base.specs.declared.entry.Entry.{Entry}
+use Rattle.am_base.specs.declared.entry.Entry.TheVariants.{View}
+use Rattle.am_base.specs.declared.name.Stamp.{Stamp}
+use Rattle.am_base.specs.Founding.{Rules, MayFound}
+use Rattle.am_base.specs.Names.{has}
+use Rattle.am_base.specs.Stamps.{no_stamp}
+use Rattle.am_base.specs.Lists.{fold}
+use Rattle.am_chain_lists.specs.Whole.{Begins, key}
+use Rattle.am_chain_lists.proofs.Prefixes.{begins_refl}
+use Rattle.am_chain_moves.specs.Group as groups
+use Rattle.am_chain_moves.specs.Group.{Group, put, opening}
+use Rattle.am_chain_moves.specs.Moves.{Move, with_node}
+use Rattle.am_chain_moves.specs.Moves as group
+use Rattle.am_chain_moves.specs.Runs as begun
+use Rattle.am_model.specs.Node.{Node, founder, stranger, lowest_or_first, founding_stamp, founders_view}
+use Rattle.am_model.specs.Group.{has_log}
+use Rattle.am_model.specs.World.{Decided, World, start, first_node, founders_decided, has_departed}
+use Rattle.am_model.specs.Claims.{up_to_view, up_to_next, line_of}
+use Rattle.am_model.proofs.Greatest.{split}
+use Rattle.am_laws.proofs.Founders.{first_founder}
+use Rattle.am_laws.proofs.Views.{same_is_equal}
+use Rattle.am_stands.specs.Standing.{NameStands, FrontsStand, NotedStands, IsLast, WasNoted, ViewsStand, Stands, StartStands}
+use Rattle.am_stands.specs.Moving.{Moves, none, moves, Leads}
+use Rattle.am_stands.proofs.Ends.{then_moves}
+use Rattle.am_stands.proofs.Decisions.{last_same}
+
+-- ---- each founder in turn
+
+-- what a founder has once it is told of the first entry
+abbrev told_of : groups.Node → groups.Node
+told_of a = record a { told = 1; acc = 1 }
+
+abbrev first_of : Rules → ℕ → groups.Node
+first_of rules = begun.first_node rules.founders (lowest_or_first rules.founders) rules.resilience
+
+abbrev first_group : Rules → Group
+first_group rules = begun.start rules.founders (lowest_or_first rules.founders) rules.resilience
+
+abbrev told_to : Rules → ℕ → ℕ → groups.Node
+told_to rules k i = if has rules.founders i && nat_lt i k then told_of (first_of rules i) else first_of rules i
+
+-- names below a number are told, if they founded
+record ToldTo (rules : Rules) (k : ℕ) (s : Group) : Type 0 where
+  node : (i : ℕ) → s.node i ≡ told_to rules k i
+  views : s.views ≡ (first_group rules).views
+  group_ : s.group ≡ (first_group rules).group
+
+and_none : (b : Bool) → (b && false) ≡ false
+and_none true = refl
+and_none false = refl
+
+told_none : (rules : Rules) → ToldTo rules 0 (first_group rules)
+told_none rules = record {
+  node = λ i. (let f : nat_lt i 0 ≡ false = grind (arith, nat_tests) in
+      let g : (has rules.founders i && nat_lt i 0) ≡ false = ap (λ b. has rules.founders i && b) f ∙ and_none (has rules.founders i) in
+      sym (ap (λ b. if b then told_of (first_of rules i) else first_of rules i) g));
+  views = refl;
+  group_ = refl;
+}
+
+-- a name that founds, before it is told
+record Founds (rules : Rules) (s : Group) (k : ℕ) : Type 0 where
+  is : s.node k ≡ first_of rules k
+  list : (s.node k).list ≡ opening (begun.first_choice rules.founders (lowest_or_first rules.founders) rules.resilience)
+  up : groups.IsUp (s.node k)
+  promise : (s.node k).promise ≡ begun.first_stamp (lowest_or_first rules.founders)
+  told : (s.node k).told ≡ 0
+  acc : (s.node k).acc ≡ 0
+
+founds : (rules : Rules) (k : ℕ) (s : Group) → ToldTo rules k s → has rules.founders k ≡ true → Founds rules s k
+founds rules k s h t =
+    let f : nat_lt k k ≡ false = grind (arith, nat_tests) in
+    let is : s.node k ≡ first_of rules k = h.node k ∙ ap (λ b. if has rules.founders k && b then told_of (first_of rules k) else first_of rules k) f ∙ ap (λ b. if b then told_of (first_of rules k) else first_of rules k) (and_none (has rules.founders k)) in
+    record {
+      is = is;
+      list = ap (λ (a : groups.Node). a.list) is ∙ rw t refl;
+      up = record { log = ap (λ (a : groups.Node). a.has_log) is ∙ t; there = record { goes = ap (λ (a : groups.Node). a.stopped) is; stays = ap (λ (a : groups.Node). a.departed) is } };
+      promise = ap (λ (a : groups.Node). a.promise) is ∙ rw t refl;
+      told = ap (λ (a : groups.Node). a.told) is;
+      acc = ap (λ (a : groups.Node). a.acc) is;
+    }
+
+same_but : (rules : Rules) (k i : ℕ) → (i == k) ≡ false → told_to rules k i ≡ told_to rules (k + 1) i
+same_but rules k i f =
+    let same : nat_lt i k ≡ nat_lt i (k + 1) = split (nat_lt i k)
+    (λ t. t ∙ sym (let z : nat_lt i (k + 1) ≡ true = grind (arith, nat_tests) in z))
+    (λ g. g ∙ sym (let z : nat_lt i (k + 1) ≡ false = grind (arith, nat_tests) in z)) in
+    ap (λ b. if has rules.founders i && b then told_of (first_of rules i) else first_of rules i) same
+
+told_next : (rules : Rules) (k : ℕ) (s : Group) → ToldTo rules k s → Leads (ToldTo rules (k + 1)) s
+unfolding put
+told_next rules k s h = split (has rules.founders k)
+    (λ t.
+    let a = founds rules k s h t in
+    let told_ = a.told in
+    let acc_ = a.acc in
+    let one : length s.group ≡ 1 = ap length h.group_ in
+    let list_ : length (s.node k).list ≡ 1 = ap length a.list in
+    let b = record (s.node k) { told = 1; acc = 1 } in
+    record {
+      to = with_node s k b;
+      path = moves (group.learns k 1 1 a.up (omega arith) (omega arith)
+          (λ x d above. absurd (let e : (x == key (begun.first_stamp (lowest_or_first rules.founders))) ≡ true = ap (λ (v : groups.Views). v.decided x) (sym h.views) ∙ d in
+          let same : key (s.node k).promise ≡ key (begun.first_stamp (lowest_or_first rules.founders)) = ap key a.promise in
+          let z : ⊥ = grind (arith, nat_tests) in z))
+          (omega arith) (omega arith) (omega arith)) none;
+      is = record {
+        node = λ i. split (i == k)
+            (λ u. (let same : i ≡ k = grind (arith, nat_tests) in
+            let below : nat_lt i (k + 1) ≡ true = grind (arith, nat_tests) in
+            let founded : has rules.founders i ≡ true = ap (has rules.founders) same ∙ t in
+            let now : told_to rules (k + 1) i ≡ told_of (first_of rules i) = rw (founded, below) refl in
+            let mine : record (s.node k) { told = 1; acc = 1 } ≡ told_of (first_of rules i) = ap told_of a.is ∙ ap (λ j. told_of (first_of rules j)) (sym same) in
+            ap (λ c. if c then b else s.node i) u ∙ mine ∙ sym now))
+            (λ f. ap (λ c. if c then b else s.node i) f ∙ h.node i ∙ same_but rules k i f);
+        views = h.views;
+        group_ = h.group_;
+      };
+    })
+    (λ g. record {
+      to = s;
+      path = none;
+      is = record {
+        node = λ i. split (i == k)
+            (λ u. (let same : i ≡ k = grind (arith, nat_tests) in
+            let out : has rules.founders i ≡ false = ap (has rules.founders) same ∙ g in
+            let before : told_to rules k i ≡ first_of rules i = ap (λ c. if c && nat_lt i k then told_of (first_of rules i) else first_of rules i) out in
+            let now : told_to rules (k + 1) i ≡ first_of rules i = ap (λ c. if c && nat_lt i (k + 1) then told_of (first_of rules i) else first_of rules i) out in
+            h.node i ∙ before ∙ sym now))
+            (λ f. h.node i ∙ same_but rules k i f);
+        views = h.views;
+        group_ = h.group_;
+      };
+    })
+
+told_all_to : (rules : Rules) (k : ℕ) → Leads (ToldTo rules k) (first_group rules)
+told_all_to rules zero = record { to = first_group rules; path = none; is = told_none rules }
+told_all_to rules (suc k) =
+    let before = told_all_to rules k in
+    let next = told_next rules k before.to before.is in
+    let same : k + 1 ≡ suc k = omega arith in
+    record { to = next.to; path = then_moves before.path next.path; is = subst (λ n. ToldTo rules n next.to) same next.is }
+
+-- ---- what stands then
+
+abbrev founder_of : Rules → groups.Node
+founder_of rules = record {
+  list = opening (begun.first_choice rules.founders (lowest_or_first rules.founders) rules.resilience);
+  has_log = true;
+  stopped = false;
+  departed = false;
+  leaving = false;
+  start = 1;
+  promise = begun.first_stamp (lowest_or_first rules.founders);
+  told = 1;
+  acc = 1;
+  ballot = false;
+}
+
+founder_name : (rules : Rules) (i : ℕ) → NameStands (start rules) i (founder rules i) (founder_of rules)
+unfolding fold
+founder_name rules i = record {
+  begins = record { within = omega arith; image = refl };
+  list = refl;
+  log_ = refl;
+  stopped = refl;
+  departed = refl;
+  leaving = refl;
+  promise = refl;
+  ballot = refl;
+  start = λ t. refl;
+}
+
+abbrev stranger_of : groups.Node
+stranger_of = record { list = []; has_log = false; stopped = false; departed = false; leaving = false; start = 1; promise = no_stamp; told = 0; acc = 0; ballot = false }
+
+stranger_name : (rules : Rules) (i : ℕ) → NameStands (start rules) i (stranger rules i) stranger_of
+unfolding fold
+stranger_name rules i = record {
+  begins = record { within = omega arith; image = refl };
+  list = refl;
+  log_ = refl;
+  stopped = refl;
+  departed = refl;
+  leaving = refl;
+  promise = refl;
+  ballot = refl;
+  start = λ t. absurd (cc);
+}
+
+-- what has stood up to then
+told_founder : (rules : Rules) (i : ℕ) → i < 256 → has rules.founders i ≡ true → told_to rules 256 i ≡ founder_of rules
+told_founder rules i few t = let low : nat_lt i 256 ≡ true = grind (arith, nat_tests) in rw (t, low) refl
+
+told_stranger : (rules : Rules) (i : ℕ) → has rules.founders i ≡ false → told_to rules 256 i ≡ stranger_of
+told_stranger rules i f = rw f refl
+
+start_name : (rules : Rules) (s : Group) → ToldTo rules 256 s → (i : ℕ) → i < 256 → NameStands (start rules) i (first_node rules i) (s.node i)
+start_name rules s h i few = split (has rules.founders i)
+    (λ t. subst (NameStands (start rules) i (first_node rules i)) (sym (h.node i ∙ told_founder rules i few t)) (rw t (founder_name rules i)))
+    (λ f. subst (NameStands (start rules) i (first_node rules i)) (sym (h.node i ∙ told_stranger rules i f)) (rw f (stranger_name rules i)))
+
+start_fronts : (rules : Rules) (s : Group) → ToldTo rules 256 s → (i : ℕ) → i < 256 → FrontsStand (first_node rules i) (s.node i)
+start_fronts rules s h i few = split (has rules.founders i)
+    (λ t. subst (FrontsStand (first_node rules i)) (sym (h.node i ∙ told_founder rules i few t)) (rw t (record { told = omega arith; acc = refl })))
+    (λ f. subst (FrontsStand (first_node rules i)) (sym (h.node i ∙ told_stranger rules i f)) (rw f (record { told = omega arith; acc = refl })))
+
+-- the founders' view
+first_line : (rules : Rules) → MayFound rules → line_of (start rules) (founding_stamp rules) ≡ founders_view rules ∷ []
+unfolding up_to_next up_to_view
+first_line rules may =
+    let f = (first_founder rules may).founds in
+    let t = same_is_equal (founding_stamp rules) in
+    rw f (rw t refl)
+
+start_views : (rules : Rules) → MayFound rules → ViewsStand (start rules) (first_group rules).views
+start_views rules may =
+    let x = key (founding_stamp rules) in
+    let itself : (x == x) ≡ true = grind (arith, nat_tests) in
+    let noted : NotedStands (start rules) (first_group rules).views (founders_decided rules) = record {
+      decided = itself;
+      stamp = refl;
+      members = refl;
+      resilience = refl;
+      number = refl;
+      line = sym (first_line rules may);
+      opens = begins_refl _;
+    } in
+    record {
+      noted = λ k d at. one_noted rules noted k d at;
+      decided = λ y t. record { index = 0; view = founders_decided rules; there = refl; is = (let z : y ≡ x = grind (arith, nat_tests) in sym z) };
+      current = λ d last. ap (λ (v : Decided). v.stamp) (last_same [] last.before (founders_decided rules) d last.is);
+    }
+  where
+    one_noted : (rules : Rules) → NotedStands (start rules) (first_group rules).views (founders_decided rules) → (k : ℕ) (d : Decided) → slice_get (start rules).views k ≡ Some d → NotedStands (start rules) (first_group rules).views d
+    one_noted rules h zero d at = let same : founders_decided rules ≡ d = cc in subst (NotedStands (start rules) (first_group rules).views) same h
+    one_noted rules h (suc k) d at = absurd (cc)
+
+pub start_stands : StartStands
+start_stands rules may =
+    let l = told_all_to rules 256 in
+    let h = l.is in
+    record {
+      to = l.to;
+      path = l.path;
+      is = record {
+        each = start_name rules l.to h;
+        fronts = λ i few d. start_fronts rules l.to h i few;
+        views = subst (ViewsStand (start rules)) (sym h.views) (start_views rules may);
+        group = h.group_;
+      };
+    }

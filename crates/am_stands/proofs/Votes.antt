@@ -1,0 +1,217 @@
+-- A ballot that its coordinator decides may be decided by the group's own test.
+use Rattle.std.proofs.Common.{◌≡◌, ◌≢◌, ◌⊎◌, inl, inr, ⊎_elim, ℕ, zero, suc, ◌+◌, ◌-◌, ◌<◌, ◌≤◌, ◌==◌, ◌&&◌, ◌||◌, not, max, nat_lt, nat_le, is_some, List, [], ◌∷◌, ◌++◌, length, Bool, true, false, Option, Some, None, slice_index, if◌then◌else◌, refl, sym, ap, ◌∙◌, subst, arith}
+use Rattle.std.specs.List.{list_all, list_any, range_with_len}
+use Rattle.std.proofs.lemmas.Bool.Decides.{nat_tests}
+use Rattle.am_base.specs.declared.entry.Entry.{Entry}
+use Rattle.am_base.specs.declared.image.Vote.{Vote}
+use Rattle.am_base.specs.declared.image.Image.{Image}
+use Rattle.am_base.specs.declared.name.Stamp.{Stamp}
+use Rattle.am_base.specs.Names.{place_of, life_of, name_at, has, size, is_within}
+use Rattle.am_base.specs.Stamps.{stamp_lt, stamp_eq}
+use Rattle.am_base.specs.Votes.{Shown, vote_lt}
+use Rattle.am_base.specs.Lists.{members_of}
+use Rattle.am_chain_lists.specs.Whole.{Begins, told, mem, view_of, resilience_of, key}
+use Rattle.am_chain_lists.proofs.Order.{key_lt, view_up}
+use Rattle.am_chain_lists.proofs.Prefixes.{begins_trans}
+use Rattle.am_chain_lists.proofs.Members.{told_push}
+use Rattle.am_chain_moves.specs.Group as groups
+use Rattle.am_chain_moves.specs.Group.{Group, IsThere, IsUp, NoBetter}
+use Rattle.am_chain_moves.specs.Moves as group
+use Rattle.am_chain_moves.specs.Moves.{MayDecide, Voted}
+use Rattle.am_chain_moves.specs.Kept.{Kept}
+use Rattle.am_model.specs.Node as nodes
+use Rattle.am_model.specs.Node.{Node, Ballot, view, members, name_where, those, is_member}
+use Rattle.am_base.specs.declared.entry.Entry.TheVariants.{View}
+use Rattle.std.proofs.lemmas.List.{append_assoc}
+use Rattle.am_model.specs.Lawful.{is_view_of}
+use Rattle.am_model.specs.Ballots.{trimmed_for, own_vote, best_of, need_of, has_voted, is_waited_for, left_in}
+use Rattle.am_model.specs.Laws.{IsBestVote}
+use Rattle.am_model.specs.World.{World, is_stopped}
+use Rattle.am_model.proofs.BestVotes.{best_vote_is}
+use Rattle.am_model.proofs.Greatest.{split, and_both}
+use Rattle.am_effects.specs.Looks as looks
+use Rattle.am_bounded.proofs.Changes.{some_left}
+use Rattle.am_laws.proofs.Stamps.{equal_stamps, same_stamp}
+use Rattle.am_laws.proofs.Taken.{own_need, those_at}
+use Rattle.am_laws.proofs.ViewMembers.{viewed_members, those_some, those_long}
+use Rattle.am_stands.specs.Standing.{NameStands, within}
+use Rattle.am_effects.proofs.Says.{told_pushed}
+use Rattle.am_stands.specs.Letters.{VoteTells}
+use Rattle.am_stands.specs.Steps.{NeedsDecision}
+use Rattle.am_stands.proofs.Lines.{HasViewOf, viewed_as}
+use Rattle.am_stands.proofs.Changes.{told_whole, long_all}
+
+-- ---- what is known of a ballot
+
+pub record BallotKnown (w : World) (name : ℕ) (x : Node) (b : Ballot) (s : Group) : Type 0 where
+  pub few : name < 256
+  pub who : x.core.who ≡ name
+  pub stands : NameStands (within w name x) name x (s.node name)
+  pub up : IsUp (s.node name)
+  pub ballot : (s.node name).ballot ≡ true
+  pub stamp : b.stamp ≡ x.core.promise
+  -- its votes tell what was shown; it has none of its own, and only stopped names are given up
+  pub votes : (j : ℕ) (vote : Vote) → b.votes j ≡ Some vote → VoteTells s j b.stamp vote
+  pub own : b.votes x.core.who ≡ None
+  pub given : (j : ℕ) → b.given_up j ≡ true → (s.node j).stopped ≡ true
+  -- views are of names, and only names vote
+  pub view_ : (view x).by < 256
+  pub views : (j : ℕ) (vote : Vote) → b.votes j ≡ Some vote → vote.view.by < 256
+  pub names : (j : ℕ) (vote : Vote) → b.votes j ≡ Some vote → j < 256
+
+-- ---- the best vote
+
+vote_low : (own : Vote) (vote : Vote) → own.view.by < 256 → vote.view.by < 256 → vote_lt own vote ≡ false → (key vote.view < key own.view) ⊎ ((key vote.view ≡ key own.view) × (vote.top ≤ own.top))
+vote_low own vote small few low =
+    let a : stamp_lt own.view vote.view ≡ false = split (stamp_lt own.view vote.view) (λ t. absurd (let z = rw t at low in cc)) (λ f. f) in
+    let rest : (stamp_eq own.view vote.view && nat_lt own.top vote.top) ≡ false = rw a at low in
+    split (stamp_lt vote.view own.view)
+    (λ t. inl (key_lt vote.view own.view few small t))
+    (λ f.
+    let same : vote.view ≡ own.view = equal_stamps vote.view own.view few small f a in
+    let t : stamp_eq own.view vote.view ≡ true = subst (λ u. stamp_eq own.view u ≡ true) (sym same) (itself own.view) in
+    let top : nat_lt own.top vote.top ≡ false = rw t at rest in
+    inr (ap key same, grind (arith, nat_tests)))
+  where
+    itself : (v : Stamp) → stamp_eq v v ≡ true
+    itself v = grind (arith, nat_tests)
+
+best_low : (x : Node) (b : Ballot) → ((best_of x b).by == x.core.who) ≡ true → b.votes x.core.who ≡ None → (view x).by < 256 → ((j : ℕ) (vote : Vote) → b.votes j ≡ Some vote → vote.view.by < 256)
+    → (j : ℕ) (vote : Vote) → j < 256 → b.votes j ≡ Some vote → vote_lt (own_vote x) vote ≡ false
+unfolding best_of
+best_low x b own none small views j vote few is =
+    let best = best_vote_is b.votes x.core.who (own_vote x) small views in
+    let by : (best_of x b).by ≡ x.core.who = grind (arith, nat_tests) in
+    let shown : (best_of x b).vote ≡ own_vote x = ⊎_elim
+    (λ (z : ((best_of x b).by ≡ x.core.who) × ((best_of x b).vote ≡ own_vote x)). z.1)
+    (λ (z : b.votes (best_of x b).by ≡ Some (best_of x b).vote). absurd (let y : b.votes x.core.who ≡ Some (best_of x b).vote = ap b.votes (sym by) ∙ z in cc))
+    best.shown in
+    ap (λ (v : Vote). vote_lt v vote) (sym shown) ∙ best.above_all j vote few is
+
+-- ---- who is needed
+
+some_vote : (o : Option Vote) → is_some o ≡ true → (v : Vote) × (o ≡ Some v)
+some_vote None h = absurd (cc)
+some_vote (Some v) h = (v, refl)
+
+voted : (who j : ℕ) (b : Ballot) → is_waited_for who b j ≡ false → b.given_up j ≡ false → (j == who) ≡ false → is_some (b.votes j) ≡ true
+voted who j b waits stays other = split (is_some (b.votes j))
+    (λ t. t)
+    (λ f. absurd (
+    let v : has_voted who b j ≡ false = rw (other, f) refl in
+    let z : (not (has_voted who b j) && not (b.given_up j)) ≡ true = rw (v, stays) refl in
+    cc))
+
+not_waited : (x : Node) (b : Ballot) (j : ℕ) → nat_lt 0 (size (those (is_waited_for x.core.who b) (need_of x b))) ≡ false → has (need_of x b) j ≡ true → is_waited_for x.core.who b j ≡ false
+not_waited x b j none needed = split (is_waited_for x.core.who b j)
+    (λ t. absurd (let some = some_left (is_waited_for x.core.who b) (need_of x b) j needed t in let z : nat_lt 0 (size (those (is_waited_for x.core.who b) (need_of x b))) ≡ true = grind (arith, nat_tests) in cc))
+    (λ f. f)
+
+all_places : (p : ℕ → Bool) (from n : ℕ) → ((place : ℕ) → place < from + n → p place ≡ true) → list_all p (range_with_len from n) ≡ true
+all_places p from zero h = refl
+all_places p from (suc n) h = rw (h from (omega arith)) (all_places p (from + 1) n (λ place low. h place (omega arith)))
+
+-- as a test
+is_some_of : (test : ℕ → Bool) (names : List ℕ) (place : ℕ) → place < 16 → ((slice_index (those test names) place == 0) || (slice_index (those test names) place == slice_index names place)) ≡ true
+is_some_of test names place low =
+    let life = slice_index (those test names) place in
+    let all = slice_index names place in
+    ⊎_elim
+    (λ (z : slice_index (those test names) place ≡ 0). (let t : (life == 0) ≡ true = grind (arith, nat_tests) in rw t refl))
+    (λ (z : slice_index (those test names) place ≡ slice_index names place). (let t : (life == all) ≡ true = grind (arith, nat_tests) in or_true (life == 0) (life == all) t))
+    (those_some test names place low)
+  where
+    or_true : (a b : Bool) → b ≡ true → (a || b) ≡ true
+    or_true true b t = refl
+    or_true false b t = t
+
+-- ---- the group's own test
+
+pub may_decide : (w : World) (name : ℕ) (x : Node) (b : Ballot) (s : Group) → BallotKnown w name x b s → looks.MayDecide x b → MayDecide s name (left_in b (need_of x b)) (max b.resilience (nodes.told x).resilience)
+unfolding mem view_of resilience_of
+may_decide w name x b s h may =
+    let a = s.node name in
+    let who = h.who in
+    let told_is = told_whole w name name x a h.stands in
+    let long = long_all (within w name x) name x a h.stands in
+    let need = own_need x b may.learned.own h.own in
+    let test : ℕ → Bool = λ j. not (b.given_up j) in
+    let members_is : members_of (told a.list) ≡ members x = ap members_of told_is in
+    let in_need : (j : ℕ) → mem a.list j ≡ true → has (need_of x b) j ≡ true = λ j m. ap (λ set. has set j) (need ∙ sym members_is) ∙ m in
+    let stamp : b.stamp ≡ a.promise = h.stamp ∙ sym h.stands.promise in
+    let spared : (j : ℕ) → IsThere (s.node j) → b.given_up j ≡ false = λ j there. split (b.given_up j) (λ t. absurd (let z = h.given j t in let y = there.goes in cc)) (λ f. f) in
+    record {
+      small = h.few;
+      up = h.up;
+      ballot = h.ballot;
+      needed = ap (λ set. has set name) (members_is ∙ sym need) ∙ ap (has (need_of x b)) (sym who) ∙ may.learned.needed;
+      votes = λ j m there. split (j == x.core.who)
+          (λ t. inl (let same : j ≡ x.core.who = grind (arith, nat_tests) in same ∙ who))
+          (λ f. (let vote = some_vote (b.votes j) (voted x.core.who j b (not_waited x b j may.learned.all (in_need j m)) (spared j there) f) in
+          let tells = h.votes j vote.0 vote.1 in
+          let low = best_low x b may.learned.own h.own h.view_ h.views j vote.0 (h.names j vote.0 vote.1) vote.1 in
+          let order = vote_low (own_vote x) vote.0 h.view_ (h.views j vote.0 vote.1) low in
+          let seen : key vote.0.view ≡ key (view_of tells.list) = ap key tells.view in
+          let mine : key (view x) ≡ key (view_of a.list) = ap (λ (i : Image). key i.view) (sym told_is) in
+          let top = tells.top in
+          inr (record {
+            vote = tells.list;
+            is = ap (λ (u : Stamp). s.shown (key u) j) (sym stamp) ∙ tells.shown;
+            worse = ⊎_elim
+                (λ (z : key vote.0.view < key (view x)). inl (omega arith))
+                (λ (z : (key vote.0.view ≡ key (view x)) × (vote.0.top ≤ nodes.top x)). (let y = z.0 in let u = z.1 in inr (omega arith, omega arith)))
+                order;
+          })));
+      within = subst (λ set. is_within (left_in b (need_of x b)) set ≡ true) (need ∙ sym members_is) (all_places _ 0 16 (λ place low. is_some_of test (need_of x b) place (omega arith)));
+      all = λ j m there. (let at = those_at test (need_of x b) j (in_need j m) (ap not (spared j there)) in grind (arith, nat_tests));
+      strong = (let same : (told a.list).resilience ≡ (nodes.told x).resilience = ap (λ (i : Image). i.resilience) told_is in omega arith);
+    }
+
+-- ---- all that a decision needs
+
+-- a View that stands in a good list is no greater than the list's view
+prefix_view : (v : Stamp) (a b : List Entry) → HasViewOf v b → (p : List Entry) × Begins p (a ++ b) × (view_of p ≡ v)
+unfolding view_of
+prefix_view v a [] h = absurd (cc)
+prefix_view v a (e ∷ b) h = split (is_view_of v e)
+    (λ t. (a ++ e ∷ [], record { rest = b; same = append_assoc a (e ∷ []) b }, ap (λ (i : Image). i.view) (told_push a e) ∙ viewed_as v (told a) (1 + length a) e t))
+    (λ f. (let r = prefix_view v (a ++ e ∷ []) b (rw f at h) in (r.0, subst (Begins r.0) (append_assoc a (e ∷ []) b) r.1, r.2)))
+
+unseen : (s : Group) (i : ℕ) → Kept s → IsUp (s.node i) → (s.node i).ballot ≡ true → list_any (is_view_of (s.node i).promise) (s.node i).list ≡ false
+unseen s i k up ballot = split (list_any (is_view_of (s.node i).promise) (s.node i).list)
+    (λ t. absurd (
+    let list = (s.node i).list in
+    let p = prefix_view (s.node i).promise [] list t in
+    let in_chain = (k.each i).list up in
+    let low = view_up k.views.good (begins_trans p.1 in_chain) in
+    let same = ap key p.2 in
+    let now = ap key k.views.view in
+    let above = ((k.each i).ballot up ballot).above in
+    omega arith))
+    (λ f. f)
+
+undecided : (s : Group) (i : ℕ) → Kept s → IsUp (s.node i) → (s.node i).ballot ≡ true → s.views.decided (key (s.node i).promise) ≡ false
+undecided s i k up ballot = split (s.views.decided (key (s.node i).promise))
+    (λ t. absurd (let above = ((k.each i).ballot up ballot).above in let most = k.views.order (key (s.node i).promise) t in omega arith))
+    (λ f. f)
+
+view_members : (x : Node) (b : Ballot) → length (nodes.told x).rows ≡ 16 → need_of x b ≡ members x → members (looks.view_of x b) ≡ left_in b (need_of x b)
+view_members x b long need =
+    let test : ℕ → Bool = λ name. not (b.given_up name) in
+    let names = left_in b (need_of x b) in
+    let before = trimmed_for x b names in
+    let r = max b.resilience (nodes.told x).resilience in
+    let some : (place : ℕ) → place < 16 → (slice_index names place ≡ 0) ⊎ (slice_index names place ≡ slice_index (members x) place) =
+    λ place low. ⊎_elim (λ (z : slice_index names place ≡ 0). inl z) (λ (z : slice_index names place ≡ slice_index (need_of x b) place). inr (z ∙ ap (λ set. slice_index set place) need)) (those_some test (need_of x b) place low) in
+    ap members_of (told_pushed before (View b.stamp names r)) ∙ viewed_members (nodes.told x) (nodes.top x + 1) b.stamp names r long (omega arith) (those_long test (need_of x b)) some
+
+pub decision_needs : (w : World) (name : ℕ) (x : Node) (b : Ballot) (s : Group) → Kept s → BallotKnown w name x b s → x.core.promise.by ≡ name → length (nodes.told x).rows ≡ 16 → looks.MayDecide x b → NeedsDecision s name x b
+decision_needs w name x b s k h own long may =
+    let same = h.stands.promise in
+    record {
+      may = may_decide w name x b s h may;
+      own = own;
+      fresh = ap (λ (u : Stamp). s.views.decided (key u)) (sym same) ∙ undecided s name k h.up h.ballot;
+      unseen = ap (λ (u : Stamp). list_any (is_view_of u) (s.node name).list) (sym same) ∙ unseen s name k h.up h.ballot;
+      members_ = view_members x b long (own_need x b may.learned.own h.own);
+    }

@@ -1,0 +1,9 @@
+use Rattle.am_stands.proofs.Closing.{close_stands}
+use Rattle.am_stands.proofs.Ends.{ends_stand}
+use Rattle.am_stands.proofs.ends_stand.Goals as goal
+
+pub returns-clause-end : goal.returns-clause-end
+returns-clause-end c = ends_stand
+
+pub returns-clause-close : goal.returns-clause-close
+returns-clause-close c = close_stands

@@ -1,0 +1,64 @@
+-- The forms of the program's words.
+use Rattle.std.specs.Prelude.{ℕ, ◌^◌, List, [], ◌∷◌, length, codes, Option, Some, None, option_map, Bool, ◌&&◌, nat_eq, nat_lt, nat_le, if◌then◌else◌}
+use Rattle.std.specs.Cmp.Lexicographic.{pointwise}
+use Rattle.std.specs.List.{list_all}
+use Rattle.std.specs.Char.{is_ascii_digit}
+use Rattle.std.specs.Str.Parse.{digits_value}
+use Rattle.am_words.specs.declared.form.Form.{Form}
+use Rattle.am_words.specs.declared.form.Form.TheVariants as form
+use Rattle.am_words.specs.declared.form.Numbers.{Numbers}
+
+-- whether two texts are the same, byte by byte
+abbrev pub same : List ℕ → List ℕ → Bool
+same text other = pointwise nat_eq text other
+
+-- ---- numbers
+
+-- a text of one to twenty decimal digits
+abbrev pub is_numeral : List ℕ → Bool
+is_numeral text = list_all is_ascii_digit text && (nat_le 1 (length text) && nat_le (length text) 20)
+
+-- its number, where it has 64 bits
+unfoldable pub number_of : List ℕ → Option ℕ
+number_of text = if is_numeral text && nat_lt (digits_value 10 text) (2 ^ 64) then Some (digits_value 10 text) else None
+
+-- two numbers, of which the second is 1 to 100,000
+abbrev pub with_numbers : Option ℕ → Option ℕ → Option Numbers
+with_numbers (Some seed) (Some count) = if nat_le 1 count && nat_le count 100000 then Some (record { seed = seed; count = count }) else None
+with_numbers _ _ = None
+
+abbrev pub numbers_of : List ℕ → List ℕ → Option Numbers
+numbers_of seed count = with_numbers (number_of seed) (number_of count)
+
+-- ---- forms
+
+-- words are gen with options of these names in turn
+abbrev pub has_options : List ℕ → List ℕ → List ℕ → List ℕ → List ℕ → Bool
+has_options word first second one other = same word (codes "gen") && (same first one && same second other)
+
+-- the texts of the seed and of the count, where words are gen with these two options, in either order
+abbrev pub texts_of : List (List ℕ) → Option (List ℕ × List ℕ)
+texts_of (word ∷ first ∷ one ∷ second ∷ other ∷ []) =
+    if has_options word first second (codes "--seed") (codes "--count") then Some (one, other)
+    else if has_options word first second (codes "--count") (codes "--seed") then Some (other, one)
+    else None
+texts_of _ = None
+
+-- the numbers of gen
+abbrev pub numbers_in : Option (List ℕ × List ℕ) → Option Numbers
+numbers_in None = None
+numbers_in (Some texts) = numbers_of texts.0 texts.1
+
+abbrev pub gen_of : List (List ℕ) → Option Numbers
+gen_of words = numbers_in (texts_of words)
+
+-- the one word play, or gen with its options
+unfoldable pub form_of : List (List ℕ) → Option Form
+form_of (word ∷ []) = if same word (codes "play") then Some form.Play else None
+form_of words = option_map form.Gen (gen_of words)
+
+-- the words are gen
+abbrev pub IsGen : Option Form → Type 0
+IsGen (Some (form.Gen numbers)) = Unit {0}
+IsGen (Some form.Play) = ⊥
+IsGen None = ⊥

@@ -1,0 +1,87 @@
+ghost use Rattle.std.specs.Prelude.{◌≡◌, ◌≤◌, [], ◌∷◌, map, IfSome};
+ghost use Rattle.std.specs.List.{list_all};
+ghost use Rattle.std.specs.Char.{is_ascii_digit};
+ghost use Rattle.am_words.specs.Forms.{form_of, number_of, numbers_of, has_options};
+
+/// The numbers of `gen`: the seed, and how many events there are, 1 to 100,000.
+#[derive(Clone, Copy, PartialEq, Eq, Debug)]
+pub struct Numbers {
+    pub seed: u64,
+    pub count: u32,
+}
+
+/// What the program's words ask for.
+#[derive(Clone, Copy, PartialEq, Eq, Debug)]
+pub enum Form {
+    /// To run a script.
+    Play,
+    /// To make a run from two numbers.
+    Gen(Numbers),
+}
+
+/// Whether all bytes are decimal digits.
+fn are_digits(text: &[u8]) -> bool
+    ensures { result ≡ list_all is_ascii_digit text.now }
+{
+    text.iter().all(|digit| digit.is_ascii_digit())
+}
+
+/// The number of a text of one to twenty decimal digits; None where it is none, or none of 64 bits.
+fn number_of(text: &str) -> Option<u64>
+    ensures { result ≡ number_of text.now }
+{
+    let digits = text.as_bytes();
+    if digits.len() <= 20 && are_digits(digits) {
+        return text.parse::<u64>().ok();
+    }
+    None
+}
+
+/// The numbers that two texts write, of which the second is 1 to 100,000.
+pub(crate) fn numbers_of(seed: &str, count: &str) -> Option<Numbers>
+    ensures value { result ≡ numbers_of seed.now count.now }
+    ensures few { IfSome result (λ numbers. numbers.count ≤ 100000) }
+{
+    let seed = number_of(seed)?;
+    let count = number_of(count)?;
+    if count < 1 || 100_000 < count {
+        return None;
+    }
+    Some(Numbers {
+        seed,
+        count: count as u32,
+    })
+}
+
+/// Whether words are `gen` with options of these names in turn.
+fn has_options(word: &str, first: &str, second: &str, one: &str, other: &str) -> bool
+    ensures { result ≡ has_options word.now first.now second.now one.now other.now }
+{
+    word == "gen" && first == one && second == other
+}
+
+/// The form of five words.
+#[tactic(auto, unfolding(crate::specs::Forms::form_of))]
+fn form_of_five(word: &str, first: &str, one: &str, second: &str, other: &str) -> Option<Form>
+    ensures { result ≡ form_of (word.now ∷ first.now ∷ one.now ∷ second.now ∷ other.now ∷ []) }
+{
+    if has_options(word, first, second, "--seed", "--count") {
+        return numbers_of(one, other).map(Form::Gen);
+    }
+    if has_options(word, first, second, "--count", "--seed") {
+        return numbers_of(other, one).map(Form::Gen);
+    }
+    None
+}
+
+/// The form of the words after the program's name: the one word `play`, or `gen` with the options `--seed N` and
+/// `--count N`, each once, in either order. None where they have no form.
+pub fn form_of(words: &[&str]) -> Option<Form>
+    ensures { result ≡ form_of (map (λ word. word.now) words.now) }
+{
+    match words {
+        [word] => (*word == "play").then_some(Form::Play),
+        [word, first, one, second, other] => form_of_five(word, first, one, second, other),
+        _ => None,
+    }
+}

@@ -1,0 +1,7 @@
+//! The words of the program: which form they have, and the numbers of `gen`.
+#![tactic(auto)]
+
+pub mod form;
+pub mod options;
+#[cfg(test)]
+mod tests;
