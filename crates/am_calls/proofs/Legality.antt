@@ -156,7 +156,7 @@ first_next w r rest legal =
     let a = happens_adds w r.event in
     let m = run_adds (happens w r.event) (map (λ q. q.event) rest) in
     let whole = cancel w.records (a.item ∷ m.0) (tagged no_caller r ∷ map (λ q. tagged no_caller q) rest)
-        (sym (m.1 ∙ ap (λ (l : List Record). l ++ m.0) a.records ∙ append_assoc w.records (a.item ∷ []) m.0) ∙ legal) in
+    (sym (m.1 ∙ ap (λ (l : List Record). l ++ m.0) a.records ∙ append_assoc w.records (a.item ∷ []) m.0) ∙ legal) in
     let item = head_is a.item (tagged no_caller r) m.0 (map (λ q. tagged no_caller q) rest) whole in
     let more = tail_is a.item (tagged no_caller r) m.0 (map (λ q. tagged no_caller q) rest) whole in
     (a.records ∙ ap (λ (q : Record). w.records ++ q ∷ []) item, m.1 ∙ ap (λ (l : List Record). (happens w r.event).records ++ l) more)
