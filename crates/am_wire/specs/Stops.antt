@@ -1,5 +1,6 @@
 -- What lies in the slot, and which names stopped in it.
-use Rattle.std.specs.Prelude.{ℕ, List, Bool, true, false, ◌&&◌, nat_lt, nat_le, if◌then◌else◌, fold}
+use Rattle.std.specs.Prelude.{ℕ, List, Bool, true, false, ◌&&◌, nat_lt, nat_le, ◌==◌, if◌then◌else◌, fold}
+use Rattle.std.specs.List.{list_any}
 use Rattle.am_base.specs.declared.outcome.Outcome.{Outcome}
 use Rattle.am_base.specs.declared.outcome.Outcome.TheVariants as said
 use Rattle.am_base.specs.Founding.{Rules}
@@ -27,3 +28,7 @@ with_stop stopped r = if is_stop r.outcome && has_life r then with_name stopped 
 -- the names that stopped in these records
 abbrev pub stopped_in : List Record → List ℕ
 stopped_in records = fold with_stop nobody records
+
+-- a name has stopped in one of these records
+abbrev pub has_stopped : List Record → ℕ → Bool
+has_stopped records name = list_any (λ r. is_stop r.outcome && (name_of r == name)) records

@@ -1,0 +1,3 @@
+pub mod Legality
+pub mod Others
+pub mod Apart

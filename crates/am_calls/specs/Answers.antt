@@ -1,0 +1,130 @@
+-- What a blocking call answers, by its records.
+use Rattle.std.specs.Prelude.{ℕ, List, [], ◌∷◌, ◌++◌, length, Option, Some, None, Bool, true, false, ◌==◌, ◌&&◌, ◌||◌, nat_le, if◌then◌else◌, count_by, fold}
+use Rattle.std.specs.List.{flat_map, list_any}
+use Rattle.am_base.specs.declared.outcome.Outcome.{Outcome}
+use Rattle.am_base.specs.declared.outcome.Outcome.TheVariants as said
+use Rattle.am_group.specs.declared.event.Act.{Act}
+use Rattle.am_group.specs.declared.event.Act.TheVariants as act
+use Rattle.am_group.specs.declared.event.Record.{Record}
+use Rattle.am_calls.specs.declared.answer.Answer.{Answer}
+use Rattle.am_calls.specs.declared.answer.Answer.TheVariants as answer
+use Rattle.am_calls.specs.Tags.{is_own, is_turn_part, is_check, own_of}
+
+-- ---- outcomes that are answers
+
+-- of a ballot
+abbrev pub ballot_answer : Outcome → Option Answer
+ballot_answer (said.Decided number members) = Some (answer.Decided number members)
+ballot_answer (said.TooFew got least) = Some (answer.TooFew got least)
+ballot_answer (said.Crowded base top) = Some (answer.Crowded base top)
+ballot_answer (said.Overtaken by) = Some (answer.Overtaken by)
+ballot_answer (said.NotIn best) = Some (answer.NotIn best)
+ballot_answer said.NotMember = Some answer.NotMember
+ballot_answer said.Leaving = Some answer.Leaving
+ballot_answer _ = None
+
+abbrev pub join_answer : Outcome → Option Answer
+join_answer (said.Joined number) = Some (answer.Joined number)
+join_answer said.NotMember = Some answer.NotMember
+join_answer said.Departed = Some answer.NotMember
+join_answer said.Leaving = Some answer.Leaving
+join_answer _ = None
+
+abbrev pub leave_answer : Outcome → Option Answer
+leave_answer said.Departed = Some answer.Left
+leave_answer said.Leaving = Some answer.Leaving
+leave_answer said.NotMember = Some answer.NotMember
+leave_answer (said.Busy queued) = Some (answer.Busy queued)
+leave_answer _ = None
+
+abbrev pub send_answer : Outcome → Option Answer
+send_answer (said.Sent req number) = Some (answer.Sent req number)
+send_answer (said.Busy queued) = Some (answer.Busy queued)
+send_answer said.NotMember = Some answer.NotMember
+send_answer said.Leaving = Some answer.Leaving
+send_answer _ = None
+
+abbrev pub take_answer : Outcome → Option Answer
+take_answer (said.Took number entry) = Some (answer.Took number entry)
+take_answer said.NotMember = Some answer.NotMember
+take_answer _ = None
+
+abbrev pub stop_answer : Outcome → Option Answer
+stop_answer said.Stopped = Some answer.StopDone
+stop_answer _ = None
+
+-- of a call's own act
+unfoldable pub own_answer : Act → Outcome → Option Answer
+own_answer (act.Send body) outcome = send_answer outcome
+own_answer act.Take outcome = take_answer outcome
+own_answer act.Join outcome = join_answer outcome
+own_answer act.Leave outcome = leave_answer outcome
+own_answer (act.Reset least resilience) outcome = ballot_answer outcome
+own_answer act.Stop outcome = stop_answer outcome
+own_answer _ outcome = None
+
+-- that a leave goes on is no answer at its check
+abbrev pub left_answer : Outcome → Option Answer
+left_answer said.Leaving = None
+left_answer outcome = leave_answer outcome
+
+-- of the check at a call's end, by the call's own act
+unfoldable pub end_answer : Act → Outcome → Option Answer
+end_answer (act.Send body) outcome = send_answer outcome
+end_answer act.Join outcome = join_answer outcome
+end_answer act.Leave outcome = left_answer outcome
+end_answer (act.Reset least resilience) outcome = ballot_answer outcome
+end_answer _ outcome = None
+
+-- ---- the answer of a call
+
+abbrev pub or_else : Option Answer → Option Answer → Option Answer
+or_else None other = other
+or_else (Some a) other = Some a
+
+-- the request of a send
+abbrev pub request_in : Outcome → ℕ
+request_in (said.Queued req) = req
+request_in _ = 0
+
+-- the sequencer had no room for this request
+abbrev pub put_off_in : ℕ → Outcome → List Answer
+put_off_in req (said.PutOff its base top) = if its == req then answer.PutOff req base top ∷ [] else []
+put_off_in req _ = []
+
+abbrev pub last_or : Answer → List Answer → Answer
+last_or first others = fold (λ a b. b) first others
+
+-- where it used its turns for nothing
+abbrev pub late : ℕ → Option Record → List Record → Answer
+late turns None records = answer.Late turns
+late turns (Some own) records = last_or (answer.Late turns) (flat_map (λ r. put_off_in (request_in own.outcome) r.outcome) records)
+
+abbrev pub answer_in : Act → Record → Option Answer
+answer_in own r =
+    if is_own r.by.part then own_answer r.event.act r.outcome
+    else if is_check r.by.part then end_answer own r.outcome
+    else None
+
+-- the act of a call, which is a receive before it makes one
+abbrev pub act_of_call : Option Record → Act
+act_of_call None = act.Take
+act_of_call (Some own) = own.event.act
+
+abbrev pub first_answer : Act → List Record → Option Answer
+first_answer own [] = None
+first_answer own (r ∷ rs) = or_else (answer_in own r) (first_answer own rs)
+
+abbrev pub is_take : Act → Bool
+is_take act.Take = true
+is_take _ = false
+
+-- a call ends with its check, and a receive with its Take
+abbrev pub is_end : Record → Bool
+is_end r = is_check r.by.part || is_take r.event.act
+
+-- what the records of one call answer; None where it isn't finished
+unfoldable pub answer_of : ℕ → List Record → Option Answer
+answer_of turns records =
+    or_else (first_answer (act_of_call (own_of records)) records)
+    (if list_any is_end records && nat_le turns (count_by (λ r. is_turn_part r.by.part) records) then Some (late turns (own_of records) records) else None)

@@ -1,0 +1,33 @@
+-- What holds of the definitions.
+use Rattle.std.specs.Prelude.{◌≡◌, ◌≢◌, ◌↔◌, ℕ, List, [], ◌∷◌, ◌++◌}
+use Rattle.am_base.specs.Founding.{Rules}
+use Rattle.am_base.specs.Names.{place_of}
+use Rattle.am_group.specs.declared.event.Record.{Record}
+use Rattle.am_model.specs.Legal.{IsLegal}
+use Rattle.am_calls.specs.Told.{told, IsNext}
+use Rattle.am_calls.specs.Tags.{of_place, of_caller, of_call, known}
+
+-- a journal is legal where each record is what its event gives behind those before it
+abbrev pub EachIsNext : Type 0
+EachIsNext = (rules : Rules) (journal : List Record) → IsLegal rules journal ↔ ((before rest : List Record) (r : Record) → journal ≡ before ++ r ∷ rest → IsNext rules before r)
+
+-- a record of another place leaves a name's node, and the life of its place
+abbrev pub OthersStay : Type 0
+OthersStay = (rules : Rules) (before : List Record) (r : Record) (name : ℕ) → place_of name ≢ place_of r.event.node
+    → ((told rules (before ++ r ∷ [])).nodes name ≡ (told rules before).nodes name) × ((told rules (before ++ r ∷ [])).lives (place_of name) ≡ (told rules before).lives (place_of name))
+
+-- what is known, what a place and a caller did, and the records of a call are the same
+pub record IsLeft (at by number : ℕ) (before after : List Record) : Type 0 where
+  pub known : known at by after ≡ known at by before
+  pub place : of_place at after ≡ of_place at before
+  pub caller : of_caller by after ≡ of_caller by before
+  pub call : of_call by number after ≡ of_call by number before
+
+-- a record of another place and another caller
+pub record IsApart (at by : ℕ) (r : Record) : Type 0 where
+  pub place : place_of r.event.node ≢ at
+  pub caller : r.by.caller ≢ by
+
+-- it leaves them
+abbrev pub OthersAreApart : Type 0
+OthersAreApart = (place caller call : ℕ) (before : List Record) (r : Record) → IsApart place caller r → IsLeft place caller call before (before ++ r ∷ [])

@@ -1,0 +1,49 @@
+-- Where a blocking call is ready: its end would tell its answer, so that it makes no turn.
+use Rattle.std.specs.Prelude.{ℕ, List, [], ◌∷◌, Option, Some, None, Bool, true, false, ◌&&◌, nat_lt, if◌then◌else◌}
+use Rattle.am_base.specs.declared.outcome.Outcome.{Outcome}
+use Rattle.am_base.specs.declared.outcome.Outcome.TheVariants as said
+use Rattle.am_packet.specs.declared.packet.Packet.{Packet}
+use Rattle.am_packet.specs.declared.packet.Packet.TheVariants as packets
+use Rattle.am_packet.specs.Boxes.{Letter}
+use Rattle.am_sender.specs.Sends.{is_settled}
+use Rattle.am_group.specs.declared.event.Act.{Act}
+use Rattle.am_group.specs.declared.event.Act.TheVariants as act
+use Rattle.am_group.specs.declared.event.Record.{Record}
+use Rattle.am_model.specs.Node.{Node, is_member}
+use Rattle.am_model.specs.World.{has_departed}
+use Rattle.am_model.specs.Group.{has_log}
+use Rattle.am_node.specs.declared.info.BallotEnd.{BallotEnd}
+use Rattle.am_node.specs.declared.info.BallotEnd.TheVariants.{Going, Ended}
+use Rattle.am_node.specs.Info.{ballot_end}
+
+-- the round of the ballot whose Invite went out
+abbrev pub round_of : Packet → ℕ → ℕ
+round_of (packets.Invite sender stamp) other = stamp.round
+round_of _ other = other
+
+abbrev pub round_in : List Letter → ℕ
+round_in [] = 0
+round_in (letter ∷ letters) = round_of letter.packet (round_in letters)
+
+abbrev pub is_ended : Option BallotEnd → Bool
+is_ended None = false
+is_ended (Some (Going outcome)) = false
+is_ended (Some (Ended outcome)) = true
+
+-- a queued send is settled
+abbrev pub is_sent : Node → Outcome → Bool
+is_sent m (said.Queued req) = is_settled req m.sends
+is_sent m _ = true
+
+-- behind its own act
+abbrev pub is_ready_after : Node → Act → Outcome → List Letter → Bool
+is_ready_after m (act.Send body) outcome letters = is_sent m outcome
+is_ready_after m act.Join outcome letters = has_log m.status
+is_ready_after m act.Leave outcome letters = has_departed m.status
+is_ready_after m (act.Reset least resilience) outcome letters = is_ended (ballot_end (round_in letters) m.ballot)
+is_ready_after m _ outcome letters = true
+
+-- a receive, which makes its act at its end, is ready where something is accepted that a member hasn't taken
+unfoldable pub is_ready : Node → Option Record → Bool
+is_ready m None = is_member m.status && nat_lt m.core.taken m.core.acc
+is_ready m (Some own) = is_ready_after m own.event.act own.outcome own.packets
