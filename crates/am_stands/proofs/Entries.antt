@@ -133,7 +133,7 @@ numbers_plain c m e (asked_join s v is other fit) = refl
 numbers_plain c m e (asked_leave s v report is other known stays) = refl
 
 -- equal keys are of equal stamps
-key_stamp : (a b : Stamp) → a.by < 256 → b.by < 256 → key a ≡ key b → a ≡ b
+pub key_stamp : (a b : Stamp) → a.by < 256 → b.by < 256 → key a ≡ key b → a ≡ b
 unfolding key
 key_stamp a b h k same =
     let by = key_by a b h k same in

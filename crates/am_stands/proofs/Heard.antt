@@ -38,7 +38,7 @@ use Rattle.am_stands.proofs.Ongoing.{is_ongoing}
 
 -- ---- an entry of a decided view's line
 
-item_next : (list : List Entry) (n : ℕ) (e : Entry) (number : ℕ) → number ≡ n + 1 → item_at list number ≡ Some e → slice_get list n ≡ Some e
+pub item_next : (list : List Entry) (n : ℕ) (e : Entry) (number : ℕ) → number ≡ n + 1 → item_at list number ≡ Some e → slice_get list n ≡ Some e
 item_next list n e number is at = let z : number ≡ suc n = omega arith in ap (item_at list) (sym z) ∙ at
 
 pub entry_needs : (w : World) (name number : ℕ) (x : Node) (v : Stamp) (e : Entry) (s : Group) → Kept s → x.core.who ≡ name → NameStands (within w name x) name x (s.node name) → IsUp (s.node name)

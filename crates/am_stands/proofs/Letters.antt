@@ -24,7 +24,7 @@ use Rattle.am_stands.proofs.Ends.{taken_more}
 
 -- ---- lists
 
-item_stays : (a b : List Entry) (n : ℕ) (e : Entry) → Begins a b → item_at a n ≡ Some e → item_at b n ≡ Some e
+pub item_stays : (a b : List Entry) (n : ℕ) (e : Entry) → Begins a b → item_at a n ≡ Some e → item_at b n ≡ Some e
 item_stays a b zero e h is = absurd (cc)
 item_stays a b (suc n) e h is = ap (λ l. slice_get l n) (sym h.same) ∙ get_front a h.rest n e is
 

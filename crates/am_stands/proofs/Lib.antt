@@ -18,3 +18,5 @@ pub mod Votes
 pub mod Shown
 pub mod Learned
 pub mod Closing
+pub mod Opens
+pub mod Pieces

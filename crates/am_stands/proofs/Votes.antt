@@ -190,7 +190,7 @@ unseen s i k up ballot = split (list_any (is_view_of (s.node i).promise) (s.node
     omega arith))
     (λ f. f)
 
-undecided : (s : Group) (i : ℕ) → Kept s → IsUp (s.node i) → (s.node i).ballot ≡ true → s.views.decided (key (s.node i).promise) ≡ false
+pub undecided : (s : Group) (i : ℕ) → Kept s → IsUp (s.node i) → (s.node i).ballot ≡ true → s.views.decided (key (s.node i).promise) ≡ false
 undecided s i k up ballot = split (s.views.decided (key (s.node i).promise))
     (λ t. absurd (let above = ((k.each i).ballot up ballot).above in let most = k.views.order (key (s.node i).promise) t in omega arith))
     (λ f. f)
