@@ -19,7 +19,7 @@ use Rattle.am_chain_moves.specs.Moves.{MayNumber}
 use Rattle.am_chain_moves.specs.Kept.{Kept}
 use Rattle.am_model.specs.Node as nodes
 use Rattle.am_model.specs.Node.{Node, view, members, is_member, acts, is_sequencer, has_own_leave}
-use Rattle.am_model.specs.Receiving.{is_view}
+use Rattle.am_model.specs.Receiving.{is_view, body_of}
 use Rattle.am_model.specs.Sequencing as sequencing
 use Rattle.am_model.specs.Hearing.{hears_member, hears_in_view, hears_sequencer}
 use Rattle.am_model.specs.World.{World, is_stopped}
@@ -29,7 +29,8 @@ use Rattle.am_effects.specs.Changes.{MayStore, Numbers, asked_send, own_send, as
 use Rattle.am_laws.proofs.Stamps.{same_stamp}
 use Rattle.am_laws.proofs.Taken.{known_member, leave_fits}
 use Rattle.am_stands.specs.Standing.{NameStands, StandsBut, within}
-use Rattle.am_stands.specs.Letters.{line, IsDecided, EntrySays, LeaverSays, ResultSays}
+use Rattle.am_stands.specs.Letters.{line, IsDecided, EntrySays, OrderSays, LeaverSays, ResultSays}
+use Rattle.am_stands.specs.States.{BodiesAsked, SendsOnce}
 use Rattle.am_stands.specs.Steps.{MayMove, NeedsNumber, IsOthers, NeedsEntry}
 use Rattle.am_stands.proofs.Changes.{told_whole, long_all, is_up}
 use Rattle.am_stands.proofs.Entries.{IsLeading}
@@ -91,6 +92,13 @@ bcast_needs w name from above base acc number x v e s k who runs old heard may s
     let q = of_sequencer name from x v who heard in
     entry_needs w name number x v e s k who old (is_up w name x (s.node name) runs q.member old) q.promise q.other
     (λ own. absurd (q.other (ap (λ (u : Stamp). u.by) (sym q.view_) ∙ own))) says.sequencer.decided says.stands may.next may.stays
+
+-- by the number of a send whose body is there: what was sent as this request is one body
+pub order_needs : (w : World) (name from above base acc number sender req : ℕ) (x : Node) (v : Stamp) (body : List ℕ) (s : Group) → Kept s → x.core.who ≡ name → is_stopped w name ≡ false → NameStands (within w name x) name x (s.node name)
+    → hears_sequencer x from v ≡ true → body_of x sender req ≡ Some body → MayStore x above base number (Data sender req body) → BodiesAsked w x → SendsOnce w → OrderSays w s from v acc number sender req → NeedsEntry s name x (Data sender req body)
+order_needs w name from above base acc number sender req x v body s k who runs old heard there may asked once says =
+    let same : says.body ≡ body = once sender req says.body body says.asked (asked sender req body there) in
+    bcast_needs w name from above base acc number x v (Data sender req body) s k who runs old heard may (subst (λ b. EntrySays s from v acc number (Data sender req b)) same says.entry)
 
 -- and the View of the ballot that it promised
 pub result_needs : (w : World) (name from above base number : ℕ) (x : Node) (v : Stamp) (names : List ℕ) (resilience : ℕ) (s : Group) → Kept s → x.core.who ≡ name → is_stopped w name ≡ false → NameStands (within w name x) name x (s.node name)

@@ -8,7 +8,9 @@ use Rattle.am_chain_moves.specs.Group.{Group, opening}
 use Rattle.am_model.specs.Node.{Node, Ballot}
 use Rattle.am_model.specs.Group.{has_log}
 use Rattle.am_chain_moves.specs.Runs.{Run}
-use Rattle.am_stands.specs.Letters.{VoteTells, IsDecided, line}
+use Rattle.am_model.specs.Receiving.{body_of}
+use Rattle.am_model.specs.World.{World}
+use Rattle.am_stands.specs.Letters.{VoteTells, IsDecided, WasAsked, line}
 
 -- besides what LinesOpen has of the list of who is up: its view isn't above its promise, and it opens with what its view chose
 pub record ListStands (s : Group) (i : ℕ) : Type 0 where
@@ -41,3 +43,11 @@ LinesOpen s = (x : ℕ) (list : List Entry) → s.views.decided x ≡ true → l
 -- in every lawful run of the group
 abbrev pub RunsOpen : Type 0
 RunsOpen = (founders : List ℕ) (first resilience : ℕ) (s : Group) → Run founders first resilience s → LinesOpen s
+
+-- each body that a node keeps, or waits with, was sent as this request
+abbrev pub BodiesAsked : World → Node → Type 0
+BodiesAsked w m = (from req : ℕ) (body : List ℕ) → body_of m from req ≡ Some body → WasAsked w from req body
+
+-- and a request stands for one body
+abbrev pub SendsOnce : World → Type 0
+SendsOnce w = (name req : ℕ) (a b : List ℕ) → WasAsked w name req a → WasAsked w name req b → a ≡ b
