@@ -2,15 +2,17 @@
 use Rattle.std.proofs.Common.{◌≡◌, ◌≢◌, ◌⊎◌, inl, inr, ⊎_elim, ℕ, zero, suc, ◌+◌, ◌<◌, ◌≤◌, ◌==◌, ◌&&◌, ◌||◌, not, nat_lt, List, Bool, true, false, if◌then◌else◌, length, refl, sym, ap, ◌∙◌, subst, arith}
 use Rattle.std.proofs.lemmas.Bool.Decides.{nat_tests}
 use Rattle.am_base.specs.Names.{has}
-use Rattle.am_chain_lists.specs.Whole.{key}
+use Rattle.am_chain_lists.specs.Whole.{Begins, key}
 use Rattle.am_chain_moves.specs.Group as groups
 use Rattle.am_chain_moves.specs.Group.{Group, Chosen, put, count, how_many, opening}
-use Rattle.am_chain_moves.specs.Moves.{Move, with_node, with_choice, choice_of, longer, numbers, stores, accepts, learns, begins, raises, shows, serves, fetches, decides, gives_over, welcomes, asks, departs, closes, stops}
+use Rattle.am_chain_moves.specs.Moves.{Move, MayDecide, with_node, with_choice, choice_of, longer, numbers, stores, accepts, learns, begins, raises, shows, serves, fetches, decides, gives_over, welcomes, asks, departs, closes, stops}
 use Rattle.am_chain_moves.specs.Runs.{Run, more, counts_for, IsLawful}
 use Rattle.am_chain_moves.specs.Kept.{Kept}
-use Rattle.am_chain_moves.proofs.Puts.{by_cases, put_at, count_within}
-use Rattle.am_chain.proofs.Runs.{run_keeps}
+use Rattle.am_chain_moves.proofs.Puts.{by_cases, put_at, put_same, count_within}
+use Rattle.am_chain.proofs.Runs.{run_keeps, choices_keep}
+use Rattle.am_stands.specs.Growing.{DecidesNew}
 use Rattle.am_stands.specs.Lawful.{IsNoStop, RunsGoOn}
+use Rattle.am_stands.proofs.Votes.{undecided as still_open}
 
 -- ---- what counts as lost
 
@@ -106,3 +108,19 @@ pub runs_go_on : RunsGoOn
 runs_go_on founders first resilience s t run move goes =
     let o = run_keeps founders first resilience s run in
     more run (record { moved = t; move = move; complete = t.views.complete; stay = λ view c. c; marks = λ view c. inl c; is = refl }) (lawful_move s t move o.kept goes o.lawful)
+
+-- ---- a decision in a lawful run
+
+-- is a new one that found all that was accepted; what its members have that leave is to be known
+pub decides_new : (founders : List ℕ) (first resilience : ℕ) (s : Group) (i : ℕ) (members : List ℕ) (strong : ℕ) → Run founders first resilience s → (may : MayDecide s i members strong)
+    → ((j : ℕ) → (s.node j).leaving ≡ true → has members j ≡ true → Begins (s.node j).list (opening (choice_of (s.node i) members strong))) → DecidesNew (decides i members strong may)
+decides_new founders first resilience s i members strong run may leavers =
+    let at = key (s.node i).promise in
+    let choice = choice_of (s.node i) members strong in
+    let kept = (run_keeps founders first resilience s run).kept in
+    let chosen : put s.views.chosen at choice at ≡ choice = put_same s.views.chosen at choice in
+    let line_ : put s.views.line at (opening choice) at ≡ opening choice = put_same s.views.line at (opening choice) in
+    (still_open s i kept may.up may.ballot, record {
+      accepted = subst (λ (c : Chosen). Begins s.group c.before) (sym chosen) (choices_keep founders first resilience s run i members strong may);
+      leavers = λ j leaves among. subst (Begins (s.node j).list) (sym line_) (leavers j leaves (ap (λ (c : Chosen). has c.members j) (sym chosen) ∙ among));
+    })
