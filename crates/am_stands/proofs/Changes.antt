@@ -1,5 +1,5 @@
 -- The changes of a node that make no list longer, as moves of the group.
-use Rattle.std.proofs.Common.{◌≡◌, ◌≢◌, ℕ, ◌+◌, ◌<◌, ◌≤◌, ◌==◌, ◌||◌, not, Bool, true, false, List, ◌++◌, length, take, Option, Some, None, refl, sym, ap, ◌∙◌, subst, arith, nat_lt}
+use Rattle.std.proofs.Common.{◌≡◌, ◌≢◌, ℕ, ◌+◌, ◌<◌, ◌≤◌, ◌==◌, ◌||◌, not, Bool, true, false, List, ◌++◌, length, take, Option, Some, None, refl, sym, ap, ◌∙◌, subst, arith}
 use Rattle.std.proofs.lemmas.Bool.Decides.{nat_tests}
 use Rattle.std.proofs.lemmas.List.{length-append, length-take}
 use Rattle.am_base.specs.declared.name.Stamp.{Stamp}
@@ -20,7 +20,6 @@ use Rattle.am_model.specs.Node as nodes
 use Rattle.am_model.specs.Node.{Node, Ballot, members, is_member, is_asking, unsettled, set_at}
 use Rattle.am_model.specs.Calls.{is_unfinished}
 use Rattle.am_model.specs.Ballots.{Verdict, overtaken, promised, next_stamp}
-use Rattle.am_model.specs.Refresh.{refresh}
 use Rattle.am_model.specs.Hearing.{hears_member}
 use Rattle.am_model.specs.Group.{has_log}
 use Rattle.am_model.specs.World.{World, is_stopped, has_departed}
@@ -28,15 +27,14 @@ use Rattle.am_model.proofs.Folds.{fold_append}
 use Rattle.am_model.proofs.Greatest.{split, and_both}
 use Rattle.am_effects.specs.Causes.{Cause, hears}
 use Rattle.am_effects.specs.Looks.{Balloting, with_more, without_one, as_it_is, Looks, finds_itself_out, waits, fetches_from_best, finds_too_few, finds_no_room, decides}
-use Rattle.am_effects.specs.Changes.{Promises, invited, overtaken as overtaken_by, told_result, refreshes, settles, takes_report, admits, numbers, keeps_body, notes, stores, begins_list, departs, promises, opens, looks, fetches, stores_view, queues, collects, takes, asks_to_join, asks_to_leave, closes}
-use Rattle.am_effects.proofs.Rests.{rests_refresh, settle_is}
+use Rattle.am_effects.specs.Changes.{Promises, invited, overtaken as overtaken_by, told_result}
 use Rattle.am_effects.proofs.Statuses.{logged}
 use Rattle.am_laws.proofs.Stamps.{equal_stamps}
 use Rattle.am_packet.specs.declared.packet.Packet.TheVariants as packet
 use Rattle.am_stands.specs.Standing.{NameStands, FrontsStand, StandsBut, within}
 use Rattle.am_stands.specs.Letters.{GoneSays, has_stopped, may_go}
 use Rattle.am_stands.specs.Moving.{Leads}
-use Rattle.am_stands.specs.Steps.{MayMove, ChangesStand}
+use Rattle.am_stands.specs.Steps.{MayMove}
 use Rattle.am_stands.proofs.Names.{one_move, no_move, name_in, views_in, lines_within, each_within, fronts_within}
 
 -- ---- a node that is the same to the group
@@ -276,4 +274,3 @@ depart_stands w name from number v c x s may is heard leaves h =
     moved w name x (record x { status = status.Departed }) s (record (s.node name) { departed = true }) refl
     (group.departs name go.0 go.1)
     (λ k. record { begins = record { within = k.begins.within; image = k.begins.image }; list = k.list; log_ = up.log; stopped = k.stopped; departed = refl; leaving = k.leaving; promise = k.promise; ballot = k.ballot; start = λ t. k.start (logged x.status member) }) h
-

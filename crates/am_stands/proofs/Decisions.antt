@@ -1,5 +1,5 @@
 -- A decision, as a move of the group.
-use Rattle.std.proofs.Common.{◌≡◌, ◌≢◌, ◌⊎◌, inl, inr, ⊎_elim, ℕ, zero, suc, ◌+◌, ◌<◌, ◌≤◌, ◌==◌, ◌||◌, max, not, Bool, true, false, if◌then◌else◌, List, [], ◌∷◌, ◌++◌, length, take, Option, Some, None, slice_get, refl, sym, ap, ◌∙◌, subst, arith}
+use Rattle.std.proofs.Common.{◌≡◌, ⊎_elim, ℕ, ◌+◌, ◌==◌, max, true, false, List, [], ◌∷◌, ◌++◌, length, take, Some, slice_get, refl, sym, ap, ◌∙◌, subst, arith}
 use Rattle.std.specs.List.{list_any}
 use Rattle.std.proofs.lemmas.Bool.Decides.{nat_tests}
 use Rattle.std.proofs.lemmas.List.{append_assoc, append-nil, length-append}
@@ -9,7 +9,7 @@ use Rattle.am_base.specs.declared.entry.Entry.{Entry}
 use Rattle.am_base.specs.declared.entry.Entry.TheVariants.{View}
 use Rattle.am_base.specs.Stamps.{stamp_eq}
 use Rattle.am_base.specs.Lists.{Log}
-use Rattle.am_chain_lists.specs.Whole.{Begins, told, view_of, key}
+use Rattle.am_chain_lists.specs.Whole.{key}
 use Rattle.am_chain_moves.specs.Group as groups
 use Rattle.am_chain_moves.specs.Group.{Group, Views, put, opening}
 use Rattle.am_chain_moves.specs.Moves.{Move, with_choice, choice_of}
@@ -17,9 +17,7 @@ use Rattle.am_chain_moves.specs.Moves as group
 use Rattle.am_model.specs.Node as nodes
 use Rattle.am_model.specs.Node.{Node, Ballot, view, members, pushed, set_at}
 use Rattle.am_base.specs.declared.outcome.Outcome.TheVariants as said
-use Rattle.am_model.specs.Ballots.{Verdict, need_of, left_in, trimmed_for, restarted, finished}
-use Rattle.am_model.specs.Calls.{is_unfinished}
-use Rattle.am_model.specs.Receiving.{is_view}
+use Rattle.am_model.specs.Ballots.{need_of, left_in, restarted, finished}
 use Rattle.am_model.specs.World.{Decided, World, last_view}
 use Rattle.am_model.specs.Lawful.{whole, is_view_of}
 use Rattle.am_model.specs.Claims.{up_to_view, up_to_next, line_of}
@@ -30,12 +28,12 @@ use Rattle.am_effects.specs.Looks.{MayDecide, HasOpen, Balloting, with_more, wit
 use Rattle.am_effects.proofs.Items.{get_front, get_last, get_push}
 use Rattle.am_effects.proofs.Says.{told_pushed}
 use Rattle.am_laws.proofs.ViewSteps.{after_view}
-use Rattle.am_stands.specs.Standing.{BeginsIn, NameStands, NotedStands, IsLast, WasNoted, ViewsStand, StandsBut, within}
+use Rattle.am_stands.specs.Standing.{NameStands, NotedStands, ViewsStand, StandsBut, within}
 use Rattle.am_stands.specs.Moving.{Leads}
 use Rattle.am_stands.specs.Steps.{MayMove, NeedsDecision, noting}
 use Rattle.am_stands.proofs.Names.{one_move, name_in, each_within, fronts_within}
 use Rattle.am_stands.proofs.Changes.{own_name, long_all}
-use Rattle.am_stands.proofs.Lines.{HasViewOf, line_ends}
+use Rattle.am_stands.proofs.Lines.{line_ends}
 use Rattle.am_stands.proofs.Entries.{noted_stands, line_here}
 
 -- ---- lists

@@ -1,10 +1,10 @@
 -- At the end of a step the group accepts what its sequencer does, and the name learns how far that is.
-use Rattle.std.proofs.Common.{◌≡◌, ◌≢◌, ℕ, zero, suc, ◌+◌, ◌<◌, ◌≤◌, ◌==◌, max, Bool, true, false, if◌then◌else◌, List, [], ◌∷◌, ◌++◌, length, take, Some, slice_get, refl, sym, ap, ◌∙◌, subst, arith}
+use Rattle.std.proofs.Common.{◌≡◌, ◌≢◌, ℕ, zero, suc, ◌<◌, ◌≤◌, ◌==◌, max, true, false, if◌then◌else◌, List, [], ◌∷◌, ◌++◌, length, take, Some, slice_get, refl, sym, ap, ◌∙◌, subst, arith}
 use Rattle.std.proofs.lemmas.Bool.Decides.{nat_tests}
 use Rattle.am_base.specs.declared.entry.Entry.{Entry}
 use Rattle.am_base.specs.declared.name.Stamp.{Stamp}
 use Rattle.am_group.specs.declared.event.Event.{Event}
-use Rattle.am_chain_lists.specs.Whole.{Begins, told, key}
+use Rattle.am_chain_lists.specs.Whole.{Begins, told}
 use Rattle.am_chain_lists.proofs.Prefixes.{begins_length}
 use Rattle.am_chain_moves.specs.Group as groups
 use Rattle.am_chain_moves.specs.Group.{Group, put}
@@ -13,12 +13,11 @@ use Rattle.am_chain_moves.specs.Moves as group
 use Rattle.am_model.specs.Node.{Node, set_at}
 use Rattle.am_model.specs.Emit.{Step}
 use Rattle.am_model.specs.World.{Decided, World, is_stopped, has_departed, group_after, views_after, stepped}
-use Rattle.am_model.specs.Lawful.{whole}
 use Rattle.am_model.specs.Claims.{up_to_next, line_of}
 use Rattle.am_model.proofs.Greatest.{split}
-use Rattle.am_stands.specs.Standing.{BeginsIn, NameStands, FrontsStand, NotedStands, WasNoted, IsLast, ViewsStand, StandsBut, Stands}
+use Rattle.am_stands.specs.Standing.{NameStands, FrontsStand, ViewsStand, Stands}
 use Rattle.am_stands.specs.Moving.{Moves, none, moves, Leads}
-use Rattle.am_stands.specs.Ends.{Accepts, no_more, rises, MayLearn, Learns, departed, bare, learns, NeedsEnd, before_end, EndsStand}
+use Rattle.am_stands.specs.Ends.{Accepts, no_more, rises, Learns, departed, bare, learns, before_end, EndsStand}
 use Rattle.am_stands.proofs.Names.{no_move, one_move, views_noted}
 
 -- ---- a longer group list

@@ -1,11 +1,11 @@
 -- The changes of a node that make its list longer, or let it begin, as moves of the group.
-use Rattle.std.proofs.Common.{◌≡◌, ◌≢◌, ◌⊎◌, inl, inr, ⊎_elim, ℕ, ◌+◌, ◌<◌, ◌≤◌, ◌==◌, ◌&&◌, Bool, true, false, if◌then◌else◌, List, [], ◌∷◌, ◌++◌, length, take, Option, Some, None, slice_get, refl, sym, ap, ◌∙◌, subst, arith}
+use Rattle.std.proofs.Common.{◌≡◌, ◌≢◌, ℕ, ◌<◌, ◌≤◌, ◌==◌, true, false, List, [], ◌∷◌, ◌++◌, length, take, Some, slice_get, refl, sym, ap, ◌∙◌, subst, arith}
 use Rattle.std.proofs.lemmas.Bool.Decides.{nat_tests}
 use Rattle.std.proofs.lemmas.List.{append_assoc, append-nil}
 use Rattle.am_base.specs.declared.name.Stamp.{Stamp}
 use Rattle.am_base.specs.declared.image.Image.{Image}
 use Rattle.am_base.specs.declared.entry.Entry.{Entry}
-use Rattle.am_base.specs.declared.entry.Entry.TheVariants.{Data, Join, Leave, View}
+use Rattle.am_base.specs.declared.entry.Entry.TheVariants.{View}
 use Rattle.am_base.specs.Names.{rank_of}
 use Rattle.am_base.specs.Stamps.{stamp_eq}
 use Rattle.am_base.specs.Lists.{Log, fits}
@@ -16,8 +16,7 @@ use Rattle.am_chain_moves.specs.Group as groups
 use Rattle.am_chain_moves.specs.Group.{Group, Views, put, IsUp, opening}
 use Rattle.am_chain_moves.specs.Moves.{Move, with_node, with_line, longer}
 use Rattle.am_chain_moves.specs.Moves as group
-use Rattle.am_model.specs.Node as nodes
-use Rattle.am_model.specs.Node.{Node, view, is_member, acts, is_sequencer, pushed, set_at}
+use Rattle.am_model.specs.Node.{Node, view, is_member, acts, is_sequencer, pushed}
 use Rattle.am_model.specs.Calls.{is_unfinished}
 use Rattle.am_model.specs.Receiving.{is_view}
 use Rattle.am_model.specs.Group.{has_log}
@@ -29,9 +28,9 @@ use Rattle.am_model.specs.Joining.{begun}
 use Rattle.am_effects.specs.Causes.{Cause}
 use Rattle.am_effects.specs.Changes.{Numbers, asked_send, own_send, asked_join, asked_leave}
 use Rattle.am_laws.proofs.Stamps.{same_stamp}
-use Rattle.am_stands.specs.Standing.{BeginsIn, NameStands, FrontsStand, NotedStands, ViewsStand, StandsBut, within}
+use Rattle.am_stands.specs.Standing.{NameStands, NotedStands, ViewsStand, StandsBut, within}
 use Rattle.am_stands.specs.Moving.{Leads}
-use Rattle.am_stands.specs.Steps.{MayMove, NeedsNumber, IsOthers, NeedsEntry, NeedsShown, NeedsPiece, of_line, of_shown, NeedsWelcome}
+use Rattle.am_stands.specs.Steps.{MayMove, NeedsNumber, IsOthers, NeedsEntry, NeedsPiece, of_line, of_shown, NeedsWelcome}
 use Rattle.am_stands.proofs.Names.{one_move, views_noted, each_within, fronts_within}
 use Rattle.am_stands.proofs.Changes.{own_name, is_up, told_whole}
 use Rattle.am_stands.proofs.Lines.{HasViewOf, next_of_list, line_stays, line_ends, line_grows, opened}
@@ -262,16 +261,16 @@ welcome_stands w name c x v base join image s may needs h =
     one_move (StandsBut name (within w name y)) s (with_node s name b) (group.welcomes name v base join needs.may)
     (record {
       each = each_within w name x y s b (λ k. record {
-            begins = record { within = subst (λ (g : List Entry). base ≤ length g) h.group needs.within; image = needs.image_ ∙ ap told all_of };
-            list = all_of ∙ sym (append-nil (take base w.group));
-            log_ = refl;
-            stopped = k.stopped;
-            departed = needs.may.there.stays;
-            leaving = k.leaving;
-            promise = refl;
-            ballot = k.ballot;
-            start = λ t. refl;
-          }) h.each;
+        begins = record { within = subst (λ (g : List Entry). base ≤ length g) h.group needs.within; image = needs.image_ ∙ ap told all_of };
+        list = all_of ∙ sym (append-nil (take base w.group));
+        log_ = refl;
+        stopped = k.stopped;
+        departed = needs.may.there.stays;
+        leaving = k.leaving;
+        promise = refl;
+        ballot = k.ballot;
+        start = λ t. refl;
+      }) h.each;
       fronts = fronts_within w name x y s b h.fronts;
       views = views_noted (within w name x) (within w name y) s.views refl lines h.views;
       group = h.group;

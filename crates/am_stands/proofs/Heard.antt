@@ -1,8 +1,8 @@
 -- What a change needs of the group, from what a letter says and what every run of the group keeps.
-use Rattle.std.proofs.Common.{◌≡◌, ◌≢◌, ◌⊎◌, inl, inr, ⊎_elim, ℕ, zero, suc, ◌+◌, ◌<◌, ◌≤◌, ◌==◌, ◌&&◌, not, nat_lt, List, [], ◌∷◌, ◌++◌, length, take, Bool, true, false, Some, slice_get, refl, sym, ap, ◌∙◌, subst, arith}
+use Rattle.std.proofs.Common.{◌≡◌, ◌≢◌, ℕ, suc, ◌+◌, ◌==◌, ◌&&◌, not, nat_lt, List, length, true, false, Some, slice_get, refl, sym, ap, ◌∙◌, subst, arith}
 use Rattle.std.proofs.lemmas.Bool.Decides.{nat_tests}
 use Rattle.am_base.specs.declared.entry.Entry.{Entry}
-use Rattle.am_base.specs.declared.entry.Entry.TheVariants.{Data, Join, Leave, View}
+use Rattle.am_base.specs.declared.entry.Entry.TheVariants.{Data, View}
 use Rattle.am_base.specs.declared.name.Stamp.{Stamp}
 use Rattle.am_base.specs.declared.image.Image.{Image}
 use Rattle.am_base.specs.declared.image.Report.{Report}
@@ -12,26 +12,24 @@ use Rattle.am_base.specs.Lists.{row_of, fits, members_of}
 use Rattle.am_packet.specs.declared.packet.Packet.TheVariants as packet
 use Rattle.am_sender.specs.declared.OwnSend.{OwnSend}
 use Rattle.am_group.specs.Journals.{item_at}
-use Rattle.am_chain_lists.specs.Whole.{Begins, told, view_of, key}
-use Rattle.am_chain_moves.specs.Group as groups
+use Rattle.am_chain_lists.specs.Whole.{told, key}
 use Rattle.am_chain_moves.specs.Group.{Group, IsUp}
 use Rattle.am_chain_moves.specs.Moves.{MayNumber}
 use Rattle.am_chain_moves.specs.Kept.{Kept}
 use Rattle.am_model.specs.Node as nodes
 use Rattle.am_model.specs.Node.{Node, view, members, is_member, acts, is_sequencer, has_own_leave}
-use Rattle.am_model.specs.Receiving.{is_view, body_of}
-use Rattle.am_model.specs.Sequencing as sequencing
+use Rattle.am_model.specs.Receiving.{body_of}
 use Rattle.am_model.specs.Hearing.{hears_member, hears_in_view, hears_sequencer}
 use Rattle.am_model.specs.World.{World, is_stopped}
-use Rattle.am_model.proofs.Greatest.{split, and_both}
+use Rattle.am_model.proofs.Greatest.{and_both}
 use Rattle.am_effects.specs.Causes.{Cause, hears}
 use Rattle.am_effects.specs.Changes.{MayStore, Numbers, asked_send, own_send, asked_join, asked_leave}
 use Rattle.am_laws.proofs.Stamps.{same_stamp}
 use Rattle.am_laws.proofs.Taken.{known_member, leave_fits}
-use Rattle.am_stands.specs.Standing.{NameStands, StandsBut, within}
+use Rattle.am_stands.specs.Standing.{NameStands, within}
 use Rattle.am_stands.specs.Letters.{line, IsDecided, EntrySays, OrderSays, LeaverSays, ResultSays}
 use Rattle.am_stands.specs.States.{BodiesAsked, SendsOnce}
-use Rattle.am_stands.specs.Steps.{MayMove, NeedsNumber, IsOthers, NeedsEntry}
+use Rattle.am_stands.specs.Steps.{NeedsNumber, IsOthers, NeedsEntry}
 use Rattle.am_stands.proofs.Changes.{told_whole, long_all, is_up}
 use Rattle.am_stands.proofs.Entries.{IsLeading}
 use Rattle.am_stands.proofs.Growing.{leads_line}

@@ -1,11 +1,11 @@
 -- As long as nobody stops, no move makes a run unlawful.
-use Rattle.std.proofs.Common.{◌≡◌, ◌≢◌, ◌⊎◌, inl, inr, ⊎_elim, ℕ, zero, suc, ◌+◌, ◌<◌, ◌≤◌, ◌==◌, ◌&&◌, ◌||◌, not, nat_lt, List, Bool, true, false, if◌then◌else◌, length, refl, sym, ap, ◌∙◌, subst, arith}
+use Rattle.std.proofs.Common.{◌≡◌, inl, ℕ, ◌==◌, ◌&&◌, ◌||◌, not, nat_lt, List, Bool, true, false, length, refl, sym, ap, ◌∙◌, subst, arith}
 use Rattle.std.proofs.lemmas.Bool.Decides.{nat_tests}
 use Rattle.am_base.specs.Names.{has}
 use Rattle.am_chain_lists.specs.Whole.{Begins, key}
 use Rattle.am_chain_moves.specs.Group as groups
 use Rattle.am_chain_moves.specs.Group.{Group, Chosen, put, count, how_many, opening}
-use Rattle.am_chain_moves.specs.Moves.{Move, MayDecide, with_node, with_choice, choice_of, longer, numbers, stores, accepts, learns, begins, raises, shows, serves, fetches, decides, gives_over, welcomes, asks, departs, closes, stops}
+use Rattle.am_chain_moves.specs.Moves.{Move, MayDecide, with_choice, choice_of, longer, numbers, stores, accepts, learns, begins, raises, shows, serves, fetches, decides, gives_over, welcomes, asks, departs, closes, stops}
 use Rattle.am_chain_moves.specs.Runs.{Run, more, counts_for, IsLawful}
 use Rattle.am_chain_moves.specs.Kept.{Kept}
 use Rattle.am_chain_moves.proofs.Puts.{by_cases, put_at, put_same, count_within}
@@ -119,8 +119,10 @@ decides_new founders first resilience s i members strong run may leavers =
     let choice = choice_of (s.node i) members strong in
     let kept = (run_keeps founders first resilience s run).kept in
     let chosen : put s.views.chosen at choice at ≡ choice = put_same s.views.chosen at choice in
-    let line_ : put s.views.line at (opening choice) at ≡ opening choice = put_same s.views.line at (opening choice) in
-    (still_open s i kept may.up may.ballot, record {
-      accepted = subst (λ (c : Chosen). Begins s.group c.before) (sym chosen) (choices_keep founders first resilience s run i members strong may);
-      leavers = λ j leaves among. subst (Begins (s.node j).list) (sym line_) (leavers j leaves (ap (λ (c : Chosen). has c.members j) (sym chosen) ∙ among));
-    })
+    let line_ : put s.views.line at (opening choice) at ≡ opening choice = put_same s.views.line at (opening choice) in (
+      still_open s i kept may.up may.ballot,
+      record {
+        accepted = subst (λ (c : Chosen). Begins s.group c.before) (sym chosen) (choices_keep founders first resilience s run i members strong may);
+        leavers = λ j leaves among. subst (Begins (s.node j).list) (sym line_) (leavers j leaves (ap (λ (c : Chosen). has c.members j) (sym chosen) ∙ among));
+      },
+    )

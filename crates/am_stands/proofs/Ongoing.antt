@@ -1,5 +1,5 @@
 -- Whose own Leave isn't in its list is still a member there, if it ever was.
-use Rattle.std.proofs.Common.{◌≡◌, ◌≢◌, ◌⊎◌, inl, inr, ⊎_elim, ℕ, ◌+◌, ◌<◌, ◌≤◌, ◌==◌, ◌&&◌, not, nat_lt, List, [], ◌∷◌, ◌++◌, length, Bool, true, false, slice_index, refl, sym, ap, ◌∙◌, subst, arith}
+use Rattle.std.proofs.Common.{◌≡◌, ◌≢◌, ◌⊎◌, inl, inr, ⊎_elim, ℕ, ◌+◌, ◌<◌, ◌==◌, ◌&&◌, not, nat_lt, List, [], ◌∷◌, ◌++◌, length, true, false, slice_index, refl, sym, ap, ◌∙◌, subst, arith}
 use Rattle.std.proofs.lemmas.Bool.Decides.{nat_tests}
 use Rattle.am_base.specs.declared.entry.Entry.{Entry}
 use Rattle.am_base.specs.declared.entry.Entry.TheVariants.{Data, Join, Leave, View}
@@ -10,9 +10,8 @@ use Rattle.am_base.specs.Names.{place_of, life_of}
 use Rattle.am_base.specs.Lists.{is_blank, at_place, row_of, member_life, with_row, viewed, after}
 use Rattle.am_chain_lists.specs.Whole.{Begins, BeginsBelow, IsGood, told, mem}
 use Rattle.am_chain_lists.proofs.Prefixes.{begins_same, begins_pushed}
-use Rattle.am_chain_lists.proofs.Rows.{by_cases, row_at, In, Spares, mod16, row_set, row_view, blank_joined}
+use Rattle.am_chain_lists.proofs.Rows.{by_cases, row_at, In, mod16, row_set, row_view, blank_joined}
 use Rattle.am_chain_lists.proofs.Members.{good_begins, told_push, long_told, mem_in, in_mem, mem_push}
-use Rattle.am_chain_moves.specs.Group as groups
 use Rattle.am_chain_moves.specs.Group.{Group, IsUp, IsOngoing}
 use Rattle.am_chain_moves.specs.Kept.{Kept}
 

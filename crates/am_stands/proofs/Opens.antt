@@ -1,5 +1,5 @@
 -- What begins the line of a decided view begins the line of its own last View's, in every lawful run of the group.
-use Rattle.std.proofs.Common.{◌≡◌, ◌≢◌, ◌⊎◌, inl, inr, ⊎_elim, ℕ, ◌+◌, ◌<◌, ◌≤◌, ◌==◌, List, [], ◌∷◌, ◌++◌, length, take, Bool, true, false, refl, sym, ap, ◌∙◌, subst, arith}
+use Rattle.std.proofs.Common.{◌≡◌, ◌≢◌, ⊎_elim, ℕ, ◌==◌, List, [], ◌∷◌, ◌++◌, true, refl, sym, ap, ◌∙◌, subst, arith}
 use Rattle.std.proofs.lemmas.Bool.Decides.{nat_tests}
 use Rattle.am_base.specs.declared.entry.Entry.{Entry}
 use Rattle.am_base.specs.declared.entry.Entry.TheVariants.{Data, Join, Leave, View}
@@ -9,12 +9,11 @@ use Rattle.am_chain_lists.proofs.Order.{view_viewed, view_push}
 use Rattle.am_chain_lists.proofs.Prefixes.{begins_refl, begins_more, begins_trans, begins_pushed, begins_length}
 use Rattle.am_chain_moves.specs.Group as groups
 use Rattle.am_chain_moves.specs.Group.{Group, Views, put, opening, Leads, IsUp}
-use Rattle.am_chain_moves.specs.Moves.{Move, MayNumber, MayDecide, with_node, with_line, with_choice, choice_of, longer, numbers, stores, accepts, learns, begins, raises, shows, serves, fetches, decides, gives_over, welcomes, asks, departs, closes, stops}
+use Rattle.am_chain_moves.specs.Moves.{Move, MayNumber, MayDecide, with_line, with_choice, choice_of, longer, numbers, stores, accepts, learns, begins, raises, shows, serves, fetches, decides, gives_over, welcomes, asks, departs, closes, stops}
 use Rattle.am_chain_moves.specs.Kept.{Kept}
-use Rattle.am_chain_moves.specs.Runs.{Run, founded, more, start, first_choice, first_stamp}
-use Rattle.am_chain_moves.proofs.Puts.{by_cases, put_same, put_other, put_cases, put_at}
+use Rattle.am_chain_moves.specs.Runs.{founded, more, start, first_stamp}
+use Rattle.am_chain_moves.proofs.Puts.{put_same, put_other, put_cases, put_at}
 use Rattle.am_chain.proofs.Runs.{run_keeps}
-use Rattle.am_stands.specs.Letters.{IsDecided, line}
 use Rattle.am_stands.specs.States.{LineOpens, LinesOpen, RunsOpen}
 use Rattle.am_stands.proofs.Growing.{leads_line}
 
@@ -125,6 +124,7 @@ start_opens founders first resilience x list d some part = ⊎_elim
   where
     itself : (n : ℕ) → (n == n) ≡ true
     itself n = grind (arith, nat_tests)
+
     nothing : (l : List Entry) → Begins l [] → l ≡ []
     nothing [] low = refl
     nothing (e ∷ es) low = absurd (let long = begins_length low in omega arith)

@@ -1,36 +1,33 @@
 -- What a node needs to store a Piece, from what the Piece says.
-use Rattle.std.proofs.Common.{◌≡◌, ◌≢◌, ◌⊎◌, inl, inr, ⊎_elim, ℕ, zero, suc, ◌+◌, ◌<◌, ◌≤◌, ◌==◌, ◌&&◌, not, List, [], ◌∷◌, ◌++◌, length, take, Bool, true, false, Some, slice_get, refl, sym, ap, ◌∙◌, subst, arith, max, length-append}
+use Rattle.std.proofs.Common.{◌≡◌, ◌≢◌, ℕ, suc, ◌<◌, ◌==◌, not, List, [], ◌∷◌, ◌++◌, length, true, false, Some, slice_get, refl, sym, ap, ◌∙◌, subst, arith, max, length-append}
 use Rattle.std.specs.List.{list_any}
 use Rattle.std.proofs.lemmas.Bool.Decides.{nat_tests}
 use Rattle.std.proofs.lemmas.List.{append_assoc}
 use Rattle.am_base.specs.declared.entry.Entry.{Entry}
 use Rattle.am_base.specs.declared.entry.Entry.TheVariants.{Data, Join, Leave, View}
-use Rattle.am_base.specs.declared.image.Image.{Image}
 use Rattle.am_base.specs.declared.name.Stamp.{Stamp}
 use Rattle.am_group.specs.Journals.{item_at}
 use Rattle.am_chain_lists.specs.Whole.{Begins, IsGood, NotView, view_of, key}
 use Rattle.am_chain_lists.proofs.Order.{key_by, view_up, view_viewed, view_below, view_push}
 use Rattle.am_chain_lists.proofs.Prefixes.{begins_more, begins_push, begins_length}
 use Rattle.am_chain_lists.proofs.Members.{good_begins}
-use Rattle.am_chain_moves.specs.Group as groups
 use Rattle.am_chain_moves.specs.Group.{Group, IsUp}
 use Rattle.am_chain_moves.specs.Kept.{Kept}
 use Rattle.am_model.specs.Node as nodes
 use Rattle.am_model.specs.Node.{Node, Ballot, view, is_member, set_at}
 use Rattle.am_model.specs.Calls.{is_unfinished}
 use Rattle.am_model.specs.Receiving.{is_view}
-use Rattle.am_model.specs.Hearing.{hears_member}
 use Rattle.am_model.specs.Lawful.{is_view_of}
-use Rattle.am_model.specs.Claims.{up_to_view, up_to_next, line_of}
+use Rattle.am_model.specs.Claims.{up_to_view, up_to_next}
 use Rattle.am_model.specs.World.{World, Decided, is_stopped}
-use Rattle.am_model.proofs.Greatest.{split, and_both}
+use Rattle.am_model.proofs.Greatest.{split}
 use Rattle.am_effects.specs.Looks.{HasOpen}
 use Rattle.am_effects.specs.Changes.{MayStore, Fetches, without_ballot, for_ballot}
 use Rattle.am_laws.proofs.Stamps.{same_stamp}
 use Rattle.am_stands.specs.Standing.{NameStands, StandsBut, within}
 use Rattle.am_stands.specs.Letters.{line, IsDecided, PieceSays, ShownEntry, of_line, of_shown, over}
 use Rattle.am_stands.specs.States.{LinesOpen}
-use Rattle.am_stands.specs.Steps.{MayMove, IsOthers, NeedsPiece, of_line as of_its_line, of_shown as of_its_shown}
+use Rattle.am_stands.specs.Steps.{IsOthers, NeedsPiece, of_line as of_its_line, of_shown as of_its_shown}
 use Rattle.am_stands.proofs.Changes.{own_name, long_all, is_up}
 use Rattle.am_stands.proofs.Entries.{key_stamp, line_here, view_whole}
 use Rattle.am_stands.proofs.Sent.{Speaks, promise_line}

@@ -1,16 +1,15 @@
 -- Votes: what a coordinator keeps of them, and what a voter shows.
-use Rattle.std.proofs.Common.{◌≡◌, ◌≢◌, ◌⊎◌, inl, inr, ⊎_elim, ℕ, ◌+◌, ◌<◌, ◌≤◌, ◌==◌, ◌&&◌, not, List, length, Bool, true, false, Option, Some, None, if◌then◌else◌, refl, sym, ap, ◌∙◌, subst, arith}
+use Rattle.std.proofs.Common.{◌≡◌, ◌≢◌, ◌⊎◌, ⊎_elim, ℕ, ◌<◌, ◌≤◌, ◌==◌, not, List, true, false, Option, Some, None, refl, sym, ap, ◌∙◌, subst, arith}
 use Rattle.std.proofs.lemmas.Bool.Decides.{nat_tests}
 use Rattle.am_base.specs.declared.entry.Entry.{Entry}
 use Rattle.am_base.specs.declared.image.Vote.{Vote}
 use Rattle.am_base.specs.declared.image.Image.{Image}
 use Rattle.am_base.specs.declared.name.Stamp.{Stamp}
 use Rattle.am_base.specs.Names.{has}
-use Rattle.am_base.specs.Stamps.{stamp_lt}
 use Rattle.am_base.specs.Lists.{members_of}
 use Rattle.am_packet.specs.declared.packet.Packet.TheVariants as packet
 use Rattle.am_group.specs.Journals.{item_at}
-use Rattle.am_chain_lists.specs.Whole.{told, mem, view_of, key}
+use Rattle.am_chain_lists.specs.Whole.{mem, view_of, key}
 use Rattle.am_chain_moves.specs.Group as groups
 use Rattle.am_chain_moves.specs.Group.{Group, IsThere, IsUp, put2}
 use Rattle.am_chain_moves.specs.Moves.{Move}
@@ -25,7 +24,7 @@ use Rattle.am_model.proofs.Greatest.{split, and_both}
 use Rattle.am_effects.specs.Causes.{Cause, hears}
 use Rattle.am_effects.specs.Looks.{HasOpen, Balloting, with_more, without_one, as_it_is}
 use Rattle.am_stands.specs.Standing.{NameStands, ViewsStand, Stands}
-use Rattle.am_stands.specs.Letters.{IsDecided, VoteTells, VoteSays, FetchSays, PieceSays, own, tells, over, for_ballot, of_promise, of_shown}
+use Rattle.am_stands.specs.Letters.{VoteTells, VoteSays, FetchSays, PieceSays, own, tells, over, for_ballot, of_promise, of_shown}
 use Rattle.am_stands.specs.Moving.{Moves, none, moves, Leads}
 use Rattle.am_stands.specs.States.{VotesStand}
 use Rattle.am_stands.specs.Growing.{Grows}

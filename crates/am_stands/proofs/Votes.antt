@@ -1,23 +1,21 @@
 -- A ballot that its coordinator decides may be decided by the group's own test.
-use Rattle.std.proofs.Common.{◌≡◌, ◌≢◌, ◌⊎◌, inl, inr, ⊎_elim, ℕ, zero, suc, ◌+◌, ◌-◌, ◌<◌, ◌≤◌, ◌==◌, ◌&&◌, ◌||◌, not, max, nat_lt, nat_le, is_some, get_or, set, List, [], ◌∷◌, ◌++◌, length, Bool, true, false, Option, Some, None, slice_index, if◌then◌else◌, refl, sym, ap, ◌∙◌, subst, arith}
+use Rattle.std.proofs.Common.{◌≡◌, ◌≢◌, ◌⊎◌, inl, inr, ⊎_elim, ℕ, zero, suc, ◌+◌, ◌<◌, ◌≤◌, ◌==◌, ◌&&◌, ◌||◌, not, max, nat_lt, is_some, get_or, set, List, [], ◌∷◌, ◌++◌, length, Bool, true, false, Option, Some, None, slice_index, refl, sym, ap, ◌∙◌, subst, arith}
 use Rattle.std.specs.List.{list_all, list_any, range_with_len}
 use Rattle.std.proofs.lemmas.Bool.Decides.{nat_tests}
 use Rattle.am_base.specs.declared.entry.Entry.{Entry}
 use Rattle.am_base.specs.declared.image.Vote.{Vote}
 use Rattle.am_base.specs.declared.image.Image.{Image}
 use Rattle.am_base.specs.declared.name.Stamp.{Stamp}
-use Rattle.am_base.specs.Names.{place_of, life_of, nobody, name_at, has, size, is_within}
+use Rattle.am_base.specs.Names.{place_of, life_of, nobody, has, size, is_within}
 use Rattle.am_base.specs.Stamps.{stamp_lt, stamp_eq}
-use Rattle.am_base.specs.Votes.{Shown, vote_lt}
+use Rattle.am_base.specs.Votes.{vote_lt}
 use Rattle.am_base.specs.Lists.{members_of}
 use Rattle.am_chain_lists.specs.Whole.{Begins, told, mem, view_of, resilience_of, key}
 use Rattle.am_chain_lists.proofs.Order.{key_lt, view_up}
 use Rattle.am_chain_lists.proofs.Prefixes.{begins_trans}
 use Rattle.am_chain_lists.proofs.Members.{told_push}
-use Rattle.am_chain_moves.specs.Group as groups
-use Rattle.am_chain_moves.specs.Group.{Group, IsThere, IsUp, NoBetter}
-use Rattle.am_chain_moves.specs.Moves as group
-use Rattle.am_chain_moves.specs.Moves.{MayDecide, Voted}
+use Rattle.am_chain_moves.specs.Group.{Group, IsThere, IsUp}
+use Rattle.am_chain_moves.specs.Moves.{MayDecide}
 use Rattle.am_chain_moves.specs.Kept.{Kept}
 use Rattle.am_model.specs.Node as nodes
 use Rattle.am_model.specs.Node.{Node, Ballot, view, members, only_name, name_where, those, is_member}
@@ -26,13 +24,12 @@ use Rattle.std.proofs.lemmas.List.{append_assoc, get_or-set_same, get_or-set_oth
 use Rattle.am_chain_lists.proofs.Rows.{mod16}
 use Rattle.am_model.specs.Lawful.{is_view_of}
 use Rattle.am_model.specs.Ballots.{trimmed_for, own_vote, best_of, need_of, has_voted, is_waited_for, left_in}
-use Rattle.am_model.specs.Laws.{IsBestVote}
-use Rattle.am_model.specs.World.{World, is_stopped}
+use Rattle.am_model.specs.World.{World}
 use Rattle.am_model.proofs.BestVotes.{best_vote_is}
-use Rattle.am_model.proofs.Greatest.{split, and_both}
+use Rattle.am_model.proofs.Greatest.{split}
 use Rattle.am_effects.specs.Looks as looks
 use Rattle.am_bounded.proofs.Changes.{some_left}
-use Rattle.am_laws.proofs.Stamps.{equal_stamps, same_stamp}
+use Rattle.am_laws.proofs.Stamps.{equal_stamps}
 use Rattle.am_laws.proofs.Taken.{own_need, those_at}
 use Rattle.am_laws.proofs.ViewMembers.{viewed_members, those_some, those_long}
 use Rattle.am_stands.specs.Standing.{NameStands, within}

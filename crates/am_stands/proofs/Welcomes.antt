@@ -1,7 +1,6 @@
 -- A joiner may begin where a Welcome says.
-use Rattle.std.proofs.Common.{◌≡◌, ◌≢◌, ◌⊎◌, inl, inr, ⊎_elim, ℕ, zero, suc, ◌+◌, ◌-◌, ◌<◌, ◌≤◌, ◌==◌, ◌&&◌, ◌||◌, not, nat_lt, List, [], ◌∷◌, ◌++◌, length, take, Bool, true, false, Some, slice_get, refl, sym, ap, ◌∙◌, subst, arith}
+use Rattle.std.proofs.Common.{◌≡◌, ◌≢◌, inl, ⊎_elim, ℕ, zero, suc, ◌+◌, ◌<◌, ◌≤◌, ◌==◌, ◌||◌, not, List, [], ◌∷◌, ◌++◌, length, take, true, false, Some, slice_get, refl, sym, ap, ◌∙◌, subst, arith}
 use Rattle.std.proofs.lemmas.Bool.Decides.{nat_tests}
-use Rattle.std.proofs.lemmas.Option.{slice_get_within}
 use Rattle.am_base.specs.declared.entry.Entry.{Entry}
 use Rattle.am_base.specs.declared.entry.Entry.TheVariants.{Join}
 use Rattle.am_base.specs.declared.name.Stamp.{Stamp}
@@ -9,16 +8,14 @@ use Rattle.am_base.specs.declared.image.Row.{Row}
 use Rattle.am_base.specs.declared.image.Image.{Image}
 use Rattle.am_base.specs.Names.{place_of, life_of}
 use Rattle.am_base.specs.Stamps.{stamp_lt}
-use Rattle.am_base.specs.Lists.{at_place, with_row, fits, after}
+use Rattle.am_base.specs.Lists.{with_row, fits, after}
 use Rattle.am_group.specs.Journals.{item_at}
 use Rattle.am_chain_lists.specs.Whole.{Begins, IsGood, told, mem, key}
 use Rattle.am_chain_lists.proofs.Prefixes.{begins_trans, begins_take, begins_push, begins_both, begins_length, length_push, length_take, take_begins}
 use Rattle.am_chain_lists.proofs.Rows.{row_at, In, Past, Was, mod16, row_set, past_after, not_both}
 use Rattle.am_chain_lists.proofs.Members.{good_begins, told_push, last_fits, long_told, mem_in, in_mem, was_begins}
 use Rattle.am_chain_lists.proofs.Order.{key_lt}
-use Rattle.am_chain_moves.specs.Group as groups
-use Rattle.am_chain_moves.specs.Group.{Group, IsThere}
-use Rattle.am_chain_moves.specs.Moves.{MayWelcome}
+use Rattle.am_chain_moves.specs.Group.{Group}
 use Rattle.am_chain_moves.specs.Kept.{Kept}
 use Rattle.am_model.specs.declared.status.Status.{Status}
 use Rattle.am_model.specs.declared.status.Status.TheVariants as status
