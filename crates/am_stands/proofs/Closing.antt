@@ -28,7 +28,9 @@ is_itself : (name : ℕ) → (name == name) ≡ true
 is_itself name = grind (arith, nat_tests)
 
 -- what stands for who has gone so
-gone_name : (w : World) (name : ℕ) (x : Node) (b : groups.Node) → b.has_log ≡ true → NameStands (within w name (pushed x (Leave x.core.who))) name (pushed x (Leave x.core.who)) b → NameStands (within w name (closed x)) name (closed x) (record b { departed = true })
+gone_name : (w : World) (name : ℕ) (x : Node) (b : groups.Node) → b.has_log ≡ true
+    → NameStands (within w name (pushed x (Leave x.core.who))) name (pushed x (Leave x.core.who)) b
+    → NameStands (within w name (closed x)) name (closed x) (record b { departed = true })
 gone_name w name x b log h =
     let r = rests_at_end (pushed x (Leave x.core.who)) in
     record {

@@ -39,7 +39,8 @@ use Rattle.am_stands.proofs.Entries.{noted_stands, line_here}
 -- ---- lists
 
 -- a View that wasn't there ends the line that it opens
-line_opens : (v : Stamp) (es : List Entry) (names : List ℕ) (resilience : ℕ) → list_any (is_view_of v) es ≡ false → up_to_next v (es ++ View v names resilience ∷ []) ≡ es ++ View v names resilience ∷ []
+line_opens : (v : Stamp) (es : List Entry) (names : List ℕ) (resilience : ℕ) → list_any (is_view_of v) es ≡ false
+    → up_to_next v (es ++ View v names resilience ∷ []) ≡ es ++ View v names resilience ∷ []
 unfolding up_to_next up_to_view
 line_opens v [] names resilience h = let t : stamp_eq v v ≡ true = grind (arith, nat_tests) in rw t refl
 line_opens v (x ∷ es) names resilience h = split (is_view_of v x)
@@ -167,7 +168,8 @@ module _ (w : World) (name : ℕ) (x y : Node) (a : groups.Node) (views : Views)
 
 -- ---- the decision
 
-pub decision_stands : (w : World) (name : ℕ) (c : Cause) (x : Node) (b : Ballot) (s : Group) → MayMove w name c x s → Balloting c x b → NeedsDecision s name x b → StandsBut name (within w name x) s
+pub decision_stands : (w : World) (name : ℕ) (c : Cause) (x : Node) (b : Ballot) (s : Group) → MayMove w name c x s → Balloting c x b
+    → NeedsDecision s name x b → StandsBut name (within w name x) s
     → Leads (StandsBut name (within (noting w (last_view (restarted (looks.view_of x b)))) name (record (restarted (looks.view_of x b)) { ballot = Some (finished b (said.Decided (nodes.top x + 1) (left_in b (need_of x b)))) }))) s
 unfolding next made
 decision_stands w name c x b s may why needs h =

@@ -43,7 +43,8 @@ leads_line s i k leads =
     let viewed : view_of (s.node i).list ≡ s.views.current = ap view_of ok.chain ∙ k.views.view in
     ap s.views.line (ap key viewed) ∙ sym ok.chain
 
-line_grows : (s : Group) (i : ℕ) (b : groups.Node) (list : List Entry) → s.views.line (key (view_of (s.node i).list)) ≡ (s.node i).list → Begins (s.node i).list list → (x : ℕ) → Begins (s.views.line x) (put s.views.line (key (view_of (s.node i).list)) list x)
+line_grows : (s : Group) (i : ℕ) (b : groups.Node) (list : List Entry) → s.views.line (key (view_of (s.node i).list)) ≡ (s.node i).list
+    → Begins (s.node i).list list → (x : ℕ) → Begins (s.views.line x) (put s.views.line (key (view_of (s.node i).list)) list x)
 line_grows s i b list chain grows x = put_at (λ y l. Begins (s.views.line y) l) s.views.line (key (view_of (s.node i).list)) list
     (subst (λ l. Begins l list) (sym chain) grows) (λ y other. begins_refl (s.views.line y)) x
 
@@ -59,7 +60,8 @@ number_grows s i e k leads = record {
 }
 
 -- what is accepted stands in what may be accepted
-accepted_grows : (s : Group) (node : ℕ → groups.Node) (list : List Entry) (n : ℕ) → Begins s.group list → MayAccept node list (length s.group) n → Begins s.group (take n list)
+accepted_grows : (s : Group) (node : ℕ → groups.Node) (list : List Entry) (n : ℕ) → Begins s.group list → MayAccept node list (length s.group) n
+    → Begins s.group (take n list)
 accepted_grows s node list n h may =
     let up = may.rises in
     let long = length_take n list may.within in
@@ -70,7 +72,8 @@ group_in s i k leads = subst (Begins s.group) (sym ((k.each i).leads leads).chai
 
 -- ---- a decision
 
-decision_grows : (s : Group) (i : ℕ) (members : List ℕ) (resilience : ℕ) → s.views.decided (key (s.node i).promise) ≡ false → NewView s (with_choice s i members resilience) (key (s.node i).promise) → Grows s (with_choice s i members resilience)
+decision_grows : (s : Group) (i : ℕ) (members : List ℕ) (resilience : ℕ) → s.views.decided (key (s.node i).promise) ≡ false
+    → NewView s (with_choice s i members resilience) (key (s.node i).promise) → Grows s (with_choice s i members resilience)
 unfolding put
 decision_grows s i members resilience fresh new = record {
   each = λ j. put_grows s i (record (s.node i) { list = opening (choice_of (s.node i) members resilience); ballot = false }) (record { list = begins_more (s.node i).list _; stopped = λ t. t; departed = λ t. t; leaving = λ t. t }) j;

@@ -149,7 +149,8 @@ itself : (v : Stamp) → stamp_eq v v ≡ true
 itself v = grind (arith, nat_tests)
 
 -- a view's line opens with its View
-pub opened : (v : Stamp) (before : List Entry) (names : List ℕ) (resilience : ℕ) (list : List Entry) → Begins (before ++ View v names resilience ∷ []) (up_to_next v list) → HasViewOf v list
+pub opened : (v : Stamp) (before : List Entry) (names : List ℕ) (resilience : ℕ) (list : List Entry)
+    → Begins (before ++ View v names resilience ∷ []) (up_to_next v list) → HasViewOf v list
 opened v before names resilience list h =
     let e = View v names resilience in
     let there = any_front (is_view_of v) (before ++ e ∷ []) h.rest (any_last (is_view_of v) before e (itself v)) in

@@ -19,7 +19,8 @@ use Rattle.am_stands.proofs.Growing.{leads_line}
 
 -- ---- an entry more of a sequencer
 
-line_opens : (s : Group) (i : ℕ) (e : Entry) (b : groups.Node) → Kept s → Leads i (s.node i) → NotView e → b.list ≡ (s.node i).list ++ e ∷ [] → LinesOpen s → LinesOpen (with_line s i b)
+line_opens : (s : Group) (i : ℕ) (e : Entry) (b : groups.Node) → Kept s → Leads i (s.node i) → NotView e → b.list ≡ (s.node i).list ++ e ∷ [] → LinesOpen s
+    → LinesOpen (with_line s i b)
 line_opens s i e b k leads plain is h x list d some part =
     let old = (s.node i).list in
     let at = key (view_of old) in
@@ -48,7 +49,8 @@ list_opens s i k h up some = h (key s.views.current) (s.node i).list k.views.now
 
 -- ---- a decision
 
-choice_opens : (s : Group) (i : ℕ) (members : List ℕ) (resilience : ℕ) → Kept s → MayDecide s i members resilience → LinesOpen s → LinesOpen (with_choice s i members resilience)
+choice_opens : (s : Group) (i : ℕ) (members : List ℕ) (resilience : ℕ) → Kept s → MayDecide s i members resilience → LinesOpen s
+    → LinesOpen (with_choice s i members resilience)
 choice_opens s i members resilience k may h x list d some part =
     let a = s.node i in
     let at = key a.promise in

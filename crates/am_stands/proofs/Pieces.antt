@@ -109,7 +109,8 @@ up_name w name x s h = is_up w name x (s.node name) h.runs h.member (own w name 
 
 -- ---- a list whose view is of its own name is that view's line
 
-pub own_line : (w : World) (name : ℕ) (x : Node) (s : Group) → Fetcher w name x s → (view x).by ≡ name → IsDecided s (view x) → line s (view x) ≡ (s.node name).list
+pub own_line : (w : World) (name : ℕ) (x : Node) (s : Group) → Fetcher w name x s → (view x).by ≡ name → IsDecided s (view x)
+    → line s (view x) ≡ (s.node name).list
 own_line w name x s h by decided =
     let a = s.node name in
     let old = own w name x s h in
@@ -129,7 +130,8 @@ not_nothing [] f same = cc
 not_nothing (x ∷ list) f same = cc
 
 -- so what comes next in the line of a decided view isn't an entry of its own view
-others_entry : (w : World) (name : ℕ) (x : Node) (e : Entry) (s : Group) (y : ℕ) → Fetcher w name x s → s.views.decided y ≡ true → Begins (s.node name).list (s.views.line y) → slice_get (s.views.line y) (length (s.node name).list) ≡ Some e → IsOthers name x e
+others_entry : (w : World) (name : ℕ) (x : Node) (e : Entry) (s : Group) (y : ℕ) → Fetcher w name x s → s.views.decided y ≡ true
+    → Begins (s.node name).list (s.views.line y) → slice_get (s.views.line y) (length (s.node name).list) ≡ Some e → IsOthers name x e
 others_entry w name x e s y h decided begins next by = split (is_view e)
     (λ t. t)
     (λ f. absurd (
@@ -144,7 +146,8 @@ others_entry w name x e s y h decided begins next by = split (is_view e)
 -- ---- a Piece
 
 -- of the line of the promise
-line_needs : (w : World) (name base number : ℕ) (x : Node) (v : Stamp) (e : Entry) (s : Group) → Fetcher w name x s → x.core.promise ≡ v → v.by ≢ name → MayStore x (max x.core.base base) base number e
+line_needs : (w : World) (name base number : ℕ) (x : Node) (v : Stamp) (e : Entry) (s : Group) → Fetcher w name x s → x.core.promise ≡ v → v.by ≢ name
+    → MayStore x (max x.core.base base) base number e
     → IsDecided s v → item_at (line s v) number ≡ Some e → NeedsPiece s name x e
 line_needs w name base number x v e s h promise other may decided stands =
     let a = s.node name in
@@ -156,7 +159,8 @@ line_needs w name base number x v e s h promise other may decided stands =
     of_its_line (entry_needs w name number x v e s h.kept h.who old up promise other (others_entry w name x e s (key v) h decided begins next) decided stands may.next may.stays)
 
 -- of a list that was shown
-shown_needs : (w : World) (name from base number : ℕ) (x : Node) (v : Stamp) (e : Entry) (s : Group) → Fetcher w name x s → x.core.promise ≡ v → is_unfinished x.ballot ≡ true → MayStore x (max x.core.base base) base number e
+shown_needs : (w : World) (name from base number : ℕ) (x : Node) (v : Stamp) (e : Entry) (s : Group) → Fetcher w name x s → x.core.promise ≡ v
+    → is_unfinished x.ballot ≡ true → MayStore x (max x.core.base base) base number e
     → ShownEntry s from v number e → NeedsPiece s name x e
 shown_needs w name from base number x v e s h promise unfinished may is =
     let a = s.node name in
@@ -185,7 +189,8 @@ not_same a b f same = grind (arith, nat_tests)
 opened : (x : Node) (b : Ballot) → HasOpen x b → is_unfinished x.ballot ≡ true
 opened x b h = ap is_unfinished h.last ∙ ap not h.open_
 
-pub piece_needs : (w : World) (name from base number : ℕ) (x : Node) (v : Stamp) (e : Entry) (s : Group) → Fetcher w name x s → (from == x.core.who) ≡ false → x.core.promise ≡ v → Fetches x from v e → MayStore x (max x.core.base base) base number e
+pub piece_needs : (w : World) (name from base number : ℕ) (x : Node) (v : Stamp) (e : Entry) (s : Group) → Fetcher w name x s
+    → (from == x.core.who) ≡ false → x.core.promise ≡ v → Fetches x from v e → MayStore x (max x.core.base base) base number e
     → PieceSays s from v number e → NeedsPiece s name x e
 piece_needs w name from base number x v e s h other promise (without_ballot none by past) may (of_line sent decided stands) =
     let who = h.who in

@@ -38,12 +38,14 @@ votes_grow : (s t : Group) (ballot : Option Ballot) → Grows s t → VotesStand
 votes_grow s t None g h = tt
 votes_grow s t (Some b) g h = λ open_ j vote is. (let k = h open_ j vote is in record { list = k.list; shown = g.shown (key b.stamp) j k.list k.shown; view = k.view; top = k.top; members = k.members; taken = k.taken })
 
-kept_votes : (x : Node) (b : Ballot) (s : Group) → HasOpen x b → VotesStand s x.ballot → (j : ℕ) (vote : Vote) → b.votes j ≡ Some vote → VoteTells s j b.stamp vote
+kept_votes : (x : Node) (b : Ballot) (s : Group) → HasOpen x b → VotesStand s x.ballot → (j : ℕ) (vote : Vote) → b.votes j ≡ Some vote
+    → VoteTells s j b.stamp vote
 kept_votes x b s o h = (subst (VotesStand s) o.last h) o.open_
 
 -- the ballot that is looked at keeps votes that tell what was shown, where its stamp is of its own name and nothing was decided of it
 pub looked_votes : (c : Cause) (x : Node) (b : Ballot) (s : Group) → Balloting c x b → b.stamp.by ≡ x.core.who → s.views.decided (key b.stamp) ≡ false
-    → ((from : ℕ) (v : Stamp) (vote : Vote) → c ≡ hears (packet.Vote from v vote) → VoteSays s from v vote) → VotesStand s x.ballot → (j : ℕ) (vote : Vote) → b.votes j ≡ Some vote → VoteTells s j b.stamp vote
+    → ((from : ℕ) (v : Stamp) (vote : Vote) → c ≡ hears (packet.Vote from v vote) → VoteSays s from v vote) → VotesStand s x.ballot → (j : ℕ) (vote : Vote)
+    → b.votes j ≡ Some vote → VoteTells s j b.stamp vote
 looked_votes c x b s (as_it_is old o on) own_ fresh heard h = kept_votes x old s o h
 looked_votes c x b s (without_one old name is o other) own_ fresh heard h = λ j vote. split (j == name)
     (λ t. λ at. absurd (let z = rw t at at in cc))
@@ -81,7 +83,8 @@ pub record Voter (v : World) (i : ℕ) (n : Node) (s : Group) : Type 0 where
   pub begun : key n.core.promise ≤ key (s.node n.core.promise.by).promise
   pub taken : n.core.taken ≤ nodes.top n
 
-tells_list : (v : World) (i : ℕ) (n : Node) (s t : Group) → Voter v i n s → t.shown (key n.core.promise) i ≡ Some (s.node i).list → VoteTells t i n.core.promise (own_vote n)
+tells_list : (v : World) (i : ℕ) (n : Node) (s t : Group) → Voter v i n s → t.shown (key n.core.promise) i ≡ Some (s.node i).list
+    → VoteTells t i n.core.promise (own_vote n)
 unfolding view_of
 tells_list v i n s t h is =
     let a = s.node i in
@@ -151,7 +154,8 @@ pub record PieceStands (i number : ℕ) (n : Node) (e : Entry) (s t : Group) : T
   pub says : PieceSays t i n.core.promise number e
 
 -- a Piece that the name of its promise fetches: where that isn't decided, of the list that was shown, which is served from then on
-pub shown_said : (v : World) (i from base number : ℕ) (n : Node) (e : Entry) (s : Group) (to : List ℕ) → Speaks v i n s → n.core.promise.by ≡ from → from ≢ i → has to i ≡ true → FetchSays s from n.core.promise to
+pub shown_said : (v : World) (i from base number : ℕ) (n : Node) (e : Entry) (s : Group) (to : List ℕ) → Speaks v i n s → n.core.promise.by ≡ from
+    → from ≢ i → has to i ≡ true → FetchSays s from n.core.promise to
     → n.core.log.start ≤ base → letters.Stands n.core.log base number e → Leads (PieceStands i number n e s) s
 shown_said v i from base number n e s to h by other asked (of_promise not_by of_all) low at = absurd (not_by by)
 shown_said v i from base number n e s to h by other asked (for_ballot own_by all) low at = split (s.views.decided (key n.core.promise))

@@ -59,7 +59,8 @@ pub record BallotKnown (w : World) (name : ℕ) (x : Node) (b : Ballot) (s : Gro
 
 -- ---- the best vote
 
-vote_low : (own : Vote) (vote : Vote) → own.view.by < 256 → vote.view.by < 256 → vote_lt own vote ≡ false → (key vote.view < key own.view) ⊎ ((key vote.view ≡ key own.view) × (vote.top ≤ own.top))
+vote_low : (own : Vote) (vote : Vote) → own.view.by < 256 → vote.view.by < 256 → vote_lt own vote ≡ false
+    → (key vote.view < key own.view) ⊎ ((key vote.view ≡ key own.view) × (vote.top ≤ own.top))
 vote_low own vote small few low =
     let a : stamp_lt own.view vote.view ≡ false = split (stamp_lt own.view vote.view) (λ t. absurd (let z = rw t at low in cc)) (λ f. f) in
     let rest : (stamp_eq own.view vote.view && nat_lt own.top vote.top) ≡ false = rw a at low in
@@ -74,7 +75,8 @@ vote_low own vote small few low =
     itself : (v : Stamp) → stamp_eq v v ≡ true
     itself v = grind (arith, nat_tests)
 
-best_low : (x : Node) (b : Ballot) → ((best_of x b).by == x.core.who) ≡ true → b.votes x.core.who ≡ None → (view x).by < 256 → ((j : ℕ) (vote : Vote) → b.votes j ≡ Some vote → vote.view.by < 256)
+best_low : (x : Node) (b : Ballot) → ((best_of x b).by == x.core.who) ≡ true → b.votes x.core.who ≡ None → (view x).by < 256
+    → ((j : ℕ) (vote : Vote) → b.votes j ≡ Some vote → vote.view.by < 256)
     → (j : ℕ) (vote : Vote) → j < 256 → b.votes j ≡ Some vote → vote_lt (own_vote x) vote ≡ false
 unfolding best_of
 best_low x b own none small views j vote few is =
@@ -100,7 +102,8 @@ voted who j b waits stays other = split (is_some (b.votes j))
     let z : (not (has_voted who b j) && not (b.given_up j)) ≡ true = rw (v, stays) refl in
     cc))
 
-not_waited : (x : Node) (b : Ballot) (j : ℕ) → nat_lt 0 (size (those (is_waited_for x.core.who b) (need_of x b))) ≡ false → has (need_of x b) j ≡ true → is_waited_for x.core.who b j ≡ false
+not_waited : (x : Node) (b : Ballot) (j : ℕ) → nat_lt 0 (size (those (is_waited_for x.core.who b) (need_of x b))) ≡ false → has (need_of x b) j ≡ true
+    → is_waited_for x.core.who b j ≡ false
 not_waited x b j none needed = split (is_waited_for x.core.who b j)
     (λ t. absurd (let some = some_left (is_waited_for x.core.who b) (need_of x b) j needed t in let z : nat_lt 0 (size (those (is_waited_for x.core.who b) (need_of x b))) ≡ true = grind (arith, nat_tests) in cc))
     (λ f. f)
@@ -110,7 +113,8 @@ all_places p from zero h = refl
 all_places p from (suc n) h = rw (h from (omega arith)) (all_places p (from + 1) n (λ place low. h place (omega arith)))
 
 -- as a test
-is_some_of : (test : ℕ → Bool) (names : List ℕ) (place : ℕ) → place < 16 → ((slice_index (those test names) place == 0) || (slice_index (those test names) place == slice_index names place)) ≡ true
+is_some_of : (test : ℕ → Bool) (names : List ℕ) (place : ℕ) → place < 16
+    → ((slice_index (those test names) place == 0) || (slice_index (those test names) place == slice_index names place)) ≡ true
 is_some_of test names place low =
     let life = slice_index (those test names) place in
     let all = slice_index names place in
@@ -125,7 +129,8 @@ is_some_of test names place low =
 
 -- ---- the group's own test
 
-pub may_decide : (w : World) (name : ℕ) (x : Node) (b : Ballot) (s : Group) → BallotKnown w name x b s → looks.MayDecide x b → MayDecide s name (left_in b (need_of x b)) (max b.resilience (nodes.told x).resilience)
+pub may_decide : (w : World) (name : ℕ) (x : Node) (b : Ballot) (s : Group) → BallotKnown w name x b s → looks.MayDecide x b
+    → MayDecide s name (left_in b (need_of x b)) (max b.resilience (nodes.told x).resilience)
 unfolding mem view_of resilience_of
 may_decide w name x b s h may =
     let a = s.node name in
@@ -203,7 +208,8 @@ view_members x b long need =
     λ place low. ⊎_elim (λ (z : slice_index names place ≡ 0). inl z) (λ (z : slice_index names place ≡ slice_index (need_of x b) place). inr (z ∙ ap (λ set. slice_index set place) need)) (those_some test (need_of x b) place low) in
     ap members_of (told_pushed before (View b.stamp names r)) ∙ viewed_members (nodes.told x) (nodes.top x + 1) b.stamp names r long (omega arith) (those_long test (need_of x b)) some
 
-pub decision_needs : (w : World) (name : ℕ) (x : Node) (b : Ballot) (s : Group) → Kept s → BallotKnown w name x b s → x.core.promise.by ≡ name → length (nodes.told x).rows ≡ 16 → looks.MayDecide x b → NeedsDecision s name x b
+pub decision_needs : (w : World) (name : ℕ) (x : Node) (b : Ballot) (s : Group) → Kept s → BallotKnown w name x b s → x.core.promise.by ≡ name
+    → length (nodes.told x).rows ≡ 16 → looks.MayDecide x b → NeedsDecision s name x b
 decision_needs w name x b s k h own long may =
     let same = h.stands.promise in
     record {
@@ -226,7 +232,8 @@ not_equal : (a b : ℕ) → (a == b) ≡ false → a ≢ b
 not_equal a b f same = grind (arith, nat_tests)
 
 -- all whose votes it needs have shown a list, and the best of these is another's
-pub best_shown : (w : World) (name : ℕ) (x : Node) (b : Ballot) (s : Group) → Kept s → BallotKnown w name x b s → ((best_of x b).by == x.core.who) ≡ false → nat_lt 0 (size (those (is_waited_for x.core.who b) (need_of x b))) ≡ false → AllShown s b.stamp (best_of x b).by
+pub best_shown : (w : World) (name : ℕ) (x : Node) (b : Ballot) (s : Group) → Kept s → BallotKnown w name x b s → ((best_of x b).by == x.core.who) ≡ false
+    → nat_lt 0 (size (those (is_waited_for x.core.who b) (need_of x b))) ≡ false → AllShown s b.stamp (best_of x b).by
 unfolding best_of mem
 best_shown w name x b s k h other none = ⊎_elim
     (λ (z : ((best_of x b).by ≡ x.core.who) × ((best_of x b).vote ≡ own_vote x)). absurd (let t : ((best_of x b).by == x.core.who) ≡ true = is_equal (best_of x b).by x.core.who z.0 in cc))
@@ -262,7 +269,8 @@ only_one a h t = split (place_of h == place_of a)
     omega arith))
 
 -- it fetches from that name
-pub fetch_said : (w : World) (name : ℕ) (x : Node) (b : Ballot) (s : Group) (to : List ℕ) → Kept s → BallotKnown w name x b s → ((best_of x b).by == x.core.who) ≡ false → nat_lt 0 (size (those (is_waited_for x.core.who b) (need_of x b))) ≡ false
+pub fetch_said : (w : World) (name : ℕ) (x : Node) (b : Ballot) (s : Group) (to : List ℕ) → Kept s → BallotKnown w name x b s
+    → ((best_of x b).by == x.core.who) ≡ false → nat_lt 0 (size (those (is_waited_for x.core.who b) (need_of x b))) ≡ false
     → to ≡ only_name (best_of x b).by → FetchSays s name x.core.promise to
 fetch_said w name x b s to k h other none is = for_ballot
     (ap (λ (u : Stamp). u.by) (sym h.stands.promise) ∙ ((k.each name).ballot h.up h.ballot).by)

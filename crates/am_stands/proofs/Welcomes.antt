@@ -57,7 +57,8 @@ joined_once a name good was =
     was
 
 -- the group list up to an accepted Join
-up_to_join : (list : List Entry) (join name : ℕ) → item_at list join ≡ Some (Join name) → (before : List Entry) × (length before + 1 ≡ join) × (take join list ≡ before ++ Join name ∷ []) × Begins before list
+up_to_join : (list : List Entry) (join name : ℕ) → item_at list join ≡ Some (Join name)
+    → (before : List Entry) × (length before + 1 ≡ join) × (take join list ≡ before ++ Join name ∷ []) × Begins before list
 up_to_join list zero name is = absurd (cc)
 up_to_join list (suc n) name is =
     let low : suc n ≤ length list = item_within list (suc n) (Join name) is in
@@ -80,8 +81,10 @@ not_above_key u v small few low = split (stamp_lt u v)
     (λ t. let z = key_lt u v small few t in omega arith)
     (λ f. let same = ap key (equal_stamps u v small few f low) in omega arith)
 
-pub welcome_needs : (w : World) (name from base join : ℕ) (x : Node) (v : Stamp) (image : Image) (s : Group) → Kept s → x.core.who ≡ name → is_stopped w name ≡ false → x.core.promise.by < 256 → v.by < 256 → x.leaving ≡ false → is_unfinished x.ballot ≡ false
-    → NameStands (within w name x) name x (s.node name) → MayBeWelcomed x from v base join image → WelcomeSays s from v base join image name → NeedsWelcome s name v base join image
+pub welcome_needs : (w : World) (name from base join : ℕ) (x : Node) (v : Stamp) (image : Image) (s : Group) → Kept s → x.core.who ≡ name
+    → is_stopped w name ≡ false → x.core.promise.by < 256 → v.by < 256 → x.leaving ≡ false → is_unfinished x.ballot ≡ false
+    → NameStands (within w name x) name x (s.node name) → MayBeWelcomed x from v base join image → WelcomeSays s from v base join image name
+    → NeedsWelcome s name v base join image
 welcome_needs w name from base join x v image s k who runs small few stays no_ballot old may says =
     let a = s.node name in
     let asks = and_both (not (from == x.core.who)) (is_member x.status || is_asking x.status) may.asks in
