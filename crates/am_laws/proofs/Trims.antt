@@ -107,7 +107,8 @@ passed_low : (taken acc start : ℕ) → taken ≤ acc → (if nat_lt taken (sta
 passed_low taken acc start h = split (nat_lt taken (start - 1)) (λ t. rw t (omega arith)) (λ f. rw f h)
 
 -- a name's own report
-own_reported : (reports : ℕ → Report) (who stored taken : ℕ) → (reports who).taken ≤ taken → (if who == who then record { stored = max (reports who).stored stored; taken = max (reports who).taken taken } else reports who).taken ≤ taken
+own_reported : (reports : ℕ → Report) (who stored taken : ℕ) → (reports who).taken ≤ taken
+    → (if who == who then record { stored = max (reports who).stored stored; taken = max (reports who).taken taken } else reports who).taken ≤ taken
 own_reported reports who stored taken h = let t : (who == who) ≡ true = grind (arith, nat_tests) in rw t (omega arith)
 
 lead_fronts : (m : Node) → MayLead m → Fronts m → Fronts (lead m)
@@ -158,7 +159,8 @@ closed_fronts m leads h = settle_fronts (refresh m) (refresh_fronts m (λ t. lea
 
 -- ---- the last member's own Leave
 
-closed_row : (image : Image) (n name : ℕ) → 0 < n → length image.rows ≡ 16 → has (members_of image) name ≡ true → members_of (after image n (Leave name)) ≡ set (members_of image) (place_of name) 0
+closed_row : (image : Image) (n name : ℕ) → 0 < n → length image.rows ≡ 16 → has (members_of image) name ≡ true
+    → members_of (after image n (Leave name)) ≡ set (members_of image) (place_of name) 0
 unfolding after
 closed_row image n name up long member =
     let is = is_in image name long member in
