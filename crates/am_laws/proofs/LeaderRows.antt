@@ -43,7 +43,8 @@ joins_push image n (x ∷ es) e h k = (h.0, joins_push (after image n x) (n + 1)
 
 -- ---- the lives of a place
 
-set_grows : (image : Image) (name place : ℕ) (r : Row) → length image.rows ≡ 16 → (at_place image name).life ≤ r.life → (row_at image place).life ≤ (row_at (with_row image name r) place).life
+set_grows : (image : Image) (name place : ℕ) (r : Row) → length image.rows ≡ 16 → (at_place image name).life ≤ r.life
+    → (row_at image place).life ≤ (row_at (with_row image name r) place).life
 set_grows image name place r long up = ⊎_elim
     (λ (x : (place ≡ place_of name) × (row_at (with_row image name r) place ≡ r)).
     let a = ap (λ k. (row_at image k).life) x.0 in
@@ -56,7 +57,8 @@ view_grows : (first : Bool) (n life : ℕ) (r : Row) → (first ≡ true → r.l
 view_grows true n life r none = let z = none refl in omega arith
 view_grows false n life r none = split (nat_lt 0 (member_life r) && not (member_life r == life)) (λ t. rw t (omega arith)) (λ f. rw f (omega arith))
 
-life_step : (image : Image) (n : ℕ) (e : Entry) (place : ℕ) → place < 16 → IsUsed image → JoinFits image e → (row_at image place).life ≤ (row_at (after image n e) place).life
+life_step : (image : Image) (n : ℕ) (e : Entry) (place : ℕ) → place < 16 → IsUsed image → JoinFits image e
+    → (row_at image place).life ≤ (row_at (after image n e) place).life
 unfolding after
 life_step image n (Data from req body) place low used fit = split ((at_place image from).life == life_of from)
     (λ t. rw t (set_grows image from place (record (at_place image from) { last = req }) used.places (omega arith)))
@@ -71,7 +73,8 @@ life_step image n (View stamp names resilience) place low used fit =
     let grows = view_grows (is_blank image) n (slice_index names place) r (λ t. used.unused place low (blank_joined image place t)) in
     subst (λ (x : Row). r.life ≤ x.life) (sym is) grows
 
-lives_rise : (image : Image) (n : ℕ) (es : List Entry) (place : ℕ) → place < 16 → 0 < n → IsUsed image → JoinsFit image n es → (row_at image place).life ≤ (row_at (fold image n es) place).life
+lives_rise : (image : Image) (n : ℕ) (es : List Entry) (place : ℕ) → place < 16 → 0 < n → IsUsed image → JoinsFit image n es
+    → (row_at image place).life ≤ (row_at (fold image n es) place).life
 unfolding fold JoinsFit
 lives_rise image n [] place low up used h = omega arith
 lives_rise image n (e ∷ es) place low up used h =
@@ -80,7 +83,8 @@ lives_rise image n (e ∷ es) place low up used h =
     omega arith
 
 -- up to any number they are at most those at the end
-part_rises : (image : Image) (n : ℕ) (es : List Entry) (k place : ℕ) → place < 16 → 0 < n → IsUsed image → JoinsFit image n es → (row_at (fold image n (take k es)) place).life ≤ (row_at (fold image n es) place).life
+part_rises : (image : Image) (n : ℕ) (es : List Entry) (k place : ℕ) → place < 16 → 0 < n → IsUsed image → JoinsFit image n es
+    → (row_at (fold image n (take k es)) place).life ≤ (row_at (fold image n es) place).life
 unfolding fold JoinsFit
 part_rises image n es zero place low up used h = lives_rise image n es place low up used h
 part_rises image n [] (suc k) place low up used h = omega arith
@@ -109,7 +113,8 @@ in_is image name long h =
     grind (arith, nat_tests)
 
 -- a send changes no membership
-data_keeps : (image : Image) (n from req : ℕ) (body : List ℕ) (name : ℕ) → length image.rows ≡ 16 → In (row_at image (place_of name)) (life_of name) → In (row_at (after image n (Data from req body)) (place_of name)) (life_of name)
+data_keeps : (image : Image) (n from req : ℕ) (body : List ℕ) (name : ℕ) → length image.rows ≡ 16 → In (row_at image (place_of name)) (life_of name)
+    → In (row_at (after image n (Data from req body)) (place_of name)) (life_of name)
 unfolding after
 data_keeps image n from req body name long h = split ((at_place image from).life == life_of from)
     (λ t. rw t (⊎_elim
@@ -121,7 +126,9 @@ data_keeps image n from req body name long h = split ((at_place image from).life
     (row_set image from (place_of name) (record (at_place image from) { last = req }) long)))
     (λ f. rw f h)
 
-pub data_member : (image : Image) (n from req : ℕ) (body : List ℕ) (name : ℕ) → length image.rows ≡ 16 → length (after image n (Data from req body)).rows ≡ 16 → has (members_of image) name ≡ true → has (members_of (after image n (Data from req body))) name ≡ true
+pub data_member : (image : Image) (n from req : ℕ) (body : List ℕ) (name : ℕ) → length image.rows ≡ 16
+    → length (after image n (Data from req body)).rows ≡ 16 → has (members_of image) name ≡ true
+    → has (members_of (after image n (Data from req body))) name ≡ true
 data_member image n from req body name long longer h = in_is (after image n (Data from req body)) name longer (data_keeps image n from req body name long (is_in image name long h))
 
 -- a View keeps who is a member and in it
@@ -134,7 +141,9 @@ viewed_keeps false n given life r some is h =
     let f : (nat_lt 0 (member_life r) && not (member_life r == given)) ≡ false = grind (arith, nat_tests) in
     rw f h
 
-pub view_member : (image : Image) (n : ℕ) (stamp : Stamp) (names : List ℕ) (resilience name : ℕ) → length image.rows ≡ 16 → length (after image n (View stamp names resilience)).rows ≡ 16 → has (members_of image) name ≡ true → slice_index names (place_of name) ≡ life_of name → has (members_of (after image n (View stamp names resilience))) name ≡ true
+pub view_member : (image : Image) (n : ℕ) (stamp : Stamp) (names : List ℕ) (resilience name : ℕ) → length image.rows ≡ 16
+    → length (after image n (View stamp names resilience)).rows ≡ 16 → has (members_of image) name ≡ true
+    → slice_index names (place_of name) ≡ life_of name → has (members_of (after image n (View stamp names resilience))) name ≡ true
 view_member image n stamp names resilience name long longer h given =
     let some : 0 < life_of name = omega arith in
     let is = row_view image n stamp names resilience (place_of name) (mod16 name) in
@@ -142,7 +151,8 @@ view_member image n stamp names resilience name long longer h given =
     (subst (λ (r : Row). In r (life_of name)) (sym is) (viewed_keeps (is_blank image) n (slice_index names (place_of name)) (life_of name) _ some given (is_in image name long h)))
 
 -- and the first View has who is in it
-pub first_member : (stamp : Stamp) (names : List ℕ) (resilience name : ℕ) → slice_index names (place_of name) ≡ life_of name → has (members_of (after blank 1 (View stamp names resilience))) name ≡ true
+pub first_member : (stamp : Stamp) (names : List ℕ) (resilience name : ℕ) → slice_index names (place_of name) ≡ life_of name
+    → has (members_of (after blank 1 (View stamp names resilience))) name ≡ true
 first_member stamp names resilience name given =
     let e = View stamp names resilience in
     let some : (slice_index names (place_of name) == 0) ≡ false = grind (arith, nat_tests) in
@@ -156,7 +166,9 @@ used_blank = record { places = refl; unused = λ place low none. ap (λ (r : Row
 -- ---- whose reports count
 
 -- the life that is a member at a number from what is accepted on is that in the union, where it is the place's at the end
-in_since : (c : CoreState) (number : ℕ) → IsUsed c.log.image → JoinsFit c.log.image (c.log.start + 1) c.log.entries → c.log.start ≤ c.acc → c.acc ≤ number → number ≤ top_of c.log → has (members_at c.log number) c.who ≡ true → (row_at (told_by c.log) (place_of c.who)).life ≡ life_of c.who → slice_index (since_accepted c) (place_of c.who) ≡ life_of c.who
+in_since : (c : CoreState) (number : ℕ) → IsUsed c.log.image → JoinsFit c.log.image (c.log.start + 1) c.log.entries → c.log.start ≤ c.acc → c.acc ≤ number
+    → number ≤ top_of c.log → has (members_at c.log number) c.who ≡ true → (row_at (told_by c.log) (place_of c.who)).life ≡ life_of c.who
+    → slice_index (since_accepted c) (place_of c.who) ≡ life_of c.who
 in_since c number used fit low after_ high member row =
     let place = place_of c.who in
     let low16 = mod16 c.who in
@@ -172,7 +184,10 @@ in_since c number used fit low after_ high member row =
     omega arith
 
 -- no more is let go than it has taken
-pub least_within : (reports : ℕ → Report) (c : CoreState) (number to : ℕ) → IsUsed c.log.image → JoinsFit c.log.image (c.log.start + 1) c.log.entries → c.log.start ≤ c.acc → c.acc ≤ number → number ≤ top_of c.log → has (members_at c.log number) c.who ≡ true → (row_at (told_by c.log) (place_of c.who)).life ≡ life_of c.who → (reports c.who).taken ≤ c.taken → least_taken reports (since_accepted c) ≡ Some to → to ≤ c.taken
+pub least_within : (reports : ℕ → Report) (c : CoreState) (number to : ℕ) → IsUsed c.log.image → JoinsFit c.log.image (c.log.start + 1) c.log.entries
+    → c.log.start ≤ c.acc → c.acc ≤ number → number ≤ top_of c.log → has (members_at c.log number) c.who ≡ true
+    → (row_at (told_by c.log) (place_of c.who)).life ≡ life_of c.who → (reports c.who).taken ≤ c.taken → least_taken reports (since_accepted c) ≡ Some to
+    → to ≤ c.taken
 least_within reports c number to used fit low after_ high member row own least =
     let low16 = mod16 c.who in
     let life = in_since c number used fit low after_ high member row in

@@ -25,7 +25,8 @@ use Rattle.am_laws.proofs.NodeLimits.{SendWithin, Within, PacketWithin, req_brou
 
 -- ---- what is sent
 
-own_send_within : (b : Bounds) (n : Node) (req : ℕ) (body : List ℕ) → HasSend n req body → Within b n → SendWithin b (record { req = req; body = body; number = None })
+own_send_within : (b : Bounds) (n : Node) (req : ℕ) (body : List ℕ) → HasSend n req body → Within b n
+    → SendWithin b (record { req = req; body = body; number = None })
 own_send_within b n req body s h =
     let k = all_get (SendWithin b) n.sends.queue s.index s.send h.sends s.there in
     record { req = subst (λ r. r ≤ b.requests) s.request k.req; body = subst (λ (x : List ℕ). length x ≤ 1024) s.body_ k.body }
@@ -43,7 +44,8 @@ at_within b log (suc before) e h is = split (nat_le log.start before)
     (λ t. all_get (EntryWithin b) log.entries (before - log.start) e h (rw t at is))
     (λ f. absurd (let x = rw f at is in cc))
 
-pub says_within : (b : Bounds) (m n : Node) (c : Cause) (to : List ℕ) (p : Packet) → Within b n → ListUp n → top n ≤ b.lists → ((q : Packet) → c ≡ hears q → PacketWithin b q) → Says m c n to p → PacketWithin b p
+pub says_within : (b : Bounds) (m n : Node) (c : Cause) (to : List ℕ) (p : Packet) → Within b n → ListUp n → top n ≤ b.lists
+    → ((q : Packet) → c ≡ hears q → PacketWithin b q) → Says m c n to p → PacketWithin b p
 says_within b m n c to p h up_ low heard (request _ req body a f s) = let k = own_send_within b n req body s h in (k.req, k.body)
 says_within b m n c to p h up_ low heard (spread _ req body a f s) = let k = own_send_within b n req body s h in (k.req, k.body)
 says_within b m n c to p h up_ low heard (bcast _ number e l s) = all_get (EntryWithin b) n.core.log.entries s.index e h.entries s.there

@@ -99,7 +99,8 @@ members_within b image h = set_of_lives (members_of image) (length-map image.row
 
 -- ---- an entry more
 
-with_row_within : (b : Bounds) (rows : List Row) (place : ℕ) (r : Row) → RowWithin b r → All (RowWithin b) rows → length rows ≡ 16 → All (RowWithin b) (set rows place r) × (length (set rows place r) ≡ 16)
+with_row_within : (b : Bounds) (rows : List Row) (place : ℕ) (r : Row) → RowWithin b r → All (RowWithin b) rows → length rows ≡ 16
+    → All (RowWithin b) (set rows place r) × (length (set rows place r) ≡ 16)
 with_row_within b rows place r h k long = (All-set (RowWithin b) rows place r h k, length-set rows place r ∙ long)
 
 viewed_within : (b : Bounds) (first : Bool) (number life : ℕ) (r : Row) → life ≤ 16 → RowWithin b r → RowWithin b (viewed first number life r)
@@ -137,7 +138,8 @@ after_within b image number (View stamp names resilience) e h =
       resilience = e.2;
     }
 
-pub fold_within : (b : Bounds) (image : Image) (number : ℕ) (es : List Entry) → All (EntryWithin b) es → ImageWithin b image → ImageWithin b (fold image (number + 1) es)
+pub fold_within : (b : Bounds) (image : Image) (number : ℕ) (es : List Entry) → All (EntryWithin b) es → ImageWithin b image
+    → ImageWithin b (fold image (number + 1) es)
 unfolding fold
 fold_within b image number [] k h = h
 fold_within b image number (e ∷ es) k h = fold_within b (after image (number + 1) e) (number + 1) es (All-tail (EntryWithin b) e es k) (after_within b image number e (All-head (EntryWithin b) e es k) h)

@@ -127,11 +127,13 @@ pushed_within b m e is h = record {
   ballot = h.ballot;
 }
 
-send_brought : (b : Bounds) (c : Cause) (s : ℕ) (v : Stamp) (report : Report) (req : ℕ) (body : List ℕ) → BringsSend c s v report req body → ((p : Packet) → c ≡ hears p → PacketWithin b p) → (req ≤ b.requests) × (length body ≤ 1024)
+send_brought : (b : Bounds) (c : Cause) (s : ℕ) (v : Stamp) (report : Report) (req : ℕ) (body : List ℕ) → BringsSend c s v report req body
+    → ((p : Packet) → c ≡ hears p → PacketWithin b p) → (req ≤ b.requests) × (length body ≤ 1024)
 send_brought b c s v report req body (by_request s1 v1 report1 req1 body1) heard = heard (packet.Request s v report req body) refl
 send_brought b c s v report req body (by_spread s1 v1 report1 req1 body1) heard = heard (packet.Spread s v report req body) refl
 
-pub req_brought : (b : Bounds) (c : Cause) (s : ℕ) (v : Stamp) (report : Report) (req : ℕ) (body : List ℕ) → BringsSend c s v report req body → ((p : Packet) → c ≡ hears p → PacketWithin b p) → req ≤ b.requests
+pub req_brought : (b : Bounds) (c : Cause) (s : ℕ) (v : Stamp) (report : Report) (req : ℕ) (body : List ℕ) → BringsSend c s v report req body
+    → ((p : Packet) → c ≡ hears p → PacketWithin b p) → req ≤ b.requests
 req_brought b c s v report req body by heard = (send_brought b c s v report req body by heard).0
 
 waiting_within : (b : Bounds) (m : Node) (s : OwnSend) → waiting m ≡ Some s → Within b m → SendWithin b s
@@ -149,7 +151,8 @@ abbrev OptionWithin : Option (List ℕ) → Type 0
 OptionWithin None = Unit {0}
 OptionWithin (Some body) = length body ≤ 1024
 
-own_body_within : (b : Bounds) (m : Node) (from req : ℕ) (w : Option OwnSend) → ((s : OwnSend) → w ≡ Some s → SendWithin b s) → OptionWithin (own_body m from req w)
+own_body_within : (b : Bounds) (m : Node) (from req : ℕ) (w : Option OwnSend) → ((s : OwnSend) → w ≡ Some s → SendWithin b s)
+    → OptionWithin (own_body m from req w)
 own_body_within b m from req None h = tt
 own_body_within b m from req (Some s) h = split ((from == m.core.who) && (s.req == req)) (λ t. rw t ((h s refl).body)) (λ f. rw f tt)
 
@@ -167,7 +170,8 @@ body_of_within b m from req h =
     (own_body_within b m from req (waiting m) (λ s is. waiting_within b m s is h))
     (found_within (find (is_of from req) m.bodies) (λ kept is. (all_find KeptWithin (is_of from req) m.bodies kept h.bodies is).0))
 
-carried_within : (b : Bounds) (c : Cause) (m : Node) (s : ℕ) (v : Stamp) (base acc number : ℕ) (e : Entry) → Carries c m s v base acc number e → CauseWithin b c → Within b m → EntryWithin b e
+carried_within : (b : Bounds) (c : Cause) (m : Node) (s : ℕ) (v : Stamp) (base acc number : ℕ) (e : Entry) → Carries c m s v base acc number e
+    → CauseWithin b c → Within b m → EntryWithin b e
 carried_within b c m s v base acc number e (whole_entry x is) from h = from.heard (packet.Bcast s v base acc number e) is
 carried_within b c m s v base acc number e (by_number name req body is found) from h =
     (from.heard (packet.Order s v base acc number name req) is, subst OptionWithin found (body_of_within b m name req h))
@@ -238,7 +242,8 @@ open_within : (b : Bounds) (m : Node) (x : Ballot) → HasOpen m x → Within b 
 open_within b m x open_ h = subst (BallotWithin b) open_.last h.ballot
 
 -- by what stands among the votes of a name
-vote_more : (votes : ℕ → Option Vote) (name : ℕ) (new : Option Vote) → ((v : Vote) → new ≡ Some v → IsSet v.members) → ((i : ℕ) (v : Vote) → votes i ≡ Some v → IsSet v.members)
+vote_more : (votes : ℕ → Option Vote) (name : ℕ) (new : Option Vote) → ((v : Vote) → new ≡ Some v → IsSet v.members)
+    → ((i : ℕ) (v : Vote) → votes i ≡ Some v → IsSet v.members)
     → (i : ℕ) (v : Vote) → (if i == name then new else votes i) ≡ Some v → IsSet v.members
 vote_more votes name new f h i v = split (i == name) (λ t. rw t (f v)) (λ g. rw g (h i v))
 
@@ -256,7 +261,8 @@ better_is : (P : Vote → Type 0) (best : Shown) (name : ℕ) (o : Option Vote) 
 better_is P best name None h f = h
 better_is P best name (Some vote) h f = split (vote_lt best.vote vote) (λ t. rw t (f vote refl)) (λ g. rw g h)
 
-best_is : (P : Vote → Type 0) (votes : ℕ → Option Vote) (best : Shown) (names : List ℕ) → P best.vote → ((name : ℕ) (v : Vote) → votes name ≡ Some v → P v) → P (best_from votes best names).vote
+best_is : (P : Vote → Type 0) (votes : ℕ → Option Vote) (best : Shown) (names : List ℕ) → P best.vote → ((name : ℕ) (v : Vote) → votes name ≡ Some v → P v)
+    → P (best_from votes best names).vote
 unfolding best_from
 best_is P votes best [] h f = h
 best_is P votes best (name ∷ names) h f = best_is P votes (better_of best name (votes name)) names (better_is P best name (votes name) h (f name)) f
@@ -268,7 +274,8 @@ need_within b m x k h =
     (members_within b (told m) (told_within b m.core.log h.entries h.image)) k.votes
 
 -- the View that is decided
-view_within : (b : Bounds) (m : Node) (x : Ballot) → VotesWithin b x → Within b m → EntryWithin b (View x.stamp (left_in x (need_of m x)) (max x.resilience (told m).resilience))
+view_within : (b : Bounds) (m : Node) (x : Ballot) → VotesWithin b x → Within b m
+    → EntryWithin b (View x.stamp (left_in x (need_of m x)) (max x.resilience (told m).resilience))
 view_within b m x k h =
     let t = (told_within b m.core.log h.entries h.image).resilience in
     let r = k.resilience in
@@ -344,7 +351,8 @@ changes_rise m n (changed {n = x} z zs) = rises_on m x n (change_rises m x z) (c
 
 -- ---- each change
 
-pub change_within : (b : Bounds) {c : Cause} {o : Outcome} (m n : Node) → CauseWithin b c → n.core.promise.round ≤ b.rounds → n.sends.last ≤ b.requests → Change c o m n → Within b m → Within b n
+pub change_within : (b : Bounds) {c : Cause} {o : Outcome} (m n : Node) → CauseWithin b c → n.core.promise.round ≤ b.rounds → n.sends.last ≤ b.requests
+    → Change c o m n → Within b m → Within b n
 change_within b m n from round last refreshes h = refresh_within b m h
 change_within b m n from round last settles h = settle_within b m h
 change_within b m n from round last (takes_report s v report by may) h = record { image = h.image; entries = h.entries; sends = h.sends; bodies = h.bodies; ballot = h.ballot }
@@ -378,7 +386,8 @@ change_within b m n from round last (closes leads leaves alone room) h =
     let k = at_end_within b (pushed m (Leave m.core.who)) (pushed_within b m (Leave m.core.who) tt h) in
     record { image = k.image; entries = k.entries; sends = k.sends; bodies = k.bodies; ballot = k.ballot }
 
-pub changes_within : (b : Bounds) {c : Cause} {o : Outcome} (m n : Node) → CauseWithin b c → n.core.promise.round ≤ b.rounds → n.sends.last ≤ b.requests → Changes c o m n → Within b m → Within b n
+pub changes_within : (b : Bounds) {c : Cause} {o : Outcome} (m n : Node) → CauseWithin b c → n.core.promise.round ≤ b.rounds → n.sends.last ≤ b.requests
+    → Changes c o m n → Within b m → Within b n
 changes_within b m n from round last unchanged h = h
 changes_within b m n from round last (changed {n = x} z zs) h =
     let r = changes_rise x n zs in

@@ -62,7 +62,8 @@ was_sent w e c p is cause = subst (IsCause w (actor w e) e.act) is cause
 called_within : (w : World) (a : Act) (body : List ℕ) → BodyWithin a → IsCall w a (does.Send body) → length body ≤ 1024
 called_within w a body h (event.send x) = h
 
-cause_within : (rules : Rules) (b : Bounds) (w : World) (e : Event) (c : Cause) → BodyWithin e.act → Limited rules b w → IsCause w (actor w e) e.act c → CauseWithin (up b) c
+cause_within : (rules : Rules) (b : Bounds) (w : World) (e : Event) (c : Cause) → BodyWithin e.act → Limited rules b w → IsCause w (actor w e) e.act c
+    → CauseWithin (up b) c
 cause_within rules b w e c body h cause = record {
   heard = λ p is. (let was = was_sent w e c p is cause in
       packet_more b p (subst (PacketWithin b) was.is (all_item (λ (l : Letter). PacketWithin b l.packet) w.letters (heard_by e.act) was.letter h.within.letters was.there)));
@@ -79,7 +80,8 @@ is_itself : (name : ℕ) → (name == name) ≡ true
 is_itself name = grind (arith, nat_tests)
 
 -- the numbers of the node after it are those of the run
-within_stepped : (rules : Rules) (b : Bounds) (w : World) (e : Event) (c : Cause) (s : Step) → BodyWithin e.act → IsCause w (actor w e) e.act c → Effect (w.nodes (actor w e)) c s → AllLow (up b) (stepped w e (actor w e) s) → Limited rules b w → AllWithin (up b) (stepped w e (actor w e) s)
+within_stepped : (rules : Rules) (b : Bounds) (w : World) (e : Event) (c : Cause) (s : Step) → BodyWithin e.act → IsCause w (actor w e) e.act c
+    → Effect (w.nodes (actor w e)) c s → AllLow (up b) (stepped w e (actor w e) s) → Limited rules b w → AllWithin (up b) (stepped w e (actor w e) s)
 unfolding stepped
 within_stepped rules b w e c s body cause effect low h =
     let name = actor w e in
@@ -101,7 +103,8 @@ within_stepped rules b w e c s body cause effect low h =
 
 -- ---- each event
 
-within_event : (rules : Rules) (b : Bounds) (w : World) (e : Event) (v : World) → BodyWithin e.act → Happens w e v → AllLow (up b) v → Limited rules b w → AllWithin (up b) v
+within_event : (rules : Rules) (b : Bounds) (w : World) (e : Event) (v : World) → BodyWithin e.act → Happens w e v → AllLow (up b) v → Limited rules b w
+    → AllWithin (up b) v
 unfolding unchanged
 within_event rules b w e v body (idles o idle) low h = within_same b w v refl refl h.within
 within_event rules b w e v body (stops runs) low h = within_same b w v refl refl h.within
@@ -115,7 +118,8 @@ limited_happens rules b w e body h =
 
 -- ---- a heard packet and its bytes
 
-by_letter : (w : World) (e : Event) (name : ℕ) (f g : Packet → Step) (found : Option Letter) → ((letter : Letter) → found ≡ Some letter → f letter.packet ≡ g letter.packet) → heard w e name f found ≡ heard w e name g found
+by_letter : (w : World) (e : Event) (name : ℕ) (f g : Packet → Step) (found : Option Letter)
+    → ((letter : Letter) → found ≡ Some letter → f letter.packet ≡ g letter.packet) → heard w e name f found ≡ heard w e name g found
 by_letter w e name f g None h = refl
 by_letter w e name f g (Some letter) h = ap (λ s. if not (is_for letter name) then unchanged w e said.NotAddressed else if is_stopped w name then unchanged w e said.IsStopped else stepped w e name s) (h letter refl)
 
@@ -151,7 +155,8 @@ limited_packets rules b w small h number letter at = is_packet b (length w.group
 fewer : (b : Bounds) (many : ℕ) → AreNumbers (bounds_after many b) → AreNumbers b
 fewer b many h = let l = h.lists in let r = h.rounds in let q = h.requests in record { lists = omega arith; rounds = omega arith; requests = omega arith }
 
-limited_happen : (rules : Rules) (b : Bounds) (w : World) (events : List Event) → All (λ (e : Event). BodyWithin e.act) events → Limited rules b w → Limited rules (bounds_after (length events) b) (happen w events)
+limited_happen : (rules : Rules) (b : Bounds) (w : World) (events : List Event) → All (λ (e : Event). BodyWithin e.act) events → Limited rules b w
+    → Limited rules (bounds_after (length events) b) (happen w events)
 unfolding happen
 limited_happen rules b w [] bodies h =
     let z : (n : ℕ) → n ≡ n + 0 = λ n. omega arith in
@@ -161,7 +166,8 @@ limited_happen rules b w (e ∷ es) bodies h =
     subst (λ x. Limited rules x (happen (happens w e) es)) (λ i. record { lists = z b.lists i; rounds = z b.rounds i; requests = z b.requests i })
     (limited_happen rules (up b) (happens w e) es (All-tail (λ (x : Event). BodyWithin x.act) e es bodies) (limited_happens rules b w e (All-head (λ (x : Event). BodyWithin x.act) e es bodies) h))
 
-same_happen : (rules : Rules) (b : Bounds) (w : World) (events : List Event) → AreNumbers (bounds_after (length events) b) → All (λ (e : Event). BodyWithin e.act) events → Limited rules b w → happen_by_bytes w events ≡ happen w events
+same_happen : (rules : Rules) (b : Bounds) (w : World) (events : List Event) → AreNumbers (bounds_after (length events) b)
+    → All (λ (e : Event). BodyWithin e.act) events → Limited rules b w → happen_by_bytes w events ≡ happen w events
 unfolding happen happens happen_by_bytes
 same_happen rules b w [] small bodies h = refl
 same_happen rules b w (e ∷ es) small bodies h =

@@ -1,33 +1,25 @@
 -- A node trims no more than its own application has taken: who leads is a member of its own list, so its own report counts.
-use Rattle.std.proofs.Common.{◌≡◌, ◌≢◌, ⊎_elim, ℕ, zero, suc, ◌+◌, ◌-◌, ◌<◌, ◌≤◌, ◌==◌, ◌&&◌, ◌||◌, not, max, min, nat_lt, nat_le, Bool, true, false, if◌then◌else◌, List, [], ◌∷◌, length, set, Option, Some, None, slice_index, unwrap_or, refl, sym, ap, ◌∙◌, subst, arith, length-append}
-use Rattle.std.proofs.lemmas.Bool.{cases_lt}
+use Rattle.std.proofs.Common.{◌≡◌, ◌≢◌, ℕ, ◌+◌, ◌≤◌, ◌==◌, ◌&&◌, ◌||◌, not, max, nat_lt, nat_le, Bool, true, false, if◌then◌else◌, List, [], ◌∷◌, length, Option, Some, None, slice_index, unwrap_or, refl, sym, ap, ◌∙◌, subst, arith}
 use Rattle.std.proofs.lemmas.Bool.Decides.{nat_tests}
-use Rattle.std.proofs.lemmas.List.{map-set}
 use Rattle.am_base.specs.declared.entry.Entry.{Entry}
 use Rattle.am_base.specs.declared.entry.Entry.TheVariants.{Data, Join, Leave, View}
 use Rattle.am_base.specs.declared.image.Vote.{Vote}
-use Rattle.am_base.specs.declared.image.Report.{Report}
 use Rattle.am_base.specs.declared.image.Image.{Image}
 use Rattle.am_base.specs.declared.name.Stamp.{Stamp}
 use Rattle.am_base.specs.declared.outcome.Outcome.{Outcome}
-use Rattle.am_base.specs.Names.{place_of, life_of, name_at, has, size, names_from, names_of}
+use Rattle.am_base.specs.Names.{place_of, life_of, name_at, has, names_of}
 use Rattle.am_base.specs.Stamps.{stamp_lt, stamp_eq}
 use Rattle.am_base.specs.Votes.{Shown, vote_lt, all_names, better_of, best_from}
-use Rattle.am_base.specs.Lists.{Log, member_life, top_of, told_by, members_at, members_of, at_place, after, fits}
+use Rattle.am_base.specs.Lists.{top_of, told_by, members_of, at_place, after, fits}
 use Rattle.am_base.proofs.Places.{slice_index-by_place, length-by_place}
 use Rattle.am_packet.specs.declared.packet.Packet.{Packet}
 use Rattle.am_packet.specs.declared.packet.Packet.TheVariants as packet
-use Rattle.am_core.specs.Cores.{CoreState, accept, pass_over, unions, since_accepted}
-use Rattle.am_core.proofs.Ends.{image-top, image-push}
-use Rattle.am_core.proofs.Lives.{IsUsed, row_at, used_fold, member_row, leave_life}
 use Rattle.am_fronts.specs.Reports as reports
 use Rattle.am_fronts.specs.Reports.{least_of, least_taken}
-use Rattle.am_fronts.specs.Refresh.{base_after, own_report, tell, go_on, let_go}
 use Rattle.am_fronts.proofs.Leaders.{least_in}
-use Rattle.am_fronts.proofs.ReportLaws.{count_cons}
 use Rattle.am_chain_lists.proofs.Rows.{Spares, mod16, long_after, in_after}
-use Rattle.am_model.specs.Node.{Node, Ballot, top, told, view, members, others, name_where, those, is_member, is_asking, acts, is_sequencer, pushed, trimmed}
-use Rattle.am_model.specs.Refresh.{advance, lead, refresh, settle, refresh_at_end}
+use Rattle.am_model.specs.Node.{Node, Ballot, top, told, view, members, name_where, those, is_member, is_asking, acts, is_sequencer, pushed, trimmed}
+use Rattle.am_model.specs.Refresh.{refresh, refresh_at_end}
 use Rattle.am_model.specs.Ballots.{Verdict, overtaken, promised, next_stamp, own_vote, best_of, need_of, left_in, taken_by, trimmed_for}
 use Rattle.am_model.specs.Receiving.{is_view}
 use Rattle.am_model.specs.Sequencing.{is_unknown}
@@ -43,7 +35,7 @@ use Rattle.am_effects.proofs.Statuses.{asking_log}
 use Rattle.am_effects.proofs.Says.{told_pushed, view_pushed}
 use Rattle.am_bounded.proofs.Kept.{HasItself}
 use Rattle.am_bounded.proofs.Changes.{itself}
-use Rattle.am_laws.proofs.LeaderRows.{JoinFits, any_fits, JoinsFit, joins_push, is_in, in_is, data_member, view_member, least_within}
+use Rattle.am_laws.proofs.LeaderRows.{JoinFits, any_fits, JoinsFit, is_in, in_is, data_member, view_member}
 use Rattle.am_laws.proofs.Stamps.{not_above_itself, at_most_below, same_stamp}
 use Rattle.am_laws.proofs.ViewSteps.{view_last}
 use Rattle.am_laws.proofs.ViewChanges.{Balloted, next_above}
@@ -66,14 +58,16 @@ pub leave_fits : (image : Image) (name : ℕ) → has (members_of image) name �
 unfolding fits
 leave_fits image name h = h
 
-spared : (m : Node) (e : Entry) (name : ℕ) → Fronts m → fits (told m) e ≡ true → Spares name e → has (members m) name ≡ true → has (members (pushed m e)) name ≡ true
+spared : (m : Node) (e : Entry) (name : ℕ) → Fronts m → fits (told m) e ≡ true → Spares name e → has (members m) name ≡ true
+    → has (members (pushed m e)) name ≡ true
 spared m e name h fit spares member =
     let used = told_used m h in
     let longer = long_after (told m) (top m + 1) e used.places in
     let k = in_after (told m) (top m + 1) e name used.places fit spares (is_in (told m) name used.places member) in
     ap (λ (i : Image). has (members_of i) name) (told_pushed m e) ∙ in_is (after (told m) (top m + 1) e) name longer k
 
-sent_member : (m : Node) (from req : ℕ) (body : List ℕ) (name : ℕ) → Fronts m → has (members m) name ≡ true → has (members (pushed m (Data from req body))) name ≡ true
+sent_member : (m : Node) (from req : ℕ) (body : List ℕ) (name : ℕ) → Fronts m → has (members m) name ≡ true
+    → has (members (pushed m (Data from req body))) name ≡ true
 sent_member m from req body name h member =
     let used = told_used m h in
     let e = Data from req body in
@@ -117,12 +111,14 @@ looked_vote c m b (without_one old name is open_ other) h =
 OwnBest : ℕ → Vote → Shown → Type 0
 OwnBest own vote best = best.by ≡ own → best.vote ≡ vote
 
-own_better : (own : ℕ) (vote : Vote) (best : Shown) (name : ℕ) (o : Option Vote) → OwnBest own vote best → (name ≡ own → o ≡ None) → OwnBest own vote (better_of best name o)
+own_better : (own : ℕ) (vote : Vote) (best : Shown) (name : ℕ) (o : Option Vote) → OwnBest own vote best → (name ≡ own → o ≡ None)
+    → OwnBest own vote (better_of best name o)
 unfolding OwnBest
 own_better own vote best name None h f = h
 own_better own vote best name (Some v) h f = split (vote_lt best.vote v) (λ t. rw t (λ same. absurd (let none = f same in cc))) (λ g. rw g h)
 
-own_best : (votes : ℕ → Option Vote) (own : ℕ) (vote : Vote) (best : Shown) (names : List ℕ) → OwnBest own vote best → votes own ≡ None → OwnBest own vote (best_from votes best names)
+own_best : (votes : ℕ → Option Vote) (own : ℕ) (vote : Vote) (best : Shown) (names : List ℕ) → OwnBest own vote best → votes own ≡ None
+    → OwnBest own vote (best_from votes best names)
 unfolding best_from
 own_best votes own vote best [] h none = h
 own_best votes own vote best (name ∷ names) h none = own_best votes own vote (better_of best name (votes name)) names (own_better own vote best name (votes name) h (λ same. ap votes same ∙ none)) none
@@ -134,7 +130,8 @@ own_need m b own none =
     ap (λ (v : Vote). v.members) (own_best b.votes m.core.who (own_vote m) (record { by = m.core.who; vote = own_vote m }) all_names (λ e. refl) none same)
 
 -- who passes is among those that pass
-pub those_at : (test : ℕ → Bool) (names : List ℕ) (who : ℕ) → has names who ≡ true → test who ≡ true → slice_index (those test names) (place_of who) ≡ life_of who
+pub those_at : (test : ℕ → Bool) (names : List ℕ) (who : ℕ) → has names who ≡ true → test who ≡ true
+    → slice_index (those test names) (place_of who) ≡ life_of who
 unfolding those
 those_at test names who there passes =
     let place = place_of who in
@@ -145,7 +142,8 @@ those_at test names who there passes =
     slice_index-by_place (λ p. name_where test p (slice_index names p)) place (mod16 who) ∙ ap (name_where test place) is ∙ rw (some, t) refl
 
 -- the least that those of a view have taken is no more than its coordinator's own
-trimmed_own : (m : Node) (b : Ballot) (names : List ℕ) → length names ≡ 16 → slice_index names (place_of m.core.who) ≡ life_of m.core.who → unwrap_or (least_of (taken_by m.core.who m.core.taken b) (names_of names)) 0 ≤ m.core.taken
+trimmed_own : (m : Node) (b : Ballot) (names : List ℕ) → length names ≡ 16 → slice_index names (place_of m.core.who) ≡ life_of m.core.who
+    → unwrap_or (least_of (taken_by m.core.who m.core.taken b) (names_of names)) 0 ≤ m.core.taken
 trimmed_own m b names long there =
     let who = m.core.who in
     let low = mod16 who in
@@ -159,10 +157,12 @@ trimmed_own m b names long there =
     omega arith
 
 -- the coordinator is in the view that it may decide
-in_view : (m : Node) (b : Ballot) → has (need_of m b) m.core.who ≡ true → b.given_up m.core.who ≡ false → slice_index (left_in b (need_of m b)) (place_of m.core.who) ≡ life_of m.core.who
+in_view : (m : Node) (b : Ballot) → has (need_of m b) m.core.who ≡ true → b.given_up m.core.who ≡ false
+    → slice_index (left_in b (need_of m b)) (place_of m.core.who) ≡ life_of m.core.who
 in_view m b needed stays = those_at (λ name. not (b.given_up name)) (need_of m b) m.core.who needed (ap not stays)
 
-trims_own : (m : Node) (b : Ballot) → has (need_of m b) m.core.who ≡ true → b.given_up m.core.who ≡ false → unwrap_or (least_of (taken_by m.core.who m.core.taken b) (names_of (left_in b (need_of m b)))) 0 ≤ m.core.taken
+trims_own : (m : Node) (b : Ballot) → has (need_of m b) m.core.who ≡ true → b.given_up m.core.who ≡ false
+    → unwrap_or (least_of (taken_by m.core.who m.core.taken b) (names_of (left_in b (need_of m b)))) 0 ≤ m.core.taken
 unfolding those
 trims_own m b needed stays = trimmed_own m b (left_in b (need_of m b)) (length-by_place _) (in_view m b needed stays)
 
@@ -241,7 +241,8 @@ heard_other m s v t =
 -- ---- each change
 
 -- with the same list, status, promise and name
-same_owned : (m n : Node) → n.core.who ≡ m.core.who → n.core.log ≡ m.core.log → n.core.promise ≡ m.core.promise → n.status ≡ m.status → Fronts n → NoOwnVote n.core.who n.ballot → Owned m → Owned n
+same_owned : (m n : Node) → n.core.who ≡ m.core.who → n.core.log ≡ m.core.log → n.core.promise ≡ m.core.promise → n.status ≡ m.status → Fronts n
+    → NoOwnVote n.core.who n.ballot → Owned m → Owned n
 same_owned m n who log promise stays f none h = record {
   fronts = f;
   leads = λ t. (let same : is_sequencer n ≡ is_sequencer m = λ i. (is_member (stays i) && stamp_eq (promise i) (told_by (log i)).view) && ((told_by (log i)).view.by == who i) in
@@ -249,7 +250,8 @@ same_owned m n who log promise stays f none h = record {
   vote = none;
 }
 
-asks_no_log : (m : Node) (s : ℕ) → (not (s == m.core.who) && (is_member m.status || is_asking m.status)) ≡ true → is_member m.status ≡ false → has_log m.status ≡ false
+asks_no_log : (m : Node) (s : ℕ) → (not (s == m.core.who) && (is_member m.status || is_asking m.status)) ≡ true → is_member m.status ≡ false
+    → has_log m.status ≡ false
 asks_no_log m s asks none = let k = (and_both (not (s == m.core.who)) (is_member m.status || is_asking m.status) asks).1 in asking_log m.status (rw none at k)
 
 other_asks : (m : Node) (s : ℕ) → hears_asking m s ≡ true → (s == m.core.who) ≡ false
@@ -262,14 +264,16 @@ stamp_by : (v : Stamp) (s : ℕ) → (v.by == s) ≡ true → v.by ≡ s
 stamp_by v s h = grind (arith, nat_tests)
 
 -- a fetched View is of another name
-fetched_view : (m : Node) (s : ℕ) (v : Stamp) (stamp : Stamp) (names : List ℕ) (resilience : ℕ) → Fetches m s v (View stamp names resilience) → (s == m.core.who) ≡ false → stamp ≡ v → (stamp.by == m.core.who) ≡ false
+fetched_view : (m : Node) (s : ℕ) (v : Stamp) (stamp : Stamp) (names : List ℕ) (resilience : ℕ) → Fetches m s v (View stamp names resilience)
+    → (s == m.core.who) ≡ false → stamp ≡ v → (stamp.by == m.core.who) ≡ false
 fetched_view m s v stamp names resilience (without_ballot none own past) other same = let a = stamp_by v s own in let b = ap (λ (x : Stamp). x.by) same in grind (arith, nat_tests)
 fetched_view m s v stamp names resilience (for_ballot b open_ from past) other same = absurd (
     let t : stamp_eq stamp v ≡ true = subst (λ x. stamp_eq stamp x ≡ true) same (same_is_equal stamp) in
     split (stamp_lt v stamp) (λ u. let p = rw u at past in cc) (λ u. let p = rw (u, t) at past in cc))
 
 -- and no fetched entry makes a sequencer
-fetch_follows : (m : Node) (s : ℕ) (v : Stamp) (base : ℕ) (e : Entry) → Fetches m s v e → (s == m.core.who) ≡ false → stamp_eq v m.core.promise ≡ true → stamp_eq (view m) v ≡ false → is_sequencer (pushed (trimmed m base) e) ≡ true → ⊥
+fetch_follows : (m : Node) (s : ℕ) (v : Stamp) (base : ℕ) (e : Entry) → Fetches m s v e → (s == m.core.who) ≡ false → stamp_eq v m.core.promise ≡ true
+    → stamp_eq (view m) v ≡ false → is_sequencer (pushed (trimmed m base) e) ≡ true → ⊥
 fetch_follows m s v base (Data from req body) why other same below t =
     let p = promise_is (pushed (trimmed m base) (Data from req body)) t ∙ view_pushed (trimmed m base) (Data from req body) refl in
     let z : stamp_eq (view m) v ≡ true = subst (λ x. stamp_eq x v ≡ true) p (subst (λ x. stamp_eq m.core.promise x ≡ true) (sym (same_stamp v m.core.promise same)) (same_is_equal m.core.promise)) in
@@ -310,7 +314,8 @@ none_taken m none blanked h =
     let accepted = h.accepted in
     omega arith
 
-pub change_owned : (c : Cause) (o : Outcome) (m n : Node) → HeardUsed c → HasItself m.core.who m.ballot → Balloted m → Blanked m → Change c o m n → Owned m → Owned n
+pub change_owned : (c : Cause) (o : Outcome) (m n : Node) → HeardUsed c → HasItself m.core.who m.ballot → Balloted m → Blanked m → Change c o m n → Owned m
+    → Owned n
 unfolding JoinsFit
 change_owned c o m n heard own k blanked refreshes h =
     let r = rests_refresh m in

@@ -99,7 +99,8 @@ each_along rules w name few h =
     let k = h.blanks.views.each name few in
     record { names = k.names; balloted = k.balloted; blanked = h.blanks.each name few; kept = h.kept name; owned = h.each name few }
 
-owned_step : (rules : Rules) (w : World) (e : Event) (c : Cause) (s : Step) → IsCause w (actor w e) e.act c → Effect (w.nodes (actor w e)) c s → AllBlank rules (stepped w e (actor w e) s) → AllOwned rules w → AllOwned rules (stepped w e (actor w e) s)
+owned_step : (rules : Rules) (w : World) (e : Event) (c : Cause) (s : Step) → IsCause w (actor w e) e.act c → Effect (w.nodes (actor w e)) c s
+    → AllBlank rules (stepped w e (actor w e) s) → AllOwned rules w → AllOwned rules (stepped w e (actor w e) s)
 unfolding stepped
 owned_step rules w e c s cause effect blanks h =
     let name = actor w e in

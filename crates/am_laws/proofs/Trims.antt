@@ -1,54 +1,29 @@
 -- What a node keeps of its numbers and its list: it trims no more than its own application has taken, through a refresh and through its end.
-use Rattle.std.proofs.Common.{◌≡◌, ◌≢◌, ⊎_elim, ℕ, zero, suc, ◌+◌, ◌-◌, ◌<◌, ◌≤◌, ◌==◌, ◌&&◌, ◌||◌, not, max, min, nat_lt, nat_le, Bool, true, false, if◌then◌else◌, List, [], ◌∷◌, length, set, Option, Some, None, slice_index, unwrap_or, refl, sym, ap, ◌∙◌, subst, arith, length-append}
+use Rattle.std.proofs.Common.{◌≡◌, ⊎_elim, ℕ, zero, suc, ◌+◌, ◌-◌, ◌<◌, ◌≤◌, ◌==◌, max, min, nat_lt, Bool, true, false, if◌then◌else◌, List, [], ◌∷◌, length, set, Option, Some, None, refl, sym, ap, ◌∙◌, subst, arith, length-append}
 use Rattle.std.proofs.lemmas.Bool.{cases_lt}
 use Rattle.std.proofs.lemmas.Bool.Decides.{nat_tests}
 use Rattle.std.proofs.lemmas.List.{map-set}
 use Rattle.am_base.specs.declared.entry.Entry.{Entry}
-use Rattle.am_base.specs.declared.entry.Entry.TheVariants.{Data, Join, Leave, View}
-use Rattle.am_base.specs.declared.image.Vote.{Vote}
+use Rattle.am_base.specs.declared.entry.Entry.TheVariants.{Leave}
 use Rattle.am_base.specs.declared.image.Report.{Report}
 use Rattle.am_base.specs.declared.image.Image.{Image}
-use Rattle.am_base.specs.declared.name.Stamp.{Stamp}
-use Rattle.am_base.specs.declared.outcome.Outcome.{Outcome}
-use Rattle.am_base.specs.Names.{place_of, life_of, name_at, has, size, names_from, names_of}
-use Rattle.am_base.specs.Stamps.{stamp_lt, stamp_eq}
-use Rattle.am_base.specs.Votes.{Shown, vote_lt, all_names, better_of, best_from}
-use Rattle.am_base.specs.Lists.{Log, member_life, top_of, told_by, members_at, members_of, at_place, after, fits}
-use Rattle.am_base.proofs.Places.{slice_index-by_place, length-by_place}
+use Rattle.am_base.specs.Names.{place_of, life_of, has, size, names_from, names_of}
+use Rattle.am_base.specs.Lists.{Log, member_life, top_of, told_by, members_at, members_of, at_place, after}
 use Rattle.am_packet.specs.declared.packet.Packet.{Packet}
 use Rattle.am_packet.specs.declared.packet.Packet.TheVariants as packet
 use Rattle.am_core.specs.Cores.{CoreState, accept, pass_over, unions, since_accepted}
 use Rattle.am_core.proofs.Ends.{image-top, image-push}
 use Rattle.am_core.proofs.Lives.{IsUsed, row_at, used_fold, member_row, leave_life}
-use Rattle.am_fronts.specs.Reports as reports
 use Rattle.am_fronts.specs.Reports.{least_of, least_taken}
 use Rattle.am_fronts.specs.Refresh.{base_after, own_report, tell, go_on, let_go}
-use Rattle.am_fronts.proofs.Leaders.{least_in}
 use Rattle.am_fronts.proofs.ReportLaws.{count_cons}
-use Rattle.am_chain_lists.proofs.Rows.{Spares, mod16, long_after, in_after}
-use Rattle.am_model.specs.Node.{Node, Ballot, top, told, view, members, others, name_where, those, is_member, is_asking, acts, is_sequencer, pushed, trimmed}
+use Rattle.am_chain_lists.proofs.Rows.{mod16}
+use Rattle.am_model.specs.Node.{Node, Ballot, top, told, members, others, is_sequencer, pushed, trimmed}
 use Rattle.am_model.specs.Refresh.{advance, lead, refresh, settle, refresh_at_end}
-use Rattle.am_model.specs.Ballots.{Verdict, overtaken, promised, next_stamp, own_vote, best_of, need_of, left_in, taken_by, trimmed_for}
-use Rattle.am_model.specs.Receiving.{is_view}
-use Rattle.am_model.specs.Sequencing.{is_unknown}
-use Rattle.am_model.specs.Sequencing as sequencing
-use Rattle.am_model.specs.Hearing.{hears_member, hears_asking, hears_sequencer, hears_in_view}
-use Rattle.am_model.specs.Group.{has_log}
-use Rattle.am_model.proofs.Greatest.{split, and_both}
-use Rattle.am_effects.specs.Causes.{Cause, hears}
-use Rattle.am_effects.specs.Looks.{HasOpen, Balloting, with_more, without_one, as_it_is, Looks, finds_itself_out, waits, fetches_from_best, finds_too_few, finds_no_room, decides}
-use Rattle.am_effects.specs.Changes.{Promises, invited, overtaken as overtaken_by, told_result, Numbers, asked_send, own_send, asked_join, asked_leave, Fetches, without_ballot, for_ballot, Change, refreshes, settles, takes_report, admits, numbers, keeps_body, notes, stores, begins_list, departs, promises, opens, looks, fetches, stores_view, queues, collects, takes, asks_to_join, asks_to_leave, closes}
-use Rattle.am_effects.proofs.Rests.{rests_refresh, rests_at_end, settle_is}
-use Rattle.am_effects.proofs.Statuses.{asking_log}
-use Rattle.am_effects.proofs.Says.{told_pushed, view_pushed}
-use Rattle.am_bounded.proofs.Kept.{HasItself}
-use Rattle.am_bounded.proofs.Changes.{itself}
-use Rattle.am_laws.proofs.LeaderRows.{JoinFits, any_fits, JoinsFit, joins_push, is_in, in_is, data_member, view_member, least_within}
-use Rattle.am_laws.proofs.Stamps.{not_above_itself, at_most_below, same_stamp}
-use Rattle.am_laws.proofs.ViewSteps.{view_last}
-use Rattle.am_laws.proofs.ViewChanges.{Balloted, next_above}
-use Rattle.am_laws.proofs.Views.{same_is_equal}
-use Rattle.am_laws.proofs.Blank.{Blanked}
+use Rattle.am_model.proofs.Greatest.{split}
+use Rattle.am_effects.proofs.Rests.{settle_is}
+use Rattle.am_effects.proofs.Says.{told_pushed}
+use Rattle.am_laws.proofs.LeaderRows.{JoinFits, JoinsFit, joins_push, is_in, least_within}
 
 -- ---- what a node has
 
@@ -132,7 +107,8 @@ passed_low : (taken acc start : ℕ) → taken ≤ acc → (if nat_lt taken (sta
 passed_low taken acc start h = split (nat_lt taken (start - 1)) (λ t. rw t (omega arith)) (λ f. rw f h)
 
 -- a name's own report
-own_reported : (reports : ℕ → Report) (who stored taken : ℕ) → (reports who).taken ≤ taken → (if who == who then record { stored = max (reports who).stored stored; taken = max (reports who).taken taken } else reports who).taken ≤ taken
+own_reported : (reports : ℕ → Report) (who stored taken : ℕ) → (reports who).taken ≤ taken
+    → (if who == who then record { stored = max (reports who).stored stored; taken = max (reports who).taken taken } else reports who).taken ≤ taken
 own_reported reports who stored taken h = let t : (who == who) ≡ true = grind (arith, nat_tests) in rw t (omega arith)
 
 lead_fronts : (m : Node) → MayLead m → Fronts m → Fronts (lead m)
@@ -183,7 +159,8 @@ closed_fronts m leads h = settle_fronts (refresh m) (refresh_fronts m (λ t. lea
 
 -- ---- the last member's own Leave
 
-closed_row : (image : Image) (n name : ℕ) → 0 < n → length image.rows ≡ 16 → has (members_of image) name ≡ true → members_of (after image n (Leave name)) ≡ set (members_of image) (place_of name) 0
+closed_row : (image : Image) (n name : ℕ) → 0 < n → length image.rows ≡ 16 → has (members_of image) name ≡ true
+    → members_of (after image n (Leave name)) ≡ set (members_of image) (place_of name) 0
 unfolding after
 closed_row image n name up long member =
     let is = is_in image name long member in

@@ -1,5 +1,5 @@
 -- The members after a send, and after a View of some of them.
-use Rattle.std.proofs.Common.{◌≡◌, ◌⊎◌, inl, inr, ⊎_elim, ℕ, ◌+◌, ◌<◌, ◌==◌, ◌&&◌, not, nat_lt, Bool, true, false, List, length, set, get_or, slice_index, refl, sym, ap, ◌∙◌, arith}
+use Rattle.std.proofs.Common.{◌≡◌, ◌⊎◌, inl, inr, ⊎_elim, ℕ, ◌<◌, ◌==◌, ◌&&◌, not, nat_lt, Bool, true, false, List, length, set, get_or, slice_index, refl, sym, ap, ◌∙◌, arith}
 use Rattle.std.proofs.lemmas.Bool.Decides.{nat_tests}
 use Rattle.std.proofs.lemmas.List.{map-set, set-get_or, ext_get_or, length-map}
 use Rattle.am_base.specs.declared.entry.Entry.TheVariants.{Data, View}
@@ -23,7 +23,8 @@ members_at image place long low = member_at image place (omega arith)
 same_life : (r : Row) (req : ℕ) → member_life (record r { last = req }) ≡ member_life r
 same_life r req = refl
 
-pub data_members : (image : Image) (n from req : ℕ) (body : List ℕ) → length image.rows ≡ 16 → members_of (after image n (Data from req body)) ≡ members_of image
+pub data_members : (image : Image) (n from req : ℕ) (body : List ℕ) → length image.rows ≡ 16
+    → members_of (after image n (Data from req body)) ≡ members_of image
 unfolding after
 data_members image n from req body long = split ((at_place image from).life == life_of from)
     (λ t.
@@ -51,11 +52,14 @@ first_life n given r free why =
     let t : (given == 0) ≡ true = grind (arith, nat_tests) in
     rw t (none ∙ sym zero_)
 
-any_life : (first : Bool) (n given : ℕ) (r : Row) → 0 < n → (first ≡ true → r.joined ≡ 0) → (given ≡ 0) ⊎ (given ≡ member_life r) → member_life (viewed first n given r) ≡ given
+any_life : (first : Bool) (n given : ℕ) (r : Row) → 0 < n → (first ≡ true → r.joined ≡ 0) → (given ≡ 0) ⊎ (given ≡ member_life r)
+    → member_life (viewed first n given r) ≡ given
 any_life true n given r up free why = first_life n given r (free refl) why
 any_life false n given r up free why = view_life n given r up why
 
-pub viewed_members : (image : Image) (n : ℕ) (stamp : Stamp) (names : List ℕ) (resilience : ℕ) → length image.rows ≡ 16 → 0 < n → length names ≡ 16 → ((place : ℕ) → place < 16 → (slice_index names place ≡ 0) ⊎ (slice_index names place ≡ slice_index (members_of image) place)) → members_of (after image n (View stamp names resilience)) ≡ names
+pub viewed_members : (image : Image) (n : ℕ) (stamp : Stamp) (names : List ℕ) (resilience : ℕ) → length image.rows ≡ 16 → 0 < n → length names ≡ 16
+    → ((place : ℕ) → place < 16 → (slice_index names place ≡ 0) ⊎ (slice_index names place ≡ slice_index (members_of image) place))
+    → members_of (after image n (View stamp names resilience)) ≡ names
 viewed_members image n stamp names resilience long up sixteen some =
     let next = after image n (View stamp names resilience) in
     let longer = long_after image n (View stamp names resilience) long in
@@ -68,7 +72,8 @@ viewed_members image n stamp names resilience long up sixteen some =
     members_at next place longer few ∙ ap member_life is ∙ any_life (is_blank image) n (slice_index names place) (row_at image place) up (λ t. blank_joined image place t) why))
 
 -- those that pass are some of the set
-pub those_some : (test : ℕ → Bool) (names : List ℕ) (place : ℕ) → place < 16 → (slice_index (those test names) place ≡ 0) ⊎ (slice_index (those test names) place ≡ slice_index names place)
+pub those_some : (test : ℕ → Bool) (names : List ℕ) (place : ℕ) → place < 16
+    → (slice_index (those test names) place ≡ 0) ⊎ (slice_index (those test names) place ≡ slice_index names place)
 unfolding those
 those_some test names place low =
     let life = slice_index names place in

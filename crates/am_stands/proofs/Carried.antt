@@ -32,10 +32,13 @@ hears_in_view_member x from v h = hears_member_member x from (and_both (hears_me
 
 -- ---- each change
 
-same_to_it : (w : World) (name : ℕ) (x y : Node) (s : Group) → y.core.log ≡ x.core.log → y.status ≡ x.status → y.leaving ≡ x.leaving → y.core.promise ≡ x.core.promise → y.ballot ≡ x.ballot → y.core.start ≡ x.core.start → StandsBut name (within w name x) s → Leads (StandsBut name (within w name y)) s
+same_to_it : (w : World) (name : ℕ) (x y : Node) (s : Group) → y.core.log ≡ x.core.log → y.status ≡ x.status → y.leaving ≡ x.leaving
+    → y.core.promise ≡ x.core.promise → y.ballot ≡ x.ballot → y.core.start ≡ x.core.start → StandsBut name (within w name x) s
+    → Leads (StandsBut name (within w name y)) s
 same_to_it w name x y s log stays leaving promise ballot start_ h = unmoved w name x y s (record { log = log; log_ = ap has_log stays; departed = ap has_departed stays; leaving = leaving; promise = promise; ballot = ap is_unfinished ballot; start = start_ }) h
 
-looked : (w : World) (name : ℕ) (c : Cause) (x : Node) (b : Ballot) (v : Verdict) (s : Group) → MayMove w name c x s → Balloting c x b → (look : Looks x b v) → NeedsLook s name look → StandsBut name (within w name x) s → Leads (StandsBut name (within (after_look look w) name v.node)) s
+looked : (w : World) (name : ℕ) (c : Cause) (x : Node) (b : Ballot) (v : Verdict) (s : Group) → MayMove w name c x s → Balloting c x b
+    → (look : Looks x b v) → NeedsLook s name look → StandsBut name (within w name x) s → Leads (StandsBut name (within (after_look look w) name v.node)) s
 looked w name c x b v s may why (finds_itself_out y) is h = look_stands w name c x b v s may (looked_open c x b why) (finds_itself_out y) (λ z. z) h
 looked w name c x b v s may why (waits y z) is h = look_stands w name c x b v s may (looked_open c x b why) (waits y z) (λ u. u) h
 looked w name c x b v s may why (fetches_from_best y z u) is h = look_stands w name c x b v s may (looked_open c x b why) (fetches_from_best y z u) (λ t. t) h

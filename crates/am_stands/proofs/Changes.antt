@@ -1,5 +1,5 @@
 -- The changes of a node that make no list longer, as moves of the group.
-use Rattle.std.proofs.Common.{◌≡◌, ◌≢◌, ℕ, ◌+◌, ◌<◌, ◌≤◌, ◌==◌, ◌||◌, not, Bool, true, false, List, ◌++◌, length, take, Option, Some, None, refl, sym, ap, ◌∙◌, subst, arith, nat_lt}
+use Rattle.std.proofs.Common.{◌≡◌, ◌≢◌, ℕ, ◌+◌, ◌<◌, ◌≤◌, ◌==◌, ◌||◌, not, Bool, true, false, List, ◌++◌, length, take, Option, Some, None, refl, sym, ap, ◌∙◌, subst, arith}
 use Rattle.std.proofs.lemmas.Bool.Decides.{nat_tests}
 use Rattle.std.proofs.lemmas.List.{length-append, length-take}
 use Rattle.am_base.specs.declared.name.Stamp.{Stamp}
@@ -20,7 +20,6 @@ use Rattle.am_model.specs.Node as nodes
 use Rattle.am_model.specs.Node.{Node, Ballot, members, is_member, is_asking, unsettled, set_at}
 use Rattle.am_model.specs.Calls.{is_unfinished}
 use Rattle.am_model.specs.Ballots.{Verdict, overtaken, promised, next_stamp}
-use Rattle.am_model.specs.Refresh.{refresh}
 use Rattle.am_model.specs.Hearing.{hears_member}
 use Rattle.am_model.specs.Group.{has_log}
 use Rattle.am_model.specs.World.{World, is_stopped, has_departed}
@@ -28,15 +27,14 @@ use Rattle.am_model.proofs.Folds.{fold_append}
 use Rattle.am_model.proofs.Greatest.{split, and_both}
 use Rattle.am_effects.specs.Causes.{Cause, hears}
 use Rattle.am_effects.specs.Looks.{Balloting, with_more, without_one, as_it_is, Looks, finds_itself_out, waits, fetches_from_best, finds_too_few, finds_no_room, decides}
-use Rattle.am_effects.specs.Changes.{Promises, invited, overtaken as overtaken_by, told_result, refreshes, settles, takes_report, admits, numbers, keeps_body, notes, stores, begins_list, departs, promises, opens, looks, fetches, stores_view, queues, collects, takes, asks_to_join, asks_to_leave, closes}
-use Rattle.am_effects.proofs.Rests.{rests_refresh, settle_is}
+use Rattle.am_effects.specs.Changes.{Promises, invited, overtaken as overtaken_by, told_result}
 use Rattle.am_effects.proofs.Statuses.{logged}
 use Rattle.am_laws.proofs.Stamps.{equal_stamps}
 use Rattle.am_packet.specs.declared.packet.Packet.TheVariants as packet
 use Rattle.am_stands.specs.Standing.{NameStands, FrontsStand, StandsBut, within}
 use Rattle.am_stands.specs.Letters.{GoneSays, has_stopped, may_go}
 use Rattle.am_stands.specs.Moving.{Leads}
-use Rattle.am_stands.specs.Steps.{MayMove, ChangesStand}
+use Rattle.am_stands.specs.Steps.{MayMove}
 use Rattle.am_stands.proofs.Names.{one_move, no_move, name_in, views_in, lines_within, each_within, fronts_within}
 
 -- ---- a node that is the same to the group
@@ -106,11 +104,13 @@ is_itself : (name : ℕ) → (name == name) ≡ true
 is_itself name = grind (arith, nat_tests)
 
 -- what stands for the name itself
-pub own_name : (w : World) (name : ℕ) (x : Node) (s : Group) → name < 256 → StandsBut name (within w name x) s → NameStands (within w name x) name x (s.node name)
+pub own_name : (w : World) (name : ℕ) (x : Node) (s : Group) → name < 256 → StandsBut name (within w name x) s
+    → NameStands (within w name x) name x (s.node name)
 own_name w name x s few h = rw (is_itself name) at (h.each name few)
 
 -- who runs and hasn't departed is there
-pub is_there : (w : World) (name : ℕ) (x : Node) (a : groups.Node) → is_stopped w name ≡ false → has_departed x.status ≡ false → NameStands (within w name x) name x a → IsThere a
+pub is_there : (w : World) (name : ℕ) (x : Node) (a : groups.Node) → is_stopped w name ≡ false → has_departed x.status ≡ false
+    → NameStands (within w name x) name x a → IsThere a
 is_there w name x a runs stays h = record { goes = h.stopped ∙ runs; stays = h.departed ∙ stays }
 
 member_stays : (t : Status) → is_member t ≡ true → has_departed t ≡ false
@@ -125,7 +125,8 @@ asking_stays status.Asking h = refl
 asking_stays status.Member h = refl
 asking_stays status.Departed h = absurd (cc)
 
-pub is_up : (w : World) (name : ℕ) (x : Node) (a : groups.Node) → is_stopped w name ≡ false → is_member x.status ≡ true → NameStands (within w name x) name x a → IsUp a
+pub is_up : (w : World) (name : ℕ) (x : Node) (a : groups.Node) → is_stopped w name ≡ false → is_member x.status ≡ true
+    → NameStands (within w name x) name x a → IsUp a
 is_up w name x a runs member h = record { log = h.log_ ∙ logged x.status member; there = is_there w name x a runs (member_stays x.status member) h }
 
 -- ---- what a whole list tells
@@ -153,14 +154,16 @@ long_all v i x a h =
 -- ---- promises
 
 -- an unfinished ballot of the promise is overtaken by what is above it
-over : (v : Stamp) (ballot : Option Ballot) → ((b : Ballot) → ballot ≡ Some b → b.is_over ≡ false → stamp_lt b.stamp v ≡ true) → is_unfinished (overtaken v ballot) ≡ false
+over : (v : Stamp) (ballot : Option Ballot) → ((b : Ballot) → ballot ≡ Some b → b.is_over ≡ false → stamp_lt b.stamp v ≡ true)
+    → is_unfinished (overtaken v ballot) ≡ false
 over v None f = refl
 over v (Some b) f = split b.is_over
     (λ t. rw t refl)
     (λ n. let low = f b refl n in rw (n, low) refl)
 
 -- and by nothing else
-kept : (v : Stamp) (ballot : Option Ballot) → ((b : Ballot) → ballot ≡ Some b → b.is_over ≡ false → stamp_lt b.stamp v ≡ false) → is_unfinished (overtaken v ballot) ≡ is_unfinished ballot
+kept : (v : Stamp) (ballot : Option Ballot) → ((b : Ballot) → ballot ≡ Some b → b.is_over ≡ false → stamp_lt b.stamp v ≡ false)
+    → is_unfinished (overtaken v ballot) ≡ is_unfinished ballot
 kept v None f = refl
 kept v (Some b) f = split b.is_over
     (λ t. rw t refl)
@@ -171,7 +174,8 @@ promiser_stays c x v (invited s _ is heard own) = asking_stays x.status (and_bot
 promiser_stays c x v (overtaken_by s _ shown is heard above) = member_stays x.status (and_both (not (s == x.core.who)) (is_member x.status) heard).1
 promiser_stays c x v (told_result s _ base number names resilience is heard own other) = member_stays x.status (and_both (not (s == x.core.who)) (is_member x.status) heard).1
 
-pub promise_stands : (w : World) (name : ℕ) (c : Cause) (x : Node) (v : Stamp) (s : Group) → MayMove w name c x s → stamp_lt v x.core.promise ≡ false → Promises c x v → StandsBut name (within w name x) s → Leads (StandsBut name (within w name (promised x v))) s
+pub promise_stands : (w : World) (name : ℕ) (c : Cause) (x : Node) (v : Stamp) (s : Group) → MayMove w name c x s → stamp_lt v x.core.promise ≡ false
+    → Promises c x v → StandsBut name (within w name x) s → Leads (StandsBut name (within w name (promised x v))) s
 promise_stands w name c x v s may low why h =
     let old = own_name w name x s may.few h in
     let begun = may.stamps v why in
@@ -194,7 +198,9 @@ promise_stands w name c x v s may low why h =
 -- ---- ballots
 
 -- a ballot that ends without a decision
-pub given_over : (w : World) (name : ℕ) (x y : Node) (s : Group) → y.core.log ≡ x.core.log → y.status ≡ x.status → y.leaving ≡ x.leaving → y.core.promise ≡ x.core.promise → is_unfinished y.ballot ≡ false → y.core.start ≡ x.core.start → StandsBut name (within w name x) s → Leads (StandsBut name (within w name y)) s
+pub given_over : (w : World) (name : ℕ) (x y : Node) (s : Group) → y.core.log ≡ x.core.log → y.status ≡ x.status → y.leaving ≡ x.leaving
+    → y.core.promise ≡ x.core.promise → is_unfinished y.ballot ≡ false → y.core.start ≡ x.core.start → StandsBut name (within w name x) s
+    → Leads (StandsBut name (within w name y)) s
 given_over w name x y s log stays leaving promise ends start_ h =
     moved w name x y s (record (s.node name) { ballot = false }) log (group.gives_over name)
     (λ k. record {
@@ -209,7 +215,10 @@ given_over w name x y s log stays leaving promise ends start_ h =
       start = λ t. k.start (ap has_log (sym stays) ∙ t) ∙ sym start_;
     }) h
 
-pub open_stands : (w : World) (name : ℕ) (c : Cause) (x y : Node) (s : Group) → MayMove w name c x s → is_member x.status ≡ true → has (members x) x.core.who ≡ true → x.leaving ≡ false → y.core.log ≡ x.core.log → y.status ≡ x.status → y.leaving ≡ x.leaving → y.core.promise ≡ next_stamp x → is_unfinished y.ballot ≡ true → y.core.start ≡ x.core.start → StandsBut name (within w name x) s → Leads (StandsBut name (within w name y)) s
+pub open_stands : (w : World) (name : ℕ) (c : Cause) (x y : Node) (s : Group) → MayMove w name c x s → is_member x.status ≡ true
+    → has (members x) x.core.who ≡ true → x.leaving ≡ false → y.core.log ≡ x.core.log → y.status ≡ x.status → y.leaving ≡ x.leaving
+    → y.core.promise ≡ next_stamp x → is_unfinished y.ballot ≡ true → y.core.start ≡ x.core.start → StandsBut name (within w name x) s
+    → Leads (StandsBut name (within w name y)) s
 unfolding mem
 open_stands w name c x y s may member listed stays log same_status same_leaving promise open_ start_ h =
     let old = own_name w name x s may.few h in
@@ -236,7 +245,9 @@ IsDecision (decides may) = Unit {0}
 IsDecision _ = ⊥
 
 -- a ballot that goes on is the same to the group, and one that ends is given over
-pub look_stands : (w : World) (name : ℕ) (c : Cause) (x : Node) (b : Ballot) (v : Verdict) (s : Group) → MayMove w name c x s → is_unfinished x.ballot ≡ true → (look : Looks x b v) → (IsDecision look → ⊥) → StandsBut name (within w name x) s → Leads (StandsBut name (within w name v.node)) s
+pub look_stands : (w : World) (name : ℕ) (c : Cause) (x : Node) (b : Ballot) (v : Verdict) (s : Group) → MayMove w name c x s
+    → is_unfinished x.ballot ≡ true → (look : Looks x b v) → (IsDecision look → ⊥) → StandsBut name (within w name x) s
+    → Leads (StandsBut name (within w name v.node)) s
 look_stands w name c x b v s may open_ (waits y z) nothing h = unmoved w name x v.node s (record { log = refl; log_ = refl; departed = refl; leaving = refl; promise = refl; ballot = sym open_; start = refl }) h
 look_stands w name c x b v s may open_ (fetches_from_best y z u) nothing h = unmoved w name x v.node s (record { log = refl; log_ = refl; departed = refl; leaving = refl; promise = refl; ballot = sym open_; start = refl }) h
 look_stands w name c x b v s may open_ (finds_itself_out y) nothing h = given_over w name x v.node s refl refl refl refl refl refl h
@@ -255,7 +266,8 @@ pub or_last : (a b : Bool) → (a || b) ≡ false → b ≡ false
 or_last true b h = absurd (cc)
 or_last false b h = h
 
-pub ask_stands : (w : World) (name : ℕ) (c : Cause) (x : Node) (s : Group) → MayMove w name c x s → x.status ≡ status.Member → is_unfinished x.ballot ≡ false → StandsBut name (within w name x) s → Leads (StandsBut name (within w name (record x { leaving = true }))) s
+pub ask_stands : (w : World) (name : ℕ) (c : Cause) (x : Node) (s : Group) → MayMove w name c x s → x.status ≡ status.Member
+    → is_unfinished x.ballot ≡ false → StandsBut name (within w name x) s → Leads (StandsBut name (within w name (record x { leaving = true }))) s
 ask_stands w name c x s may was none h =
     let old = own_name w name x s may.few h in
     moved w name x (record x { leaving = true }) s (record (s.node name) { leaving = true }) refl
@@ -263,11 +275,14 @@ ask_stands w name c x s may was none h =
     (λ k. record { begins = record { within = k.begins.within; image = k.begins.image }; list = k.list; log_ = k.log_; stopped = k.stopped; departed = k.departed; leaving = refl; promise = k.promise; ballot = k.ballot; start = k.start }) h
 
 -- it is told to go only once it may
-may_depart : (w : World) (name number : ℕ) (x : Node) (s : Group) → is_stopped w name ≡ false → IsUp (s.node name) → (s.node name).leaving ≡ true → NameStands (within w name x) name x (s.node name) → GoneSays s number name → (before : List Entry) × MayDepart s name before
+may_depart : (w : World) (name number : ℕ) (x : Node) (s : Group) → is_stopped w name ≡ false → IsUp (s.node name) → (s.node name).leaving ≡ true
+    → NameStands (within w name x) name x (s.node name) → GoneSays s number name → (before : List Entry) × MayDepart s name before
 may_depart w name number x s runs up leaves old (has_stopped t) = absurd (let f : (s.node name).stopped ≡ false = old.stopped ∙ runs in cc)
 may_depart w name number x s runs up leaves old (may_go before is accepted stored) = (before, record { up = up; leaving = leaves; accepted = accepted; stored = stored })
 
-pub depart_stands : (w : World) (name from number : ℕ) (v : Stamp) (c : Cause) (x : Node) (s : Group) → MayMove w name c x s → c ≡ hears (packet.Gone from v number) → hears_member x from ≡ true → x.leaving ≡ true → StandsBut name (within w name x) s → Leads (StandsBut name (within w name (record x { status = status.Departed }))) s
+pub depart_stands : (w : World) (name from number : ℕ) (v : Stamp) (c : Cause) (x : Node) (s : Group) → MayMove w name c x s
+    → c ≡ hears (packet.Gone from v number) → hears_member x from ≡ true → x.leaving ≡ true → StandsBut name (within w name x) s
+    → Leads (StandsBut name (within w name (record x { status = status.Departed }))) s
 depart_stands w name from number v c x s may is heard leaves h =
     let old = own_name w name x s may.few h in
     let member = (and_both (not (from == x.core.who)) (is_member x.status) heard).1 in

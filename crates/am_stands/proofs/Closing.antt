@@ -1,39 +1,36 @@
 -- The last member numbers its own Leave, accepts what it may, and goes: one move, which ends its step.
-use Rattle.std.proofs.Common.{◌≡◌, ◌≢◌, ℕ, ◌+◌, ◌<◌, ◌≤◌, ◌==◌, Bool, true, false, if◌then◌else◌, List, [], ◌∷◌, ◌++◌, length, take, Some, slice_get, refl, sym, ap, ◌∙◌, subst, arith}
+use Rattle.std.proofs.Common.{◌≡◌, ◌≢◌, ℕ, ◌<◌, ◌≤◌, ◌==◌, true, false, [], ◌∷◌, ◌++◌, length, take, Some, slice_get, refl, sym, ap, ◌∙◌, subst, arith}
 use Rattle.std.proofs.lemmas.Bool.Decides.{nat_tests}
 use Rattle.am_base.specs.declared.name.Stamp.{Stamp}
-use Rattle.am_base.specs.declared.entry.Entry.{Entry}
 use Rattle.am_base.specs.declared.entry.Entry.TheVariants.{Leave}
 use Rattle.am_base.specs.Lists.{Log}
 use Rattle.am_group.specs.declared.event.Event.{Event}
-use Rattle.am_chain_lists.specs.Whole.{Begins, told, view_of, key}
+use Rattle.am_chain_lists.specs.Whole.{told}
 use Rattle.am_chain_moves.specs.Group as groups
 use Rattle.am_chain_moves.specs.Group.{Group, put}
 use Rattle.am_chain_moves.specs.Moves.{Move, with_line, longer}
 use Rattle.am_chain_moves.specs.Moves as group
-use Rattle.am_model.specs.Node.{Node, is_sequencer, pushed, set_at}
+use Rattle.am_model.specs.Node.{Node, pushed, set_at}
 use Rattle.am_model.specs.Emit.{Step}
 use Rattle.am_model.specs.Calls.{is_unfinished}
-use Rattle.am_model.specs.Refresh.{refresh_at_end}
-use Rattle.am_model.specs.World.{Decided, World, has_departed, group_after, views_after, stepped}
+use Rattle.am_model.specs.World.{Decided, World, has_departed, group_after, stepped}
 use Rattle.am_model.specs.Claims.{up_to_next, line_of}
 use Rattle.am_model.proofs.Greatest.{split}
-use Rattle.am_effects.specs.Causes.{Cause}
-use Rattle.am_effects.proofs.Rests.{RestsWhole, rests_at_end}
-use Rattle.am_stands.specs.Standing.{NameStands, FrontsStand, ViewsStand, StandsBut, Stands, within}
-use Rattle.am_stands.specs.Moving.{Leads}
-use Rattle.am_stands.specs.Steps.{MayMove}
+use Rattle.am_effects.proofs.Rests.{rests_at_end}
+use Rattle.am_stands.specs.Standing.{NameStands, FrontsStand, StandsBut, Stands, within}
 use Rattle.am_stands.specs.Ends.{NeedsClose, closed, CloseStands}
 use Rattle.am_stands.proofs.Names.{one_move, views_noted}
 use Rattle.am_stands.proofs.Changes.{own_name, is_up}
-use Rattle.am_stands.proofs.Entries.{IsLeading, is_leading, numbered_stands}
+use Rattle.am_stands.proofs.Entries.{is_leading, numbered_stands}
 use Rattle.am_stands.proofs.Ends.{taken_more, name_grows}
 
 is_itself : (name : ℕ) → (name == name) ≡ true
 is_itself name = grind (arith, nat_tests)
 
 -- what stands for who has gone so
-gone_name : (w : World) (name : ℕ) (x : Node) (b : groups.Node) → b.has_log ≡ true → NameStands (within w name (pushed x (Leave x.core.who))) name (pushed x (Leave x.core.who)) b → NameStands (within w name (closed x)) name (closed x) (record b { departed = true })
+gone_name : (w : World) (name : ℕ) (x : Node) (b : groups.Node) → b.has_log ≡ true
+    → NameStands (within w name (pushed x (Leave x.core.who))) name (pushed x (Leave x.core.who)) b
+    → NameStands (within w name (closed x)) name (closed x) (record b { departed = true })
 gone_name w name x b log h =
     let r = rests_at_end (pushed x (Leave x.core.who)) in
     record {

@@ -1,5 +1,5 @@
 -- A decision, as a move of the group.
-use Rattle.std.proofs.Common.{◌≡◌, ◌≢◌, ◌⊎◌, inl, inr, ⊎_elim, ℕ, zero, suc, ◌+◌, ◌<◌, ◌≤◌, ◌==◌, ◌||◌, max, not, Bool, true, false, if◌then◌else◌, List, [], ◌∷◌, ◌++◌, length, take, Option, Some, None, slice_get, refl, sym, ap, ◌∙◌, subst, arith}
+use Rattle.std.proofs.Common.{◌≡◌, ⊎_elim, ℕ, ◌+◌, ◌==◌, max, true, false, List, [], ◌∷◌, ◌++◌, length, take, Some, slice_get, refl, sym, ap, ◌∙◌, subst, arith}
 use Rattle.std.specs.List.{list_any}
 use Rattle.std.proofs.lemmas.Bool.Decides.{nat_tests}
 use Rattle.std.proofs.lemmas.List.{append_assoc, append-nil, length-append}
@@ -9,7 +9,7 @@ use Rattle.am_base.specs.declared.entry.Entry.{Entry}
 use Rattle.am_base.specs.declared.entry.Entry.TheVariants.{View}
 use Rattle.am_base.specs.Stamps.{stamp_eq}
 use Rattle.am_base.specs.Lists.{Log}
-use Rattle.am_chain_lists.specs.Whole.{Begins, told, view_of, key}
+use Rattle.am_chain_lists.specs.Whole.{key}
 use Rattle.am_chain_moves.specs.Group as groups
 use Rattle.am_chain_moves.specs.Group.{Group, Views, put, opening}
 use Rattle.am_chain_moves.specs.Moves.{Move, with_choice, choice_of}
@@ -17,9 +17,7 @@ use Rattle.am_chain_moves.specs.Moves as group
 use Rattle.am_model.specs.Node as nodes
 use Rattle.am_model.specs.Node.{Node, Ballot, view, members, pushed, set_at}
 use Rattle.am_base.specs.declared.outcome.Outcome.TheVariants as said
-use Rattle.am_model.specs.Ballots.{Verdict, need_of, left_in, trimmed_for, restarted, finished}
-use Rattle.am_model.specs.Calls.{is_unfinished}
-use Rattle.am_model.specs.Receiving.{is_view}
+use Rattle.am_model.specs.Ballots.{need_of, left_in, restarted, finished}
 use Rattle.am_model.specs.World.{Decided, World, last_view}
 use Rattle.am_model.specs.Lawful.{whole, is_view_of}
 use Rattle.am_model.specs.Claims.{up_to_view, up_to_next, line_of}
@@ -30,18 +28,19 @@ use Rattle.am_effects.specs.Looks.{MayDecide, HasOpen, Balloting, with_more, wit
 use Rattle.am_effects.proofs.Items.{get_front, get_last, get_push}
 use Rattle.am_effects.proofs.Says.{told_pushed}
 use Rattle.am_laws.proofs.ViewSteps.{after_view}
-use Rattle.am_stands.specs.Standing.{BeginsIn, NameStands, NotedStands, IsLast, WasNoted, ViewsStand, StandsBut, within}
+use Rattle.am_stands.specs.Standing.{NameStands, NotedStands, ViewsStand, StandsBut, within}
 use Rattle.am_stands.specs.Moving.{Leads}
 use Rattle.am_stands.specs.Steps.{MayMove, NeedsDecision, noting}
 use Rattle.am_stands.proofs.Names.{one_move, name_in, each_within, fronts_within}
 use Rattle.am_stands.proofs.Changes.{own_name, long_all}
-use Rattle.am_stands.proofs.Lines.{HasViewOf, line_ends}
+use Rattle.am_stands.proofs.Lines.{line_ends}
 use Rattle.am_stands.proofs.Entries.{noted_stands, line_here}
 
 -- ---- lists
 
 -- a View that wasn't there ends the line that it opens
-line_opens : (v : Stamp) (es : List Entry) (names : List ℕ) (resilience : ℕ) → list_any (is_view_of v) es ≡ false → up_to_next v (es ++ View v names resilience ∷ []) ≡ es ++ View v names resilience ∷ []
+line_opens : (v : Stamp) (es : List Entry) (names : List ℕ) (resilience : ℕ) → list_any (is_view_of v) es ≡ false
+    → up_to_next v (es ++ View v names resilience ∷ []) ≡ es ++ View v names resilience ∷ []
 unfolding up_to_next up_to_view
 line_opens v [] names resilience h = let t : stamp_eq v v ≡ true = grind (arith, nat_tests) in rw t refl
 line_opens v (x ∷ es) names resilience h = split (is_view_of v x)
@@ -169,7 +168,8 @@ module _ (w : World) (name : ℕ) (x y : Node) (a : groups.Node) (views : Views)
 
 -- ---- the decision
 
-pub decision_stands : (w : World) (name : ℕ) (c : Cause) (x : Node) (b : Ballot) (s : Group) → MayMove w name c x s → Balloting c x b → NeedsDecision s name x b → StandsBut name (within w name x) s
+pub decision_stands : (w : World) (name : ℕ) (c : Cause) (x : Node) (b : Ballot) (s : Group) → MayMove w name c x s → Balloting c x b
+    → NeedsDecision s name x b → StandsBut name (within w name x) s
     → Leads (StandsBut name (within (noting w (last_view (restarted (looks.view_of x b)))) name (record (restarted (looks.view_of x b)) { ballot = Some (finished b (said.Decided (nodes.top x + 1) (left_in b (need_of x b)))) }))) s
 unfolding next made
 decision_stands w name c x b s may why needs h =

@@ -1,10 +1,10 @@
 -- At the end of a step the group accepts what its sequencer does, and the name learns how far that is.
-use Rattle.std.proofs.Common.{◌≡◌, ◌≢◌, ℕ, zero, suc, ◌+◌, ◌<◌, ◌≤◌, ◌==◌, max, Bool, true, false, if◌then◌else◌, List, [], ◌∷◌, ◌++◌, length, take, Some, slice_get, refl, sym, ap, ◌∙◌, subst, arith}
+use Rattle.std.proofs.Common.{◌≡◌, ◌≢◌, ℕ, zero, suc, ◌<◌, ◌≤◌, ◌==◌, max, true, false, if◌then◌else◌, List, [], ◌∷◌, ◌++◌, length, take, Some, slice_get, refl, sym, ap, ◌∙◌, subst, arith}
 use Rattle.std.proofs.lemmas.Bool.Decides.{nat_tests}
 use Rattle.am_base.specs.declared.entry.Entry.{Entry}
 use Rattle.am_base.specs.declared.name.Stamp.{Stamp}
 use Rattle.am_group.specs.declared.event.Event.{Event}
-use Rattle.am_chain_lists.specs.Whole.{Begins, told, key}
+use Rattle.am_chain_lists.specs.Whole.{Begins, told}
 use Rattle.am_chain_lists.proofs.Prefixes.{begins_length}
 use Rattle.am_chain_moves.specs.Group as groups
 use Rattle.am_chain_moves.specs.Group.{Group, put}
@@ -13,12 +13,11 @@ use Rattle.am_chain_moves.specs.Moves as group
 use Rattle.am_model.specs.Node.{Node, set_at}
 use Rattle.am_model.specs.Emit.{Step}
 use Rattle.am_model.specs.World.{Decided, World, is_stopped, has_departed, group_after, views_after, stepped}
-use Rattle.am_model.specs.Lawful.{whole}
 use Rattle.am_model.specs.Claims.{up_to_next, line_of}
 use Rattle.am_model.proofs.Greatest.{split}
-use Rattle.am_stands.specs.Standing.{BeginsIn, NameStands, FrontsStand, NotedStands, WasNoted, IsLast, ViewsStand, StandsBut, Stands}
+use Rattle.am_stands.specs.Standing.{NameStands, FrontsStand, ViewsStand, Stands}
 use Rattle.am_stands.specs.Moving.{Moves, none, moves, Leads}
-use Rattle.am_stands.specs.Ends.{Accepts, no_more, rises, MayLearn, Learns, departed, bare, learns, NeedsEnd, before_end, EndsStand}
+use Rattle.am_stands.specs.Ends.{Accepts, no_more, rises, Learns, departed, bare, learns, before_end, EndsStand}
 use Rattle.am_stands.proofs.Names.{no_move, one_move, views_noted}
 
 -- ---- a longer group list
@@ -31,7 +30,8 @@ take_front (suc n) (x ∷ xs) ys h = ap (λ l. x ∷ l) (take_front n xs ys (ome
 pub taken_more : (n : ℕ) (old new : List Entry) → Begins old new → n ≤ length old → take n new ≡ take n old
 taken_more n old new h low = ap (take n) (sym h.same) ∙ take_front n old h.rest low
 
-pub name_grows : (w v : World) (i : ℕ) (m : Node) (a : groups.Node) → Begins w.group v.group → is_stopped v i ≡ is_stopped w i → NameStands w i m a → NameStands v i m a
+pub name_grows : (w v : World) (i : ℕ) (m : Node) (a : groups.Node) → Begins w.group v.group → is_stopped v i ≡ is_stopped w i → NameStands w i m a
+    → NameStands v i m a
 name_grows w v i m a grows stopped h =
     let low = h.begins.within in
     let more = begins_length grows in
@@ -98,7 +98,8 @@ record Ended (w : World) (e : Event) (name : ℕ) (step : Step) (s : Group) : Ty
   group_ : s.group ≡ group_after w.group step.node
 
 -- and with them
-all_stands : (w : World) (e : Event) (name : ℕ) (step : Step) (s : Group) → Ended w e name step s → (has_departed step.node.status ≡ false → FrontsStand step.node (s.node name)) → Stands (stepped w e name step) s
+all_stands : (w : World) (e : Event) (name : ℕ) (step : Step) (s : Group) → Ended w e name step s
+    → (has_departed step.node.status ≡ false → FrontsStand step.node (s.node name)) → Stands (stepped w e name step) s
 unfolding stepped
 all_stands w e name step s h own = record {
   each = h.each;
@@ -111,7 +112,8 @@ all_stands w e name step s h own = record {
   group = h.group_;
 }
 
-learned : (w : World) (e : Event) (name : ℕ) (step : Step) (s : Group) (told_ acc_ : ℕ) → Ended w e name step s → Ended w e name step (with_node s name (record (s.node name) { told = told_; acc = acc_ }))
+learned : (w : World) (e : Event) (name : ℕ) (step : Step) (s : Group) (told_ acc_ : ℕ) → Ended w e name step s
+    → Ended w e name step (with_node s name (record (s.node name) { told = told_; acc = acc_ }))
 unfolding put
 learned w e name step s told_ acc_ h = record {
   each = λ i few. split (i == name)
@@ -127,11 +129,13 @@ learned w e name step s told_ acc_ h = record {
   group_ = h.group_;
 }
 
-own_fronts : (n : Node) (name : ℕ) (s : Group) (told_ : ℕ) → n.core.told ≤ told_ → FrontsStand n ((with_node s name (record (s.node name) { told = told_; acc = n.core.acc })).node name)
+own_fronts : (n : Node) (name : ℕ) (s : Group) (told_ : ℕ) → n.core.told ≤ told_
+    → FrontsStand n ((with_node s name (record (s.node name) { told = told_; acc = n.core.acc })).node name)
 unfolding put
 own_fronts n name s told_ low = rw (is_itself name) (record { told = low; acc = refl })
 
-learn_stands : (w : World) (e : Event) (name : ℕ) (step : Step) (s : Group) → s.group ≡ group_after w.group step.node → Ended w e name step s → (name < 256) → Learns w s name step.node → Leads (Stands (stepped w e name step)) s
+learn_stands : (w : World) (e : Event) (name : ℕ) (step : Step) (s : Group) → s.group ≡ group_after w.group step.node → Ended w e name step s
+    → (name < 256) → Learns w s name step.node → Leads (Stands (stepped w e name step)) s
 learn_stands w e name step s same h few (departed d) = no_move (Stands (stepped w e name step)) s (all_stands w e name step s h (λ f. absurd (cc)))
 learn_stands w e name step s same h few (bare f) = no_move (Stands (stepped w e name step)) s (all_stands w e name step s h (λ d. f))
 learn_stands w e name step s same h few (learns m) =

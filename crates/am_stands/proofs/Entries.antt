@@ -1,11 +1,11 @@
 -- The changes of a node that make its list longer, or let it begin, as moves of the group.
-use Rattle.std.proofs.Common.{◌≡◌, ◌≢◌, ◌⊎◌, inl, inr, ⊎_elim, ℕ, ◌+◌, ◌<◌, ◌≤◌, ◌==◌, ◌&&◌, Bool, true, false, if◌then◌else◌, List, [], ◌∷◌, ◌++◌, length, take, Option, Some, None, slice_get, refl, sym, ap, ◌∙◌, subst, arith}
+use Rattle.std.proofs.Common.{◌≡◌, ◌≢◌, ℕ, ◌<◌, ◌≤◌, ◌==◌, true, false, List, [], ◌∷◌, ◌++◌, length, take, Some, slice_get, refl, sym, ap, ◌∙◌, subst, arith}
 use Rattle.std.proofs.lemmas.Bool.Decides.{nat_tests}
 use Rattle.std.proofs.lemmas.List.{append_assoc, append-nil}
 use Rattle.am_base.specs.declared.name.Stamp.{Stamp}
 use Rattle.am_base.specs.declared.image.Image.{Image}
 use Rattle.am_base.specs.declared.entry.Entry.{Entry}
-use Rattle.am_base.specs.declared.entry.Entry.TheVariants.{Data, Join, Leave, View}
+use Rattle.am_base.specs.declared.entry.Entry.TheVariants.{View}
 use Rattle.am_base.specs.Names.{rank_of}
 use Rattle.am_base.specs.Stamps.{stamp_eq}
 use Rattle.am_base.specs.Lists.{Log, fits}
@@ -16,8 +16,7 @@ use Rattle.am_chain_moves.specs.Group as groups
 use Rattle.am_chain_moves.specs.Group.{Group, Views, put, IsUp, opening}
 use Rattle.am_chain_moves.specs.Moves.{Move, with_node, with_line, longer}
 use Rattle.am_chain_moves.specs.Moves as group
-use Rattle.am_model.specs.Node as nodes
-use Rattle.am_model.specs.Node.{Node, view, is_member, acts, is_sequencer, pushed, set_at}
+use Rattle.am_model.specs.Node.{Node, view, is_member, acts, is_sequencer, pushed}
 use Rattle.am_model.specs.Calls.{is_unfinished}
 use Rattle.am_model.specs.Receiving.{is_view}
 use Rattle.am_model.specs.Group.{has_log}
@@ -29,9 +28,9 @@ use Rattle.am_model.specs.Joining.{begun}
 use Rattle.am_effects.specs.Causes.{Cause}
 use Rattle.am_effects.specs.Changes.{Numbers, asked_send, own_send, asked_join, asked_leave}
 use Rattle.am_laws.proofs.Stamps.{same_stamp}
-use Rattle.am_stands.specs.Standing.{BeginsIn, NameStands, FrontsStand, NotedStands, ViewsStand, StandsBut, within}
+use Rattle.am_stands.specs.Standing.{NameStands, NotedStands, ViewsStand, StandsBut, within}
 use Rattle.am_stands.specs.Moving.{Leads}
-use Rattle.am_stands.specs.Steps.{MayMove, NeedsNumber, IsOthers, NeedsEntry, NeedsShown, NeedsPiece, of_line, of_shown, NeedsWelcome}
+use Rattle.am_stands.specs.Steps.{MayMove, NeedsNumber, IsOthers, NeedsEntry, NeedsPiece, of_line, of_shown, NeedsWelcome}
 use Rattle.am_stands.proofs.Names.{one_move, views_noted, each_within, fronts_within}
 use Rattle.am_stands.proofs.Changes.{own_name, is_up, told_whole}
 use Rattle.am_stands.proofs.Lines.{HasViewOf, next_of_list, line_stays, line_ends, line_grows, opened}
@@ -49,7 +48,8 @@ pub record Longer (x y : Node) (e : Entry) : Type 0 where
 whole_longer : (w : World) (name : ℕ) (x y : Node) (e : Entry) → Longer x y e → whole (within w name y) y ≡ whole (within w name x) x ++ e ∷ []
 whole_longer w name x y e l = ap (λ (g : Log). take g.start w.group ++ g.entries) l.log ∙ sym (append_assoc (take x.core.log.start w.group) x.core.log.entries (e ∷ []))
 
-pub name_longer : (w : World) (name : ℕ) (x y : Node) (e : Entry) (a : groups.Node) → Longer x y e → NameStands (within w name x) name x a → NameStands (within w name y) name y (longer a e)
+pub name_longer : (w : World) (name : ℕ) (x y : Node) (e : Entry) (a : groups.Node) → Longer x y e → NameStands (within w name x) name x a
+    → NameStands (within w name y) name y (longer a e)
 name_longer w name x y e a l h = record {
   begins = record {
     within = subst (λ (g : Log). g.start ≤ length w.group) (sym l.log) h.begins.within;
@@ -68,7 +68,8 @@ name_longer w name x y e a l h = record {
 -- ---- the lines
 
 -- a noted view's View stands in its coordinator's list
-pub noted_stands : (w : World) (views : Views) (v : Decided) (list : List Entry) → NotedStands w views v → line_of w v.stamp ≡ up_to_next v.stamp list → HasViewOf v.stamp list
+pub noted_stands : (w : World) (views : Views) (v : Decided) (list : List Entry) → NotedStands w views v → line_of w v.stamp ≡ up_to_next v.stamp list
+    → HasViewOf v.stamp list
 noted_stands w views v list h is =
     let ch = views.chosen (key v.stamp) in
     opened v.stamp ch.before ch.members ch.resilience list (subst (λ (s : Stamp). Begins (ch.before ++ View s ch.members ch.resilience ∷ []) (up_to_next v.stamp list)) h.stamp
@@ -83,7 +84,8 @@ unfolding view_of
 view_whole w name x a h = ap (λ (i : Image). i.view) (told_whole w name name x a h)
 
 -- of the name's own views only that which its list ends with may go on, and not by a View
-lines_longer : (w : World) (name : ℕ) (x y : Node) (e : Entry) (a : groups.Node) (views : Views) → Longer x y e → NameStands (within w name x) name x a → IsOthers name x e → ViewsStand (within w name x) views
+lines_longer : (w : World) (name : ℕ) (x y : Node) (e : Entry) (a : groups.Node) (views : Views) → Longer x y e → NameStands (within w name x) name x a
+    → IsOthers name x e → ViewsStand (within w name x) views
     → (k : ℕ) (d : Decided) → slice_get w.views k ≡ Some d → line_of (within w name y) d.stamp ≡ line_of (within w name x) d.stamp
 lines_longer w name x y e a views l old others h k d at = split (d.stamp.by == name)
     (λ t.
@@ -100,7 +102,8 @@ lines_longer w name x y e a views l old others h k d at = split (d.stamp.by == n
     (λ f. rw f refl)
 
 -- a move that makes one list longer, and no line of its own
-grows : (w : World) (name : ℕ) (x y : Node) (e : Entry) (s : Group) → name < 256 → Longer x y e → IsOthers name x e → Move s (with_node s name (longer (s.node name) e)) → StandsBut name (within w name x) s → Leads (StandsBut name (within w name y)) s
+grows : (w : World) (name : ℕ) (x y : Node) (e : Entry) (s : Group) → name < 256 → Longer x y e → IsOthers name x e
+    → Move s (with_node s name (longer (s.node name) e)) → StandsBut name (within w name x) s → Leads (StandsBut name (within w name y)) s
 grows w name x y e s few l others move h =
     let old = own_name w name x s few h in
     let b = longer (s.node name) e in
@@ -113,12 +116,14 @@ grows w name x y e s few l others move h =
 
 -- ---- entries of a line, or of a list that was shown
 
-entry_stands : (w : World) (name : ℕ) (x y : Node) (e : Entry) (s : Group) → name < 256 → is_stopped w name ≡ false → is_member x.status ≡ true → Longer x y e → NeedsEntry s name x e → StandsBut name (within w name x) s → Leads (StandsBut name (within w name y)) s
+entry_stands : (w : World) (name : ℕ) (x y : Node) (e : Entry) (s : Group) → name < 256 → is_stopped w name ≡ false → is_member x.status ≡ true
+    → Longer x y e → NeedsEntry s name x e → StandsBut name (within w name x) s → Leads (StandsBut name (within w name y)) s
 entry_stands w name x y e s few runs member l needs h =
     let old = own_name w name x s few h in
     grows w name x y e s few l needs.others (group.stores name e (is_up w name x (s.node name) runs member old) needs.decided needs.other needs.stays needs.next) h
 
-pub piece_stands : (w : World) (name : ℕ) (x y : Node) (e : Entry) (s : Group) → name < 256 → is_stopped w name ≡ false → is_member x.status ≡ true → Longer x y e → NeedsPiece s name x e → StandsBut name (within w name x) s → Leads (StandsBut name (within w name y)) s
+pub piece_stands : (w : World) (name : ℕ) (x y : Node) (e : Entry) (s : Group) → name < 256 → is_stopped w name ≡ false → is_member x.status ≡ true
+    → Longer x y e → NeedsPiece s name x e → StandsBut name (within w name x) s → Leads (StandsBut name (within w name y)) s
 piece_stands w name x y e s few runs member l (of_line needs) h = entry_stands w name x y e s few runs member l needs h
 piece_stands w name x y e s few runs member l (of_shown open_ needs) h =
     let old = own_name w name x s few h in
@@ -133,7 +138,7 @@ numbers_plain c m e (asked_join s v is other fit) = refl
 numbers_plain c m e (asked_leave s v report is other known stays) = refl
 
 -- equal keys are of equal stamps
-key_stamp : (a b : Stamp) → a.by < 256 → b.by < 256 → key a ≡ key b → a ≡ b
+pub key_stamp : (a b : Stamp) → a.by < 256 → b.by < 256 → key a ≡ key b → a ≡ b
 unfolding key
 key_stamp a b h k same =
     let by = key_by a b h k same in
@@ -142,8 +147,10 @@ key_stamp a b h k same =
     λ i. record { round = round i; by = by i }
 
 -- the lines once a sequencer's list, and its view's line with it, is longer
-views_numbered : (w : World) (name : ℕ) (x y : Node) (e : Entry) (a : groups.Node) (views : Views) → Longer x y e → NameStands (within w name x) name x a → is_view e ≡ false
-    → (view_of a.list).by ≡ name → name < 256 → ((k : ℕ) (v : Decided) → slice_get w.views k ≡ Some v → v.stamp.by < 256) → views.line (key (view_of a.list)) ≡ a.list
+views_numbered : (w : World) (name : ℕ) (x y : Node) (e : Entry) (a : groups.Node) (views : Views) → Longer x y e → NameStands (within w name x) name x a
+    → is_view e ≡ false
+    → (view_of a.list).by ≡ name → name < 256 → ((k : ℕ) (v : Decided) → slice_get w.views k ≡ Some v → v.stamp.by < 256)
+    → views.line (key (view_of a.list)) ≡ a.list
     → ViewsStand (within w name x) views → ViewsStand (within w name y) (record views { line = put views.line (key (view_of a.list)) (a.list ++ e ∷ []) })
 unfolding put
 views_numbered w name x y e a views l old plain by few small chain h = record {
@@ -197,7 +204,8 @@ pub record IsLeading (name : ℕ) (x : Node) (a : groups.Node) : Type 0 where
   pub by : (view_of a.list).by ≡ name
   pub acts_ : a.promise ≡ view_of a.list
 
-pub is_leading : (w : World) (name : ℕ) (x : Node) (a : groups.Node) → x.core.who ≡ name → is_sequencer x ≡ true → NameStands (within w name x) name x a → IsLeading name x a
+pub is_leading : (w : World) (name : ℕ) (x : Node) (a : groups.Node) → x.core.who ≡ name → is_sequencer x ≡ true → NameStands (within w name x) name x a
+    → IsLeading name x a
 is_leading w name x a who leads old =
     let both = and_both (acts x) ((view x).by == x.core.who) leads in
     let acting = and_both (is_member x.status) (stamp_eq x.core.promise (view x)) both.0 in
@@ -210,7 +218,9 @@ is_leading w name x a who leads old =
     }
 
 -- the group with a sequencer's entry stands for the world with it
-pub numbered_stands : (w : World) (name : ℕ) (x : Node) (e : Entry) (s : Group) → name < 256 → IsLeading name x (s.node name) → ((k : ℕ) (v : Decided) → slice_get w.views k ≡ Some v → v.stamp.by < 256) → is_view e ≡ false → s.views.line (key (view_of (s.node name).list)) ≡ (s.node name).list
+pub numbered_stands : (w : World) (name : ℕ) (x : Node) (e : Entry) (s : Group) → name < 256 → IsLeading name x (s.node name)
+    → ((k : ℕ) (v : Decided) → slice_get w.views k ≡ Some v → v.stamp.by < 256) → is_view e ≡ false
+    → s.views.line (key (view_of (s.node name).list)) ≡ (s.node name).list
     → StandsBut name (within w name x) s → StandsBut name (within w name (pushed x e)) (with_line s name (longer (s.node name) e))
 numbered_stands w name x e s few leading small plain chain h =
     let y = pushed x e in
@@ -225,7 +235,8 @@ numbered_stands w name x e s few leading small plain chain h =
       group = h.group;
     }
 
-pub number_stands : (w : World) (name : ℕ) (c : Cause) (x : Node) (e : Entry) (s : Group) → MayMove w name c x s → is_sequencer x ≡ true → Numbers c x e → NeedsNumber s name x e → StandsBut name (within w name x) s → Leads (StandsBut name (within w name (pushed x e))) s
+pub number_stands : (w : World) (name : ℕ) (c : Cause) (x : Node) (e : Entry) (s : Group) → MayMove w name c x s → is_sequencer x ≡ true → Numbers c x e
+    → NeedsNumber s name x e → StandsBut name (within w name x) s → Leads (StandsBut name (within w name (pushed x e))) s
 number_stands w name c x e s may leads why needs h =
     let y = pushed x e in
     let a = s.node name in
@@ -242,7 +253,8 @@ none_opens : (before : List Entry) (e : Entry) → Begins (before ++ e ∷ []) [
 none_opens [] e h = let z = h.same in absurd (cc)
 none_opens (x ∷ before) e h = let z = h.same in absurd (cc)
 
-pub welcome_stands : (w : World) (name : ℕ) (c : Cause) (x : Node) (v : Stamp) (base join : ℕ) (image : Image) (s : Group) → MayMove w name c x s → NeedsWelcome s name v base join image → StandsBut name (within w name x) s → Leads (StandsBut name (within w name (begun x v base join image))) s
+pub welcome_stands : (w : World) (name : ℕ) (c : Cause) (x : Node) (v : Stamp) (base join : ℕ) (image : Image) (s : Group) → MayMove w name c x s
+    → NeedsWelcome s name v base join image → StandsBut name (within w name x) s → Leads (StandsBut name (within w name (begun x v base join image))) s
 unfolding up_to_next
 welcome_stands w name c x v base join image s may needs h =
     let y = begun x v base join image in

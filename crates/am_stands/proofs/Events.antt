@@ -46,7 +46,8 @@ or_some : (a : Bool) → (a || (true || false)) ≡ true
 or_some true = refl
 or_some false = refl
 
-with_stop : (w v : World) (i : ℕ) (m : Node) (a : groups.Node) → v.group ≡ w.group → is_stopped v i ≡ true → NameStands w i m a → NameStands v i m (record a { stopped = true })
+with_stop : (w v : World) (i : ℕ) (m : Node) (a : groups.Node) → v.group ≡ w.group → is_stopped v i ≡ true → NameStands w i m a
+    → NameStands v i m (record a { stopped = true })
 with_stop w v i m a group_ now h = record {
   begins = record {
     within = subst (λ (g : List Entry). m.core.log.start ≤ length g) (sym group_) h.begins.within;
@@ -63,7 +64,8 @@ with_stop w v i m a group_ now h = record {
 }
 
 -- with a name that has stopped
-stopped_more : (w v : World) (name : ℕ) (s : Group) → v.nodes ≡ w.nodes → v.group ≡ w.group → v.views ≡ w.views → v.stopped ≡ w.stopped ++ name ∷ [] → Stands w s → Stands v (with_node s name (record (s.node name) { stopped = true }))
+stopped_more : (w v : World) (name : ℕ) (s : Group) → v.nodes ≡ w.nodes → v.group ≡ w.group → v.views ≡ w.views → v.stopped ≡ w.stopped ++ name ∷ []
+    → Stands w s → Stands v (with_node s name (record (s.node name) { stopped = true }))
 unfolding put
 stopped_more w v name s nodes group_ views stopped h =
     let at : (i : ℕ) → is_stopped v i ≡ (is_stopped w i || ((name == i) || false)) = λ i. ap (λ (l : List ℕ). list_any (λ x. x == i) l) stopped ∙ one_more w.stopped name i in
@@ -95,7 +97,8 @@ stopped_more w v name s nodes group_ views stopped h =
 pub idle_stands : (w : World) (e : Event) (o : Outcome) (s : Group) → Stands w s → Leads (Stands (unchanged w e o)) s
 idle_stands w e o s h = no_move (Stands (unchanged w e o)) s (recorded w e o s h)
 
-pub stop_stands : (w : World) (e : Event) (o : Outcome) (name : ℕ) (s : Group) → Stands w s → Leads (Stands (unchanged (record w { stopped = w.stopped ++ name ∷ [] }) e o)) s
+pub stop_stands : (w : World) (e : Event) (o : Outcome) (name : ℕ) (s : Group) → Stands w s
+    → Leads (Stands (unchanged (record w { stopped = w.stopped ++ name ∷ [] }) e o)) s
 unfolding unchanged
 stop_stands w e o name s h =
     let v = record w { stopped = w.stopped ++ name ∷ [] } in

@@ -1,18 +1,16 @@
 -- With each move a group goes on as letters need it.
-use Rattle.std.proofs.Common.{◌≡◌, ◌≢◌, ◌⊎◌, inl, inr, ⊎_elim, ℕ, ◌+◌, ◌<◌, ◌≤◌, ◌==◌, List, [], ◌∷◌, ◌++◌, length, take, Bool, true, false, Option, Some, None, slice_get, refl, sym, ap, ◌∙◌, subst, arith}
+use Rattle.std.proofs.Common.{◌≡◌, inl, inr, ⊎_elim, ℕ, ◌==◌, List, [], ◌∷◌, ◌++◌, length, take, true, false, Some, refl, sym, ap, ◌∙◌, subst, arith}
 use Rattle.std.proofs.lemmas.Bool.Decides.{nat_tests}
 use Rattle.am_base.specs.declared.entry.Entry.{Entry}
 use Rattle.am_base.specs.declared.entry.Entry.TheVariants.{Leave}
-use Rattle.am_base.specs.declared.name.Stamp.{Stamp}
-use Rattle.am_base.specs.Names.{has}
 use Rattle.am_chain_lists.specs.Whole.{Begins, view_of, key}
 use Rattle.am_chain_lists.proofs.Prefixes.{begins_refl, begins_nil, begins_more, begins_trans, begins_both, begins_take, length_take}
 use Rattle.am_chain_moves.specs.Group as groups
 use Rattle.am_chain_moves.specs.Group.{Group, Views, put, put2, chain_of, opening, Leads, MayAccept}
-use Rattle.am_chain_moves.specs.Moves.{Move, with_node, with_line, with_choice, choice_of, longer, numbers, stores, accepts, learns, begins, raises, shows, serves, fetches, decides, gives_over, welcomes, asks, departs, closes, stops}
+use Rattle.am_chain_moves.specs.Moves.{with_node, with_line, with_choice, choice_of, longer, numbers, stores, accepts, learns, begins, raises, shows, serves, fetches, decides, gives_over, welcomes, asks, departs, closes, stops}
 use Rattle.am_chain_moves.specs.Kept.{Kept}
 use Rattle.am_chain_moves.proofs.Puts.{by_cases, put_at, put2_cases}
-use Rattle.am_stands.specs.Growing.{NameGrows, NewView, Grows, DecidesNew, MovesGrow}
+use Rattle.am_stands.specs.Growing.{NameGrows, NewView, Grows, MovesGrow}
 
 -- ---- one name
 
@@ -45,7 +43,8 @@ leads_line s i k leads =
     let viewed : view_of (s.node i).list ≡ s.views.current = ap view_of ok.chain ∙ k.views.view in
     ap s.views.line (ap key viewed) ∙ sym ok.chain
 
-line_grows : (s : Group) (i : ℕ) (b : groups.Node) (list : List Entry) → s.views.line (key (view_of (s.node i).list)) ≡ (s.node i).list → Begins (s.node i).list list → (x : ℕ) → Begins (s.views.line x) (put s.views.line (key (view_of (s.node i).list)) list x)
+line_grows : (s : Group) (i : ℕ) (b : groups.Node) (list : List Entry) → s.views.line (key (view_of (s.node i).list)) ≡ (s.node i).list
+    → Begins (s.node i).list list → (x : ℕ) → Begins (s.views.line x) (put s.views.line (key (view_of (s.node i).list)) list x)
 line_grows s i b list chain grows x = put_at (λ y l. Begins (s.views.line y) l) s.views.line (key (view_of (s.node i).list)) list
     (subst (λ l. Begins l list) (sym chain) grows) (λ y other. begins_refl (s.views.line y)) x
 
@@ -61,7 +60,8 @@ number_grows s i e k leads = record {
 }
 
 -- what is accepted stands in what may be accepted
-accepted_grows : (s : Group) (node : ℕ → groups.Node) (list : List Entry) (n : ℕ) → Begins s.group list → MayAccept node list (length s.group) n → Begins s.group (take n list)
+accepted_grows : (s : Group) (node : ℕ → groups.Node) (list : List Entry) (n : ℕ) → Begins s.group list → MayAccept node list (length s.group) n
+    → Begins s.group (take n list)
 accepted_grows s node list n h may =
     let up = may.rises in
     let long = length_take n list may.within in
@@ -72,7 +72,8 @@ group_in s i k leads = subst (Begins s.group) (sym ((k.each i).leads leads).chai
 
 -- ---- a decision
 
-decision_grows : (s : Group) (i : ℕ) (members : List ℕ) (resilience : ℕ) → s.views.decided (key (s.node i).promise) ≡ false → NewView s (with_choice s i members resilience) (key (s.node i).promise) → Grows s (with_choice s i members resilience)
+decision_grows : (s : Group) (i : ℕ) (members : List ℕ) (resilience : ℕ) → s.views.decided (key (s.node i).promise) ≡ false
+    → NewView s (with_choice s i members resilience) (key (s.node i).promise) → Grows s (with_choice s i members resilience)
 unfolding put
 decision_grows s i members resilience fresh new = record {
   each = λ j. put_grows s i (record (s.node i) { list = opening (choice_of (s.node i) members resilience); ballot = false }) (record { list = begins_more (s.node i).list _; stopped = λ t. t; departed = λ t. t; leaving = λ t. t }) j;

@@ -1,8 +1,8 @@
 -- What a change needs of the group, from what a letter says and what every run of the group keeps.
-use Rattle.std.proofs.Common.{◌≡◌, ◌≢◌, ◌⊎◌, inl, inr, ⊎_elim, ℕ, zero, suc, ◌+◌, ◌<◌, ◌≤◌, ◌==◌, ◌&&◌, not, nat_lt, List, [], ◌∷◌, ◌++◌, length, take, Bool, true, false, Some, slice_get, refl, sym, ap, ◌∙◌, subst, arith}
+use Rattle.std.proofs.Common.{◌≡◌, ◌≢◌, ℕ, suc, ◌+◌, ◌==◌, ◌&&◌, not, nat_lt, List, length, true, false, Some, slice_get, refl, sym, ap, ◌∙◌, subst, arith}
 use Rattle.std.proofs.lemmas.Bool.Decides.{nat_tests}
 use Rattle.am_base.specs.declared.entry.Entry.{Entry}
-use Rattle.am_base.specs.declared.entry.Entry.TheVariants.{Data, Join, Leave, View}
+use Rattle.am_base.specs.declared.entry.Entry.TheVariants.{Data, View}
 use Rattle.am_base.specs.declared.name.Stamp.{Stamp}
 use Rattle.am_base.specs.declared.image.Image.{Image}
 use Rattle.am_base.specs.declared.image.Report.{Report}
@@ -12,25 +12,24 @@ use Rattle.am_base.specs.Lists.{row_of, fits, members_of}
 use Rattle.am_packet.specs.declared.packet.Packet.TheVariants as packet
 use Rattle.am_sender.specs.declared.OwnSend.{OwnSend}
 use Rattle.am_group.specs.Journals.{item_at}
-use Rattle.am_chain_lists.specs.Whole.{Begins, told, view_of, key}
-use Rattle.am_chain_moves.specs.Group as groups
+use Rattle.am_chain_lists.specs.Whole.{told, key}
 use Rattle.am_chain_moves.specs.Group.{Group, IsUp}
 use Rattle.am_chain_moves.specs.Moves.{MayNumber}
 use Rattle.am_chain_moves.specs.Kept.{Kept}
 use Rattle.am_model.specs.Node as nodes
 use Rattle.am_model.specs.Node.{Node, view, members, is_member, acts, is_sequencer, has_own_leave}
-use Rattle.am_model.specs.Receiving.{is_view}
-use Rattle.am_model.specs.Sequencing as sequencing
+use Rattle.am_model.specs.Receiving.{body_of}
 use Rattle.am_model.specs.Hearing.{hears_member, hears_in_view, hears_sequencer}
 use Rattle.am_model.specs.World.{World, is_stopped}
-use Rattle.am_model.proofs.Greatest.{split, and_both}
+use Rattle.am_model.proofs.Greatest.{and_both}
 use Rattle.am_effects.specs.Causes.{Cause, hears}
 use Rattle.am_effects.specs.Changes.{MayStore, Numbers, asked_send, own_send, asked_join, asked_leave}
 use Rattle.am_laws.proofs.Stamps.{same_stamp}
 use Rattle.am_laws.proofs.Taken.{known_member, leave_fits}
-use Rattle.am_stands.specs.Standing.{NameStands, StandsBut, within}
-use Rattle.am_stands.specs.Letters.{line, IsDecided, EntrySays, LeaverSays, ResultSays}
-use Rattle.am_stands.specs.Steps.{MayMove, NeedsNumber, IsOthers, NeedsEntry}
+use Rattle.am_stands.specs.Standing.{NameStands, within}
+use Rattle.am_stands.specs.Letters.{line, IsDecided, EntrySays, OrderSays, LeaverSays, ResultSays}
+use Rattle.am_stands.specs.States.{BodiesAsked, SendsOnce}
+use Rattle.am_stands.specs.Steps.{NeedsNumber, IsOthers, NeedsEntry}
 use Rattle.am_stands.proofs.Changes.{told_whole, long_all, is_up}
 use Rattle.am_stands.proofs.Entries.{IsLeading}
 use Rattle.am_stands.proofs.Growing.{leads_line}
@@ -38,11 +37,13 @@ use Rattle.am_stands.proofs.Ongoing.{is_ongoing}
 
 -- ---- an entry of a decided view's line
 
-item_next : (list : List Entry) (n : ℕ) (e : Entry) (number : ℕ) → number ≡ n + 1 → item_at list number ≡ Some e → slice_get list n ≡ Some e
+pub item_next : (list : List Entry) (n : ℕ) (e : Entry) (number : ℕ) → number ≡ n + 1 → item_at list number ≡ Some e → slice_get list n ≡ Some e
 item_next list n e number is at = let z : number ≡ suc n = omega arith in ap (item_at list) (sym z) ∙ at
 
-pub entry_needs : (w : World) (name number : ℕ) (x : Node) (v : Stamp) (e : Entry) (s : Group) → Kept s → x.core.who ≡ name → NameStands (within w name x) name x (s.node name) → IsUp (s.node name)
-    → x.core.promise ≡ v → v.by ≢ name → IsOthers name x e → IsDecided s v → item_at (line s v) number ≡ Some e → number ≡ nodes.top x + 1 → has_own_leave x ≡ false → NeedsEntry s name x e
+pub entry_needs : (w : World) (name number : ℕ) (x : Node) (v : Stamp) (e : Entry) (s : Group) → Kept s → x.core.who ≡ name
+    → NameStands (within w name x) name x (s.node name) → IsUp (s.node name)
+    → x.core.promise ≡ v → v.by ≢ name → IsOthers name x e → IsDecided s v → item_at (line s v) number ≡ Some e → number ≡ nodes.top x + 1
+    → has_own_leave x ≡ false → NeedsEntry s name x e
 entry_needs w name number x v e s k who old up promise other others decided at next stays =
     let a = s.node name in
     let promised : a.promise ≡ v = old.promise ∙ promise in
@@ -85,16 +86,28 @@ of_sequencer name from x v who h =
     }
 
 -- what its sequencer numbered
-pub bcast_needs : (w : World) (name from above base acc number : ℕ) (x : Node) (v : Stamp) (e : Entry) (s : Group) → Kept s → x.core.who ≡ name → is_stopped w name ≡ false → NameStands (within w name x) name x (s.node name)
+pub bcast_needs : (w : World) (name from above base acc number : ℕ) (x : Node) (v : Stamp) (e : Entry) (s : Group) → Kept s → x.core.who ≡ name
+    → is_stopped w name ≡ false → NameStands (within w name x) name x (s.node name)
     → hears_sequencer x from v ≡ true → MayStore x above base number e → EntrySays s from v acc number e → NeedsEntry s name x e
 bcast_needs w name from above base acc number x v e s k who runs old heard may says =
     let q = of_sequencer name from x v who heard in
     entry_needs w name number x v e s k who old (is_up w name x (s.node name) runs q.member old) q.promise q.other
     (λ own. absurd (q.other (ap (λ (u : Stamp). u.by) (sym q.view_) ∙ own))) says.sequencer.decided says.stands may.next may.stays
 
+-- by the number of a send whose body is there: what was sent as this request is one body
+pub order_needs : (w : World) (name from above base acc number sender req : ℕ) (x : Node) (v : Stamp) (body : List ℕ) (s : Group) → Kept s
+    → x.core.who ≡ name → is_stopped w name ≡ false → NameStands (within w name x) name x (s.node name)
+    → hears_sequencer x from v ≡ true → body_of x sender req ≡ Some body → MayStore x above base number (Data sender req body) → BodiesAsked w x → SendsOnce w
+    → OrderSays w s from v acc number sender req → NeedsEntry s name x (Data sender req body)
+order_needs w name from above base acc number sender req x v body s k who runs old heard there may asked once says =
+    let same : says.body ≡ body = once sender req says.body body says.asked (asked sender req body there) in
+    bcast_needs w name from above base acc number x v (Data sender req body) s k who runs old heard may (subst (λ b. EntrySays s from v acc number (Data sender req b)) same says.entry)
+
 -- and the View of the ballot that it promised
-pub result_needs : (w : World) (name from above base number : ℕ) (x : Node) (v : Stamp) (names : List ℕ) (resilience : ℕ) (s : Group) → Kept s → x.core.who ≡ name → is_stopped w name ≡ false → NameStands (within w name x) name x (s.node name)
-    → hears_member x from ≡ true → (v.by == x.core.who) ≡ false → x.core.promise ≡ v → MayStore x above base number (View v names resilience) → ResultSays s from v number names resilience → NeedsEntry s name x (View v names resilience)
+pub result_needs : (w : World) (name from above base number : ℕ) (x : Node) (v : Stamp) (names : List ℕ) (resilience : ℕ) (s : Group) → Kept s
+    → x.core.who ≡ name → is_stopped w name ≡ false → NameStands (within w name x) name x (s.node name)
+    → hears_member x from ≡ true → (v.by == x.core.who) ≡ false → x.core.promise ≡ v → MayStore x above base number (View v names resilience)
+    → ResultSays s from v number names resilience → NeedsEntry s name x (View v names resilience)
 result_needs w name from above base number x v names resilience s k who runs old heard other promise may says =
     let member = (and_both (not (from == x.core.who)) (is_member x.status) heard).1 in
     entry_needs w name number x v (View v names resilience) s k who old (is_up w name x (s.node name) runs member old) promise
@@ -102,7 +115,8 @@ result_needs w name from above base number x v names resilience s k who runs old
 
 -- ---- what a sequencer numbers
 
-fits_data : (image : Image) (name req : ℕ) (body : List ℕ) → has (members_of image) name ≡ true → req ≡ (row_of image name).last + 1 → fits image (Data name req body) ≡ true
+fits_data : (image : Image) (name req : ℕ) (body : List ℕ) → has (members_of image) name ≡ true → req ≡ (row_of image name).last + 1
+    → fits image (Data name req body) ≡ true
 unfolding fits
 fits_data image name req body member next = let t : (req == (row_of image name).last + 1) ≡ true = grind (arith, nat_tests) in rw (member, t) refl
 
@@ -116,14 +130,18 @@ number_fits c x e long own (own_send q is last) = own q is last
 number_fits c x e long own (asked_join from v is other f) = f
 number_fits c x e long own (asked_leave from v report is other known stays) = leave_fits (nodes.told x) from (known_member x from long known (let z = stays in grind (arith, nat_tests)))
 
-number_may : (name : ℕ) (c : Cause) (x : Node) (e : Entry) (s : Group) → x.core.who ≡ name → ((from : ℕ) (v : Stamp) (report : Report) → c ≡ hears (packet.LeaveAsk from v report) → LeaverSays s from v report) → Numbers c x e → MayNumber s.node name e
+number_may : (name : ℕ) (c : Cause) (x : Node) (e : Entry) (s : Group) → x.core.who ≡ name
+    → ((from : ℕ) (v : Stamp) (report : Report) → c ≡ hears (packet.LeaveAsk from v report) → LeaverSays s from v report) → Numbers c x e
+    → MayNumber s.node name e
 number_may name c x e s who asks (asked_send from v report req body by known stays next) = tt
 number_may name c x e s who asks (own_send q is last) = tt
 number_may name c x e s who asks (asked_join from v is other f) = tt
 number_may name c x e s who asks (asked_leave from v report is other known stays) = ((asks from v report is).leaves, λ same. (let z : (from == x.core.who) ≡ true = grind (arith, nat_tests) in cc))
 
-pub number_needs : (w : World) (name : ℕ) (c : Cause) (x : Node) (e : Entry) (s : Group) → Kept s → x.core.who ≡ name → is_stopped w name ≡ false → NameStands (within w name x) name x (s.node name) → IsLeading name x (s.node name) → length (nodes.told x).rows ≡ 16
-    → OwnFits x → ((from : ℕ) (v : Stamp) (report : Report) → c ≡ hears (packet.LeaveAsk from v report) → LeaverSays s from v report) → Numbers c x e → NeedsNumber s name x e
+pub number_needs : (w : World) (name : ℕ) (c : Cause) (x : Node) (e : Entry) (s : Group) → Kept s → x.core.who ≡ name → is_stopped w name ≡ false
+    → NameStands (within w name x) name x (s.node name) → IsLeading name x (s.node name) → length (nodes.told x).rows ≡ 16
+    → OwnFits x → ((from : ℕ) (v : Stamp) (report : Report) → c ≡ hears (packet.LeaveAsk from v report) → LeaverSays s from v report) → Numbers c x e
+    → NeedsNumber s name x e
 number_needs w name c x e s k who runs old leading long own asks why = record {
   chain = leads_line s name k (record { up = is_up w name x (s.node name) runs leading.member old; acts = leading.acts_; by = leading.by });
   fit = number_fits c x e long own why;

@@ -1,16 +1,18 @@
 -- As long as nobody stops, no move makes a run unlawful.
-use Rattle.std.proofs.Common.{◌≡◌, ◌≢◌, ◌⊎◌, inl, inr, ⊎_elim, ℕ, zero, suc, ◌+◌, ◌<◌, ◌≤◌, ◌==◌, ◌&&◌, ◌||◌, not, nat_lt, List, Bool, true, false, if◌then◌else◌, length, refl, sym, ap, ◌∙◌, subst, arith}
+use Rattle.std.proofs.Common.{◌≡◌, inl, ℕ, ◌==◌, ◌&&◌, ◌||◌, not, nat_lt, List, Bool, true, false, length, refl, sym, ap, ◌∙◌, subst, arith}
 use Rattle.std.proofs.lemmas.Bool.Decides.{nat_tests}
 use Rattle.am_base.specs.Names.{has}
-use Rattle.am_chain_lists.specs.Whole.{key}
+use Rattle.am_chain_lists.specs.Whole.{Begins, key}
 use Rattle.am_chain_moves.specs.Group as groups
 use Rattle.am_chain_moves.specs.Group.{Group, Chosen, put, count, how_many, opening}
-use Rattle.am_chain_moves.specs.Moves.{Move, with_node, with_choice, choice_of, longer, numbers, stores, accepts, learns, begins, raises, shows, serves, fetches, decides, gives_over, welcomes, asks, departs, closes, stops}
+use Rattle.am_chain_moves.specs.Moves.{Move, MayDecide, with_choice, choice_of, longer, numbers, stores, accepts, learns, begins, raises, shows, serves, fetches, decides, gives_over, welcomes, asks, departs, closes, stops}
 use Rattle.am_chain_moves.specs.Runs.{Run, more, counts_for, IsLawful}
 use Rattle.am_chain_moves.specs.Kept.{Kept}
-use Rattle.am_chain_moves.proofs.Puts.{by_cases, put_at, count_within}
-use Rattle.am_chain.proofs.Runs.{run_keeps}
+use Rattle.am_chain_moves.proofs.Puts.{by_cases, put_at, put_same, count_within}
+use Rattle.am_chain.proofs.Runs.{run_keeps, choices_keep}
+use Rattle.am_stands.specs.Growing.{DecidesNew}
 use Rattle.am_stands.specs.Lawful.{IsNoStop, RunsGoOn}
+use Rattle.am_stands.proofs.Votes.{undecided as still_open}
 
 -- ---- what counts as lost
 
@@ -22,7 +24,9 @@ data NoMore (a b : groups.Node) : Type 0 where
   as_before : b.has_log ≡ a.has_log → b.start ≡ a.start → b.stopped ≡ a.stopped → (a.departed ≡ true → b.departed ≡ true) → NoMore a b
   runs : b.stopped ≡ false → NoMore a b
 
-same_lost : (members : Bool) (a b : groups.Node) (n : ℕ) → NoMore a b → ((members || (b.has_log && nat_lt n b.start)) && (b.stopped && not b.departed)) ≡ true → ((members || (a.has_log && nat_lt n a.start)) && (a.stopped && not a.departed)) ≡ true
+same_lost : (members : Bool) (a b : groups.Node) (n : ℕ) → NoMore a b
+    → ((members || (b.has_log && nat_lt n b.start)) && (b.stopped && not b.departed)) ≡ true
+    → ((members || (a.has_log && nat_lt n a.start)) && (a.stopped && not a.departed)) ≡ true
 same_lost members a b n (as_before log start_ stopped departed) h =
     let now : ((members || (a.has_log && nat_lt n a.start)) && (a.stopped && not b.departed)) ≡ true = (λ i. (members || (sym log i && nat_lt n (sym start_ i))) && (sym stopped i && not b.departed)) ∙ h in
     by_cases a.departed
@@ -45,7 +49,8 @@ same_lost members a b n (runs f) h = absurd (
 
 -- ---- a move
 
-lawful_where : (s t : Group) → ((view : ℕ) → t.views.complete view ≡ true → (s.views.complete view ≡ true) × (t.views.chosen view ≡ s.views.chosen view)) → ((x : ℕ) → s.views.complete x ≡ true → t.views.complete x ≡ true)
+lawful_where : (s t : Group) → ((view : ℕ) → t.views.complete view ≡ true → (s.views.complete view ≡ true) × (t.views.chosen view ≡ s.views.chosen view))
+    → ((x : ℕ) → s.views.complete x ≡ true → t.views.complete x ≡ true)
     → ((i : ℕ) → NoMore (s.node i) (t.node i)) → IsLawful s → IsLawful t
 lawful_where s t old new each h = λ view complete greatest.
     (let o = old view complete in
@@ -64,17 +69,20 @@ put_more : (s : Group) (i : ℕ) (b : groups.Node) → NoMore (s.node i) b → (
 put_more s i b h j = put_at (λ k n. NoMore (s.node k) n) s.node i b h (λ k other. same_more (s.node k)) j
 
 -- of a move that chooses nothing
-lawful_same : (s t : Group) → t.views.complete ≡ s.views.complete → t.views.chosen ≡ s.views.chosen → ((i : ℕ) → NoMore (s.node i) (t.node i)) → IsLawful s → IsLawful t
+lawful_same : (s t : Group) → t.views.complete ≡ s.views.complete → t.views.chosen ≡ s.views.chosen → ((i : ℕ) → NoMore (s.node i) (t.node i)) → IsLawful s
+    → IsLawful t
 lawful_same s t complete chosen each h = lawful_where s t (λ view c. (ap (λ f. f view) (sym complete) ∙ c, ap (λ f. f view) chosen)) (λ x c. ap (λ f. f x) complete ∙ c) each h
 
 -- a ballot that may be decided isn't
-undecided : (s : Group) (i x : ℕ) → Kept s → groups.IsUp (s.node i) → (s.node i).ballot ≡ true → s.views.decided x ≡ true → (x == key (s.node i).promise) ≡ false
+undecided : (s : Group) (i x : ℕ) → Kept s → groups.IsUp (s.node i) → (s.node i).ballot ≡ true → s.views.decided x ≡ true
+    → (x == key (s.node i).promise) ≡ false
 undecided s i x k up ballot d =
     let above = ((k.each i).ballot up ballot).above in
     let most = k.views.order x d in
     by_cases (x == key (s.node i).promise) (λ t. absurd (let same : x ≡ key (s.node i).promise = grind (arith, nat_tests) in omega arith)) (λ f. f)
 
-decided_lawful : (s : Group) (i : ℕ) (members : List ℕ) (resilience : ℕ) → Kept s → groups.IsUp (s.node i) → (s.node i).ballot ≡ true → IsLawful s → IsLawful (with_choice s i members resilience)
+decided_lawful : (s : Group) (i : ℕ) (members : List ℕ) (resilience : ℕ) → Kept s → groups.IsUp (s.node i) → (s.node i).ballot ≡ true → IsLawful s
+    → IsLawful (with_choice s i members resilience)
 unfolding put
 decided_lawful s i members resilience k up ballot h = lawful_where s (with_choice s i members resilience)
     (λ view c. (let f = undecided s i view k up ballot (k.views.marked view c) in (c, rw f refl)))
@@ -106,3 +114,23 @@ pub runs_go_on : RunsGoOn
 runs_go_on founders first resilience s t run move goes =
     let o = run_keeps founders first resilience s run in
     more run (record { moved = t; move = move; complete = t.views.complete; stay = λ view c. c; marks = λ view c. inl c; is = refl }) (lawful_move s t move o.kept goes o.lawful)
+
+-- ---- a decision in a lawful run
+
+-- is a new one that found all that was accepted; what its members have that leave is to be known
+pub decides_new : (founders : List ℕ) (first resilience : ℕ) (s : Group) (i : ℕ) (members : List ℕ) (strong : ℕ) → Run founders first resilience s
+    → (may : MayDecide s i members strong)
+    → ((j : ℕ) → (s.node j).leaving ≡ true → has members j ≡ true → Begins (s.node j).list (opening (choice_of (s.node i) members strong)))
+    → DecidesNew (decides i members strong may)
+decides_new founders first resilience s i members strong run may leavers =
+    let at = key (s.node i).promise in
+    let choice = choice_of (s.node i) members strong in
+    let kept = (run_keeps founders first resilience s run).kept in
+    let chosen : put s.views.chosen at choice at ≡ choice = put_same s.views.chosen at choice in
+    let line_ : put s.views.line at (opening choice) at ≡ opening choice = put_same s.views.line at (opening choice) in (
+      still_open s i kept may.up may.ballot,
+      record {
+        accepted = subst (λ (c : Chosen). Begins s.group c.before) (sym chosen) (choices_keep founders first resilience s run i members strong may);
+        leavers = λ j leaves among. subst (Begins (s.node j).list) (sym line_) (leavers j leaves (ap (λ (c : Chosen). has c.members j) (sym chosen) ∙ among));
+      },
+    )

@@ -1,10 +1,9 @@
 -- How far a name that follows learns that its list is accepted.
-use Rattle.std.proofs.Common.{◌≡◌, ℕ, ◌<◌, ◌≤◌, max, List, length, true, refl, sym, ap, ◌∙◌, subst, arith}
+use Rattle.std.proofs.Common.{◌≡◌, ℕ, ◌<◌, ◌≤◌, max, List, length, true, arith}
 use Rattle.am_base.specs.declared.name.Stamp.{Stamp}
 use Rattle.am_base.specs.declared.entry.Entry.{Entry}
 use Rattle.am_chain_lists.specs.Whole.{Begins, key}
 use Rattle.am_chain_lists.proofs.Prefixes.{begins_length}
-use Rattle.am_chain_moves.specs.Group as groups
 use Rattle.am_chain_moves.specs.Group.{Group, IsUp}
 use Rattle.am_chain_moves.specs.Kept.{Kept}
 use Rattle.am_model.specs.Node as nodes
@@ -32,11 +31,13 @@ word_group : (s : Group) (name heard : ℕ) → Word s name heard → heard ≤ 
 word_group s name heard (nothing z) = omega arith
 word_group s name heard (of_sequencer from v low says) = says.accepted
 
-word_before : (s : Group) (name heard x : ℕ) → Word s name heard → s.views.decided x ≡ true → key (s.node name).promise < x → heard ≤ length (s.views.chosen x).before
+word_before : (s : Group) (name heard x : ℕ) → Word s name heard → s.views.decided x ≡ true → key (s.node name).promise < x
+    → heard ≤ length (s.views.chosen x).before
 word_before s name heard x (nothing z) d above = omega arith
 word_before s name heard x (of_sequencer from v low says) d above = says.before x d (omega arith)
 
-pub follower_learns : (v : World) (name heard : ℕ) (n : Node) (s : Group) (group : List Entry) → Kept s → NameStands v name n (s.node name) → IsUp (s.node name) → Begins s.group group → Word s name heard → Follows s name n heard → MayLearn s name n group
+pub follower_learns : (v : World) (name heard : ℕ) (n : Node) (s : Group) (group : List Entry) → Kept s → NameStands v name n (s.node name)
+    → IsUp (s.node name) → Begins s.group group → Word s name heard → Follows s name n heard → MayLearn s name n group
 follower_learns v name heard n s group k old up grows word f =
     let ok = k.each name in
     let fronts = ok.fronts in

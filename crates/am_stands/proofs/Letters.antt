@@ -1,30 +1,28 @@
 -- What a letter says stays so as the group goes on.
-use Rattle.std.proofs.Common.{◌≡◌, ◌≢◌, ◌⊎◌, inl, inr, ⊎_elim, ℕ, zero, suc, ◌+◌, ◌<◌, ◌≤◌, List, [], ◌∷◌, ◌++◌, length, take, drop, Bool, true, false, Some, None, slice_get, refl, sym, ap, ◌∙◌, subst, arith}
+use Rattle.std.proofs.Common.{◌≡◌, inl, inr, ⊎_elim, ℕ, zero, suc, ◌≤◌, List, ◌++◌, length, take, Bool, true, false, Some, slice_get, refl, sym, ap, ◌∙◌, subst, arith}
 use Rattle.std.proofs.lemmas.Option.{slice_get_within}
 use Rattle.am_base.specs.declared.name.Stamp.{Stamp}
 use Rattle.am_base.specs.declared.image.Report.{Report}
 use Rattle.am_base.specs.declared.image.Vote.{Vote}
 use Rattle.am_base.specs.declared.image.Image.{Image}
 use Rattle.am_base.specs.declared.entry.Entry.{Entry}
-use Rattle.am_base.specs.declared.entry.Entry.TheVariants.{Data, Join, Leave, View}
+use Rattle.am_base.specs.declared.entry.Entry.TheVariants.{Data, Join, View}
 use Rattle.am_base.specs.Names.{has}
-use Rattle.am_packet.specs.declared.packet.Packet.{Packet}
 use Rattle.am_packet.specs.declared.packet.Packet.TheVariants.{Request, Spread, Bcast, Order, Accept, Ack, Nack, Hold, JoinAsk, Welcome, LeaveAsk, Gone, Invite, Vote as VoteOf, Fetch, Piece, Result, HandOver}
 use Rattle.am_group.specs.Journals.{item_at}
 use Rattle.am_group.specs.declared.event.Record.{Record}
-use Rattle.am_chain_lists.specs.Whole.{Begins, told, mem, key}
+use Rattle.am_chain_lists.specs.Whole.{Begins, told, key}
 use Rattle.am_chain_lists.proofs.Prefixes.{begins_trans, begins_take, begins_length}
-use Rattle.am_chain_moves.specs.Group as groups
 use Rattle.am_chain_moves.specs.Group.{Group, Chosen, IsThere}
 use Rattle.am_model.specs.World.{World}
 use Rattle.am_effects.proofs.Items.{get_front}
-use Rattle.am_stands.specs.Letters.{line, IsDecided, AllShown, SequencerSays, EntrySays, WasAsked, OrderSays, ReportSays, SendSays, LeaverSays, WelcomeSays, GoneSays, has_stopped, may_go, VoteTells, VoteSays, own, tells, over as over_vote, FetchSays, for_ballot, of_promise, ShownEntry, PieceSays, of_line, of_shown, over, ResultSays, PacketSays}
-use Rattle.am_stands.specs.Growing.{NameGrows, NewView, Grows, LettersStay}
+use Rattle.am_stands.specs.Letters.{line, AllShown, SequencerSays, EntrySays, WasAsked, ReportSays, LeaverSays, WelcomeSays, GoneSays, has_stopped, may_go, VoteSays, own, tells, over as over_vote, FetchSays, for_ballot, of_promise, PieceSays, of_line, of_shown, over}
+use Rattle.am_stands.specs.Growing.{NewView, Grows, LettersStay}
 use Rattle.am_stands.proofs.Ends.{taken_more}
 
 -- ---- lists
 
-item_stays : (a b : List Entry) (n : ℕ) (e : Entry) → Begins a b → item_at a n ≡ Some e → item_at b n ≡ Some e
+pub item_stays : (a b : List Entry) (n : ℕ) (e : Entry) → Begins a b → item_at a n ≡ Some e → item_at b n ≡ Some e
 item_stays a b zero e h is = absurd (cc)
 item_stays a b (suc n) e h is = ap (λ l. slice_get l n) (sym h.same) ∙ get_front a h.rest n e is
 

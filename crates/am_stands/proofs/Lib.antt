@@ -12,9 +12,11 @@ pub mod Ongoing
 pub mod Heard
 pub mod Sent
 pub mod Start
-pub mod Lawful
 pub mod Welcomes
 pub mod Votes
+pub mod Lawful
 pub mod Shown
 pub mod Learned
 pub mod Closing
+pub mod Opens
+pub mod Pieces

@@ -1,15 +1,14 @@
 -- The line of a view, where its coordinator's list gets one entry more.
-use Rattle.std.proofs.Common.{◌≡◌, ◌≢◌, ◌⊎◌, inl, inr, ⊎_elim, ℕ, ◌+◌, ◌<◌, ◌≤◌, ◌==◌, ◌&&◌, ◌||◌, Bool, true, false, if◌then◌else◌, List, [], ◌∷◌, ◌++◌, length, refl, sym, ap, ◌∙◌, subst, arith}
+use Rattle.std.proofs.Common.{◌≡◌, ◌≢◌, ℕ, ◌+◌, Bool, true, false, if◌then◌else◌, List, [], ◌∷◌, ◌++◌, refl, ap, ◌∙◌, subst, arith}
 use Rattle.std.specs.List.{list_any}
 use Rattle.std.proofs.lemmas.Bool.Decides.{nat_tests}
-use Rattle.std.proofs.lemmas.List.{append_assoc}
 use Rattle.am_base.specs.declared.name.Stamp.{Stamp}
 use Rattle.am_base.specs.declared.entry.Entry.{Entry}
 use Rattle.am_base.specs.declared.entry.Entry.TheVariants.{Data, Join, Leave, View}
 use Rattle.am_base.specs.declared.image.Image.{Image}
 use Rattle.am_base.specs.Stamps.{stamp_eq}
 use Rattle.am_base.specs.Lists.{blank, after, fold}
-use Rattle.am_chain_lists.specs.Whole.{Begins, told, view_of}
+use Rattle.am_chain_lists.specs.Whole.{Begins, view_of}
 use Rattle.am_model.specs.Receiving.{is_view}
 use Rattle.am_model.specs.Lawful.{is_view_of}
 use Rattle.am_model.specs.Claims.{up_to_view, up_to_next}
@@ -150,7 +149,8 @@ itself : (v : Stamp) → stamp_eq v v ≡ true
 itself v = grind (arith, nat_tests)
 
 -- a view's line opens with its View
-pub opened : (v : Stamp) (before : List Entry) (names : List ℕ) (resilience : ℕ) (list : List Entry) → Begins (before ++ View v names resilience ∷ []) (up_to_next v list) → HasViewOf v list
+pub opened : (v : Stamp) (before : List Entry) (names : List ℕ) (resilience : ℕ) (list : List Entry)
+    → Begins (before ++ View v names resilience ∷ []) (up_to_next v list) → HasViewOf v list
 opened v before names resilience list h =
     let e = View v names resilience in
     let there = any_front (is_view_of v) (before ++ e ∷ []) h.rest (any_last (is_view_of v) before e (itself v)) in

@@ -45,7 +45,8 @@ name_in w v i m a group stopped h = record {
 -- ---- views
 
 -- where the lines of the noted views stay
-pub views_noted : (w v : World) (views : Views) → v.views ≡ w.views → ((k : ℕ) (d : Decided) → slice_get w.views k ≡ Some d → line_of v d.stamp ≡ line_of w d.stamp) → ViewsStand w views → ViewsStand v views
+pub views_noted : (w v : World) (views : Views) → v.views ≡ w.views
+    → ((k : ℕ) (d : Decided) → slice_get w.views k ≡ Some d → line_of v d.stamp ≡ line_of w d.stamp) → ViewsStand w views → ViewsStand v views
 views_noted w v views same lines h = record {
   noted = λ k d at. (let there = ap (λ (l : List Decided). slice_get l k) (sym same) ∙ at in let n = h.noted k d there in record {
     decided = n.decided;
@@ -60,19 +61,22 @@ views_noted w v views same lines h = record {
   current = λ d last. h.current d (record { before = last.before; is = sym same ∙ last.is });
 }
 
-pub views_in : (w v : World) (views : Views) → v.views ≡ w.views → ((stamp : Stamp) → line_of v stamp ≡ line_of w stamp) → ViewsStand w views → ViewsStand v views
+pub views_in : (w v : World) (views : Views) → v.views ≡ w.views → ((stamp : Stamp) → line_of v stamp ≡ line_of w stamp) → ViewsStand w views
+    → ViewsStand v views
 views_in w v views same lines h = views_noted w v views same (λ k d at. lines d.stamp) h
 
 -- ---- a world within a step
 
 -- the lines where a node keeps its list
-pub lines_within : (w : World) (name : ℕ) (x y : Node) → y.core.log ≡ x.core.log → (stamp : Stamp) → line_of (within w name y) stamp ≡ line_of (within w name x) stamp
+pub lines_within : (w : World) (name : ℕ) (x y : Node) → y.core.log ≡ x.core.log → (stamp : Stamp)
+    → line_of (within w name y) stamp ≡ line_of (within w name x) stamp
 lines_within w name x y log stamp = split (stamp.by == name)
     (λ t. rw t (ap (λ (l : Log). up_to_next stamp (take l.start w.group ++ l.entries)) log))
     (λ f. rw f refl)
 
 -- a node that takes another's place, for a changed part of the group
-pub each_within : (w : World) (name : ℕ) (x y : Node) (s : Group) (b : groups.Node) → (NameStands (within w name x) name x (s.node name) → NameStands (within w name y) name y b)
+pub each_within : (w : World) (name : ℕ) (x y : Node) (s : Group) (b : groups.Node)
+    → (NameStands (within w name x) name x (s.node name) → NameStands (within w name y) name y b)
     → ((i : ℕ) → i < 256 → NameStands (within w name x) i ((within w name x).nodes i) (s.node i))
     → (i : ℕ) → i < 256 → NameStands (within w name y) i ((within w name y).nodes i) (put s.node name b i)
 unfolding put

@@ -1,5 +1,5 @@
 -- Whose own Leave isn't in its list is still a member there, if it ever was.
-use Rattle.std.proofs.Common.{◌≡◌, ◌≢◌, ◌⊎◌, inl, inr, ⊎_elim, ℕ, ◌+◌, ◌<◌, ◌≤◌, ◌==◌, ◌&&◌, not, nat_lt, List, [], ◌∷◌, ◌++◌, length, Bool, true, false, slice_index, refl, sym, ap, ◌∙◌, subst, arith}
+use Rattle.std.proofs.Common.{◌≡◌, ◌≢◌, ◌⊎◌, inl, inr, ⊎_elim, ℕ, ◌+◌, ◌<◌, ◌==◌, ◌&&◌, not, nat_lt, List, [], ◌∷◌, ◌++◌, length, true, false, slice_index, refl, sym, ap, ◌∙◌, subst, arith}
 use Rattle.std.proofs.lemmas.Bool.Decides.{nat_tests}
 use Rattle.am_base.specs.declared.entry.Entry.{Entry}
 use Rattle.am_base.specs.declared.entry.Entry.TheVariants.{Data, Join, Leave, View}
@@ -10,9 +10,8 @@ use Rattle.am_base.specs.Names.{place_of, life_of}
 use Rattle.am_base.specs.Lists.{is_blank, at_place, row_of, member_life, with_row, viewed, after}
 use Rattle.am_chain_lists.specs.Whole.{Begins, BeginsBelow, IsGood, told, mem}
 use Rattle.am_chain_lists.proofs.Prefixes.{begins_same, begins_pushed}
-use Rattle.am_chain_lists.proofs.Rows.{by_cases, row_at, In, Spares, mod16, row_set, row_view, blank_joined}
+use Rattle.am_chain_lists.proofs.Rows.{by_cases, row_at, In, mod16, row_set, row_view, blank_joined}
 use Rattle.am_chain_lists.proofs.Members.{good_begins, told_push, long_told, mem_in, in_mem, mem_push}
-use Rattle.am_chain_moves.specs.Group as groups
 use Rattle.am_chain_moves.specs.Group.{Group, IsUp, IsOngoing}
 use Rattle.am_chain_moves.specs.Kept.{Kept}
 
@@ -23,7 +22,8 @@ row_alive image name r is life =
     let t : ((at_place image name).life == life_of name) ≡ true = let l = ap (λ (q : Row). q.life) is ∙ life in grind (arith, nat_tests) in
     rw t (ap (λ (q : Row). q.left) is)
 
-left_row : (image : Image) (n name : ℕ) → length image.rows ≡ 16 → In (row_at image (place_of name)) (life_of name) → (row_of (after image n (Leave name)) name).left ≡ n
+left_row : (image : Image) (n name : ℕ) → length image.rows ≡ 16 → In (row_at image (place_of name)) (life_of name)
+    → (row_of (after image n (Leave name)) name).left ≡ n
 unfolding after
 left_row image n name long h =
     let alive : ((at_place image name).life == life_of name) ≡ true = let l = h.is in grind (arith, nat_tests) in
@@ -39,7 +39,8 @@ view_row n given life r h = by_cases (nat_lt 0 (member_life r) && not (member_li
     (λ t. inr (rw t refl))
     (λ f. inl (rw f h))
 
-viewed_row : (image : Image) (n : ℕ) (stamp : Stamp) (names : List ℕ) (resilience name : ℕ) → length image.rows ≡ 16 → In (row_at image (place_of name)) (life_of name)
+viewed_row : (image : Image) (n : ℕ) (stamp : Stamp) (names : List ℕ) (resilience name : ℕ) → length image.rows ≡ 16
+    → In (row_at image (place_of name)) (life_of name)
     → In (row_at (after image n (View stamp names resilience)) (place_of name)) (life_of name) ⊎ ((row_of (after image n (View stamp names resilience)) name).left ≡ n)
 viewed_row image n stamp names resilience name long h =
     let next = after image n (View stamp names resilience) in
@@ -54,7 +55,8 @@ viewed_row image n stamp names resilience name long h =
 
 -- ---- the last entry
 
-last_keeps : (a : List Entry) (e : Entry) (name : ℕ) → IsGood (a ++ e ∷ []) → mem a name ≡ true → (row_of (told (a ++ e ∷ [])) name).left ≡ 0 → mem (a ++ e ∷ []) name ≡ true
+last_keeps : (a : List Entry) (e : Entry) (name : ℕ) → IsGood (a ++ e ∷ []) → mem a name ≡ true → (row_of (told (a ++ e ∷ [])) name).left ≡ 0
+    → mem (a ++ e ∷ []) name ≡ true
 last_keeps a (Data from req body) name good member left = mem_push a (Data from req body) name good tt member
 last_keeps a (Join joiner) name good member left = mem_push a (Join joiner) name good tt member
 last_keeps a (Leave leaver) name good member left = by_cases (leaver == name)
@@ -79,7 +81,8 @@ unsnoc x (y ∷ ys) = let r = unsnoc y ys in (x ∷ r.0, r.1, ap (λ l. x ∷ l)
 below_nothing : (a : List Entry) → length a < 0 → ⊥
 below_nothing a h = omega arith
 
-ongoing_of : (list : List Entry) (name : ℕ) → IsGood list → ((a d : List Entry) → BeginsBelow d list → Begins a d → mem a name ≡ true → mem d name ≡ true) → (row_of (told list) name).left ≡ 0 → IsOngoing list name
+ongoing_of : (list : List Entry) (name : ℕ) → IsGood list → ((a d : List Entry) → BeginsBelow d list → Begins a d → mem a name ≡ true → mem d name ≡ true)
+    → (row_of (told list) name).left ≡ 0 → IsOngoing list name
 ongoing_of [] name good own left = λ a h member. subst (λ l. mem l name ≡ true) (begins_same h (omega arith)) member
 ongoing_of (x ∷ xs) name good own left =
     let r = unsnoc x xs in

@@ -1,17 +1,14 @@
 -- What a sender says is so.
-use Rattle.std.proofs.Common.{◌≡◌, ◌≢◌, ◌⊎◌, inl, inr, ⊎_elim, ℕ, zero, suc, ◌+◌, ◌-◌, ◌<◌, ◌≤◌, ◌==◌, ◌&&◌, ◌||◌, not, List, [], ◌∷◌, ◌++◌, length, take, Bool, true, false, Some, slice_get, refl, sym, ap, ◌∙◌, subst, arith}
+use Rattle.std.proofs.Common.{◌≡◌, ⊎_elim, ℕ, suc, ◌+◌, ◌<◌, ◌≤◌, ◌==◌, List, [], ◌∷◌, ◌++◌, length, take, true, Some, slice_get, sym, ap, ◌∙◌, subst, arith}
 use Rattle.std.proofs.lemmas.Bool.{cases_lt}
 use Rattle.std.proofs.lemmas.List.{length-take}
 use Rattle.std.proofs.lemmas.Bool.Decides.{nat_tests}
 use Rattle.am_base.specs.declared.entry.Entry.{Entry}
-use Rattle.am_base.specs.declared.entry.Entry.TheVariants.{Data, Join, Leave, View}
 use Rattle.am_base.specs.declared.name.Stamp.{Stamp}
 use Rattle.am_base.specs.declared.image.Image.{Image}
-use Rattle.am_base.specs.Names.{has}
 use Rattle.am_base.specs.Stamps.{stamp_eq}
-use Rattle.am_base.specs.Lists.{Log, top_of}
 use Rattle.am_group.specs.Journals.{item_at}
-use Rattle.am_chain_lists.specs.Whole.{Begins, told, view_of, key}
+use Rattle.am_chain_lists.specs.Whole.{Begins, view_of, key}
 use Rattle.am_chain_lists.proofs.Prefixes.{begins_trans, take_begins, begins_refl}
 use Rattle.am_chain_moves.specs.Group as groups
 use Rattle.am_chain_moves.specs.Group.{Group, IsUp, chain_of}
@@ -19,7 +16,7 @@ use Rattle.am_chain_moves.specs.Kept.{Kept}
 use Rattle.am_model.specs.Node as nodes
 use Rattle.am_model.specs.Node.{Node, view, is_member, acts, is_sequencer}
 use Rattle.am_model.specs.World.{World}
-use Rattle.am_model.proofs.Greatest.{split, and_both}
+use Rattle.am_model.proofs.Greatest.{and_both}
 use Rattle.am_effects.specs.Letters as letters
 use Rattle.am_laws.proofs.Stamps.{same_stamp}
 use Rattle.am_stands.specs.Standing.{NameStands, FrontsStand}
@@ -104,7 +101,8 @@ leading v i n s h t =
     }
 
 -- it has accepted no more than the group, and no later ballot was decided
-pub sequencer_said : (v : World) (i : ℕ) (n : Node) (s : Group) → Speaks v i n s → is_sequencer n ≡ true → FrontsStand n (s.node i) → SequencerSays s i n.core.promise n.core.acc
+pub sequencer_said : (v : World) (i : ℕ) (n : Node) (s : Group) → Speaks v i n s → is_sequencer n ≡ true → FrontsStand n (s.node i)
+    → SequencerSays s i n.core.promise n.core.acc
 sequencer_said v i n s h t f =
     let l = leading v i n s h t in
     let fronts = (h.kept.each i).fronts in
@@ -119,11 +117,13 @@ sequencer_said v i n s h t f =
     }
 
 -- what stands in its list stands in its line
-whole_item : (front entries : List Entry) (index : ℕ) (e : Entry) → slice_get entries index ≡ Some e → slice_get (front ++ entries) (length front + index) ≡ Some e
+whole_item : (front entries : List Entry) (index : ℕ) (e : Entry) → slice_get entries index ≡ Some e
+    → slice_get (front ++ entries) (length front + index) ≡ Some e
 whole_item [] entries index e h = let z : length {A = Entry} [] + index ≡ index = omega arith in ap (slice_get entries) z ∙ h
 whole_item (x ∷ front) entries index e h = let z : length (x ∷ front) + index ≡ suc (length front + index) = omega arith in ap (slice_get ((x ∷ front) ++ entries)) z ∙ whole_item front entries index e h
 
-pub list_item : (v : World) (i : ℕ) (n : Node) (a : groups.Node) (base number : ℕ) (e : Entry) → NameStands v i n a → n.core.log.start ≤ base → letters.Stands n.core.log base number e → item_at a.list number ≡ Some e
+pub list_item : (v : World) (i : ℕ) (n : Node) (a : groups.Node) (base number : ℕ) (e : Entry) → NameStands v i n a → n.core.log.start ≤ base
+    → letters.Stands n.core.log base number e → item_at a.list number ≡ Some e
 list_item v i n a base number e h low at =
     let start_ = n.core.log.start in
     let front = take start_ v.group in
@@ -132,7 +132,8 @@ list_item v i n a base number e h low at =
     let is : number ≡ suc (length front + at.index) = omega arith in
     ap (item_at a.list) is ∙ ap (λ l. slice_get l (length front + at.index)) h.list ∙ whole_item front n.core.log.entries at.index e at.there
 
-pub entry_said : (v : World) (i : ℕ) (n : Node) (s : Group) (base number : ℕ) (e : Entry) → Speaks v i n s → is_sequencer n ≡ true → FrontsStand n (s.node i) → n.core.log.start ≤ base → letters.Stands n.core.log base number e → EntrySays s i n.core.promise n.core.acc number e
+pub entry_said : (v : World) (i : ℕ) (n : Node) (s : Group) (base number : ℕ) (e : Entry) → Speaks v i n s → is_sequencer n ≡ true
+    → FrontsStand n (s.node i) → n.core.log.start ≤ base → letters.Stands n.core.log base number e → EntrySays s i n.core.promise n.core.acc number e
 entry_said v i n s base number e h t f low at =
     let l = leading v i n s h t in
     record {
@@ -141,7 +142,8 @@ entry_said v i n s base number e h t f low at =
     }
 
 -- a Piece of its own view
-pub piece_said : (v : World) (i : ℕ) (n : Node) (s : Group) (base number : ℕ) (e : Entry) → Speaks v i n s → is_sequencer n ≡ true → n.core.log.start ≤ base → letters.Stands n.core.log base number e → PieceSays s i n.core.promise number e
+pub piece_said : (v : World) (i : ℕ) (n : Node) (s : Group) (base number : ℕ) (e : Entry) → Speaks v i n s → is_sequencer n ≡ true
+    → n.core.log.start ≤ base → letters.Stands n.core.log base number e → PieceSays s i n.core.promise number e
 piece_said v i n s base number e h t low at =
     let l = leading v i n s h t in
     of_line (ap (λ (u : Stamp). u.by) (sym l.viewed) ∙ l.leads.by) l.decided (ap (λ g. item_at g number) l.line_ ∙ list_item v i n (s.node i) base number e h.stands low at)

@@ -1,14 +1,15 @@
 -- Votes: what a coordinator keeps of them, and what a voter shows.
-use Rattle.std.proofs.Common.{◌≡◌, ◌≢◌, ◌⊎◌, inl, inr, ⊎_elim, ℕ, ◌+◌, ◌<◌, ◌≤◌, ◌==◌, ◌&&◌, not, List, length, Bool, true, false, Option, Some, None, if◌then◌else◌, refl, sym, ap, ◌∙◌, subst, arith}
+use Rattle.std.proofs.Common.{◌≡◌, ◌≢◌, ◌⊎◌, ⊎_elim, ℕ, ◌<◌, ◌≤◌, ◌==◌, not, List, true, false, Option, Some, None, refl, sym, ap, ◌∙◌, subst, arith}
 use Rattle.std.proofs.lemmas.Bool.Decides.{nat_tests}
 use Rattle.am_base.specs.declared.entry.Entry.{Entry}
 use Rattle.am_base.specs.declared.image.Vote.{Vote}
 use Rattle.am_base.specs.declared.image.Image.{Image}
 use Rattle.am_base.specs.declared.name.Stamp.{Stamp}
-use Rattle.am_base.specs.Stamps.{stamp_lt}
+use Rattle.am_base.specs.Names.{has}
 use Rattle.am_base.specs.Lists.{members_of}
 use Rattle.am_packet.specs.declared.packet.Packet.TheVariants as packet
-use Rattle.am_chain_lists.specs.Whole.{told, view_of, key}
+use Rattle.am_group.specs.Journals.{item_at}
+use Rattle.am_chain_lists.specs.Whole.{mem, view_of, key}
 use Rattle.am_chain_moves.specs.Group as groups
 use Rattle.am_chain_moves.specs.Group.{Group, IsThere, IsUp, put2}
 use Rattle.am_chain_moves.specs.Moves.{Move}
@@ -23,11 +24,13 @@ use Rattle.am_model.proofs.Greatest.{split, and_both}
 use Rattle.am_effects.specs.Causes.{Cause, hears}
 use Rattle.am_effects.specs.Looks.{HasOpen, Balloting, with_more, without_one, as_it_is}
 use Rattle.am_stands.specs.Standing.{NameStands, ViewsStand, Stands}
-use Rattle.am_stands.specs.Letters.{IsDecided, VoteTells, VoteSays, own, tells, over}
+use Rattle.am_stands.specs.Letters.{VoteTells, VoteSays, FetchSays, PieceSays, own, tells, over, for_ballot, of_promise, of_shown}
 use Rattle.am_stands.specs.Moving.{Moves, none, moves, Leads}
 use Rattle.am_stands.specs.States.{VotesStand}
 use Rattle.am_stands.specs.Growing.{Grows}
+use Rattle.am_effects.specs.Letters as letters
 use Rattle.am_stands.proofs.Changes.{told_all, long_all}
+use Rattle.am_stands.proofs.Sent.{Speaks, list_item}
 
 -- ---- the votes that a coordinator keeps
 
@@ -35,12 +38,14 @@ votes_grow : (s t : Group) (ballot : Option Ballot) → Grows s t → VotesStand
 votes_grow s t None g h = tt
 votes_grow s t (Some b) g h = λ open_ j vote is. (let k = h open_ j vote is in record { list = k.list; shown = g.shown (key b.stamp) j k.list k.shown; view = k.view; top = k.top; members = k.members; taken = k.taken })
 
-kept_votes : (x : Node) (b : Ballot) (s : Group) → HasOpen x b → VotesStand s x.ballot → (j : ℕ) (vote : Vote) → b.votes j ≡ Some vote → VoteTells s j b.stamp vote
+kept_votes : (x : Node) (b : Ballot) (s : Group) → HasOpen x b → VotesStand s x.ballot → (j : ℕ) (vote : Vote) → b.votes j ≡ Some vote
+    → VoteTells s j b.stamp vote
 kept_votes x b s o h = (subst (VotesStand s) o.last h) o.open_
 
 -- the ballot that is looked at keeps votes that tell what was shown, where its stamp is of its own name and nothing was decided of it
 pub looked_votes : (c : Cause) (x : Node) (b : Ballot) (s : Group) → Balloting c x b → b.stamp.by ≡ x.core.who → s.views.decided (key b.stamp) ≡ false
-    → ((from : ℕ) (v : Stamp) (vote : Vote) → c ≡ hears (packet.Vote from v vote) → VoteSays s from v vote) → VotesStand s x.ballot → (j : ℕ) (vote : Vote) → b.votes j ≡ Some vote → VoteTells s j b.stamp vote
+    → ((from : ℕ) (v : Stamp) (vote : Vote) → c ≡ hears (packet.Vote from v vote) → VoteSays s from v vote) → VotesStand s x.ballot → (j : ℕ) (vote : Vote)
+    → b.votes j ≡ Some vote → VoteTells s j b.stamp vote
 looked_votes c x b s (as_it_is old o on) own_ fresh heard h = kept_votes x old s o h
 looked_votes c x b s (without_one old name is o other) own_ fresh heard h = λ j vote. split (j == name)
     (λ t. λ at. absurd (let z = rw t at at in cc))
@@ -78,7 +83,8 @@ pub record Voter (v : World) (i : ℕ) (n : Node) (s : Group) : Type 0 where
   pub begun : key n.core.promise ≤ key (s.node n.core.promise.by).promise
   pub taken : n.core.taken ≤ nodes.top n
 
-tells_list : (v : World) (i : ℕ) (n : Node) (s t : Group) → Voter v i n s → t.shown (key n.core.promise) i ≡ Some (s.node i).list → VoteTells t i n.core.promise (own_vote n)
+tells_list : (v : World) (i : ℕ) (n : Node) (s t : Group) → Voter v i n s → t.shown (key n.core.promise) i ≡ Some (s.node i).list
+    → VoteTells t i n.core.promise (own_vote n)
 unfolding view_of
 tells_list v i n s t h is =
     let a = s.node i in
@@ -140,3 +146,39 @@ vote_said v i n s h =
           path = moves (group.shows i h.there small other begun (ap (λ (u : Stamp). s.shown (key u) i) promised ∙ is)) none;
           is = record { same = record { node = refl; views = refl; group_ = refl }; says = tells (tells_list v i n s t h shown) };
         }
+
+-- ---- what a voter sends of its list
+
+pub record PieceStands (i number : ℕ) (n : Node) (e : Entry) (s t : Group) : Type 0 where
+  pub same : ShowsMore s t
+  pub says : PieceSays t i n.core.promise number e
+
+-- a Piece that the name of its promise fetches: where that isn't decided, of the list that was shown, which is served from then on
+pub shown_said : (v : World) (i from base number : ℕ) (n : Node) (e : Entry) (s : Group) (to : List ℕ) → Speaks v i n s → n.core.promise.by ≡ from
+    → from ≢ i → has to i ≡ true → FetchSays s from n.core.promise to
+    → n.core.log.start ≤ base → letters.Stands n.core.log base number e → Leads (PieceStands i number n e s) s
+shown_said v i from base number n e s to h by other asked (of_promise not_by of_all) low at = absurd (not_by by)
+shown_said v i from base number n e s to h by other asked (for_ballot own_by all) low at = split (s.views.decided (key n.core.promise))
+    (λ d. record { to = s; path = none; is = record { same = record { node = refl; views = refl; group_ = refl }; says = over (λ same. other (sym by ∙ same)) d } })
+    (λ fresh.
+    let a = s.node i in
+    let p = n.core.promise in
+    let promised : a.promise ≡ p = h.stands.promise in
+    let known = all i asked in
+    let list = known.list in
+    let shown : s.shown (key a.promise) i ≡ Some list = ap (λ (u : Stamp). s.shown (key u) i) promised ∙ known.shown in
+    let still : a.list ≡ list = h.kept.still i list shown (ap (λ (u : Stamp). s.views.decided (key u)) promised ∙ fresh) in
+    let others : (j : ℕ) → mem list j ≡ true → IsThere (s.node j) → (j ≡ a.promise.by) ⊎ ((vote : List Entry) × (s.shown (key a.promise) j ≡ Some vote)) =
+    subst (λ (u : Stamp). (j : ℕ) → mem list j ≡ true → IsThere (s.node j) → (j ≡ u.by) ⊎ ((vote : List Entry) × (s.shown (key u) j ≡ Some vote))) (sym promised) known.others in
+    let served : put2 s.served (key a.promise) i true (key p) i ≡ true = ⊎_elim
+    (λ (z : (key p ≡ key a.promise) × (i ≡ i) × (put2 s.served (key a.promise) i true (key p) i ≡ true)). z.2)
+    (λ (z : ((key p ≡ key a.promise) × (i ≡ i) → ⊥) × (put2 s.served (key a.promise) i true (key p) i ≡ s.served (key p) i)). absurd (z.0 (ap key (sym promised), refl)))
+    (put2_cases s.served (key a.promise) i true (key p) i) in
+    record {
+      to = record s { served = put2 s.served (key a.promise) i true };
+      path = moves (group.serves i list h.up shown others) none;
+      is = record {
+        same = record { node = refl; views = refl; group_ = refl };
+        says = of_shown (record { served = served; list = list; shown = known.shown; stands = ap (λ l. item_at l number) (sym still) ∙ list_item v i n a base number e h.stands low at });
+      };
+    })

@@ -1,29 +1,25 @@
 -- At the start each founder is told of the first entry, and then the group stands for the world.
-use Rattle.std.proofs.Common.{◌≡◌, ◌≢◌, ◌⊎◌, inl, inr, ⊎_elim, ℕ, zero, suc, ◌+◌, ◌<◌, ◌≤◌, ◌==◌, ◌&&◌, nat_lt, if◌then◌else◌, List, [], ◌∷◌, ◌++◌, length, Bool, true, false, Some, slice_get, refl, sym, ap, ◌∙◌, subst, arith}
+use Rattle.std.proofs.Common.{◌≡◌, ℕ, zero, suc, ◌+◌, ◌<◌, ◌==◌, ◌&&◌, nat_lt, if◌then◌else◌, [], ◌∷◌, length, Bool, true, false, Some, slice_get, refl, sym, ap, ◌∙◌, subst, arith}
 use Rattle.std.proofs.lemmas.Bool.Decides.{nat_tests}
-use Rattle.am_base.specs.declared.entry.Entry.{Entry}
-use Rattle.am_base.specs.declared.entry.Entry.TheVariants.{View}
-use Rattle.am_base.specs.declared.name.Stamp.{Stamp}
 use Rattle.am_base.specs.Founding.{Rules, MayFound}
 use Rattle.am_base.specs.Names.{has}
 use Rattle.am_base.specs.Stamps.{no_stamp}
 use Rattle.am_base.specs.Lists.{fold}
-use Rattle.am_chain_lists.specs.Whole.{Begins, key}
+use Rattle.am_chain_lists.specs.Whole.{key}
 use Rattle.am_chain_lists.proofs.Prefixes.{begins_refl}
 use Rattle.am_chain_moves.specs.Group as groups
 use Rattle.am_chain_moves.specs.Group.{Group, put, opening}
 use Rattle.am_chain_moves.specs.Moves.{Move, with_node}
 use Rattle.am_chain_moves.specs.Moves as group
 use Rattle.am_chain_moves.specs.Runs as begun
-use Rattle.am_model.specs.Node.{Node, founder, stranger, lowest_or_first, founding_stamp, founders_view}
-use Rattle.am_model.specs.Group.{has_log}
-use Rattle.am_model.specs.World.{Decided, World, start, first_node, founders_decided, has_departed}
+use Rattle.am_model.specs.Node.{founder, stranger, lowest_or_first, founding_stamp, founders_view}
+use Rattle.am_model.specs.World.{Decided, start, first_node, founders_decided}
 use Rattle.am_model.specs.Claims.{up_to_view, up_to_next, line_of}
 use Rattle.am_model.proofs.Greatest.{split}
 use Rattle.am_laws.proofs.Founders.{first_founder}
 use Rattle.am_laws.proofs.Views.{same_is_equal}
-use Rattle.am_stands.specs.Standing.{NameStands, FrontsStand, NotedStands, IsLast, WasNoted, ViewsStand, Stands, StartStands}
-use Rattle.am_stands.specs.Moving.{Moves, none, moves, Leads}
+use Rattle.am_stands.specs.Standing.{NameStands, FrontsStand, NotedStands, ViewsStand, StartStands}
+use Rattle.am_stands.specs.Moving.{none, moves, Leads}
 use Rattle.am_stands.proofs.Ends.{then_moves}
 use Rattle.am_stands.proofs.Decisions.{last_same}
 

@@ -1,42 +1,40 @@
 -- A ballot that its coordinator decides may be decided by the group's own test.
-use Rattle.std.proofs.Common.{◌≡◌, ◌≢◌, ◌⊎◌, inl, inr, ⊎_elim, ℕ, zero, suc, ◌+◌, ◌-◌, ◌<◌, ◌≤◌, ◌==◌, ◌&&◌, ◌||◌, not, max, nat_lt, nat_le, is_some, List, [], ◌∷◌, ◌++◌, length, Bool, true, false, Option, Some, None, slice_index, if◌then◌else◌, refl, sym, ap, ◌∙◌, subst, arith}
+use Rattle.std.proofs.Common.{◌≡◌, ◌≢◌, ◌⊎◌, inl, inr, ⊎_elim, ℕ, zero, suc, ◌+◌, ◌<◌, ◌≤◌, ◌==◌, ◌&&◌, ◌||◌, not, max, nat_lt, is_some, get_or, set, List, [], ◌∷◌, ◌++◌, length, Bool, true, false, Option, Some, None, slice_index, refl, sym, ap, ◌∙◌, subst, arith}
 use Rattle.std.specs.List.{list_all, list_any, range_with_len}
 use Rattle.std.proofs.lemmas.Bool.Decides.{nat_tests}
 use Rattle.am_base.specs.declared.entry.Entry.{Entry}
 use Rattle.am_base.specs.declared.image.Vote.{Vote}
 use Rattle.am_base.specs.declared.image.Image.{Image}
 use Rattle.am_base.specs.declared.name.Stamp.{Stamp}
-use Rattle.am_base.specs.Names.{place_of, life_of, name_at, has, size, is_within}
+use Rattle.am_base.specs.Names.{place_of, life_of, nobody, has, size, is_within}
 use Rattle.am_base.specs.Stamps.{stamp_lt, stamp_eq}
-use Rattle.am_base.specs.Votes.{Shown, vote_lt}
+use Rattle.am_base.specs.Votes.{vote_lt}
 use Rattle.am_base.specs.Lists.{members_of}
 use Rattle.am_chain_lists.specs.Whole.{Begins, told, mem, view_of, resilience_of, key}
 use Rattle.am_chain_lists.proofs.Order.{key_lt, view_up}
 use Rattle.am_chain_lists.proofs.Prefixes.{begins_trans}
 use Rattle.am_chain_lists.proofs.Members.{told_push}
-use Rattle.am_chain_moves.specs.Group as groups
-use Rattle.am_chain_moves.specs.Group.{Group, IsThere, IsUp, NoBetter}
-use Rattle.am_chain_moves.specs.Moves as group
-use Rattle.am_chain_moves.specs.Moves.{MayDecide, Voted}
+use Rattle.am_chain_moves.specs.Group.{Group, IsThere, IsUp}
+use Rattle.am_chain_moves.specs.Moves.{MayDecide}
 use Rattle.am_chain_moves.specs.Kept.{Kept}
 use Rattle.am_model.specs.Node as nodes
-use Rattle.am_model.specs.Node.{Node, Ballot, view, members, name_where, those, is_member}
+use Rattle.am_model.specs.Node.{Node, Ballot, view, members, only_name, name_where, those, is_member}
 use Rattle.am_base.specs.declared.entry.Entry.TheVariants.{View}
-use Rattle.std.proofs.lemmas.List.{append_assoc}
+use Rattle.std.proofs.lemmas.List.{append_assoc, get_or-set_same, get_or-set_other, get_or-replicate}
+use Rattle.am_chain_lists.proofs.Rows.{mod16}
 use Rattle.am_model.specs.Lawful.{is_view_of}
 use Rattle.am_model.specs.Ballots.{trimmed_for, own_vote, best_of, need_of, has_voted, is_waited_for, left_in}
-use Rattle.am_model.specs.Laws.{IsBestVote}
-use Rattle.am_model.specs.World.{World, is_stopped}
+use Rattle.am_model.specs.World.{World}
 use Rattle.am_model.proofs.BestVotes.{best_vote_is}
-use Rattle.am_model.proofs.Greatest.{split, and_both}
+use Rattle.am_model.proofs.Greatest.{split}
 use Rattle.am_effects.specs.Looks as looks
 use Rattle.am_bounded.proofs.Changes.{some_left}
-use Rattle.am_laws.proofs.Stamps.{equal_stamps, same_stamp}
+use Rattle.am_laws.proofs.Stamps.{equal_stamps}
 use Rattle.am_laws.proofs.Taken.{own_need, those_at}
 use Rattle.am_laws.proofs.ViewMembers.{viewed_members, those_some, those_long}
 use Rattle.am_stands.specs.Standing.{NameStands, within}
 use Rattle.am_effects.proofs.Says.{told_pushed}
-use Rattle.am_stands.specs.Letters.{VoteTells}
+use Rattle.am_stands.specs.Letters.{VoteTells, AllShown, FetchSays, for_ballot}
 use Rattle.am_stands.specs.Steps.{NeedsDecision}
 use Rattle.am_stands.proofs.Lines.{HasViewOf, viewed_as}
 use Rattle.am_stands.proofs.Changes.{told_whole, long_all}
@@ -61,7 +59,8 @@ pub record BallotKnown (w : World) (name : ℕ) (x : Node) (b : Ballot) (s : Gro
 
 -- ---- the best vote
 
-vote_low : (own : Vote) (vote : Vote) → own.view.by < 256 → vote.view.by < 256 → vote_lt own vote ≡ false → (key vote.view < key own.view) ⊎ ((key vote.view ≡ key own.view) × (vote.top ≤ own.top))
+vote_low : (own : Vote) (vote : Vote) → own.view.by < 256 → vote.view.by < 256 → vote_lt own vote ≡ false
+    → (key vote.view < key own.view) ⊎ ((key vote.view ≡ key own.view) × (vote.top ≤ own.top))
 vote_low own vote small few low =
     let a : stamp_lt own.view vote.view ≡ false = split (stamp_lt own.view vote.view) (λ t. absurd (let z = rw t at low in cc)) (λ f. f) in
     let rest : (stamp_eq own.view vote.view && nat_lt own.top vote.top) ≡ false = rw a at low in
@@ -76,7 +75,8 @@ vote_low own vote small few low =
     itself : (v : Stamp) → stamp_eq v v ≡ true
     itself v = grind (arith, nat_tests)
 
-best_low : (x : Node) (b : Ballot) → ((best_of x b).by == x.core.who) ≡ true → b.votes x.core.who ≡ None → (view x).by < 256 → ((j : ℕ) (vote : Vote) → b.votes j ≡ Some vote → vote.view.by < 256)
+best_low : (x : Node) (b : Ballot) → ((best_of x b).by == x.core.who) ≡ true → b.votes x.core.who ≡ None → (view x).by < 256
+    → ((j : ℕ) (vote : Vote) → b.votes j ≡ Some vote → vote.view.by < 256)
     → (j : ℕ) (vote : Vote) → j < 256 → b.votes j ≡ Some vote → vote_lt (own_vote x) vote ≡ false
 unfolding best_of
 best_low x b own none small views j vote few is =
@@ -102,7 +102,8 @@ voted who j b waits stays other = split (is_some (b.votes j))
     let z : (not (has_voted who b j) && not (b.given_up j)) ≡ true = rw (v, stays) refl in
     cc))
 
-not_waited : (x : Node) (b : Ballot) (j : ℕ) → nat_lt 0 (size (those (is_waited_for x.core.who b) (need_of x b))) ≡ false → has (need_of x b) j ≡ true → is_waited_for x.core.who b j ≡ false
+not_waited : (x : Node) (b : Ballot) (j : ℕ) → nat_lt 0 (size (those (is_waited_for x.core.who b) (need_of x b))) ≡ false → has (need_of x b) j ≡ true
+    → is_waited_for x.core.who b j ≡ false
 not_waited x b j none needed = split (is_waited_for x.core.who b j)
     (λ t. absurd (let some = some_left (is_waited_for x.core.who b) (need_of x b) j needed t in let z : nat_lt 0 (size (those (is_waited_for x.core.who b) (need_of x b))) ≡ true = grind (arith, nat_tests) in cc))
     (λ f. f)
@@ -112,7 +113,8 @@ all_places p from zero h = refl
 all_places p from (suc n) h = rw (h from (omega arith)) (all_places p (from + 1) n (λ place low. h place (omega arith)))
 
 -- as a test
-is_some_of : (test : ℕ → Bool) (names : List ℕ) (place : ℕ) → place < 16 → ((slice_index (those test names) place == 0) || (slice_index (those test names) place == slice_index names place)) ≡ true
+is_some_of : (test : ℕ → Bool) (names : List ℕ) (place : ℕ) → place < 16
+    → ((slice_index (those test names) place == 0) || (slice_index (those test names) place == slice_index names place)) ≡ true
 is_some_of test names place low =
     let life = slice_index (those test names) place in
     let all = slice_index names place in
@@ -127,7 +129,8 @@ is_some_of test names place low =
 
 -- ---- the group's own test
 
-pub may_decide : (w : World) (name : ℕ) (x : Node) (b : Ballot) (s : Group) → BallotKnown w name x b s → looks.MayDecide x b → MayDecide s name (left_in b (need_of x b)) (max b.resilience (nodes.told x).resilience)
+pub may_decide : (w : World) (name : ℕ) (x : Node) (b : Ballot) (s : Group) → BallotKnown w name x b s → looks.MayDecide x b
+    → MayDecide s name (left_in b (need_of x b)) (max b.resilience (nodes.told x).resilience)
 unfolding mem view_of resilience_of
 may_decide w name x b s h may =
     let a = s.node name in
@@ -190,7 +193,7 @@ unseen s i k up ballot = split (list_any (is_view_of (s.node i).promise) (s.node
     omega arith))
     (λ f. f)
 
-undecided : (s : Group) (i : ℕ) → Kept s → IsUp (s.node i) → (s.node i).ballot ≡ true → s.views.decided (key (s.node i).promise) ≡ false
+pub undecided : (s : Group) (i : ℕ) → Kept s → IsUp (s.node i) → (s.node i).ballot ≡ true → s.views.decided (key (s.node i).promise) ≡ false
 undecided s i k up ballot = split (s.views.decided (key (s.node i).promise))
     (λ t. absurd (let above = ((k.each i).ballot up ballot).above in let most = k.views.order (key (s.node i).promise) t in omega arith))
     (λ f. f)
@@ -205,7 +208,8 @@ view_members x b long need =
     λ place low. ⊎_elim (λ (z : slice_index names place ≡ 0). inl z) (λ (z : slice_index names place ≡ slice_index (need_of x b) place). inr (z ∙ ap (λ set. slice_index set place) need)) (those_some test (need_of x b) place low) in
     ap members_of (told_pushed before (View b.stamp names r)) ∙ viewed_members (nodes.told x) (nodes.top x + 1) b.stamp names r long (omega arith) (those_long test (need_of x b)) some
 
-pub decision_needs : (w : World) (name : ℕ) (x : Node) (b : Ballot) (s : Group) → Kept s → BallotKnown w name x b s → x.core.promise.by ≡ name → length (nodes.told x).rows ≡ 16 → looks.MayDecide x b → NeedsDecision s name x b
+pub decision_needs : (w : World) (name : ℕ) (x : Node) (b : Ballot) (s : Group) → Kept s → BallotKnown w name x b s → x.core.promise.by ≡ name
+    → length (nodes.told x).rows ≡ 16 → looks.MayDecide x b → NeedsDecision s name x b
 decision_needs w name x b s k h own long may =
     let same = h.stands.promise in
     record {
@@ -215,3 +219,59 @@ decision_needs w name x b s k h own long may =
       unseen = ap (λ (u : Stamp). list_any (is_view_of u) (s.node name).list) (sym same) ∙ unseen s name k h.up h.ballot;
       members_ = view_members x b long (own_need x b may.learned.own h.own);
     }
+
+-- ---- whom a coordinator fetches from
+
+is_equal : (a b : ℕ) → a ≡ b → (a == b) ≡ true
+is_equal a b same = grind (arith, nat_tests)
+
+is_the_same : (a b : ℕ) → (a == b) ≡ true → a ≡ b
+is_the_same a b t = grind (arith, nat_tests)
+
+not_equal : (a b : ℕ) → (a == b) ≡ false → a ≢ b
+not_equal a b f same = grind (arith, nat_tests)
+
+-- all whose votes it needs have shown a list, and the best of these is another's
+pub best_shown : (w : World) (name : ℕ) (x : Node) (b : Ballot) (s : Group) → Kept s → BallotKnown w name x b s → ((best_of x b).by == x.core.who) ≡ false
+    → nat_lt 0 (size (those (is_waited_for x.core.who b) (need_of x b))) ≡ false → AllShown s b.stamp (best_of x b).by
+unfolding best_of mem
+best_shown w name x b s k h other none = ⊎_elim
+    (λ (z : ((best_of x b).by ≡ x.core.who) × ((best_of x b).vote ≡ own_vote x)). absurd (let t : ((best_of x b).by == x.core.who) ≡ true = is_equal (best_of x b).by x.core.who z.0 in cc))
+    (λ (z : b.votes (best_of x b).by ≡ Some (best_of x b).vote).
+    (let best = h.votes (best_of x b).by (best_of x b).vote z in
+    let by : b.stamp.by ≡ name = ap (λ (u : Stamp). u.by) (h.stamp ∙ sym h.stands.promise) ∙ ((k.each name).ballot h.up h.ballot).by in
+    record {
+      list = best.list;
+      shown = best.shown;
+      others = λ j m there. split (j == x.core.who)
+          (λ t. inl (is_the_same j x.core.who t ∙ h.who ∙ sym by))
+          (λ f.
+          (let needed : has (need_of x b) j ≡ true = ap (λ set. has set j) best.members ∙ m in
+          let spared : b.given_up j ≡ false = split (b.given_up j) (λ t. absurd (let q = h.given j t in let y = there.goes in cc)) (λ g. g) in
+          let vote = some_vote (b.votes j) (voted x.core.who j b (not_waited x b j none needed) spared f) in
+          let tells = h.votes j vote.0 vote.1 in
+          inr (tells.list, tells.shown)));
+    }))
+    (best_vote_is b.votes x.core.who (own_vote x) h.view_ h.views).shown
+
+-- who is in a set of one name is that name
+only_one : (a h : ℕ) → has (only_name a) h ≡ true → h ≡ a
+only_one a h t = split (place_of h == place_of a)
+    (λ p.
+    let same = is_the_same (place_of h) (place_of a) p in
+    let at : get_or (set nobody (place_of a) (life_of a)) (place_of h) 0 ≡ life_of a = ap (λ k. get_or (set nobody (place_of a) (life_of a)) k 0) same ∙ get_or-set_same nobody (place_of a) (life_of a) 0 (mod16 a) in
+    let life = sym at ∙ is_the_same (slice_index (only_name a) (place_of h)) (life_of h) t in
+    omega arith)
+    (λ f. absurd (
+    let other : place_of h ≢ place_of a = not_equal (place_of h) (place_of a) f in
+    let at : get_or (set nobody (place_of a) (life_of a)) (place_of h) 0 ≡ 0 = get_or-set_other nobody (place_of a) (place_of h) (life_of a) 0 other ∙ get_or-replicate 16 (place_of h) 0 0 (mod16 h) in
+    let life = sym at ∙ is_the_same (slice_index (only_name a) (place_of h)) (life_of h) t in
+    omega arith))
+
+-- it fetches from that name
+pub fetch_said : (w : World) (name : ℕ) (x : Node) (b : Ballot) (s : Group) (to : List ℕ) → Kept s → BallotKnown w name x b s
+    → ((best_of x b).by == x.core.who) ≡ false → nat_lt 0 (size (those (is_waited_for x.core.who b) (need_of x b))) ≡ false
+    → to ≡ only_name (best_of x b).by → FetchSays s name x.core.promise to
+fetch_said w name x b s to k h other none is = for_ballot
+    (ap (λ (u : Stamp). u.by) (sym h.stands.promise) ∙ ((k.each name).ballot h.up h.ballot).by)
+    (λ j at. subst (AllShown s x.core.promise) (sym (only_one (best_of x b).by j (ap (λ set. has set j) (sym is) ∙ at))) (subst (λ (u : Stamp). AllShown s u (best_of x b).by) h.stamp (best_shown w name x b s k h other none)))

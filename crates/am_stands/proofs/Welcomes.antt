@@ -1,7 +1,6 @@
 -- A joiner may begin where a Welcome says.
-use Rattle.std.proofs.Common.{◌≡◌, ◌≢◌, ◌⊎◌, inl, inr, ⊎_elim, ℕ, zero, suc, ◌+◌, ◌-◌, ◌<◌, ◌≤◌, ◌==◌, ◌&&◌, ◌||◌, not, nat_lt, List, [], ◌∷◌, ◌++◌, length, take, Bool, true, false, Some, slice_get, refl, sym, ap, ◌∙◌, subst, arith}
+use Rattle.std.proofs.Common.{◌≡◌, ◌≢◌, inl, ⊎_elim, ℕ, zero, suc, ◌+◌, ◌<◌, ◌≤◌, ◌==◌, ◌||◌, not, List, [], ◌∷◌, ◌++◌, length, take, true, false, Some, slice_get, refl, sym, ap, ◌∙◌, subst, arith}
 use Rattle.std.proofs.lemmas.Bool.Decides.{nat_tests}
-use Rattle.std.proofs.lemmas.Option.{slice_get_within}
 use Rattle.am_base.specs.declared.entry.Entry.{Entry}
 use Rattle.am_base.specs.declared.entry.Entry.TheVariants.{Join}
 use Rattle.am_base.specs.declared.name.Stamp.{Stamp}
@@ -9,16 +8,14 @@ use Rattle.am_base.specs.declared.image.Row.{Row}
 use Rattle.am_base.specs.declared.image.Image.{Image}
 use Rattle.am_base.specs.Names.{place_of, life_of}
 use Rattle.am_base.specs.Stamps.{stamp_lt}
-use Rattle.am_base.specs.Lists.{at_place, with_row, fits, after}
+use Rattle.am_base.specs.Lists.{with_row, fits, after}
 use Rattle.am_group.specs.Journals.{item_at}
 use Rattle.am_chain_lists.specs.Whole.{Begins, IsGood, told, mem, key}
 use Rattle.am_chain_lists.proofs.Prefixes.{begins_trans, begins_take, begins_push, begins_both, begins_length, length_push, length_take, take_begins}
 use Rattle.am_chain_lists.proofs.Rows.{row_at, In, Past, Was, mod16, row_set, past_after, not_both}
 use Rattle.am_chain_lists.proofs.Members.{good_begins, told_push, last_fits, long_told, mem_in, in_mem, was_begins}
 use Rattle.am_chain_lists.proofs.Order.{key_lt}
-use Rattle.am_chain_moves.specs.Group as groups
-use Rattle.am_chain_moves.specs.Group.{Group, IsThere}
-use Rattle.am_chain_moves.specs.Moves.{MayWelcome}
+use Rattle.am_chain_moves.specs.Group.{Group}
 use Rattle.am_chain_moves.specs.Kept.{Kept}
 use Rattle.am_model.specs.declared.status.Status.{Status}
 use Rattle.am_model.specs.declared.status.Status.TheVariants as status
@@ -60,7 +57,8 @@ joined_once a name good was =
     was
 
 -- the group list up to an accepted Join
-up_to_join : (list : List Entry) (join name : ℕ) → item_at list join ≡ Some (Join name) → (before : List Entry) × (length before + 1 ≡ join) × (take join list ≡ before ++ Join name ∷ []) × Begins before list
+up_to_join : (list : List Entry) (join name : ℕ) → item_at list join ≡ Some (Join name)
+    → (before : List Entry) × (length before + 1 ≡ join) × (take join list ≡ before ++ Join name ∷ []) × Begins before list
 up_to_join list zero name is = absurd (cc)
 up_to_join list (suc n) name is =
     let low : suc n ≤ length list = item_within list (suc n) (Join name) is in
@@ -83,8 +81,10 @@ not_above_key u v small few low = split (stamp_lt u v)
     (λ t. let z = key_lt u v small few t in omega arith)
     (λ f. let same = ap key (equal_stamps u v small few f low) in omega arith)
 
-pub welcome_needs : (w : World) (name from base join : ℕ) (x : Node) (v : Stamp) (image : Image) (s : Group) → Kept s → x.core.who ≡ name → is_stopped w name ≡ false → x.core.promise.by < 256 → v.by < 256 → x.leaving ≡ false → is_unfinished x.ballot ≡ false
-    → NameStands (within w name x) name x (s.node name) → MayBeWelcomed x from v base join image → WelcomeSays s from v base join image name → NeedsWelcome s name v base join image
+pub welcome_needs : (w : World) (name from base join : ℕ) (x : Node) (v : Stamp) (image : Image) (s : Group) → Kept s → x.core.who ≡ name
+    → is_stopped w name ≡ false → x.core.promise.by < 256 → v.by < 256 → x.leaving ≡ false → is_unfinished x.ballot ≡ false
+    → NameStands (within w name x) name x (s.node name) → MayBeWelcomed x from v base join image → WelcomeSays s from v base join image name
+    → NeedsWelcome s name v base join image
 welcome_needs w name from base join x v image s k who runs small few stays no_ballot old may says =
     let a = s.node name in
     let asks = and_both (not (from == x.core.who)) (is_member x.status || is_asking x.status) may.asks in

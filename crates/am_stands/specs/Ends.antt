@@ -1,5 +1,5 @@
 -- The end of a step: what is accepted by then, as moves of the group.
-use Rattle.std.specs.Prelude.{◌≡◌, ℕ, ◌<◌, ◌≤◌, max, List, [], ◌∷◌, ◌++◌, length, take, true, false, slice_get, Some}
+use Rattle.std.specs.Prelude.{◌≡◌, ℕ, ◌<◌, ◌≤◌, max, List, [], ◌∷◌, ◌++◌, length, take, true, slice_get, Some}
 use Rattle.am_base.specs.declared.entry.Entry.{Entry}
 use Rattle.am_group.specs.declared.event.Event.{Event}
 use Rattle.am_base.specs.declared.entry.Entry.TheVariants.{Leave}

@@ -2,7 +2,7 @@
 use Rattle.std.specs.Prelude.{ℕ, List}
 use Rattle.am_chain_moves.specs.Group.{Group}
 use Rattle.am_chain_moves.specs.Moves.{Move, stops}
-use Rattle.am_chain_moves.specs.Runs.{Run, IsLawful}
+use Rattle.am_chain_moves.specs.Runs.{Run}
 
 abbrev pub IsNoStop : {s t : Group} → Move s t → Type 0
 IsNoStop (stops i) = ⊥

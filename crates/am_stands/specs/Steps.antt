@@ -98,7 +98,7 @@ abbrev pub NeedsLook : {m : Node} {b : Ballot} {v : Verdict} → Group → ℕ �
 NeedsLook {m = m} {b = b} s name (decides may) = NeedsDecision s name m b
 NeedsLook s name _ = Unit {0}
 
--- ⊥: not carried yet
+-- ⊥: the last member's own Leave ends its step (specs Ends)
 abbrev pub Needs : {c : Cause} {o : Outcome} {m n : Node} → Group → ℕ → Change c o m n → Type 0
 Needs {m = m} s name (numbers e leads room why) = NeedsNumber s name m e
 Needs {m = m} s name (stores from v base acc number e by heard plain may) = NeedsEntry s name m e

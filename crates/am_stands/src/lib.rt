@@ -6,6 +6,7 @@ ghost use Rattle.am_stands.specs.Ends.{EndsStand, CloseStands};
 ghost use Rattle.am_stands.specs.Growing.{LettersStay, MovesGrow};
 ghost use Rattle.am_stands.specs.Lawful.{RunsGoOn};
 ghost use Rattle.am_stands.specs.Standing.{StartStands};
+ghost use Rattle.am_stands.specs.States.{RunsOpen};
 ghost use Rattle.am_stands.specs.Steps.{ChangesStand, EventsStand};
 
 /// At the start each founder is told of the first entry, and then the group stands for the world.
@@ -41,4 +42,9 @@ pub fn letters_stay()
 /// A lawful run of the group that goes on by a move that is no stop is lawful: so between the moves of one event all is kept.
 pub fn runs_go_on()
     ensures { RunsGoOn }
+{}
+
+/// In a lawful run of the group, what begins the line of a decided view begins the line of its own last View's, which was decided.
+pub fn lines_open()
+    ensures { RunsOpen }
 {}

@@ -1,23 +1,17 @@
 -- A view is noted with the members that its View names: in the step that decides it nothing changes them any more.
-use Rattle.std.proofs.Common.{◌≡◌, ◌⊎◌, inl, inr, ⊎_elim, ℕ, ◌+◌, ◌<◌, ◌==◌, ◌&&◌, ◌||◌, not, max, nat_lt, Bool, true, false, List, length, set, get_or, slice_index, Option, Some, None, refl, sym, ap, ◌∙◌, subst, arith}
+use Rattle.std.proofs.Common.{◌≡◌, ◌⊎◌, inl, inr, ⊎_elim, ℕ, ◌+◌, ◌<◌, ◌==◌, ◌&&◌, ◌||◌, not, max, nat_lt, Bool, true, false, List, length, slice_index, Option, Some, None, refl, sym, ap, ◌∙◌, subst, arith}
 use Rattle.std.proofs.lemmas.Bool.Decides.{nat_tests}
-use Rattle.std.proofs.lemmas.List.{map-set, set-get_or, ext_get_or, length-map}
 use Rattle.am_base.specs.declared.entry.Entry.{Entry}
 use Rattle.am_base.specs.declared.entry.Entry.TheVariants.{Data, Join, Leave, View}
-use Rattle.am_base.specs.declared.image.Row.{Row}
 use Rattle.am_base.specs.declared.image.Vote.{Vote}
 use Rattle.am_base.specs.declared.image.Image.{Image}
 use Rattle.am_base.specs.declared.name.Stamp.{Stamp}
 use Rattle.am_base.specs.declared.outcome.Outcome.{Outcome}
 use Rattle.am_base.specs.declared.event.NodeEvent.TheVariants as does
-use Rattle.am_base.specs.Names.{place_of, life_of, name_at}
 use Rattle.am_base.specs.Stamps.{stamp_lt, stamp_eq}
-use Rattle.am_base.specs.Lists.{Log, is_blank, at_place, member_life, members_of, viewed, after, fits, entry_at, told_by}
-use Rattle.am_base.proofs.Places.{slice_index-by_place, length-by_place}
+use Rattle.am_base.specs.Lists.{Log, members_of, fits, entry_at, told_by}
 use Rattle.am_packet.specs.declared.packet.Packet.TheVariants as packet
-use Rattle.am_core.proofs.Lives.{row_at, member_at}
-use Rattle.am_chain_lists.proofs.Rows.{mod16, row_view, long_after, blank_joined}
-use Rattle.am_model.specs.Node.{Node, Ballot, top, told, view, members, name_where, those, unsettled, pushed, trimmed}
+use Rattle.am_model.specs.Node.{Node, Ballot, top, told, view, members, unsettled, pushed, trimmed}
 use Rattle.am_model.specs.Ballots.{Verdict, overtaken, need_of, left_in, trimmed_for}
 use Rattle.am_model.specs.Calls.{is_unfinished}
 use Rattle.am_model.specs.Group.{has_log}

@@ -1,0 +1,138 @@
+-- What begins the line of a decided view begins the line of its own last View's, in every lawful run of the group.
+use Rattle.std.proofs.Common.{◌≡◌, ◌≢◌, ⊎_elim, ℕ, ◌==◌, List, [], ◌∷◌, ◌++◌, true, refl, sym, ap, ◌∙◌, subst, arith}
+use Rattle.std.proofs.lemmas.Bool.Decides.{nat_tests}
+use Rattle.am_base.specs.declared.entry.Entry.{Entry}
+use Rattle.am_base.specs.declared.entry.Entry.TheVariants.{Data, Join, Leave, View}
+use Rattle.am_base.specs.declared.name.Stamp.{Stamp}
+use Rattle.am_chain_lists.specs.Whole.{Begins, NotView, view_of, key}
+use Rattle.am_chain_lists.proofs.Order.{view_viewed, view_push}
+use Rattle.am_chain_lists.proofs.Prefixes.{begins_refl, begins_more, begins_trans, begins_pushed, begins_length}
+use Rattle.am_chain_moves.specs.Group as groups
+use Rattle.am_chain_moves.specs.Group.{Group, Views, put, opening, Leads, IsUp}
+use Rattle.am_chain_moves.specs.Moves.{Move, MayNumber, MayDecide, with_line, with_choice, choice_of, longer, numbers, stores, accepts, learns, begins, raises, shows, serves, fetches, decides, gives_over, welcomes, asks, departs, closes, stops}
+use Rattle.am_chain_moves.specs.Kept.{Kept}
+use Rattle.am_chain_moves.specs.Runs.{founded, more, start, first_stamp}
+use Rattle.am_chain_moves.proofs.Puts.{put_same, put_other, put_cases, put_at}
+use Rattle.am_chain.proofs.Runs.{run_keeps}
+use Rattle.am_stands.specs.States.{LineOpens, LinesOpen, RunsOpen}
+use Rattle.am_stands.proofs.Growing.{leads_line}
+
+-- ---- an entry more of a sequencer
+
+line_opens : (s : Group) (i : ℕ) (e : Entry) (b : groups.Node) → Kept s → Leads i (s.node i) → NotView e → b.list ≡ (s.node i).list ++ e ∷ [] → LinesOpen s
+    → LinesOpen (with_line s i b)
+line_opens s i e b k leads plain is h x list d some part =
+    let old = (s.node i).list in
+    let at = key (view_of old) in
+    let chain : s.views.line at ≡ old = leads_line s i k leads in
+    let up : (y : ℕ) → Begins (s.views.line y) (put s.views.line at b.list y) = λ y. put_at (λ z l. Begins (s.views.line z) l) s.views.line at b.list
+    (subst (λ l. Begins l b.list) (sym chain) (subst (Begins old) (sym is) (begins_more old (e ∷ [])))) (λ z other. begins_refl (s.views.line z)) y in
+    let before : Begins list (s.views.line x) → LineOpens (with_line s i b) list = λ low. (let o = h x list d some low in record { decided = o.decided; line_ = begins_trans o.line_ (up (key (view_of list))) }) in
+    ⊎_elim
+    (λ (z : (x ≡ at) × (put s.views.line at b.list x ≡ b.list)).
+    ⊎_elim
+    (λ (low : Begins list old). before (subst (λ y. Begins list (s.views.line y)) (sym z.0) (subst (Begins list) (sym chain) low)))
+    (λ (all : list ≡ old ++ e ∷ []).
+    (let same : view_of list ≡ view_of old = ap view_of all ∙ view_push old e plain in
+    let decided : s.views.decided at ≡ true = ap s.views.decided (sym z.0) ∙ d in
+    record {
+      decided = ap (λ (u : Stamp). s.views.decided (key u)) same ∙ decided;
+      line_ = subst (λ (u : Stamp). Begins list (put s.views.line at b.list (key u))) (sym same) (subst (Begins list) (sym (put_same s.views.line at b.list)) (subst (Begins list) (all ∙ sym is) (begins_refl list)));
+    }))
+    (begins_pushed e (subst (Begins list) is (subst (Begins list) z.1 part))))
+    (λ (z : (x ≢ at) × (put s.views.line at b.list x ≡ s.views.line x)). before (subst (Begins list) z.1 part))
+    (put_cases s.views.line at b.list x)
+
+-- the list of who is up is such a beginning
+pub list_opens : (s : Group) (i : ℕ) → Kept s → LinesOpen s → IsUp (s.node i) → (s.node i).list ≢ [] → LineOpens s (s.node i).list
+list_opens s i k h up some = h (key s.views.current) (s.node i).list k.views.now some ((k.each i).list up)
+
+-- ---- a decision
+
+choice_opens : (s : Group) (i : ℕ) (members : List ℕ) (resilience : ℕ) → Kept s → MayDecide s i members resilience → LinesOpen s
+    → LinesOpen (with_choice s i members resilience)
+choice_opens s i members resilience k may h x list d some part =
+    let a = s.node i in
+    let at = key a.promise in
+    let all = opening (choice_of a members resilience) in
+    let fresh : (y : ℕ) → s.views.decided y ≡ true → y ≢ at = λ y is same.
+    (let above = ((k.each i).ballot may.up may.ballot).above in let most = k.views.order y is in omega arith) in
+    let before : (y : ℕ) → s.views.decided y ≡ true → Begins list (s.views.line y) → LineOpens (with_choice s i members resilience) list = λ y is low.
+    (let o = h y list is some low in
+    let other = fresh (key (view_of list)) o.decided in
+    record {
+      decided = put_other s.views.decided at true (key (view_of list)) other ∙ o.decided;
+      line_ = subst (Begins list) (sym (put_other s.views.line at all (key (view_of list)) other)) o.line_;
+    }) in
+    ⊎_elim
+    (λ (z : (x ≡ at) × (put s.views.line at all x ≡ all)).
+    ⊎_elim
+    (λ (low : Begins list a.list). before (key s.views.current) k.views.now (begins_trans low ((k.each i).list may.up)))
+    (λ (whole : list ≡ all).
+    (let same : view_of list ≡ a.promise = ap view_of whole ∙ view_viewed a.list a.promise members resilience in
+    record {
+      decided = ap (λ (u : Stamp). put s.views.decided at true (key u)) same ∙ put_same s.views.decided at true;
+      line_ = subst (λ (u : Stamp). Begins list (put s.views.line at all (key u))) (sym same) (subst (Begins list) (sym (put_same s.views.line at all)) (subst (Begins list) whole (begins_refl list)));
+    }))
+    (begins_pushed (View a.promise members resilience) (subst (Begins list) z.1 part)))
+    (λ (z : (x ≢ at) × (put s.views.line at all x ≡ s.views.line x)). before x (sym (put_other s.views.decided at true x z.0) ∙ d) (subst (Begins list) z.1 part))
+    (put_cases s.views.line at all x)
+
+-- ---- each move
+
+same_lines : (s t : Group) → t.views.decided ≡ s.views.decided → t.views.line ≡ s.views.line → LinesOpen s → LinesOpen t
+same_lines s t decided lines h x list d some part =
+    let o = h x list (ap (λ f. f x) (sym decided) ∙ d) some (subst (λ f. Begins list (f x)) lines part) in
+    record { decided = ap (λ f. f (key (view_of list))) decided ∙ o.decided; line_ = subst (λ f. Begins list (f (key (view_of list)))) (sym lines) o.line_ }
+
+numbers_plain : (node : ℕ → groups.Node) (i : ℕ) (e : Entry) → MayNumber node i e → NotView e
+numbers_plain node i (Data from req body) may = tt
+numbers_plain node i (Join name) may = tt
+numbers_plain node i (Leave name) may = tt
+numbers_plain node i (View stamp members resilience) may = may
+
+pub moves_open : (s t : Group) → Move s t → Kept s → LinesOpen s → LinesOpen t
+moves_open s t (numbers i e leads fit may) k h = line_opens s i e (longer (s.node i) e) k leads (numbers_plain s.node i e may) refl h
+moves_open s t (stores i e up decided other stays next) k h = same_lines s t refl refl h
+moves_open s t (accepts i n leads may) k h = same_lines s t refl refl h
+moves_open s t (learns i told acc up rises within before up_to given low) k h = same_lines s t refl refl h
+moves_open s t (begins i few up stays member) k h = same_lines s t refl refl h
+moves_open s t (raises i stamp there above) k h = same_lines s t refl refl h
+moves_open s t (shows i there small other begun none) k h = same_lines s t refl refl h
+moves_open s t (serves i list up shown others) k h = same_lines s t refl refl h
+moves_open s t (fetches i f list e up ballot served shown next) k h = same_lines s t refl refl h
+moves_open s t (decides i members resilience may) k h = choice_opens s i members resilience k may h
+moves_open s t (gives_over i) k h = same_lines s t refl refl h
+moves_open s t (welcomes j stamp base join may) k h = same_lines s t refl refl h
+moves_open s t (asks i up none) k h = same_lines s t refl refl h
+moves_open s t (departs i before may) k h = same_lines s t refl refl h
+moves_open s t (closes i n leads leaving alone may) k h =
+    let b = record (longer (s.node i) (Leave i)) { departed = true } in
+    same_lines (with_line s i b) t refl refl (line_opens s i (Leave i) b k leads tt refl h)
+moves_open s t (stops i) k h = same_lines s t refl refl h
+
+-- ---- each run
+
+start_opens : (founders : List ℕ) (first resilience : ℕ) → LinesOpen (start founders first resilience)
+start_opens founders first resilience x list d some part = ⊎_elim
+    (λ (low : Begins list []). absurd (some (nothing list low)))
+    (λ (all : list ≡ [] ++ View (first_stamp first) founders resilience ∷ []).
+    (let same : view_of list ≡ first_stamp first = ap view_of all ∙ view_viewed [] (first_stamp first) founders resilience in
+    record {
+      decided = ap (λ (u : Stamp). key u == key (first_stamp first)) same ∙ itself (key (first_stamp first));
+      line_ = subst (Begins list) all (begins_refl list);
+    }))
+    (begins_pushed (View (first_stamp first) founders resilience) part)
+  where
+    itself : (n : ℕ) → (n == n) ≡ true
+    itself n = grind (arith, nat_tests)
+
+    nothing : (l : List Entry) → Begins l [] → l ≡ []
+    nothing [] low = refl
+    nothing (e ∷ es) low = absurd (let long = begins_length low in omega arith)
+
+pub runs_open : RunsOpen
+runs_open founders first resilience s (founded may) = start_opens founders first resilience
+runs_open founders first resilience t (more {s = s} run step law) =
+    let moved = moves_open s step.moved step.move (run_keeps founders first resilience s run).kept (runs_open founders first resilience s run) in
+    subst LinesOpen (sym step.is) (same_lines step.moved (record (step.moved) { views = record (step.moved.views) { complete = step.complete } }) refl refl moved)

@@ -1,0 +1,216 @@
+-- What a node needs to store a Piece, from what the Piece says.
+use Rattle.std.proofs.Common.{◌≡◌, ◌≢◌, ℕ, suc, ◌<◌, ◌==◌, not, List, [], ◌∷◌, ◌++◌, length, true, false, Some, slice_get, refl, sym, ap, ◌∙◌, subst, arith, max, length-append}
+use Rattle.std.specs.List.{list_any}
+use Rattle.std.proofs.lemmas.Bool.Decides.{nat_tests}
+use Rattle.std.proofs.lemmas.List.{append_assoc}
+use Rattle.am_base.specs.declared.entry.Entry.{Entry}
+use Rattle.am_base.specs.declared.entry.Entry.TheVariants.{Data, Join, Leave, View}
+use Rattle.am_base.specs.declared.name.Stamp.{Stamp}
+use Rattle.am_group.specs.Journals.{item_at}
+use Rattle.am_chain_lists.specs.Whole.{Begins, IsGood, NotView, view_of, key}
+use Rattle.am_chain_lists.proofs.Order.{key_by, view_up, view_viewed, view_below, view_push}
+use Rattle.am_chain_lists.proofs.Prefixes.{begins_more, begins_push, begins_length}
+use Rattle.am_chain_lists.proofs.Members.{good_begins}
+use Rattle.am_chain_moves.specs.Group.{Group, IsUp}
+use Rattle.am_chain_moves.specs.Kept.{Kept}
+use Rattle.am_model.specs.Node as nodes
+use Rattle.am_model.specs.Node.{Node, Ballot, view, is_member, set_at}
+use Rattle.am_model.specs.Calls.{is_unfinished}
+use Rattle.am_model.specs.Receiving.{is_view}
+use Rattle.am_model.specs.Lawful.{is_view_of}
+use Rattle.am_model.specs.Claims.{up_to_view, up_to_next}
+use Rattle.am_model.specs.World.{World, Decided, is_stopped}
+use Rattle.am_model.proofs.Greatest.{split}
+use Rattle.am_effects.specs.Looks.{HasOpen}
+use Rattle.am_effects.specs.Changes.{MayStore, Fetches, without_ballot, for_ballot}
+use Rattle.am_laws.proofs.Stamps.{same_stamp}
+use Rattle.am_stands.specs.Standing.{NameStands, StandsBut, within}
+use Rattle.am_stands.specs.Letters.{line, IsDecided, PieceSays, ShownEntry, of_line, of_shown, over}
+use Rattle.am_stands.specs.States.{LinesOpen}
+use Rattle.am_stands.specs.Steps.{IsOthers, NeedsPiece, of_line as of_its_line, of_shown as of_its_shown}
+use Rattle.am_stands.proofs.Changes.{own_name, long_all, is_up}
+use Rattle.am_stands.proofs.Entries.{key_stamp, line_here, view_whole}
+use Rattle.am_stands.proofs.Sent.{Speaks, promise_line}
+use Rattle.am_stands.proofs.Heard.{item_next, entry_needs}
+use Rattle.am_stands.proofs.Letters.{item_stays}
+use Rattle.am_stands.proofs.Votes.{undecided}
+
+-- ---- the line of a list's last view is all of the list
+
+plain : (e : Entry) → is_view e ≡ false → NotView e
+plain (Data from req body) h = tt
+plain (Join name) h = tt
+plain (Leave name) h = tt
+plain (View stamp names resilience) h = absurd (cc)
+
+rises : (a : List Entry) (e : Entry) → is_view e ≡ true → IsGood (a ++ e ∷ []) → key (view_of a) < key (view_of (a ++ e ∷ []))
+rises a (Data from req body) h g = absurd (cc)
+rises a (Join name) h g = absurd (cc)
+rises a (Leave name) h g = absurd (cc)
+rises a (View stamp names resilience) h g = subst (λ (u : Stamp). key (view_of a) < key u) (sym (view_viewed a stamp names resilience)) (view_below a stamp names resilience g)
+
+-- behind the last View there is none
+none_after : (a es : List Entry) → IsGood (a ++ es) → view_of (a ++ es) ≡ view_of a → list_any is_view es ≡ false
+none_after a [] g same = refl
+none_after a (e ∷ es) g same =
+    let again : (a ++ e ∷ []) ++ es ≡ a ++ e ∷ es = append_assoc a (e ∷ []) es in
+    let good = subst IsGood (sym again) g in
+    let first = begins_more (a ++ e ∷ []) es in
+    split (is_view e)
+    (λ t. absurd (
+    let above = rises a e t (good_begins first good) in
+    let low = view_up good first in
+    let last : key (view_of ((a ++ e ∷ []) ++ es)) ≡ key (view_of a) = ap (λ l. key (view_of l)) again ∙ ap key same in
+    omega arith))
+    (λ f. rw f (none_after (a ++ e ∷ []) es good (ap view_of again ∙ same ∙ sym (view_push a e (plain e f)))))
+
+no_next : (es : List Entry) → list_any is_view es ≡ false → up_to_view es ≡ es
+unfolding up_to_view
+no_next [] h = refl
+no_next (e ∷ es) h = split (is_view e)
+    (λ t. absurd (let z = rw t at h in cc))
+    (λ f. rw f (ap (λ l. e ∷ l) (no_next es (rw f at h))))
+
+viewed_now : (v : Stamp) (a : List Entry) (e : Entry) → is_view_of v e ≡ true → view_of (a ++ e ∷ []) ≡ v
+viewed_now v a (Data from req body) h = absurd (cc)
+viewed_now v a (Join name) h = absurd (cc)
+viewed_now v a (Leave name) h = absurd (cc)
+viewed_now v a (View stamp names resilience) h = view_viewed a stamp names resilience ∙ same_stamp stamp v h
+
+all_line : (v : Stamp) (a es : List Entry) → IsGood (a ++ es) → view_of (a ++ es) ≡ v → up_to_next v es ≡ es
+unfolding up_to_next
+all_line v a [] g viewed = refl
+all_line v a (e ∷ es) g viewed =
+    let again : (a ++ e ∷ []) ++ es ≡ a ++ e ∷ es = append_assoc a (e ∷ []) es in
+    let good = subst IsGood (sym again) g in
+    let last = ap view_of again ∙ viewed in
+    split (is_view_of v e)
+    (λ t. rw t (ap (λ l. e ∷ l) (no_next es (none_after (a ++ e ∷ []) es good (last ∙ sym (viewed_now v a e t))))))
+    (λ f. rw f (ap (λ l. e ∷ l) (all_line v (a ++ e ∷ []) es good last)))
+
+-- ---- what is known of who fetches
+
+pub record Fetcher (w : World) (name : ℕ) (x : Node) (s : Group) : Type 0 where
+  pub kept : Kept s
+  pub opens : LinesOpen s
+  pub few : name < 256
+  pub who : x.core.who ≡ name
+  pub promise : x.core.promise.by < 256
+  pub runs : is_stopped w name ≡ false
+  pub noted : (k : ℕ) (d : Decided) → slice_get w.views k ≡ Some d → d.stamp.by < 256
+  pub stands : StandsBut name (within w name x) s
+  pub member : is_member x.status ≡ true
+
+own : (w : World) (name : ℕ) (x : Node) (s : Group) → Fetcher w name x s → NameStands (within w name x) name x (s.node name)
+own w name x s h = own_name w name x s h.few h.stands
+
+up_name : (w : World) (name : ℕ) (x : Node) (s : Group) → Fetcher w name x s → IsUp (s.node name)
+up_name w name x s h = is_up w name x (s.node name) h.runs h.member (own w name x s h)
+
+-- ---- a list whose view is of its own name is that view's line
+
+pub own_line : (w : World) (name : ℕ) (x : Node) (s : Group) → Fetcher w name x s → (view x).by ≡ name → IsDecided s (view x)
+    → line s (view x) ≡ (s.node name).list
+own_line w name x s h by decided =
+    let a = s.node name in
+    let old = own w name x s h in
+    let noted = h.stands.views.decided (key (view x)) decided in
+    let d = noted.view in
+    let is = h.stands.views.noted noted.index d noted.there in
+    let few = h.few in
+    let low : (view x).by < 256 = omega arith in
+    let same : d.stamp ≡ view x = key_stamp d.stamp (view x) (h.noted noted.index d noted.there) low noted.is in
+    let mine : d.stamp.by ≡ name = ap (λ (u : Stamp). u.by) same ∙ by in
+    let good = good_begins ((h.kept.each name).list (up_name w name x s h)) h.kept.views.good in
+    let viewed : view_of a.list ≡ d.stamp = view_whole w name x a old ∙ sym same in
+    ap (λ (u : Stamp). s.views.line (key u)) (sym same) ∙ is.line ∙ line_here w name x d.stamp mine ∙ ap (up_to_next d.stamp) (sym old.list) ∙ all_line d.stamp [] a.list good viewed
+
+not_nothing : (list : List Entry) (f : Entry) → list ++ f ∷ [] ≢ []
+not_nothing [] f same = cc
+not_nothing (x ∷ list) f same = cc
+
+-- so what comes next in the line of a decided view isn't an entry of its own view
+others_entry : (w : World) (name : ℕ) (x : Node) (e : Entry) (s : Group) (y : ℕ) → Fetcher w name x s → s.views.decided y ≡ true
+    → Begins (s.node name).list (s.views.line y) → slice_get (s.views.line y) (length (s.node name).list) ≡ Some e → IsOthers name x e
+others_entry w name x e s y h decided begins next by = split (is_view e)
+    (λ t. t)
+    (λ f. absurd (
+    let a = s.node name in
+    let o = h.opens y (a.list ++ e ∷ []) decided (not_nothing a.list e) (begins_push e begins next) in
+    let viewed : view_of (a.list ++ e ∷ []) ≡ view x = view_push a.list e (plain e f) ∙ view_whole w name x a (own w name x s h) in
+    let mine = own_line w name x s h by (ap (λ (u : Stamp). s.views.decided (key u)) (sym viewed) ∙ o.decided) in
+    let long = begins_length (subst (Begins (a.list ++ e ∷ [])) mine (subst (λ (u : Stamp). Begins (a.list ++ e ∷ []) (line s u)) viewed o.line_)) in
+    let z = length-append a.list (e ∷ []) in
+    omega arith))
+
+-- ---- a Piece
+
+-- of the line of the promise
+line_needs : (w : World) (name base number : ℕ) (x : Node) (v : Stamp) (e : Entry) (s : Group) → Fetcher w name x s → x.core.promise ≡ v → v.by ≢ name
+    → MayStore x (max x.core.base base) base number e
+    → IsDecided s v → item_at (line s v) number ≡ Some e → NeedsPiece s name x e
+line_needs w name base number x v e s h promise other may decided stands =
+    let a = s.node name in
+    let old = own w name x s h in
+    let up = up_name w name x s h in
+    let speaks : Speaks (within w name x) name x s = record { kept = h.kept; stands = old; up = up; who = h.who } in
+    let begins : Begins a.list (line s v) = subst (λ (u : Stamp). Begins a.list (line s u)) promise (promise_line (within w name x) name x s speaks (ap (λ (u : Stamp). s.views.decided (key u)) promise ∙ decided)) in
+    let next : slice_get (line s v) (length a.list) ≡ Some e = ap (slice_get (line s v)) (long_all (within w name x) name x a old) ∙ item_next (line s v) (nodes.top x) e number may.next stands in
+    of_its_line (entry_needs w name number x v e s h.kept h.who old up promise other (others_entry w name x e s (key v) h decided begins next) decided stands may.next may.stays)
+
+-- of a list that was shown
+shown_needs : (w : World) (name from base number : ℕ) (x : Node) (v : Stamp) (e : Entry) (s : Group) → Fetcher w name x s → x.core.promise ≡ v
+    → is_unfinished x.ballot ≡ true → MayStore x (max x.core.base base) base number e
+    → ShownEntry s from v number e → NeedsPiece s name x e
+shown_needs w name from base number x v e s h promise unfinished may is =
+    let a = s.node name in
+    let old = own w name x s h in
+    let up = up_name w name x s h in
+    let stamp : v ≡ a.promise = sym promise ∙ sym old.promise in
+    let served : s.served (key a.promise) from ≡ true = ap (λ (u : Stamp). s.served (key u) from) (sym stamp) ∙ is.served in
+    let shown : s.shown (key a.promise) from ≡ Some is.list = ap (λ (u : Stamp). s.shown (key u) from) (sym stamp) ∙ is.shown in
+    let chain = (h.kept.served name from is.list up (old.ballot ∙ unfinished) served shown).chain in
+    let next : slice_get is.list (length a.list) ≡ Some e = ap (slice_get is.list) (long_all (within w name x) name x a old) ∙ item_next is.list (nodes.top x) e number may.next is.stands in
+    of_its_shown unfinished (record {
+      others = others_entry w name x e s (key s.views.current) h h.kept.views.now ((h.kept.each name).list up) (item_stays is.list (s.views.line (key s.views.current)) (suc (length a.list)) e chain next);
+      from = from;
+      list = is.list;
+      served = served;
+      shown = shown;
+      next = next;
+    })
+
+same_name : (a b : ℕ) → (a == b) ≡ true → a ≡ b
+same_name a b t = grind (arith, nat_tests)
+
+not_same : (a b : ℕ) → (a == b) ≡ false → a ≢ b
+not_same a b f same = grind (arith, nat_tests)
+
+opened : (x : Node) (b : Ballot) → HasOpen x b → is_unfinished x.ballot ≡ true
+opened x b h = ap is_unfinished h.last ∙ ap not h.open_
+
+pub piece_needs : (w : World) (name from base number : ℕ) (x : Node) (v : Stamp) (e : Entry) (s : Group) → Fetcher w name x s
+    → (from == x.core.who) ≡ false → x.core.promise ≡ v → Fetches x from v e → MayStore x (max x.core.base base) base number e
+    → PieceSays s from v number e → NeedsPiece s name x e
+piece_needs w name from base number x v e s h other promise (without_ballot none by past) may (of_line sent decided stands) =
+    let who = h.who in
+    line_needs w name base number x v e s h promise (λ same. not_same from x.core.who other (sym (same_name v.by from by) ∙ same ∙ sym who)) may decided stands
+piece_needs w name from base number x v e s h other promise (without_ballot none by past) may (of_shown is) = absurd (
+    let ok = h.kept.shown (key v) from is.list is.shown in
+    let small : v.by < 256 = subst (λ (u : Stamp). u.by < 256) promise h.promise in
+    let same = key_by ok.stamp v ok.small small ok.is in
+    ok.other (same ∙ same_name v.by from by))
+piece_needs w name from base number x v e s h other promise (without_ballot none by past) may (over not_by decided) = absurd (not_by (same_name v.by from by))
+piece_needs w name from base number x v e s h other promise (for_ballot b open_ fetching past) may (of_line sent decided stands) = absurd (
+    let up = up_name w name x s h in
+    let old = own w name x s h in
+    let by = ((h.kept.each name).ballot up (old.ballot ∙ opened x b open_)).by in
+    let same : v.by ≡ name = ap (λ (u : Stamp). u.by) (sym promise ∙ sym old.promise) ∙ by in
+    not_same from x.core.who other (sym sent ∙ same ∙ sym h.who))
+piece_needs w name from base number x v e s h other promise (for_ballot b open_ fetching past) may (of_shown is) = shown_needs w name from base number x v e s h promise (opened x b open_) may is
+piece_needs w name from base number x v e s h other promise (for_ballot b open_ fetching past) may (over not_by decided) = absurd (
+    let up = up_name w name x s h in
+    let old = own w name x s h in
+    let fresh = undecided s name h.kept up (old.ballot ∙ opened x b open_) in
+    let is : s.views.decided (key (s.node name).promise) ≡ true = ap (λ (u : Stamp). s.views.decided (key u)) (old.promise ∙ promise) ∙ decided in
+    cc)
