@@ -4,6 +4,7 @@ Usage: statuses.py PROGRAM
 """
 
 import os
+import resource
 import subprocess
 import sys
 import tempfile
@@ -105,20 +106,22 @@ def where_something_fails(program, failed):
             return source
 
         tell(failed, "a directory", line(["play"], folder, nothing), (4, b"read fault\n"))
+        tell(failed, "a directory that gen doesn't read", line(gen("1", "50"), folder, nothing), (0, b""))
         tell(failed, "a full device", line(["play"], again(small), full), (5, b"write fault\n"))
+        tell(failed, "a full device for gen", line(gen("1", "50"), again(small), full), (5, b"write fault\n"))
         tell(failed, "usage to a full device", run(program, ["x"], stdin=again(small), stdout=nothing, stderr=full), 1)
         closed = run(program, ["x"], stdin=again(small), stdout=nothing, preexec_fn=lambda: os.close(2))
         tell(failed, "usage with standard error closed", closed, 1)
         closed = run(program, ["play"], stdin=again(small), stdout=nothing, preexec_fn=lambda: os.close(2))
         tell(failed, "a script with standard error closed", closed, 0)
-        tell(failed, "little memory", with_memory(line, again(large), 24), (6, b"no memory\n"))
+        tell(failed, "little memory", with_memory(line, ["play"], again(large)), (6, b"no memory\n"))
+        tell(failed, "little memory for gen", with_memory(line, gen("1", "100000"), again(small)), (6, b"no memory\n"))
 
 
-def with_memory(line, source, megabytes):
-    import resource
-
-    most = megabytes << 20
-    return line(["play"], source, subprocess.DEVNULL, preexec_fn=lambda: resource.setrlimit(resource.RLIMIT_AS, (most, most)))
+def with_memory(line, words, source):
+    """What the program tells where it has 24 megabytes."""
+    most = 24 << 20
+    return line(words, source, subprocess.DEVNULL, preexec_fn=lambda: resource.setrlimit(resource.RLIMIT_AS, (most, most)))
 
 
 def main(program):
