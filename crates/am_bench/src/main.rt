@@ -4,6 +4,7 @@
 ghost use Rattle.am_codec.specs.Limits.{IsWithin};
 
 use am_base::body::PacketBytes;
+use am_base::boxed::Boxed;
 use am_base::founding::Founding;
 use am_base::items::Items;
 use am_base::name::{Name, Stamp};
@@ -90,7 +91,7 @@ fn journal_of(alloc: Global, founding: &Founding, records: u32) -> Result<Journa
                 call: 0,
                 part: Part::Call,
             },
-            outcome: Outcome::Ticked,
+            outcome: Boxed::of(alloc, Outcome::Ticked)?,
             packets,
         };
         if journal.records().len() < 100000 && item.packets.as_slice().len() <= 24 {

@@ -23,7 +23,7 @@ pub fn given_to(item: &Record, node: Name) -> Option<(u32, &Entry)>
     if !is_of(item, node) {
         return None;
     }
-    match &item.outcome {
+    match item.outcome.get() {
         Outcome::Took { number, entry } => Some((*number, entry)),
         _ => None,
     }

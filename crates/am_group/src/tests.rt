@@ -4,6 +4,7 @@ use crate::event::{Act, By, Event, Part, Record};
 use crate::group::Group;
 use crate::journal::Journal;
 use am_base::body::Body;
+use am_base::boxed::Boxed;
 use am_base::entry::Entry;
 use am_base::founding::Founding;
 use am_base::items::Items;
@@ -47,7 +48,7 @@ fn record_of(alloc: Global, node: u8, outcome: Outcome, to: &[u16]) -> Result<Re
             call: 0,
             part: Part::Call,
         },
-        outcome,
+        outcome: Boxed::of(alloc, outcome)?,
         packets,
     })
 }

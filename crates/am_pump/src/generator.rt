@@ -95,6 +95,7 @@ fn founding() -> Founding
 /// A run that goes on by the words of a seed.
 #[derive(Drop)]
 pub struct Generator {
+    alloc: Global,
     world: World,
     words: Lcg64Xsh32,
     chooser: Chooser,
@@ -126,6 +127,7 @@ impl Generator {
         ensures { IfOk result (λ g. g ≡ begun seed) }
     {
         Ok(Generator {
+            alloc,
             world: World::new(alloc, &founding())?,
             words: Lcg64Xsh32::new(seed, 1000),
             chooser: Chooser::new(seed, 1001, 10, 5),
@@ -162,28 +164,28 @@ impl Generator {
 
     /// A place sends a body of a drawn size.
     #[tactic(auto, unfolding(crate::specs::Generating::act_at, crate::specs::Generating::turned))]
-    fn send(&mut self, place: u8) -> Act
-        ensures act { result ≡ act_at self.old place Turn.Send }
+    fn send(&mut self, place: u8) -> Result<Act, NoMemory>
+        ensures act { IfOk result (λ a. a ≡ act_at self.old place Turn.Send) }
         ensures turned { self.new ≡ turned self.old place Turn.Send }
     {
         let number = self.world.journal().records().len() + 1;
         let size = draw(&mut self.words, 513) as usize;
-        Act::Send(counting(number, size))
+        Act::send(self.alloc, counting(number, size))
     }
 
     /// What a place does at its turn, where all is drawn that is to be drawn for it.
     #[tactic(auto, unfolding(crate::specs::Generating::act_at, crate::specs::Generating::turned))]
-    fn act(&mut self, place: u8, turn: Turn) -> Act
+    fn act(&mut self, place: u8, turn: Turn) -> Result<Act, NoMemory>
         requires { place < 4 }
-        ensures act { result ≡ act_at self.old place turn }
+        ensures act { IfOk result (λ a. a ≡ act_at self.old place turn) }
         ensures turned { self.new ≡ turned self.old place turn }
     {
         match turn {
             Turn::Send => self.send(place),
-            Turn::Done => Act::Done(self.sent_by(place) + 1),
-            Turn::Take => Act::Take,
-            Turn::Tick => Act::Tick,
-            Turn::Choose => self.choose(place),
+            Turn::Done => Ok(Act::Done(self.sent_by(place) + 1)),
+            Turn::Take => Ok(Act::Take),
+            Turn::Tick => Ok(Act::Tick),
+            Turn::Choose => Ok(self.choose(place)),
         }
     }
 
@@ -209,7 +211,7 @@ impl Generator {
     {
         let place = draw(&mut self.words, 4) as u8;
         let turn = turn_of(draw(&mut self.words, 16));
-        let act = self.act(place, turn);
+        let act = self.act(place, turn)?;
         self.happen(place, act)
     }
 

@@ -1,6 +1,7 @@
 ghost use Rattle.std.specs.Prelude.{◌≡◌, ◌≤◌, ◌%◌, length};
 ghost use Rattle.std.specs.List.{list_all};
 ghost use Rattle.serde_json.specs.View.{view};
+ghost use Rattle.am_script.specs.Refusals.{Answers};
 ghost use Rattle.am_script.specs.Values.{is_digit, are_pairs, body_from, number_in};
 ghost use Rattle.am_script.specs.Events.{kind_in, send_in, reset_in, give_up_in, cut_in, act_in, event_as, event_from};
 
@@ -12,6 +13,7 @@ use am_base::body::Body;
 use am_base::name::Name;
 use am_group::event::{Act, Event};
 use serde_json::Value;
+use std::alloc::Global;
 
 /// The greatest number of a request, a round or a packet.
 const MOST_COUNT: u64 = 2_000_000_000;
@@ -90,11 +92,11 @@ fn count(event: &Value, key: Key, place: u64) -> Result<u32, ScriptRefusal>
 
 /// A send.
 #[tactic(auto, unfolding(crate::specs::Events::send_in))]
-fn send(event: &Value, place: u64) -> Result<Act, ScriptRefusal>
-    ensures { result ≡ send_in place (view event.now) }
+fn send(alloc: Global, event: &Value, place: u64) -> Result<Act, ScriptRefusal>
+    ensures { Answers (send_in place (view event.now)) result }
 {
     let text = text_in(event, Key::Body, place)?;
-    Ok(Act::Send(body(text, place)?))
+    Ok(Act::send(alloc, body(text, place)?)?)
 }
 
 /// A reset, which keeps the founding's resilience where none is said.
@@ -136,12 +138,18 @@ fn cut(event: &Value, place: u64) -> Result<Act, ScriptRefusal>
 
 /// The act of an event of a kind.
 #[tactic(auto, unfolding(crate::specs::Events::act_in))]
-fn act(kind: Kind, event: &Value, place: u64, founding: u8) -> Result<Act, ScriptRefusal>
+fn act(
+    alloc: Global,
+    kind: Kind,
+    event: &Value,
+    place: u64,
+    founding: u8,
+) -> Result<Act, ScriptRefusal>
     requires { founding ≤ 15 }
-    ensures { result ≡ act_in kind founding place (view event.now) }
+    ensures { Answers (act_in kind founding place (view event.now)) result }
 {
     match kind {
-        Kind::Send => send(event, place),
+        Kind::Send => send(alloc, event, place),
         Kind::Done => Ok(Act::Done(count(event, Key::Req, place)?)),
         Kind::Take => Ok(Act::Take),
         Kind::Join => Ok(Act::Join),
@@ -161,31 +169,32 @@ fn act(kind: Kind, event: &Value, place: u64, founding: u8) -> Result<Act, Scrip
 /// An event of a kind.
 #[tactic(auto, unfolding(crate::specs::Events::event_as))]
 fn event_of_kind(
+    alloc: Global,
     kind: Kind,
     event: &Value,
     place: u64,
     founding: u8,
 ) -> Result<Event, ScriptRefusal>
     requires { founding ≤ 15 }
-    ensures { result ≡ event_as kind founding place (view event.now) }
+    ensures { Answers (event_as kind founding place (view event.now)) result }
 {
     if !only(kind.keys(), event) {
         return Err(ScriptRefusal::Unknown { place });
     }
     let node = number_in(event, Key::Node, place, 0, 15)?;
-    let act = act(kind, event, place, founding)?;
+    let act = act(alloc, kind, event, place, founding)?;
     Ok(Event {
         node: Name::of_byte(node as u8),
         act,
     })
 }
 
-/// The event that a value tells, or the first cause that it tells none. `place` is its number, `founding` the founding's
-/// resilience.
+/// The event that a value tells. A refusal but NoMemory is the first cause that it tells none. `place` is its number,
+/// `founding` the founding's resilience.
 #[tactic(auto, unfolding(crate::specs::Events::event_from))]
-pub fn event(value: &Value, place: u64, founding: u8) -> Result<Event, ScriptRefusal>
+pub fn event(alloc: Global, value: &Value, place: u64, founding: u8) -> Result<Event, ScriptRefusal>
     requires { founding ≤ 15 }
-    ensures { result ≡ event_from founding place (view value.now) }
+    ensures { Answers (event_from founding place (view value.now)) result }
 {
     if !value.is_object() {
         return Err(ScriptRefusal::BadValue {
@@ -194,5 +203,5 @@ pub fn event(value: &Value, place: u64, founding: u8) -> Result<Event, ScriptRef
         });
     }
     let kind = kind(value, place)?;
-    event_of_kind(kind, value, place, founding)
+    event_of_kind(alloc, kind, value, place, founding)
 }

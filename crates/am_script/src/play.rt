@@ -35,7 +35,7 @@ fn each_event(alloc: Global, list: &[Value], founding: u8) -> Result<Items<Event
 {
     let mut events = Items::new(alloc);
     for (before, value) in list.iter().enumerate() {
-        events.push(event(value, before as u64 + 1, founding)?)?;
+        events.push(event(alloc, value, before as u64 + 1, founding)?)?;
     }
     Ok(events)
 }

@@ -44,7 +44,7 @@ fn is_stop(outcome: &Outcome) -> bool
 fn with_stop(stopped: Names, item: &Record) -> Names
     ensures { result ≡ with_stop stopped item.now }
 {
-    if !is_stop(&item.outcome) {
+    if !is_stop(item.outcome.get()) {
         return stopped;
     }
     match Name::of(item.event.node.place(), item.life) {

@@ -116,7 +116,7 @@ pub fn asked(
 {
     let is_stopped = is_stopped(stopped, name);
     match act {
-        Act::Send(body) => if_running(is_stopped, NodeEvent::Send(body.copied())),
+        Act::Send(body) => if_running(is_stopped, NodeEvent::Send(body.get().copied())),
         Act::Done(req) => if_running(is_stopped, NodeEvent::Done(*req)),
         Act::Take => if_running(is_stopped, NodeEvent::Take),
         Act::Join => if_running(is_stopped, NodeEvent::Join),

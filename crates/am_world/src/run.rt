@@ -9,6 +9,7 @@ ghost use Rattle.am_world.specs.Runs.{AreNodes, AreFirst, the_record};
 use crate::asked::{asked, is_stopped};
 use crate::nodes::{copy_letters, make_room, step_at};
 use am_base::NoMemory;
+use am_base::boxed::Boxed;
 use am_base::entry::Entry;
 use am_base::event::NodeEvent;
 use am_base::founding::Founding;
@@ -17,7 +18,6 @@ use am_base::name::Name;
 use am_base::outcome::Outcome;
 use am_group::event::{By, Event, Part, Record};
 use am_group::journal::Journal;
-use am_letter::letter::Letter;
 use am_letter::out_box::OutBox;
 use am_model::status::Status;
 use am_node::founding::founders_view;
@@ -48,20 +48,21 @@ fn sixteen(alloc: Global, founding: &Founding) -> Result<Vec<Node>, NoMemory>
     Ok(nodes)
 }
 
-fn new_record(event: &Event, life: u8, outcome: &Outcome, packets: Vec<Letter>) -> Record
-    ensures { result ≡ the_record event.now life outcome.now packets.items }
+/// The record of an event of which this outcome came, and no letter.
+fn new_record(alloc: Global, event: &Event, life: u8, outcome: &Outcome) -> Result<Record, NoMemory>
+    ensures { IfOk result (λ r. r ≡ the_record event.now life outcome.now []) }
 {
-    Record {
-        event: event.copied(),
+    Ok(Record {
+        event: event.copied()?,
         life,
         by: By {
             caller: 0,
             call: 0,
             part: Part::Call,
         },
-        outcome: outcome.copied(),
-        packets: Items::of(packets),
-    }
+        outcome: Boxed::of(alloc, outcome.copied())?,
+        packets: Items::new(alloc),
+    })
 }
 
 fn has_departed(status: Status) -> bool
@@ -186,7 +187,8 @@ impl Run {
         ensures err { OnErr result (self.new ≡ self.old) }
     {
         self.journal.reserve()?;
-        self.journal.push(new_record(event, name.life(), &outcome, Vec::new(self.alloc)));
+        let record = new_record(self.alloc, event, name.life(), &outcome)?;
+        self.journal.push(record);
         Ok(outcome)
     }
 
@@ -200,8 +202,9 @@ impl Run {
         ensures err { OnErr result (self.new ≡ self.old) }
     {
         self.journal.reserve()?;
+        let record = new_record(self.alloc, event, name.life(), &Outcome::Stopped)?;
         self.stopped[usize::from(name.get())] = true;
-        self.journal.push(new_record(event, name.life(), &Outcome::Stopped, Vec::new(self.alloc)));
+        self.journal.push(record);
         Ok(Outcome::Stopped)
     }
 
@@ -217,6 +220,8 @@ impl Run {
         ensures err { OnErr result (self.new ≡ self.old) }
     {
         self.journal.reserve()?;
+        let outcome = Outcome::Returned { life };
+        let record = new_record(self.alloc, event, name.life(), &outcome)?;
         let place = name.place();
         let fresh = Node::stranger(
             self.alloc,
@@ -226,8 +231,7 @@ impl Run {
         self.nodes[usize::from(place)] = fresh;
         self.lives[usize::from(place)] = life;
         self.stopped[usize::from(name.get())] = true;
-        let outcome = Outcome::Returned { life };
-        self.journal.push(new_record(event, name.life(), &outcome, Vec::new(self.alloc)));
+        self.journal.push(record);
         Ok(outcome)
     }
 
@@ -263,14 +267,16 @@ impl Run {
         ensures err { OnErr result (self.new ≡ self.old) }
     {
         self.journal.reserve()?;
+        let mut record = new_record(self.alloc, event, name.life(), &Outcome::Idle)?;
         let mut packets = Vec::with_capacity(self.alloc, 9)?;
         make_room(&mut self.group, self.journal.records().len() + 2)?;
         self.out.clear();
         let outcome = step_at(&mut self.nodes, name, what, &mut self.group, &mut self.out);
         copy_letters(self.out.letters(), &mut packets);
         packets.shrink_to_fit();
-        self.journal
-            .push(new_record(event, name.life(), &outcome, packets));
+        record.outcome.set(outcome.copied());
+        record.packets = Items::of(packets);
+        self.journal.push(record);
         Ok(outcome)
     }
 

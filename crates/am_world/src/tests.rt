@@ -105,8 +105,13 @@ fn an_event_without_memory_is_done_again(rt: HostRuntime) -> Result<(), Fail> {
         Ok(world) => world,
         Err(_) => World::new(rt.alloc(), &founding)?,
     };
+    let body = Body::of(&[7; 9]).ok_or("a body")?;
+    let send = match Act::send(rt.alloc(), body.copied()) {
+        Ok(send) => send,
+        Err(_) => Act::send(rt.alloc(), body)?,
+    };
     for (place, act) in [
-        (1, Act::Send(Body::of(&[7; 9]).ok_or("a body")?)),
+        (1, send),
         (0, Act::Hear(1)),
         (1, Act::Hear(2)),
         (1, Act::Take),
