@@ -1,3 +1,4 @@
+pub mod Most
 pub mod Names
 pub mod Stamps
 pub mod Founding
