@@ -6,3 +6,4 @@ pub mod Lists
 pub mod Fronts
 pub mod Votes
 pub mod Limits
+pub mod Outcomes

@@ -2,7 +2,7 @@
 use Rattle.std.specs.Prelude.{◌≡◌, ℕ, ◌+◌, ◌<◌, ◌≤◌, List, [], ◌∷◌, ◌++◌, length, map, Some, Bool, false, slice_get, slice_index, slice_index_or}
 use Rattle.am_base.specs.Most.{most_events}
 use Rattle.am_base.specs.declared.entry.Entry.{Entry}
-use Rattle.am_base.specs.declared.outcome.Outcome.{Outcome}
+use Rattle.am_base.specs.Outcomes.{Outcome}
 use Rattle.am_base.specs.Founding.{Rules, MayFound}
 use Rattle.am_packet.specs.Boxes.{Letter}
 use Rattle.am_core.specs.Cores.{IsInOrder}

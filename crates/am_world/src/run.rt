@@ -61,7 +61,7 @@ fn new_record(alloc: Global, event: &Event, life: u8, outcome: &Outcome) -> Resu
             call: 0,
             part: Part::Call,
         },
-        outcome: Boxed::of(alloc, outcome.copied())?,
+        outcome: outcome.kept_in(Boxed::of(alloc, Entry::default())?),
         packets: Items::new(alloc),
     })
 }
@@ -269,13 +269,14 @@ impl Run {
     {
         self.journal.reserve()?;
         let mut record = new_record(self.alloc, event, name.life(), &Outcome::Idle)?;
+        let spare = Boxed::of(self.alloc, Entry::default())?;
         let mut packets = Vec::with_capacity(self.alloc, 9)?;
         make_room(&mut self.group, self.journal.records().len() + 2)?;
         self.out.clear();
         let outcome = step_at(&mut self.nodes, name, what, &mut self.group, &mut self.out);
         copy_letters(self.out.letters(), &mut packets);
         packets.shrink_to_fit();
-        record.outcome.set(outcome.copied());
+        record.outcome = outcome.kept_in(spare);
         record.packets = Items::of(packets);
         self.journal.push(record);
         Ok(outcome)
