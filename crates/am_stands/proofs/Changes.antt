@@ -49,7 +49,7 @@ pub record Unmoved (x y : Node) : Type 0 where
   pub start : y.core.start ≡ x.core.start
 
 -- the same to what stands for it
-same_name : (w : World) (name i : ℕ) (x y : Node) (a : groups.Node) → Unmoved x y → NameStands (within w name x) i x a → NameStands (within w name y) i y a
+pub same_name : (w : World) (name i : ℕ) (x y : Node) (a : groups.Node) → Unmoved x y → NameStands (within w name x) i x a → NameStands (within w name y) i y a
 same_name w name i x y a u h = record {
   begins = record {
     within = subst (λ (l : Log). l.start ≤ length w.group) (sym u.log) h.begins.within;

@@ -11,8 +11,8 @@ use Rattle.am_base.specs.Names.{has}
 use Rattle.am_packet.specs.declared.packet.Packet.TheVariants.{Request, Spread, Bcast, Order, Accept, Ack, Nack, Hold, JoinAsk, Welcome, LeaveAsk, Gone, Invite, Vote as VoteOf, Fetch, Piece, Result, HandOver}
 use Rattle.am_group.specs.Journals.{item_at}
 use Rattle.am_group.specs.declared.event.Record.{Record}
-use Rattle.am_chain_lists.specs.Whole.{Begins, told, key}
-use Rattle.am_chain_lists.proofs.Prefixes.{begins_trans, begins_take, begins_length}
+use Rattle.am_chain_lists.specs.Whole.{Begins, told, mem, key}
+use Rattle.am_chain_lists.proofs.Prefixes.{begins_trans, begins_take, begins_both, begins_length}
 use Rattle.am_chain_moves.specs.Group.{Group, Chosen, IsThere}
 use Rattle.am_model.specs.World.{World}
 use Rattle.am_effects.proofs.Items.{get_front}
@@ -99,18 +99,24 @@ module _ (w v : World) (s t : Group) (g : Grows s t) (more : (rest : List Record
             (g.new (key u) d));
       }
 
-  welcome_stays : (i : ℕ) (u : Stamp) (base join : ℕ) (image : Image) (name : ℕ) → WelcomeSays s i u base join image name → WelcomeSays t i u base join image name
+  welcome_stays : (i : ℕ) (u : Stamp) (base join : ℕ) (image : Image) (name : ℕ) → WelcomeSays s i u base join image name
+      → WelcomeSays t i u base join image name
   welcome_stays i u base join image name h =
       let above = h.above in
-      let low : join ≤ length s.group = item_within s.group join (Join name) h.accepted in
+      let low = h.accepted in
+      let more = begins_length g.group in
+      let same = taken_more join s.group t.group g.group low in
       record {
         by = h.by;
         decided = decided_stays (key u) h.decided;
         above = h.above;
-        accepted = item_stays s.group t.group join (Join name) g.group h.accepted;
+        accepted = omega arith;
+        joined = subst (λ l. mem l name ≡ true) (sym same) h.joined;
+        first = λ a begins short. h.first a (begins_both begins g.group (omega arith)) short;
         image_ = h.image_ ∙ ap told (sym (taken_more base s.group t.group g.group (omega arith)));
-        later = λ x d up. subst (λ l. Begins l (t.views.chosen x).before) (sym (taken_more join s.group t.group g.group low)) (⊎_elim
-            (λ (old : s.views.decided x ≡ true). subst (λ (c : Chosen). Begins (take join s.group) c.before) (sym (g.decided x old).1) (h.later x old up))
+        later = λ x d up. subst (λ l. Begins l (t.views.chosen x).before) (sym same) (⊎_elim
+            (λ (old : s.views.decided x ≡ true).
+            subst (λ (c : Chosen). Begins (take join s.group) c.before) (sym (g.decided x old).1) (h.later x old up))
             (λ (new : NewView s t x). part_begins s.group (t.views.chosen x).before join new.accepted)
             (g.new x d));
       }
@@ -163,13 +169,14 @@ letters_stay w v s t to (JoinAsk i u) more g h = tt
 letters_stay w v s t to (Welcome i u base join image) more g h = λ name in_. welcome_stays w v s t g more i u base join image name (h name in_)
 letters_stay w v s t to (LeaveAsk i u report) more g h = leaver_stays w v s t g more i u report h
 letters_stay w v s t to (Gone i u number) more g h = λ name in_. gone_stays w v s t g more number name (h name in_)
-letters_stay w v s t to (Invite i u) more g h = h
+letters_stay w v s t to (Invite i u) more g h = tt
 letters_stay w v s t to (VoteOf i u shown) more g h = vote_stays w v s t g more i u shown h
 letters_stay w v s t to (Fetch i u stored) more g h = fetch_stays w v s t g more i u to h
 letters_stay w v s t to (Piece i u base number e) more g h = piece_stays w v s t g more i u number e h
-letters_stay w v s t to (Result i u base number names resilience) more g h = record {
-  by = h.by;
-  decided = decided_stays w v s t g more (key u) h.decided;
-  stands = item_stays (line s u) (line t u) number (View u names resilience) (g.lines (key u) h.decided) h.stands;
-}
+letters_stay w v s t to (Result i u base number names resilience) more g h = λ own. (let k = h own in
+    record {
+      by = k.by;
+      decided = decided_stays w v s t g more (key u) k.decided;
+      stands = item_stays (line s u) (line t u) number (View u names resilience) (g.lines (key u) k.decided) k.stands;
+    })
 letters_stay w v s t to (HandOver i u) more g h = tt

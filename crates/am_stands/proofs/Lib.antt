@@ -20,3 +20,10 @@ pub mod Learned
 pub mod Closing
 pub mod Opens
 pub mod Pieces
+pub mod Counting
+pub mod Parts
+pub mod Accepting
+pub mod Learning
+pub mod Joins
+pub mod Concerned
+pub mod Results

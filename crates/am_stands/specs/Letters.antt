@@ -74,12 +74,14 @@ pub record LeaverSays (s : Group) (sender : ℕ) (v : Stamp) (report : Report) :
   pub within : report.stored ≤ length (s.node sender).list
   pub begins : IsDecided s v → has (s.views.chosen (key v)).members sender ≡ true → Begins (take report.stored (s.node sender).list) (line s v)
 
--- to a joiner, whose Join is accepted, before each later view
+-- to a joiner: it became a member at this number of what is accepted, above the base, and before each later view
 pub record WelcomeSays (s : Group) (sender : ℕ) (v : Stamp) (base join : ℕ) (image : Image) (name : ℕ) : Type 0 where
   pub by : v.by ≡ sender
   pub decided : IsDecided s v
   pub above : base < join
-  pub accepted : item_at s.group join ≡ Some (Join name)
+  pub accepted : join ≤ length s.group
+  pub joined : mem (take join s.group) name ≡ true
+  pub first : (a : List Entry) → Begins a s.group → length a < join → mem a name ≡ true → ⊥
   pub image_ : image ≡ told (take base s.group)
   pub later : (x : ℕ) → s.views.decided x ≡ true → key v < x → Begins (take join s.group) (s.views.chosen x).before
 
@@ -141,11 +143,11 @@ PacketSays w s to (JoinAsk i v) = Unit {0}
 PacketSays w s to (Welcome i v base join image) = (name : ℕ) → has to name ≡ true → WelcomeSays s i v base join image name
 PacketSays w s to (LeaveAsk i v report) = LeaverSays s i v report
 PacketSays w s to (Gone i v number) = (name : ℕ) → has to name ≡ true → GoneSays s number name
-PacketSays w s to (Invite i v) = v.by ≡ i
+PacketSays w s to (Invite i v) = Unit {0}
 PacketSays w s to (VoteOf i v vote) = VoteSays s i v vote
 PacketSays w s to (Fetch i v stored) = FetchSays s i v to
 PacketSays w s to (Piece i v base number e) = PieceSays s i v number e
-PacketSays w s to (Result i v base number names resilience) = ResultSays s i v number names resilience
+PacketSays w s to (Result i v base number names resilience) = v.by ≡ i → ResultSays s i v number names resilience
 PacketSays w s to (HandOver i v) = Unit {0}
 
 -- and the stamp of each was begun, and isn't above its sender's promise (am_promises)

@@ -6,3 +6,4 @@ pub mod Steps
 pub mod Ends
 pub mod Growing
 pub mod Lawful
+pub mod Accepting

@@ -1,12 +1,14 @@
 -- What states keep besides what they share with the group.
-use Rattle.std.specs.Prelude.{◌≡◌, ◌≢◌, ℕ, ◌<◌, ◌≤◌, List, [], take, Option, Some, None, true, false}
+use Rattle.std.specs.Prelude.{◌≡◌, ◌≢◌, ℕ, ◌<◌, ◌≤◌, List, [], length, take, Option, Some, None, true, false}
+use Rattle.am_base.specs.declared.image.Report.{Report}
 use Rattle.am_base.specs.declared.image.Vote.{Vote}
 use Rattle.am_base.specs.declared.entry.Entry.{Entry}
+use Rattle.am_base.specs.declared.outcome.Outcome.TheVariants as said
 use Rattle.am_base.specs.Names.{has}
-use Rattle.am_chain_lists.specs.Whole.{Begins, view_of, key}
+use Rattle.am_chain_lists.specs.Whole.{Begins, told, mem, view_of, key}
+use Rattle.am_chain_moves.specs.Group as groups
 use Rattle.am_chain_moves.specs.Group.{Group, opening}
 use Rattle.am_model.specs.Node.{Node, Ballot}
-use Rattle.am_model.specs.Group.{has_log}
 use Rattle.am_chain_moves.specs.Runs.{Run}
 use Rattle.am_model.specs.Receiving.{body_of}
 use Rattle.am_model.specs.World.{World}
@@ -22,10 +24,27 @@ abbrev pub VotesStand : Group → Option Ballot → Type 0
 VotesStand s None = Unit {0}
 VotesStand s (Some b) = b.is_over ≡ false → (name : ℕ) (vote : Vote) → b.votes name ≡ Some vote → VoteTells s name b.stamp vote
 
--- a sequencer's report above its base is true of who made it
-pub record ReportsStand (s : Group) (m : Node) : Type 0 where
-  pub told_ : (name : ℕ) → m.core.base < (m.reports name).stored → name < 256 → has_log m.status ≡ true
-      → Begins (take (m.reports name).stored (s.node m.core.who).list) (s.node name).list
+-- where a node's last ballot was decided and its promise is its own, it is that of the ballot
+abbrev pub OwnDecided : Node → Type 0
+OwnDecided m = (b : Ballot) (number : ℕ) (names : List ℕ) → m.ballot ≡ Some b → b.answer ≡ said.Decided number names
+    → m.core.promise.by ≡ m.core.who → m.core.promise ≡ b.stamp
+
+-- a name is a member after some number from the list's last View on
+pub record IsConcerned (list : List Entry) (name : ℕ) : Type 0 where
+  pub upto : List Entry
+  pub begins : Begins upto list
+  pub from : (told list).view_number ≤ length upto
+  pub member : mem upto name ≡ true
+
+-- A report goes no further than the list. Above the base it is true of a name that is concerned: of a name that was given up, or that
+-- joins again, it need not be.
+pub record Reporting (node : ℕ → groups.Node) (list : List Entry) (base : ℕ) (reports : ℕ → Report) : Type 0 where
+  pub within : (name : ℕ) → (reports name).stored ≤ length list
+  pub true_ : (name : ℕ) → name < 256 → IsConcerned list name → base < (reports name).stored
+      → Begins (take (reports name).stored list) (node name).list
+
+abbrev pub ReportsStand : Group → ℕ → Node → Type 0
+ReportsStand s i m = Reporting s.node (s.node i).list m.core.base m.reports
 
 -- at a decision each other name of the View, whether it stopped or not, had shown a beginning of what was chosen
 pub record ChosenShown (s : Group) (x : ℕ) : Type 0 where
