@@ -1,12 +1,12 @@
 -- What a sequencer accepts is held by enough names.
-use Rattle.std.proofs.Common.{◌≡◌, ⊎_elim, ℕ, ◌+◌, ◌-◌, ◌<◌, ◌≤◌, ◌==◌, ◌&&◌, max, min, nat_le, Bool, true, false, if◌then◌else◌, List, [], length, take, refl, sym, ap, ◌∙◌, subst, arith, count_by}
+use Rattle.std.proofs.Common.{◌≡◌, ℕ, ◌+◌, ◌-◌, ◌<◌, ◌≤◌, ◌==◌, ◌&&◌, nat_le, Bool, true, false, List, [], length, take, refl, sym, ap, ◌∙◌, subst, arith, count_by}
 use Rattle.std.proofs.lemmas.Bool.Decides.{nat_tests}
 use Rattle.am_base.specs.declared.entry.Entry.{Entry}
 use Rattle.am_base.specs.declared.image.Report.{Report}
 use Rattle.am_base.specs.declared.image.Image.{Image}
 use Rattle.am_base.specs.Names.{has, names_of}
 use Rattle.am_base.specs.Lists.{Log, top_of, told_by}
-use Rattle.am_base.specs.Fronts.{counted_at, need_at, holders_at, is_held, is_satisfied, is_front, greatest, accept_front}
+use Rattle.am_base.specs.Fronts.{counted_at, need_at, holders_at, is_held, is_satisfied, is_front, accept_front}
 use Rattle.am_core.specs.Cores.{accept, pass_over}
 use Rattle.am_core.proofs.Ranges.{all_at}
 use Rattle.am_fronts.specs.Reports.{reported}
@@ -23,7 +23,7 @@ use Rattle.am_model.specs.World.{World}
 use Rattle.am_model.proofs.Greatest.{split, and_both}
 use Rattle.am_stands.specs.Standing.{NameStands}
 use Rattle.am_stands.specs.States.{Reporting}
-use Rattle.am_stands.specs.Accepting.{MayCount, CountsAmong, RefreshAccepts}
+use Rattle.am_stands.specs.Accepting.{MayCount, RefreshAccepts}
 use Rattle.am_stands.proofs.Changes.{told_all, long_all}
 use Rattle.am_stands.proofs.Counting.{names_pass, name_small}
 use Rattle.am_stands.proofs.Parts.{counted_whole, need_whole, counted_concerned}

@@ -1,14 +1,12 @@
 -- Who is concerned by a list with one entry more, and what is reported of it.
-use Rattle.std.proofs.Common.{◌≡◌, ◌≢◌, ◌⊎◌, inl, inr, ⊎_elim, ℕ, ◌+◌, ◌<◌, ◌≤◌, ◌==◌, List, [], ◌∷◌, ◌++◌, length, take, true, false, refl, sym, ap, ◌∙◌, subst, arith}
-use Rattle.std.proofs.lemmas.Bool.Decides.{nat_tests}
+use Rattle.std.proofs.Common.{◌≡◌, ◌⊎◌, inl, inr, ⊎_elim, ℕ, ◌+◌, ◌≤◌, List, [], ◌∷◌, ◌++◌, length, true, false, refl, sym, ap, ◌∙◌, subst, arith}
 use Rattle.am_base.specs.declared.entry.Entry.{Entry}
 use Rattle.am_base.specs.declared.entry.Entry.TheVariants.{Data, Join, Leave, View}
 use Rattle.am_base.specs.declared.image.Report.{Report}
 use Rattle.am_base.specs.declared.image.Image.{Image}
 use Rattle.am_base.specs.Names.{place_of, life_of}
-use Rattle.am_base.specs.Lists.{after}
-use Rattle.am_chain_lists.specs.Whole.{Begins, IsGood, NotView, told, mem}
-use Rattle.am_chain_lists.proofs.Prefixes.{begins_refl, begins_more, begins_trans, begins_length, begins_pushed, length_push}
+use Rattle.am_chain_lists.specs.Whole.{Begins, NotView, told, mem}
+use Rattle.am_chain_lists.proofs.Prefixes.{begins_refl, begins_more, begins_trans, begins_pushed, length_push}
 use Rattle.am_chain_lists.proofs.Rows.{row_at, In}
 use Rattle.am_chain_lists.proofs.Members.{told_push, long_told, mem_in, in_mem}
 use Rattle.am_chain_moves.specs.Group as groups

@@ -9,7 +9,7 @@ use Rattle.am_base.specs.declared.image.Image.{Image}
 use Rattle.am_base.specs.Names.{place_of, life_of, has}
 use Rattle.am_base.specs.Lists.{is_blank, at_place, row_of, member_life, members_of, with_row, viewed, fits, after}
 use Rattle.am_chain_lists.specs.Whole.{Begins, IsGood, told, mem}
-use Rattle.am_chain_lists.proofs.Prefixes.{begins_refl, begins_more, begins_trans, begins_both, begins_length, begins_pushed, length_push, take_begins}
+use Rattle.am_chain_lists.proofs.Prefixes.{begins_refl, begins_more, begins_both, begins_length, length_push, take_begins}
 use Rattle.am_chain_lists.proofs.Rows.{by_cases, and_left, row_at, row_view, In, Past, Was, mod16, row_set, blank_joined, past_after, not_both, view_parts}
 use Rattle.am_chain_lists.proofs.Members.{good_begins, told_push, last_fits, long_told, mem_in, in_mem, mem_nil, viewed_mem, was_begins}
 use Rattle.am_model.specs.Receiving.{is_view}
@@ -38,7 +38,6 @@ joined_once a name good was =
     (let gone = past_after (told a) (1 + length a) (Join name) (place_of name) (life_of name) (long_told a) (mod16 name) (omega arith) fit h in
     not_both (row_at (told (a ++ Join name ∷ [])) (place_of name)) (life_of name) here (subst (λ (i : Image). Past (row_at i (place_of name)) (life_of name)) (sym (told_push a (Join name))) gone)))
     was
-
 
 -- ---- what a row was before an entry
 

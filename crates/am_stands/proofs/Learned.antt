@@ -9,7 +9,6 @@ use Rattle.am_model.specs.Node as nodes
 use Rattle.am_model.specs.Node.{Node}
 use Rattle.am_model.specs.World.{World}
 use Rattle.am_stands.specs.Standing.{NameStands}
-use Rattle.am_stands.specs.Letters.{SequencerSays}
 use Rattle.am_stands.specs.Ends.{MayLearn}
 use Rattle.am_stands.specs.Accepting.{Word, nothing, of_sequencer}
 use Rattle.am_stands.proofs.Changes.{long_all}

@@ -1,13 +1,11 @@
 -- What the group accepts at the end of a step, and what the name learns of it.
-use Rattle.std.proofs.Common.{◌≡◌, ◌⊎◌, ⊎_elim, ℕ, ◌+◌, ◌-◌, ◌<◌, ◌≤◌, ◌==◌, ◌&&◌, max, min, nat_lt, true, false, List, [], ◌++◌, length, take, drop, refl, sym, ap, ◌∙◌, subst, arith, append-nil}
+use Rattle.std.proofs.Common.{◌≡◌, ℕ, ◌+◌, ◌-◌, ◌<◌, ◌≤◌, ◌==◌, max, min, nat_lt, true, false, List, ◌++◌, length, take, drop, refl, sym, ap, ◌∙◌, subst, arith, append-nil}
 use Rattle.std.proofs.Math.Seq.{take-append-add, drop-append-add, drop-append_seam}
 use Rattle.std.proofs.lemmas.Bool.Decides.{nat_tests}
 use Rattle.std.proofs.lemmas.List.{length-take}
 use Rattle.am_base.specs.declared.entry.Entry.{Entry}
-use Rattle.am_base.specs.Lists.{Log, top_of}
+use Rattle.am_base.specs.Lists.{top_of}
 use Rattle.am_core.specs.Cores.{CoreState, accept, pass_over}
-use Rattle.am_fronts.specs.Reports.{reported}
-use Rattle.am_fronts.specs.Refresh.{own_report, tell, go_on, let_go}
 use Rattle.am_chain_lists.specs.Whole.{Begins, key}
 use Rattle.am_chain_lists.proofs.Prefixes.{begins_refl, begins_length, begins_both, begins_take, length_take}
 use Rattle.am_chain_moves.specs.Group as groups
@@ -15,23 +13,23 @@ use Rattle.am_chain_moves.specs.Group.{Group, IsUp, MayAccept}
 use Rattle.am_chain_moves.specs.Kept.{Kept}
 use Rattle.am_model.specs.Node as nodes
 use Rattle.am_model.specs.Node.{Node, view, acts, is_sequencer}
-use Rattle.am_model.specs.Refresh.{lead, refresh}
+use Rattle.am_model.specs.Refresh.{refresh}
 use Rattle.am_model.specs.Calls.{is_unfinished}
 use Rattle.am_model.specs.Group.{has_log}
 use Rattle.am_model.specs.World.{World, has_departed, grown, group_after}
 use Rattle.am_model.proofs.Greatest.{split, and_both}
 use Rattle.am_effects.proofs.Rests.{rests_refresh, leads_rests}
 use Rattle.am_stands.specs.Standing.{NameStands, within}
-use Rattle.am_stands.specs.Ends.{Accepts, no_more, rises, MayLearn}
+use Rattle.am_stands.specs.Ends.{no_more, rises}
 use Rattle.am_stands.specs.Accepting.{ComesTo, AcceptsAndLearns, RefreshLearns}
-use Rattle.am_stands.proofs.Changes.{Unmoved, same_name, is_up}
-use Rattle.am_stands.proofs.Sent.{Speaks, Leading, leading}
-use Rattle.am_stands.proofs.Learned.{Follows, word_group, follower_learns}
+use Rattle.am_stands.proofs.Changes.{same_name, is_up}
+use Rattle.am_stands.proofs.Sent.{Speaks, leading}
+use Rattle.am_stands.proofs.Learned.{word_group, follower_learns}
 use Rattle.am_stands.proofs.Accepting.{lead_acc, lead_told, refresh_accepts}
 
 -- ---- the group list after a step
 
-same_by : (n : Node) → is_sequencer n ≡ true → ((view n).by == n.core.who) ≡ true
+pub same_by : (n : Node) → is_sequencer n ≡ true → ((view n).by == n.core.who) ≡ true
 same_by n t = (and_both (acts n) ((view n).by == n.core.who) t).1
 
 -- what is accepted beyond the group list is the list up to there

@@ -27,3 +27,4 @@ pub mod Learning
 pub mod Joins
 pub mod Concerned
 pub mod Results
+pub mod Lasts

@@ -1,8 +1,7 @@
 -- What a node tells of its list by numbers is what the whole list tells.
-use Rattle.std.proofs.Common.{◌≡◌, ⊎_elim, inl, inr, ℕ, zero, suc, ◌+◌, ◌-◌, ◌<◌, ◌≤◌, min, true, false, List, [], ◌∷◌, ◌++◌, length, take, drop, Option, Some, None, slice_get, refl, sym, ap, ◌∙◌, subst, arith}
+use Rattle.std.proofs.Common.{◌≡◌, ℕ, zero, suc, ◌+◌, ◌-◌, ◌<◌, ◌≤◌, true, false, List, [], ◌∷◌, ◌++◌, length, take, drop, Option, Some, None, slice_get, refl, sym, ap, ◌∙◌, subst, arith}
 use Rattle.std.proofs.Math.Seq.{take-append-add, drop-append_seam}
 use Rattle.std.proofs.lemmas.List.{length-take, take-append-drop}
-use Rattle.std.proofs.lemmas.Option.{slice_get_past, slice_get_within}
 use Rattle.am_base.specs.declared.entry.Entry.{Entry}
 use Rattle.am_base.specs.declared.entry.Entry.TheVariants.{Data, Join, Leave, View}
 use Rattle.am_base.specs.declared.image.Image.{Image}
@@ -11,12 +10,11 @@ use Rattle.am_base.specs.Lists.{blank, fold, after, members_of, entry_at, image_
 use Rattle.am_base.specs.Fronts.{counted_of, counted_at, need_at}
 use Rattle.am_core.proofs.Folds.{slice_get-drop}
 use Rattle.am_fronts.proofs.Views.{view_grows}
-use Rattle.am_chain_lists.specs.Whole.{Begins, IsGood, told, mem, resilience_of}
-use Rattle.am_chain_lists.proofs.Prefixes.{begins_refl, begins_trans, begins_take, begins_push, length_take, length_push, take_begins}
+use Rattle.am_chain_lists.specs.Whole.{IsGood, told, mem, resilience_of}
+use Rattle.am_chain_lists.proofs.Prefixes.{begins_take, begins_push, length_take, length_push, take_begins}
 use Rattle.am_chain_lists.proofs.Members.{good_begins, told_push, viewed_mem}
 use Rattle.am_chain_moves.specs.Group as groups
 use Rattle.am_chain_moves.specs.Group.{how_many, counted, need_of}
-use Rattle.am_model.specs.Node as nodes
 use Rattle.am_model.specs.Node.{Node}
 use Rattle.am_model.specs.Receiving.{is_view}
 use Rattle.am_model.specs.World.{World}

@@ -1,5 +1,5 @@
 -- The Result that is sent is so: a sequencer's View stands in the line of its view.
-use Rattle.std.proofs.Common.{◌≡◌, ℕ, suc, ◌+◌, ◌-◌, ◌<◌, ◌==◌, ◌&&◌, true, false, List, [], ◌∷◌, ◌++◌, length, Some, slice_get, refl, sym, ap, ◌∙◌, subst, arith}
+use Rattle.std.proofs.Common.{◌≡◌, ℕ, suc, ◌+◌, ◌-◌, ◌<◌, ◌==◌, true, false, List, [], ◌∷◌, ◌++◌, length, Some, slice_get, refl, sym, ap, ◌∙◌, subst, arith}
 use Rattle.std.specs.List.{list_any}
 use Rattle.std.proofs.lemmas.Bool.Decides.{nat_tests}
 use Rattle.am_base.specs.declared.entry.Entry.{Entry}
@@ -13,7 +13,7 @@ use Rattle.am_chain_lists.specs.Whole.{Begins, IsGood, told, view_of, key}
 use Rattle.am_chain_lists.proofs.Prefixes.{next_of}
 use Rattle.am_chain_lists.proofs.Members.{fold_append, told_push}
 use Rattle.am_chain_lists.proofs.Order.{view_viewed}
-use Rattle.am_chain_moves.specs.Group.{Group, Chosen, opening}
+use Rattle.am_chain_moves.specs.Group.{Group, opening}
 use Rattle.am_model.specs.Node as nodes
 use Rattle.am_model.specs.Node.{Node, view, acts, is_member, is_sequencer}
 use Rattle.am_model.specs.Receiving.{is_view}
@@ -22,7 +22,6 @@ use Rattle.am_model.specs.World.{World}
 use Rattle.am_model.proofs.Greatest.{split}
 use Rattle.am_effects.specs.Letters.{MayTell, leads, decided}
 use Rattle.am_laws.proofs.ViewSteps.{after_same, after_view}
-use Rattle.am_stands.specs.Standing.{NotedStands}
 use Rattle.am_stands.specs.Letters.{ResultSays}
 use Rattle.am_stands.specs.States.{OwnDecided}
 use Rattle.am_stands.proofs.Changes.{told_all}
@@ -58,7 +57,6 @@ last_view_at before v names resilience list good h viewed =
     (omega arith, ap (λ (g : Image). g.resilience) all ∙ rest.1 ∙ ap (λ (g : Image). g.resilience) last ∙ its.2)
 
 -- ---- who tells a View
-
 
 -- of its own promise, leads
 pub tells_leads : (n : Node) → is_member n.status ≡ true → MayTell n → OwnDecided n → n.core.promise.by ≡ n.core.who → is_sequencer n ≡ true

@@ -1,28 +1,33 @@
 -- What a sequencer accepts, from what its names reported.
-use Rattle.std.specs.Prelude.{◌≡◌, ℕ, ◌<◌, ◌≤◌, max, List, [], length, true, false}
+use Rattle.std.specs.Prelude.{◌≡◌, ℕ, ◌<◌, ◌≤◌, max, nat_lt, List, [], length, true, false}
 use Rattle.am_base.specs.declared.entry.Entry.{Entry}
-use Rattle.am_base.specs.Names.{IsSet}
+use Rattle.am_base.specs.declared.entry.Entry.TheVariants.{Leave}
+use Rattle.am_base.specs.Names.{IsSet, size}
 use Rattle.am_base.specs.Fronts.{counted_at}
 use Rattle.am_base.specs.declared.name.Stamp.{Stamp}
 use Rattle.am_chain_lists.specs.Whole.{Begins, IsGood, key}
 use Rattle.am_chain_moves.specs.Group as groups
 use Rattle.am_chain_moves.specs.Group.{Group, MayAccept}
 use Rattle.am_chain_moves.specs.Kept.{Kept}
-use Rattle.am_model.specs.Node.{Node, top, is_member, is_sequencer}
+use Rattle.am_model.specs.Node.{Node, top, view, others, is_member, is_sequencer, pushed}
 use Rattle.am_model.specs.Refresh.{refresh}
 use Rattle.am_model.specs.World.{World, is_stopped, group_after}
 use Rattle.am_stands.specs.Standing.{NameStands, within}
 use Rattle.am_stands.specs.Letters.{SequencerSays}
 use Rattle.am_stands.specs.States.{Reporting, ReportsStand}
-use Rattle.am_stands.specs.Ends.{Accepts, MayLearn}
+use Rattle.am_stands.specs.Ends.{Accepts, MayLearn, NeedsClose, closed}
 
--- a node that may count: its list is a good one, its numbers stand in their order, and who counts at a number is a set of names
+-- who counts at each number is a set of names
+abbrev pub CountsNames : Node → Type 0
+CountsNames x = (n : ℕ) → IsSet (counted_at x.core.log n)
+
+-- a node that may count: its list is a good one, and its numbers stand in their order
 pub record MayCount (x : Node) (list : List Entry) : Type 0 where
   pub good : IsGood list
   pub kept : x.core.log.start ≤ x.core.base
   pub base : x.core.base ≤ x.core.acc
   pub within : x.core.acc ≤ top x
-  pub sets : (n : ℕ) → IsSet (counted_at x.core.log n)
+  pub sets : CountsNames x
 
 -- among these names: what is reported to it is true, and its own list is this one
 pub record CountsAmong (node : ℕ → groups.Node) (x : Node) (list : List Entry) : Type 0 where
@@ -66,3 +71,10 @@ pub record AcceptsAndLearns (w : World) (s : Group) (name : ℕ) (n : Node) : Ty
 
 abbrev pub RefreshLearns : Type 0
 RefreshLearns = (w : World) (s : Group) (name heard : ℕ) (x : Node) → Kept s → ComesTo w s name heard x → AcceptsAndLearns w s name (refresh x)
+
+-- ---- the last member goes
+
+-- where all others have gone, and its own Leave ends the step, that needs nothing else
+abbrev pub ClosingAccepts : Type 0
+ClosingAccepts = (w : World) (s : Group) (name heard : ℕ) (x : Node) → Kept s → ComesTo w s name heard x → name < 256 → is_sequencer x ≡ true
+    → nat_lt 0 (size (others x)) ≡ false → CountsNames (pushed x (Leave x.core.who)) → view (w.nodes name) ≡ view x → NeedsClose w s name (closed x)

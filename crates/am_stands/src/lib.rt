@@ -2,6 +2,7 @@
 //! (docs/SAFETY.md), and how each event is moves of that group, with what it needs of it.
 #![tactic(auto)]
 
+ghost use Rattle.am_stands.specs.Accepting.{RefreshAccepts, RefreshLearns, ClosingAccepts};
 ghost use Rattle.am_stands.specs.Ends.{EndsStand, CloseStands};
 ghost use Rattle.am_stands.specs.Growing.{LettersStay, MovesGrow};
 ghost use Rattle.am_stands.specs.Lawful.{RunsGoOn};
@@ -30,6 +31,14 @@ pub fn changes_stand()
 pub fn ends_stand()
     ensures end { EndsStand }
     ensures close { CloseStands }
+{}
+
+/// What a sequencer's refresh accepts is held by enough names, where what they reported is true. So a step ends by what the group may
+/// accept, and by what its name may learn of it; and the last member's own Leave needs nothing else.
+pub fn reports_accept()
+    ensures refresh { RefreshAccepts }
+    ensures learn { RefreshLearns }
+    ensures close { ClosingAccepts }
 {}
 
 /// With each move the group goes on so that what a letter says of it stays so, where a decided view is a new one that found all that was
