@@ -28,3 +28,5 @@ pub mod Joins
 pub mod Concerned
 pub mod Results
 pub mod Lasts
+pub mod Rounds
+pub mod Welcoming

@@ -123,7 +123,7 @@ plain_counts (Join name) before f = refl
 plain_counts (Leave name) before f = refl
 plain_counts (View stamp names resilience) before f = absurd (cc)
 
-next_part : (list : List Entry) (n : ℕ) (e : Entry) → n < length list → slice_get list n ≡ Some e → take (n + 1) list ≡ take n list ++ e ∷ []
+pub next_part : (list : List Entry) (n : ℕ) (e : Entry) → n < length list → slice_get list n ≡ Some e → take (n + 1) list ≡ take n list ++ e ∷ []
 next_part list n e low at =
     let long : length (take n list) ≡ n = length_take n list (omega arith) in
     let all = begins_push e (begins_take n list) (ap (slice_get list) long ∙ at) in

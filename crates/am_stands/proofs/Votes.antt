@@ -255,7 +255,7 @@ best_shown w name x b s k h other none = ⊎_elim
     (best_vote_is b.votes x.core.who (own_vote x) h.view_ h.views).shown
 
 -- who is in a set of one name is that name
-only_one : (a h : ℕ) → has (only_name a) h ≡ true → h ≡ a
+pub only_one : (a h : ℕ) → has (only_name a) h ≡ true → h ≡ a
 only_one a h t = split (place_of h == place_of a)
     (λ p.
     let same = is_the_same (place_of h) (place_of a) p in

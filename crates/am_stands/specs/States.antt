@@ -70,3 +70,18 @@ BodiesAsked w m = (from req : ℕ) (body : List ℕ) → body_of m from req ≡ 
 -- and a request stands for one body
 abbrev pub SendsOnce : World → Type 0
 SendsOnce w = (name req : ℕ) (a b : List ℕ) → WasAsked w name req a → WasAsked w name req b → a ≡ b
+
+-- ---- rounds
+
+-- a stamp that isn't none: it has a round
+abbrev pub HasRound : ℕ → Type 0
+HasRound x = 256 ≤ x
+
+-- each decided view's stamp has one, and each promise of a name with a log
+pub record RoundsOk (s : Group) : Type 0 where
+  pub decided : (x : ℕ) → s.views.decided x ≡ true → HasRound x
+  pub promised : (i : ℕ) → (s.node i).has_log ≡ true → HasRound (key (s.node i).promise)
+
+-- in every lawful run of the group
+abbrev pub RunsHaveRounds : Type 0
+RunsHaveRounds = (founders : List ℕ) (first resilience : ℕ) (s : Group) → Run founders first resilience s → RoundsOk s
