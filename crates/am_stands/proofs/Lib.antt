@@ -30,3 +30,6 @@ pub mod Results
 pub mod Lasts
 pub mod Rounds
 pub mod Welcoming
+pub mod LeftOut
+pub mod Leaving
+pub mod Going

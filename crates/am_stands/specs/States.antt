@@ -1,13 +1,15 @@
 -- What states keep besides what they share with the group.
-use Rattle.std.specs.Prelude.{◌≡◌, ◌≢◌, ℕ, ◌<◌, ◌≤◌, List, [], length, take, Option, Some, None, true, false}
+use Rattle.std.specs.Prelude.{◌≡◌, ◌≢◌, ℕ, ◌<◌, ◌≤◌, List, [], ◌∷◌, ◌++◌, length, take, Option, Some, None, true, false}
 use Rattle.am_base.specs.declared.image.Report.{Report}
 use Rattle.am_base.specs.declared.image.Vote.{Vote}
 use Rattle.am_base.specs.declared.entry.Entry.{Entry}
+use Rattle.am_base.specs.declared.entry.Entry.TheVariants.{View}
+use Rattle.am_base.specs.declared.name.Stamp.{Stamp}
 use Rattle.am_base.specs.declared.outcome.Outcome.TheVariants as said
 use Rattle.am_base.specs.Names.{has}
 use Rattle.am_chain_lists.specs.Whole.{Begins, told, mem, view_of, key}
 use Rattle.am_chain_moves.specs.Group as groups
-use Rattle.am_chain_moves.specs.Group.{Group, opening}
+use Rattle.am_chain_moves.specs.Group.{Group, IsThere, opening, chain_of}
 use Rattle.am_model.specs.Node.{Node, Ballot}
 use Rattle.am_chain_moves.specs.Runs.{Run}
 use Rattle.am_model.specs.Receiving.{body_of}
@@ -85,3 +87,22 @@ pub record RoundsOk (s : Group) : Type 0 where
 -- in every lawful run of the group
 abbrev pub RunsHaveRounds : Type 0
 RunsHaveRounds = (founders : List ℕ) (first resilience : ℕ) (s : Group) → Run founders first resilience s → RoundsOk s
+
+-- ---- who is left out
+
+-- whom a View on the chain left out has stopped
+abbrev pub LeftOut : Group → Type 0
+LeftOut s = (a : List Entry) (v : Stamp) (names : List ℕ) (resilience name : ℕ) → Begins (a ++ View v names resilience ∷ []) (chain_of s.views)
+    → mem a name ≡ true → has names name ≡ false → (s.node name).stopped ≡ true
+
+-- in every lawful run of the group
+abbrev pub RunsLeaveOut : Type 0
+RunsLeaveOut = (founders : List ℕ) (first resilience : ℕ) (s : Group) → Run founders first resilience s → LeftOut s
+
+-- ---- what is trimmed
+
+-- what is accepted up to here is stored by each name that was a member by then, is there, and isn't leaving
+pub record Trimmed (s : Group) (base : ℕ) : Type 0 where
+  pub accepted : base ≤ length s.group
+  pub stored : (j : ℕ) → IsThere (s.node j) → (s.node j).leaving ≡ false → mem (take base s.group) j ≡ true
+      → Begins (take base s.group) (s.node j).list
