@@ -1,25 +1,21 @@
 -- The Gone that is sent is so: its name has stopped, or all who have to have stored its Leave.
-use Rattle.std.proofs.Common.{◌≡◌, ◌≢◌, ⊎_elim, ℕ, zero, suc, ◌+◌, ◌-◌, ◌<◌, ◌≤◌, ◌==◌, ◌&&◌, nat_lt, nat_le, Bool, true, false, if◌then◌else◌, List, [], ◌∷◌, ◌++◌, length, take, set, get_or, slice_index, Option, Some, None, refl, sym, ap, ◌∙◌, subst, arith}
+use Rattle.std.proofs.Common.{◌≡◌, ◌≢◌, ℕ, ◌+◌, ◌-◌, ◌<◌, ◌≤◌, ◌==◌, ◌&&◌, nat_lt, nat_le, true, false, List, [], ◌∷◌, ◌++◌, length, take, set, get_or, slice_index, Option, Some, None, refl, sym, ap, ◌∙◌, subst, arith}
 use Rattle.std.proofs.lemmas.Bool.Decides.{nat_tests}
 use Rattle.std.proofs.lemmas.List.{length-set, get_or-set_other}
 use Rattle.am_base.specs.declared.entry.Entry.{Entry}
 use Rattle.am_base.specs.declared.entry.Entry.TheVariants.{Leave, View}
 use Rattle.am_base.specs.declared.image.Image.{Image}
-use Rattle.am_base.specs.declared.image.Report.{Report}
-use Rattle.am_base.specs.declared.name.Stamp.{Stamp}
-use Rattle.am_base.specs.Names.{place_of, life_of, name_at, has, without_name, names_of}
-use Rattle.am_base.specs.Lists.{Log, top_of, members_of, members_at, image_at, row_of}
-use Rattle.am_core.specs.Cores.{unions, since_accepted}
+use Rattle.am_base.specs.Names.{place_of, life_of, name_at, has, without_name}
+use Rattle.am_base.specs.Lists.{top_of, members_of, members_at, row_of}
+use Rattle.am_core.specs.Cores.{unions}
 use Rattle.am_core.proofs.Lives.{unions_long, unions_most, unions_least}
-use Rattle.am_fronts.specs.Reports.{least_of}
 use Rattle.am_fronts.proofs.Leaders.{least_in}
 use Rattle.am_chain_lists.specs.Whole.{Begins, IsGood, told, mem}
-use Rattle.am_chain_lists.proofs.Prefixes.{begins_refl, begins_more, begins_trans, begins_both, begins_length, begins_take, length_push, length_take}
+use Rattle.am_chain_lists.proofs.Prefixes.{begins_refl, begins_more, begins_trans, begins_both, begins_take, length_push, length_take}
 use Rattle.am_chain_lists.proofs.Rows.{by_cases, mod16}
 use Rattle.am_chain_lists.proofs.Members.{good_begins, long_told, mem_between, leaver_out}
 use Rattle.am_chain_moves.specs.Group as groups
 use Rattle.am_chain_moves.specs.Group.{Group, IsThere, chain_of}
-use Rattle.am_chain_moves.specs.Kept.{Kept}
 use Rattle.am_model.specs.Node as nodes
 use Rattle.am_model.specs.Node.{Node, is_sequencer, only_name}
 use Rattle.am_model.specs.Refresh.{concerned}
@@ -30,7 +26,7 @@ use Rattle.am_model.proofs.Greatest.{and_both}
 use Rattle.am_stands.specs.Standing.{NameStands, FrontsStand}
 use Rattle.am_stands.specs.Letters as letters
 use Rattle.am_stands.specs.Letters.{GoneSays, has_stopped}
-use Rattle.am_stands.specs.States.{IsConcerned, Reporting, ReportsStand, LeftOut, Trimmed}
+use Rattle.am_stands.specs.States.{ReportsStand, LeftOut, Trimmed}
 use Rattle.am_stands.proofs.Changes.{told_all, long_all}
 use Rattle.am_stands.proofs.Leaving.{LeavesAt, by_leave, by_view, leaves_at}
 use Rattle.am_stands.proofs.Parts.{image_whole, number_low}

@@ -33,3 +33,4 @@ pub mod Welcoming
 pub mod LeftOut
 pub mod Leaving
 pub mod Going
+pub mod Sending

@@ -28,6 +28,7 @@ use Rattle.am_stands.specs.Letters.{VoteTells, VoteSays, FetchSays, PieceSays, o
 use Rattle.am_stands.specs.Moving.{Moves, none, moves, Leads}
 use Rattle.am_stands.specs.States.{VotesStand}
 use Rattle.am_stands.specs.Growing.{Grows}
+use Rattle.am_stands.specs.Sending.{ShowsMore}
 use Rattle.am_effects.specs.Letters as letters
 use Rattle.am_stands.proofs.Changes.{told_all, long_all}
 use Rattle.am_stands.proofs.Sent.{Speaks, list_item}
@@ -99,12 +100,6 @@ tells_list v i n s t h is =
       members = ap members_of (sym told_is);
       taken = omega arith;
     }
-
--- the group is the same but for what was shown
-pub record ShowsMore (s t : Group) : Type 0 where
-  pub node : t.node ≡ s.node
-  pub views : t.views ≡ s.views
-  pub group_ : t.group ≡ s.group
 
 pub record VoteStands (i : ℕ) (n : Node) (s t : Group) : Type 0 where
   pub same : ShowsMore s t

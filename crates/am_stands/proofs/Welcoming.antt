@@ -1,5 +1,5 @@
 -- The Welcome that is sent is so: it tells a joiner where it became a member, and what is accepted below.
-use Rattle.std.proofs.Common.{◌≡◌, ◌≢◌, ℕ, zero, suc, ◌+◌, ◌-◌, ◌<◌, ◌≤◌, ◌==◌, true, false, List, [], ◌∷◌, ◌++◌, length, take, Some, slice_get, refl, sym, ap, ◌∙◌, subst, arith}
+use Rattle.std.proofs.Common.{◌≡◌, ℕ, zero, suc, ◌+◌, ◌<◌, ◌≤◌, ◌==◌, true, List, length, take, Some, refl, sym, ap, ◌∙◌, subst, arith}
 use Rattle.std.proofs.lemmas.Bool.Decides.{nat_tests}
 use Rattle.am_base.specs.declared.entry.Entry.{Entry}
 use Rattle.am_base.specs.declared.entry.Entry.TheVariants.{Join}
@@ -9,8 +9,8 @@ use Rattle.am_base.specs.declared.name.Stamp.{Stamp}
 use Rattle.am_base.specs.Names.{place_of, life_of, has}
 use Rattle.am_base.specs.Lists.{Log, at_place, row_of, image_at, told_by}
 use Rattle.am_group.specs.Journals.{item_at}
-use Rattle.am_chain_lists.specs.Whole.{Begins, IsGood, told, mem, key}
-use Rattle.am_chain_lists.proofs.Prefixes.{begins_refl, begins_trans, begins_length, take_begins}
+use Rattle.am_chain_lists.specs.Whole.{Begins, IsGood, told, mem}
+use Rattle.am_chain_lists.proofs.Prefixes.{begins_refl, begins_trans, take_begins}
 use Rattle.am_chain_lists.proofs.Rows.{row_at, In}
 use Rattle.am_chain_lists.proofs.Members.{mem_in, in_mem}
 use Rattle.am_chain_moves.specs.Group as groups
@@ -22,9 +22,9 @@ use Rattle.am_effects.specs.Causes.{Cause}
 use Rattle.am_effects.specs.Letters.{MayWelcome, just_joined, asks_again}
 use Rattle.am_stands.specs.Standing.{NameStands, FrontsStand}
 use Rattle.am_stands.specs.Letters.{WelcomeSays}
+use Rattle.am_stands.specs.Sending.{RowsLive}
 use Rattle.am_stands.proofs.Changes.{told_all, long_all}
 use Rattle.am_stands.proofs.Ends.{taken_more}
-use Rattle.am_stands.proofs.Letters.{item_within}
 use Rattle.am_stands.proofs.Joins.{joined_in, JoinsAt, joins_at}
 use Rattle.am_stands.proofs.Parts.{image_whole, next_part}
 use Rattle.am_stands.proofs.Sent.{Speaks, leading, list_item}
@@ -53,10 +53,6 @@ last_joined list name at = last (length list) refl at
 pub record IsWelcomed (n : Node) (list : List Entry) (name : ℕ) : Type 0 where
   pub member : mem list name ≡ true
   pub accepted : (row_of (nodes.told n) name).joined ≤ n.core.acc
-
--- a life of a place where somebody joined isn't none
-abbrev pub RowsLive : Node → Type 0
-RowsLive n = (name : ℕ) → (at_place (nodes.told n) name).life ≡ 0 → (at_place (nodes.told n) name).joined ≡ 0
 
 pub is_welcomed : (v : World) (i : ℕ) (c : Cause) (m n : Node) (a : groups.Node) (name : ℕ) → NameStands v i n a → IsGood a.list → RowsLive n
     → n.core.log.start ≤ m.core.base → m.core.acc ≤ n.core.acc → MayWelcome c m n name → IsWelcomed n a.list name

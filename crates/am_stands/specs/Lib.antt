@@ -7,3 +7,4 @@ pub mod Ends
 pub mod Growing
 pub mod Lawful
 pub mod Accepting
+pub mod Sending

@@ -7,7 +7,8 @@ ghost use Rattle.am_stands.specs.Ends.{EndsStand, CloseStands};
 ghost use Rattle.am_stands.specs.Growing.{LettersStay, MovesGrow};
 ghost use Rattle.am_stands.specs.Lawful.{RunsGoOn};
 ghost use Rattle.am_stands.specs.Standing.{StartStands};
-ghost use Rattle.am_stands.specs.States.{RunsOpen};
+ghost use Rattle.am_stands.specs.Sending.{SentSays};
+ghost use Rattle.am_stands.specs.States.{RunsHaveRounds, RunsLeaveOut, RunsOpen};
 ghost use Rattle.am_stands.specs.Steps.{ChangesStand, EventsStand};
 
 /// At the start each founder is told of the first entry, and then the group stands for the world.
@@ -41,6 +42,12 @@ pub fn reports_accept()
     ensures close { ClosingAccepts }
 {}
 
+/// Each letter that a name sends at the end of its step is so, once a voter has shown the list that its vote tells, and served what it sends
+/// of it.
+pub fn letters_are_so()
+    ensures { SentSays }
+{}
+
 /// With each move the group goes on so that what a letter says of it stays so, where a decided view is a new one that found all that was
 /// accepted.
 pub fn letters_stay()
@@ -56,4 +63,10 @@ pub fn runs_go_on()
 /// In a lawful run of the group, what begins the line of a decided view begins the line of its own last View's, which was decided.
 pub fn lines_open()
     ensures { RunsOpen }
+{}
+
+/// And in such a run each decided stamp has a round, and whom a View on the chain left out has stopped.
+pub fn views_leave_out()
+    ensures rounds { RunsHaveRounds }
+    ensures left { RunsLeaveOut }
 {}
