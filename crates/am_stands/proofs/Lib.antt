@@ -34,3 +34,4 @@ pub mod LeftOut
 pub mod Leaving
 pub mod Going
 pub mod Sending
+pub mod Branches

@@ -8,3 +8,4 @@ pub mod Growing
 pub mod Lawful
 pub mod Accepting
 pub mod Sending
+pub mod Branches
