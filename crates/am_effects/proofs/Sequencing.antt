@@ -128,7 +128,7 @@ does_number_join m s v leads other fit room =
     let high : (n : Node) → RestsWhole (pushed p e) n → top n ≡ top m + 1 = λ n r. ap (λ (l : Log). top_of l) r.log ∙ omega arith in
     does_where RestsWhole m c (λ n. nat_le (top m + 1) n.core.acc) (numbering p e o (λ n. bcast_of n (top m + 1) e)) (only_name s) (λ n. welcome_of n s)
     (does_numbering RestsWhole m c p e o (λ n. bcast_of n (top m + 1) e) h (λ n r. tt) (λ n r. bcast (others p) (top m + 1) e (lead n r) (stands n r)))
-    (λ n r t. let low : top m + 1 ≤ n.core.acc = grind (arith, nat_tests) in welcome s (lead n r) (just_joined v refl (top m + 1) refl (high n r) low (stands n r)))
+    (λ n r t. let low : top m + 1 ≤ n.core.acc = grind (arith, nat_tests) in welcome s (lead n r) (just_joined (top m + 1) refl (high n r) low (stands n r)))
 
 -- where its Join stands, a name is a member there
 known_join : (life joined left mine acc : ℕ) → nat_lt mine life ≡ false → ((life == mine) && nat_lt 0 left) ≡ false → (nat_lt life mine && (nat_lt 0 life && ((left == 0) || nat_lt acc left))) ≡ false → ((joined == 0) || (nat_lt 0 left && nat_lt life mine)) ≡ false
@@ -175,7 +175,7 @@ row_asks_to_join m s v q is leads other =
     let accepted : q.joined ≤ m.core.acc = grind (arith, nat_tests) in
     let behind : (m.reports s).stored < q.joined = grind (arith, nat_tests) in
     effect_of m c _ (does_telling RestsWhole m c m (said.Welcomed q.joined) (only_name s) (λ n. welcome_of n s) unchanged (λ n r. tt)
-    (λ n r. welcome s (leads_rests r.rests ∙ leads) (asks_again v refl r.log (rw is (k.0)) (rw is (k.1)) (rw is (k.2)) (rw is accepted) (rw is behind))))))))))
+    (λ n r. welcome s (leads_rests r.rests ∙ leads) (asks_again r.log (rw is (k.0)) (rw is (k.1)) (rw is (k.2)) (rw is accepted) (rw is behind))))))))))
 
 pub row_join_ask : (m : Node) (s : ℕ) (v : Stamp) → is_sequencer m ≡ true → (s == m.core.who) ≡ false → HasEffect m (hears (packet.JoinAsk s v)) (join_ask_row m s)
 unfolding join_ask_row

@@ -39,10 +39,10 @@ pub record Stands (log : Log) (base number : ℕ) (e : Entry) : Type 0 where
   pub at : log.start ≤ base → number ≡ log.start + index + 1
   pub within : number ≤ top_of log
 
--- a joiner that asks is welcomed where its Join is accepted: once it was numbered, or where it asks again, is a member, and hasn't stored it
-pub data MayWelcome (c : Cause) (m : Node) (n : Node) (s : ℕ) : Type 0 where
-  just_joined : (v : Stamp) → c ≡ hears (packet.JoinAsk s v) → (number : ℕ) → number ≡ top m + 1 → top n ≡ number → number ≤ n.core.acc → Stands n.core.log m.core.base number (Join s) → MayWelcome c m n s
-  asks_again : (v : Stamp) → c ≡ hears (packet.JoinAsk s v) → n.core.log ≡ m.core.log → ((at_place (told m) s).life ≢ 0 → (at_place (told m) s).life ≡ life_of s) → 0 < (at_place (told m) s).joined → (at_place (told m) s).left ≡ 0 → (at_place (told m) s).joined ≤ m.core.acc → (m.reports s).stored < (at_place (told m) s).joined → MayWelcome c m n s
+-- a joiner is welcomed where its Join is accepted: once it was numbered, or where it asks again, is a member, and hasn't stored it
+pub data MayWelcome (m : Node) (n : Node) (s : ℕ) : Type 0 where
+  just_joined : (number : ℕ) → number ≡ top m + 1 → top n ≡ number → number ≤ n.core.acc → Stands n.core.log m.core.base number (Join s) → MayWelcome m n s
+  asks_again : n.core.log ≡ m.core.log → ((at_place (told m) s).life ≢ 0 → (at_place (told m) s).life ≡ life_of s) → 0 < (at_place (told m) s).joined → (at_place (told m) s).left ≡ 0 → (at_place (told m) s).joined ≤ m.core.acc → (m.reports s).stored < (at_place (told m) s).joined → MayWelcome m n s
 
 -- a vote is asked for by the ballot that the node has begun, or that was open before
 pub data MayInvite (m : Node) (n : Node) : Type 0 where
@@ -71,7 +71,7 @@ pub data Says (m : Node) (c : Cause) (n : Node) : List ℕ → Packet → Type 0
   nack : (to : List ℕ) → acts n ≡ true → Says m c n to (emits.nack_of n)
   hold : (to : List ℕ) (s : ℕ) (v : Stamp) (report : Report) (req : ℕ) (body : List ℕ) → BringsSend c s v report req body → is_sequencer n ≡ true → Says m c n to (emits.hold_of n req)
   join_ask : (to : List ℕ) → is_asking n.status ≡ true → Says m c n to (emits.join_ask_of n)
-  welcome : (s : ℕ) → is_sequencer n ≡ true → MayWelcome c m n s → Says m c n (only_name s) (emits.welcome_of n s)
+  welcome : (s : ℕ) → is_sequencer n ≡ true → MayWelcome m n s → Says m c n (only_name s) (emits.welcome_of n s)
   leave_ask : (to : List ℕ) → is_member n.status ≡ true → n.leaving ≡ true → Says m c n to (emits.leave_ask_of n)
   gone : (s : ℕ) → is_sequencer n ≡ true → may_go n s ≡ true → Says m c n (only_name s) (emits.gone_of n (row_at n s).left)
   invite : (to : List ℕ) → MayInvite m n → Says m c n to (emits.invite_of n)

@@ -34,7 +34,7 @@ pub record Sends (b : Bounds) (g : ℕ) (c : Cause) (m n : Node) : Type 0 where
   pub behind : Behind g n
   pub group : g ≤ b.lists
   -- its list has one entry more at most, where it welcomes
-  pub next : (s : ℕ) → MayWelcome c m n s → (row_of (told n) s).joined ≤ g
+  pub next : (s : ℕ) → MayWelcome m n s → (row_of (told n) s).joined ≤ g
   pub image : ImageUp n.core.log.start n.core.log.image
 
 -- a leaver that may go has an accepted Leave
@@ -130,11 +130,11 @@ says_low b g m n c to p h (hand_over _ l leaves) = record { round = h.low.rounds
 -- ---- who is welcomed
 
 -- a joiner's Join is accepted by the group
-pub welcome_low : (g : ℕ) (c : Cause) (m n : Node) (s : ℕ) → m.core.acc ≤ g → n.core.acc ≤ g → ImageUp n.core.log.start n.core.log.image → MayWelcome c m n s → (row_of (told n) s).joined ≤ g
-welcome_low g c m n s old new image (just_joined v asked number is high low at) =
+pub welcome_low : (g : ℕ) (m n : Node) (s : ℕ) → m.core.acc ≤ g → n.core.acc ≤ g → ImageUp n.core.log.start n.core.log.image → MayWelcome m n s → (row_of (told n) s).joined ≤ g
+welcome_low g m n s old new image (just_joined number is high low at) =
     let all = (row_up (top n) (told n) s (told_up n.core.log image)).joined in
     omega arith
-welcome_low g c m n s old new image (asks_again v asked same life some stays low more) =
+welcome_low g m n s old new image (asks_again same life some stays low more) =
     let there : at_place (told n) s ≡ at_place (told m) s = ap (λ (l : Log). at_place (told_by l) s) same in
     let low_ : (at_place (told n) s).joined ≤ g = rw there (omega arith) in
     split ((at_place (told n) s).life == life_of s)

@@ -207,8 +207,8 @@ low_stepped b w e c s cause effect raised h =
     let wide : Low (up b) k n = low_wider (up b) g k n more low in
     let sender = effect.sender in
     let accepted = (h.behind name).acc in
-    let next : (j : ℕ) → MayWelcome c m sender j → (row_of (told sender) j).joined ≤ k =
-    λ j may. welcome_low k c m sender j (omega arith) (sender_behind k n sender effect.is grown.behind).acc (sender_list n sender effect.is list) may in
+    let next : (j : ℕ) → MayWelcome m sender j → (row_of (told sender) j).joined ≤ k =
+    λ j may. welcome_low k m sender j (omega arith) (sender_behind k n sender effect.is grown.behind).acc (sender_list n sender effect.is list) may in
     let sends : Sends (up b) k c m sender = record {
       low = sender_low (up b) k n sender effect.is wide;
       behind = sender_behind k n sender effect.is grown.behind;

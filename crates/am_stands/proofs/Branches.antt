@@ -9,7 +9,7 @@ use Rattle.am_base.specs.Names.{place_of, life_of, has, is_within}
 use Rattle.am_base.specs.Lists.{members_of}
 use Rattle.am_core.proofs.Ranges.{all_at}
 use Rattle.am_chain_lists.specs.Whole.{Begins, BeginsBelow, IsGood, told, mem, view_of, key}
-use Rattle.am_chain_lists.proofs.Prefixes.{begins_refl, begins_nil, begins_more, begins_trans, begins_both, begins_length, begins_take, below_of, length_push}
+use Rattle.am_chain_lists.proofs.Prefixes.{begins_refl, begins_nil, begins_more, begins_trans, begins_both, begins_length, begins_take, below_of, below_length, length_push}
 use Rattle.am_chain_lists.proofs.Rows.{mod16}
 use Rattle.am_chain_lists.proofs.Members.{good_begins, mem_between, mem_viewed}
 use Rattle.am_chain_lists.proofs.Order.{key_by, view_up}
@@ -18,13 +18,14 @@ use Rattle.am_chain_moves.specs.Group.{Group, put, put2, opening, chain_of, IsUp
 use Rattle.am_chain_moves.specs.Moves as group
 use Rattle.am_chain_moves.specs.Moves.{Move, MayDecide, Voted, with_choice, choice_of, own_stamp, longer}
 use Rattle.am_chain_moves.specs.Kept.{Kept}
-use Rattle.am_chain_moves.specs.Runs.{IsLawful}
+use Rattle.am_chain_moves.specs.Runs.{IsLawful, start, first_choice, first_stamp}
+use Rattle.am_chain_moves.proofs.Start.{start_kept}
 use Rattle.am_chain_moves.proofs.Puts.{by_cases, put_same, put_at, put_cases, put2_cases}
 use Rattle.am_chain_moves.proofs.Nodes.{own_above}
 use Rattle.am_chain.proofs.Heart.{ballot_ok, list_chain, group_in}
 use Rattle.am_chain.proofs.Decide.{group_low}
 use Rattle.am_stands.specs.Growing.{NewView, DecidesNew}
-use Rattle.am_stands.specs.Branches.{OnBranch, on_chain, left_out, BranchesOk, DecidesVoted, MovesBranch, DecisionsAreNew}
+use Rattle.am_stands.specs.Branches.{OnBranch, on_chain, left_out, BranchesOk, DecidesVoted, MovesBranch, DecisionsAreNew, BranchesBegin}
 use Rattle.am_stands.proofs.LeftOut.{longer_chain, none_departed}
 
 two : (a b : ℕ) → (a ≤ b) ⊎ (b < a)
@@ -399,10 +400,12 @@ moves_branch s t (group.stops i) voted k law kt b = one_name s t i (record (s.no
 -- ---- what a decision finds
 
 pub decisions_are_new : DecisionsAreNew
-decisions_are_new s t (group.decides i members resilience may) voted k law b =
-    (by_cases (s.views.decided (key (s.node i).promise))
-    (λ d. absurd (let above = (ballot_ok s k law i members resilience may).above in let most = k.views.order (key (s.node i).promise) d in omega arith))
-    (λ f. f), new_view s k law i members resilience may b voted)
+decisions_are_new s t (group.decides i members resilience may) voted k law b = (
+  by_cases (s.views.decided (key (s.node i).promise))
+      (λ d. absurd (let above = (ballot_ok s k law i members resilience may).above in let most = k.views.order (key (s.node i).promise) d in omega arith))
+      (λ f. f),
+  new_view s k law i members resilience may b voted,
+)
 decisions_are_new s t (group.numbers i e leads fit may) voted k law b = tt
 decisions_are_new s t (group.stores i e up decided other stays next) voted k law b = tt
 decisions_are_new s t (group.accepts i n leads may) voted k law b = tt
@@ -418,3 +421,18 @@ decisions_are_new s t (group.asks i up none) voted k law b = tt
 decisions_are_new s t (group.departs i before may) voted k law b = tt
 decisions_are_new s t (group.closes i n leads leaving alone may) voted k law b = tt
 decisions_are_new s t (group.stops i) voted k law b = tt
+
+-- ---- the start
+
+pub branches_begin : BranchesBegin
+branches_begin founders first resilience may =
+    let k = start_kept founders first resilience may in
+    record {
+      branch = λ i stays. by_cases (has founders i)
+          (λ t. on_chain (rw t (begins_refl (opening (first_choice founders first resilience)))))
+          (λ f. on_chain (rw f (begins_nil (opening (first_choice founders first resilience)))));
+      own = λ i stays. by_cases (has founders i)
+          (λ t. (k.each i).own (record { log = t; there = record { goes = refl; stays = refl } }))
+          (λ f. rw f (λ a d below. absurd (let z = below_length below in omega arith)));
+      short = λ c j list up ballot. absurd (cc);
+    }

@@ -16,7 +16,7 @@ use Rattle.am_chain_lists.proofs.Prefixes.{begins_trans, begins_take, begins_bot
 use Rattle.am_chain_moves.specs.Group.{Group, Chosen, IsThere}
 use Rattle.am_model.specs.World.{World}
 use Rattle.am_effects.proofs.Items.{get_front}
-use Rattle.am_stands.specs.Letters.{line, AllShown, SequencerSays, EntrySays, WasAsked, ReportSays, LeaverSays, WelcomeSays, GoneSays, has_stopped, may_go, VoteSays, own, tells, over as over_vote, FetchSays, for_ballot, of_promise, PieceSays, of_line, of_shown, over}
+use Rattle.am_stands.specs.Letters.{line, AllShown, SequencerSays, EntrySays, WasAsked, ReportSays, LeaverSays, WelcomeSays, WelcomeTo, has_begun, has_gone, has_left, is_leaving, may_begin, GoneSays, has_stopped, may_go, VoteSays, own, tells, over as over_vote, FetchSays, for_ballot, of_promise, PieceSays, of_line, of_shown, over}
 use Rattle.am_stands.specs.Growing.{NewView, Grows, LettersStay}
 use Rattle.am_stands.proofs.Ends.{taken_more}
 
@@ -121,6 +121,14 @@ module _ (w v : World) (s t : Group) (g : Grows s t) (more : (rest : List Record
             (g.new x d));
       }
 
+  welcome_to_stays : (i : ℕ) (u : Stamp) (base join : ℕ) (image : Image) (name : ℕ) → WelcomeTo s i u base join image name
+      → WelcomeTo t i u base join image name
+  welcome_to_stays i u base join image name (has_begun h) = has_begun ((g.each name).log h)
+  welcome_to_stays i u base join image name (has_gone h) = has_gone ((g.each name).stopped h)
+  welcome_to_stays i u base join image name (has_left h) = has_left ((g.each name).departed h)
+  welcome_to_stays i u base join image name (is_leaving h) = is_leaving ((g.each name).leaving h)
+  welcome_to_stays i u base join image name (may_begin h) = may_begin (welcome_stays i u base join image name h)
+
   gone_stays : (number name : ℕ) → GoneSays s number name → GoneSays t number name
   gone_stays number name (has_stopped h) = has_stopped ((g.each name).stopped h)
   gone_stays number name (may_go before is accepted stored) = may_go before is (begins_trans accepted g.group)
@@ -166,7 +174,7 @@ letters_stay w v s t to (Ack i u report) more g h = report_stays w v s t g more 
 letters_stay w v s t to (Nack i u report) more g h = report_stays w v s t g more i u report h
 letters_stay w v s t to (Hold i u base high req) more g h = tt
 letters_stay w v s t to (JoinAsk i u) more g h = tt
-letters_stay w v s t to (Welcome i u base join image) more g h = λ name in_. welcome_stays w v s t g more i u base join image name (h name in_)
+letters_stay w v s t to (Welcome i u base join image) more g h = λ name in_. welcome_to_stays w v s t g more i u base join image name (h name in_)
 letters_stay w v s t to (LeaveAsk i u report) more g h = leaver_stays w v s t g more i u report h
 letters_stay w v s t to (Gone i u number) more g h = λ name in_. gone_stays w v s t g more number name (h name in_)
 letters_stay w v s t to (Invite i u) more g h = tt

@@ -216,10 +216,10 @@ sent_says v i c m n s to p h (welcome name t may) =
     let good = good_begins ((h.group.kept.each i).list (speaks_leading v i c m n s h t).up) h.group.kept.views.good in
     let base = h.numbers.base in
     let taken = h.numbers.taken in
-    let is = is_welcomed v i c m n (s.node i) name h.stands good h.lives h.numbers.start h.numbers.accepted may in
+    let is = is_welcomed v i m n (s.node i) name h.stands good h.lives h.numbers.start h.numbers.accepted may in
     so v i c m n s h (only_name name) _ (λ j in_.
-    subst (λ k. says.WelcomeSays s k n.core.promise n.core.base (row_of (nodes.told n) name).joined (image_at n.core.log n.core.base) j) (sym h.who)
-    (welcome_says v i n s name (speaks_leading v i c m n s h t) t h.fronts h.numbers.kept (omega arith) is ((h.leader t).joins name may) j in_))
+    subst (λ k. says.WelcomeTo s k n.core.promise n.core.base (row_of (nodes.told n) name).joined (image_at n.core.log n.core.base) j) (sym h.who)
+    (welcome_says v i n s name (speaks_leading v i c m n s h t) t h.fronts h.numbers.kept (omega arith) is (h.leader t).trimmed j in_))
 sent_says v i c m n s to p h (leave_ask _ member leaves) = so v i c m n s h to _
     (subst (λ j. says.LeaverSays s j n.core.promise (nodes.report_of n)) (sym h.who) (leaver_said v i n s (speaks v i c m n s h member) leaves))
 sent_says v i c m n s to p h (gone name t may) =

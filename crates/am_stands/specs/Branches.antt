@@ -8,7 +8,7 @@ use Rattle.am_chain_lists.specs.Whole.{Begins, BeginsBelow, IsGood, mem, key}
 use Rattle.am_chain_moves.specs.Group.{Group, IsUp, chain_of}
 use Rattle.am_chain_moves.specs.Moves.{Move, Voted, decides}
 use Rattle.am_chain_moves.specs.Kept.{Kept}
-use Rattle.am_chain_moves.specs.Runs.{IsLawful}
+use Rattle.am_chain_moves.specs.Runs.{IsLawful, MayBegin, start}
 use Rattle.am_stands.specs.Growing.{DecidesNew}
 
 -- the list of a name that hasn't departed begins the chain, or it was left out by a View on it, up to where it did
@@ -37,3 +37,7 @@ MovesBranch = (s t : Group) (move : Move s t) → DecidesVoted move → Kept s �
 -- so a decided view is a new one, which found all that was accepted, and what each of its members has that leaves
 abbrev pub DecisionsAreNew : Type 0
 DecisionsAreNew = (s t : Group) (move : Move s t) → DecidesVoted move → Kept s → IsLawful s → BranchesOk s → DecidesNew move
+
+-- at the start
+abbrev pub BranchesBegin : Type 0
+BranchesBegin = (founders : List ℕ) (first resilience : ℕ) → MayBegin founders first resilience → BranchesOk (start founders first resilience)

@@ -15,6 +15,7 @@ use Rattle.am_stands.specs.Letters.{PacketSays}
 -- a name keeps its list, and what ends stays ended
 pub record NameGrows (a b : groups.Node) : Type 0 where
   pub list : Begins a.list b.list
+  pub log : a.has_log ≡ true → b.has_log ≡ true
   pub stopped : a.stopped ≡ true → b.stopped ≡ true
   pub departed : a.departed ≡ true → b.departed ≡ true
   pub leaving : a.leaving ≡ true → b.leaving ≡ true

@@ -85,6 +85,14 @@ pub record WelcomeSays (s : Group) (sender : ℕ) (v : Stamp) (base join : ℕ) 
   pub image_ : image ≡ told (take base s.group)
   pub later : (x : ℕ) → s.views.decided x ≡ true → key v < x → Begins (take join s.group) (s.views.chosen x).before
 
+-- who has a log, or will have none, doesn't heed a Welcome
+pub data WelcomeTo (s : Group) (sender : ℕ) (v : Stamp) (base join : ℕ) (image : Image) (name : ℕ) : Type 0 where
+  has_begun : (s.node name).has_log ≡ true → WelcomeTo s sender v base join image name
+  has_gone : (s.node name).stopped ≡ true → WelcomeTo s sender v base join image name
+  has_left : (s.node name).departed ≡ true → WelcomeTo s sender v base join image name
+  is_leaving : (s.node name).leaving ≡ true → WelcomeTo s sender v base join image name
+  may_begin : WelcomeSays s sender v base join image name → WelcomeTo s sender v base join image name
+
 -- to a leaver: it has stopped, or its Leave is accepted, and stored by all who were members before it, are there and stay
 pub data GoneSays (s : Group) (number name : ℕ) : Type 0 where
   has_stopped : (s.node name).stopped ≡ true → GoneSays s number name
@@ -140,7 +148,7 @@ PacketSays w s to (Ack i v report) = ReportSays s i v report
 PacketSays w s to (Nack i v report) = ReportSays s i v report
 PacketSays w s to (Hold i v base high req) = Unit {0}
 PacketSays w s to (JoinAsk i v) = Unit {0}
-PacketSays w s to (Welcome i v base join image) = (name : ℕ) → has to name ≡ true → WelcomeSays s i v base join image name
+PacketSays w s to (Welcome i v base join image) = (name : ℕ) → has to name ≡ true → WelcomeTo s i v base join image name
 PacketSays w s to (LeaveAsk i v report) = LeaverSays s i v report
 PacketSays w s to (Gone i v number) = (name : ℕ) → has to name ≡ true → GoneSays s number name
 PacketSays w s to (Invite i v) = Unit {0}

@@ -43,13 +43,12 @@ pub record NumbersStand (m n : Node) : Type 0 where
   pub accepted : m.core.acc ≤ n.core.acc
 
 -- what a sequencer knows of its names
-pub record LeaderStands (s : Group) (i : ℕ) (c : Cause) (m n : Node) : Type 0 where
+pub record LeaderStands (s : Group) (i : ℕ) (n : Node) : Type 0 where
   pub names : (j : ℕ) → has (concerned n) j ≡ true → j < 256
   pub reports : ReportsStand s i n
   pub trimmed : Trimmed s n.core.base
-  -- its last View stands in its log, and who is welcomed joined above the base
+  -- its last View stands in its log
   pub viewed : n.core.log.start < (told n).view_number
-  pub joins : (name : ℕ) → MayWelcome c m n name → n.core.base < (row_of (told n) name).joined
 
 -- what it has of ballots: who has no log has none, and who fetches has been shown all that it needs
 pub record BallotStands (s : Group) (i : ℕ) (n : Node) : Type 0 where
@@ -75,7 +74,7 @@ pub record Sender (v : World) (i : ℕ) (c : Cause) (m n : Node) (s : Group) : T
   pub begun : key n.core.promise ≤ key (s.node n.core.promise.by).promise
   pub lives : RowsLive n
   pub numbers : NumbersStand m n
-  pub leader : is_sequencer n ≡ true → LeaderStands s i c m n
+  pub leader : is_sequencer n ≡ true → LeaderStands s i n
   pub ballots : BallotStands s i n
   pub sends : SendsStand v i n
   -- a Fetch that it hears was sent to it

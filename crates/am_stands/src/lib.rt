@@ -3,6 +3,7 @@
 #![tactic(auto)]
 
 ghost use Rattle.am_stands.specs.Accepting.{RefreshAccepts, RefreshLearns, ClosingAccepts};
+ghost use Rattle.am_stands.specs.Branches.{MovesBranch, DecisionsAreNew, BranchesBegin};
 ghost use Rattle.am_stands.specs.Ends.{EndsStand, CloseStands};
 ghost use Rattle.am_stands.specs.Growing.{LettersStay, MovesGrow};
 ghost use Rattle.am_stands.specs.Lawful.{RunsGoOn};
@@ -69,4 +70,12 @@ pub fn lines_open()
 pub fn views_leave_out()
     ensures rounds { RunsHaveRounds }
     ensures left { RunsLeaveOut }
+{}
+
+/// What a name has that hasn't departed is on the chain, or was left out of it by a View; so a decision finds what each of its members has,
+/// also one that leaves or has stopped, where each of them has voted.
+pub fn decisions_find_leavers()
+    ensures begin { BranchesBegin }
+    ensures moves { MovesBranch }
+    ensures new { DecisionsAreNew }
 {}

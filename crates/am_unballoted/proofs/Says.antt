@@ -127,8 +127,8 @@ join_row list k name there long =
     let is : row_of (told list) name ≡ r = rw alive (ap (λ x. at_place x name) image ∙ row) in
     ap (λ (y : Row). y.joined) is ∙ omega arith
 
-welcome_says : (rules : Rules) (list : List Entry) (acc i : ℕ) (c : Cause) (m n : Node) (s : ℕ) → Sends rules list acc i m n → IsFirst rules list acc m n → is_sequencer n ≡ true → MayWelcome c m n s → WelcomeOk rules list acc s n.core.promise n.core.base (row_of (nodes.told n) s).joined (image_at n.core.log n.core.base)
-welcome_says rules list acc i c m n s h f t (just_joined v asked number next high low stands) =
+welcome_says : (rules : Rules) (list : List Entry) (acc i : ℕ) (m n : Node) (s : ℕ) → Sends rules list acc i m n → IsFirst rules list acc m n → is_sequencer n ≡ true → MayWelcome m n s → WelcomeOk rules list acc s n.core.promise n.core.base (row_of (nodes.told n) s).joined (image_at n.core.log n.core.base)
+welcome_says rules list acc i m n s h f t (just_joined number next high low stands) =
     let told_ = first_told rules list acc i m n h f in
     let same = ap (λ x. (row_of x s).joined) told_ in
     let entries = sym f.list_ in
@@ -147,7 +147,7 @@ welcome_says rules list acc i c m n s h f t (just_joined v asked number next hig
       tells = λ b. first_image rules list acc i m n n.core.base h f;
       joined = λ z. ap (item_at list) is ∙ item;
     }
-welcome_says rules list acc i c m n s h f t (asks_again v asked same lives some stays low behind) =
+welcome_says rules list acc i m n s h f t (asks_again same lives some stays low behind) =
     let image : nodes.told m ≡ told list = ap told_by (sym same) ∙ first_told rules list acc i m n h f in
     let q = at_place (nodes.told m) s in
     let is_q : q ≡ at_place (told list) s = ap (λ x. at_place x s) image in
@@ -215,7 +215,7 @@ said rules list from acc low i m n c to p h f g w (join_ask x a) j t = tt
 said rules list from acc low i m n c to p h f g w (welcome s a b) j t =
     let same = only_is s j t in
     let first = f (sequencer_first rules list acc i m n h a) in
-    subst (λ x. WelcomeOk rules list acc x n.core.promise n.core.base (row_of (nodes.told n) s).joined (image_at n.core.log n.core.base)) (sym same) (welcome_says rules list acc i c m n s h first a b)
+    subst (λ x. WelcomeOk rules list acc x n.core.promise n.core.base (row_of (nodes.told n) s).joined (image_at n.core.log n.core.base)) (sym same) (welcome_says rules list acc i m n s h first a b)
 said rules list from acc low i m n c to p h f g w (leave_ask x a b) j t = tt
 said rules list from acc low i m n c to p h f g w (gone s a b) j t = tt
 said rules list from acc low i m n c to p h f g w (invite x (has_begun b is stamp)) j t = let z = h.none in absurd (cc)
