@@ -55,6 +55,7 @@ number_held v i n x a node reports stands may r blank above low high held =
     let log = x.core.log in
     let kept = may.kept in
     let base = may.base in
+    let taken = may.taken in
     let long = long_all v i x a stands in
     let same = counted_whole v i n x a stands (omega arith) in
     let last : (told a.list).view_number ≡ (nodes.told x).view_number = ap (λ (g : Image). g.view_number) (told_all v i x a stands) in
@@ -116,12 +117,15 @@ front_held v i x a node reports stands may r blank =
 -- ---- a refresh
 
 -- its own report is true of itself
-own_reporting : (node : ℕ → groups.Node) (list : List Entry) (base who taken : ℕ) (reports : ℕ → Report) → (node who).list ≡ list → Reporting node list base reports
+pub own_reporting : (node : ℕ → groups.Node) (list : List Entry) (base who taken : ℕ) (reports : ℕ → Report) → taken ≤ length list → (node who).list ≡ list → Reporting node list base reports
     → Reporting node list base (reported reports who (record { stored = length list; taken = taken }))
-own_reporting node list base who taken reports own r = record {
+own_reporting node list base who taken reports low own r = record {
   within = λ name. split (name == who)
       (λ t. (let low = r.within who in rw t (omega arith)))
       (λ f. rw f (r.within name));
+  taken = λ name. split (name == who)
+      (λ t. (let old = r.taken who in let z = r.within who in rw t (omega arith)))
+      (λ f. rw f (r.taken name));
   true_ = λ name few concerned. split (name == who)
       (λ t. λ above. (let same : name ≡ who = grind (arith, nat_tests) in
       let k = (reported reports who (record { stored = length list; taken = taken }) name).stored in
@@ -147,7 +151,9 @@ pub refresh_accepts : RefreshAccepts
 unfolding refresh
 refresh_accepts v i x a node stands leads may among =
     let long = long_all v i x a stands in
-    let r = own_reporting node a.list x.core.base x.core.who x.core.taken x.reports among.own among.reports in
+    let taken = may.taken in
+    let within = may.within in
+    let r = own_reporting node a.list x.core.base x.core.who x.core.taken x.reports (omega arith) among.own among.reports in
     let same : reported x.reports x.core.who (record { stored = length a.list; taken = x.core.taken }) ≡ reported x.reports x.core.who (nodes.report_of x) =
     ap (λ k. reported x.reports x.core.who (record { stored = k; taken = x.core.taken })) long in
     let held = front_held v i x a node _ stands may (subst (Reporting node a.list x.core.base) same r) among.blank in

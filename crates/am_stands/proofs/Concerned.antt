@@ -19,7 +19,7 @@ use Rattle.am_stands.proofs.Parts.{number_low}
 
 -- ---- who is a member after an entry that is no View
 
-no_view : (e : Entry) → NotView e → is_view e ≡ false
+pub no_view : (e : Entry) → NotView e → is_view e ≡ false
 no_view (Data from req body) h = refl
 no_view (Join name) h = refl
 no_view (Leave name) h = refl
@@ -58,6 +58,7 @@ pub reporting_push : (node after_ : ℕ → groups.Node) (list : List Entry) (e 
     → Reporting node list base reports → Reporting after_ (list ++ e ∷ []) base reports
 reporting_push node after_ list e base reports plain grow fresh r = record {
   within = λ name. (let low = r.within name in let more = length_push list e in omega arith);
+  taken = r.taken;
   true_ = λ name few concerned above. ⊎_elim
       (λ (z : IsConcerned list name). subst (λ l. Begins l (after_ name).list) (sym (taken_more (reports name).stored list (list ++ e ∷ []) (begins_more list (e ∷ [])) (r.within name)))
       (begins_trans (r.true_ name few z above) (grow name)))

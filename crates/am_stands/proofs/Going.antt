@@ -25,8 +25,8 @@ use Rattle.am_model.specs.World.{World}
 use Rattle.am_model.proofs.Greatest.{and_both}
 use Rattle.am_stands.specs.Standing.{NameStands, FrontsStand}
 use Rattle.am_stands.specs.Letters as letters
-use Rattle.am_stands.specs.Letters.{GoneSays, has_stopped}
-use Rattle.am_stands.specs.States.{ReportsStand, LeftOut, Trimmed}
+use Rattle.am_stands.specs.Letters.{Trimmed, GoneSays, has_stopped}
+use Rattle.am_stands.specs.States.{ReportsStand, LeftOut}
 use Rattle.am_stands.proofs.Changes.{told_all, long_all}
 use Rattle.am_stands.proofs.Leaving.{LeavesAt, by_leave, by_view, leaves_at}
 use Rattle.am_stands.proofs.Parts.{image_whole, number_low}
@@ -36,7 +36,7 @@ use Rattle.am_stands.proofs.Votes.{only_one}
 -- ---- who is concerned, by numbers
 
 -- a member at each number from what is accepted on is one of those whose reports hold back
-concerned_has : (v : World) (i : ℕ) (n : Node) (a : groups.Node) (j : ℕ) → NameStands v i n a → n.core.log.start ≤ n.core.acc → n.core.acc ≤ nodes.top n
+pub concerned_has : (v : World) (i : ℕ) (n : Node) (a : groups.Node) (j : ℕ) → NameStands v i n a → n.core.log.start ≤ n.core.acc → n.core.acc ≤ nodes.top n
     → ((k : ℕ) → n.core.acc ≤ k → k ≤ nodes.top n → mem (take k a.list) j ≡ true) → has (concerned n) j ≡ true
 unfolding mem
 concerned_has v i n a j h low high each =
@@ -53,7 +53,7 @@ concerned_has v i n a j h low high each =
     let is : slice_index (unions log acc more) place ≡ life_of j = omega arith in
     grind (arith, nat_tests)
 
-concerned_long : (v : World) (i : ℕ) (n : Node) (a : groups.Node) → NameStands v i n a → n.core.log.start ≤ n.core.acc → length (concerned n) ≡ 16
+pub concerned_long : (v : World) (i : ℕ) (n : Node) (a : groups.Node) → NameStands v i n a → n.core.log.start ≤ n.core.acc → length (concerned n) ≡ 16
 concerned_long v i n a h low =
     unions_long n.core.log n.core.acc (top_of n.core.log - n.core.acc)
     (ap (λ (g : Image). length g.rows) (image_whole v i n.core.acc n a h low) ∙ long_told (take n.core.acc a.list))

@@ -27,7 +27,7 @@ use Rattle.am_effects.specs.Changes.{MayStore, Numbers, asked_send, own_send, as
 use Rattle.am_laws.proofs.Stamps.{same_stamp}
 use Rattle.am_laws.proofs.Taken.{known_member, leave_fits}
 use Rattle.am_stands.specs.Standing.{NameStands, within}
-use Rattle.am_stands.specs.Letters.{line, IsDecided, EntrySays, OrderSays, LeaverSays, ResultSays}
+use Rattle.am_stands.specs.Letters.{line, IsDecided, EntrySays, OrderSays, LeaverSays, of_view, before_it, ResultSays}
 use Rattle.am_stands.specs.States.{BodiesAsked, SendsOnce}
 use Rattle.am_stands.specs.Steps.{NeedsNumber, IsOthers, NeedsEntry}
 use Rattle.am_stands.proofs.Changes.{told_whole, long_all, is_up}
@@ -130,13 +130,17 @@ number_fits c x e long own (own_send q is last) = own q is last
 number_fits c x e long own (asked_join from v is other f) = f
 number_fits c x e long own (asked_leave from v report is other known stays) = leave_fits (nodes.told x) from (known_member x from long known (let z = stays in grind (arith, nat_tests)))
 
+leaves_of : (s : Group) (from : ℕ) (v : Stamp) (report : Report) → LeaverSays s from v report → (s.node from).leaving ≡ true
+leaves_of s from v report (of_view leaves h) = leaves
+leaves_of s from v report (before_it leaves h) = leaves
+
 number_may : (name : ℕ) (c : Cause) (x : Node) (e : Entry) (s : Group) → x.core.who ≡ name
     → ((from : ℕ) (v : Stamp) (report : Report) → c ≡ hears (packet.LeaveAsk from v report) → LeaverSays s from v report) → Numbers c x e
     → MayNumber s.node name e
 number_may name c x e s who asks (asked_send from v report req body by known stays next) = tt
 number_may name c x e s who asks (own_send q is last) = tt
 number_may name c x e s who asks (asked_join from v is other f) = tt
-number_may name c x e s who asks (asked_leave from v report is other known stays) = ((asks from v report is).leaves, λ same. (let z : (from == x.core.who) ≡ true = grind (arith, nat_tests) in cc))
+number_may name c x e s who asks (asked_leave from v report is other known stays) = (leaves_of s from v report (asks from v report is), λ same. (let z : (from == x.core.who) ≡ true = grind (arith, nat_tests) in cc))
 
 pub number_needs : (w : World) (name : ℕ) (c : Cause) (x : Node) (e : Entry) (s : Group) → Kept s → x.core.who ≡ name → is_stopped w name ≡ false
     → NameStands (within w name x) name x (s.node name) → IsLeading name x (s.node name) → length (nodes.told x).rows ≡ 16

@@ -128,7 +128,7 @@ some_was (Join name) good = (name, joined_in [] name)
 some_was (Leave name) good = absurd (mem_nil name (last_fits [] (Leave name) good))
 some_was (View stamp names resilience) good = (stamp.by, viewed_mem [] stamp names resilience stamp.by good (view_parts (told []) stamp names resilience (last_fits [] (View stamp names resilience) good)).by)
 
-blank_nil : (list : List Entry) → IsGood list → is_blank (told list) ≡ true → list ≡ []
+pub blank_nil : (list : List Entry) → IsGood list → is_blank (told list) ≡ true → list ≡ []
 blank_nil [] good blank_ = refl
 blank_nil (e ∷ es) good blank_ = absurd (
     let front = begins_more (e ∷ []) es in

@@ -152,6 +152,7 @@ module _ (w : World) (s : Group) (name heard : ℕ) (x : Node) (k : Kept s) (h :
         good = good_push a.list (Leave name) may.good (leave_fits (told a.list) name member) tt;
         kept = may.kept;
         base = may.base;
+        taken = may.taken;
         within = omega arith;
         sets = sets;
       }

@@ -16,7 +16,7 @@ use Rattle.am_chain_lists.proofs.Prefixes.{begins_trans, begins_take, begins_bot
 use Rattle.am_chain_moves.specs.Group.{Group, Chosen, IsThere}
 use Rattle.am_model.specs.World.{World}
 use Rattle.am_effects.proofs.Items.{get_front}
-use Rattle.am_stands.specs.Letters.{line, AllShown, SequencerSays, EntrySays, WasAsked, ReportSays, LeaverSays, WelcomeSays, WelcomeTo, has_begun, has_gone, has_left, is_leaving, may_begin, GoneSays, has_stopped, may_go, VoteSays, own, tells, over as over_vote, FetchSays, for_ballot, of_promise, PieceSays, of_line, of_shown, over}
+use Rattle.am_stands.specs.Letters.{line, AllShown, Trimmed, SequencerSays, EntrySays, WasAsked, ReportSays, LeaverSays, of_view, before_it, WelcomeSays, WelcomeTo, has_begun, has_gone, has_left, is_leaving, may_begin, GoneSays, has_stopped, may_go, VoteSays, own, tells, over as over_vote, FetchSays, for_ballot, of_promise, PieceSays, of_line, of_shown, over}
 use Rattle.am_stands.specs.Growing.{NewView, Grows, LettersStay}
 use Rattle.am_stands.proofs.Ends.{taken_more}
 
@@ -56,6 +56,22 @@ module _ (w v : World) (s t : Group) (g : Grows s t) (more : (rest : List Record
   asked_stays : (name req : ℕ) (body : List ℕ) → WasAsked w name req body → WasAsked v name req body
   asked_stays name req body h = record { index = h.index; done = h.done; there = ap (λ l. slice_get l h.index) more.1 ∙ get_front w.records more.0 h.index h.done h.there; is = h.is }
 
+  trimmed_stays : (base : ℕ) → Trimmed s base → Trimmed t base
+  trimmed_stays base h =
+      let low = h.accepted in
+      let up = begins_length g.group in
+      let same = taken_more base s.group t.group g.group h.accepted in
+      record {
+        accepted = omega arith;
+        stored = λ j there stays member. subst (λ l. Begins l (t.node j).list) (sym same)
+            (begins_trans (h.stored j (there_before j there) (not_before (s.node j).leaving (t.node j).leaving (g.each j).leaving stays)
+            (subst (λ l. mem l j ≡ true) same member)) (g.each j).list);
+      }
+    where
+      not_before : (a b : Bool) → (a ≡ true → b ≡ true) → b ≡ false → a ≡ false
+      not_before true b f k = absurd (let z = f refl in cc)
+      not_before false b f k = refl
+
   sequencer_stays : (i : ℕ) (u : Stamp) (acc : ℕ) → SequencerSays s i u acc → SequencerSays t i u acc
   sequencer_stays i u acc h =
       let low = h.accepted in
@@ -87,17 +103,29 @@ module _ (w v : World) (s t : Group) (g : Grows s t) (more : (rest : List Record
       }
 
   leaver_stays : (i : ℕ) (u : Stamp) (report : Report) → LeaverSays s i u report → LeaverSays t i u report
-  leaver_stays i u report h =
+  leaver_stays i u report (of_view leaves h) = of_view ((g.each i).leaving leaves) (report_stays i u report h)
+  leaver_stays i u report (before_it leaves h) =
       let low = h.within in
       let up = begins_length (g.each i).list in
-      record {
-        leaves = (g.each i).leaving h.leaves;
+      let accepted = h.accepted in
+      let more = begins_length g.group in
+      let same = taken_more h.join s.group t.group g.group h.accepted in
+      before_it ((g.each i).leaving leaves) (record {
         within = omega arith;
-        begins = λ d member. part_stays (s.node i).list (t.node i).list report.stored (line t u) (g.each i).list h.within (⊎_elim
-            (λ (old : s.views.decided (key u) ≡ true). begins_trans (h.begins old (subst (λ (c : Chosen). has c.members i ≡ true) (g.decided (key u) old).1 member)) (g.lines (key u) old))
-            (λ (new : NewView s t (key u)). part_begins (s.node i).list (line t u) report.stored (new.leavers i h.leaves member))
+        join = h.join;
+        accepted = omega arith;
+        joined = subst (λ l. mem l i ≡ true) (sym same) h.joined;
+        later = λ d. subst (λ l. Begins l (t.views.chosen (key u)).before) (sym same) (⊎_elim
+            (λ (old : s.views.decided (key u) ≡ true).
+            subst (λ (c : Chosen). Begins (take h.join s.group) c.before) (sym (g.decided (key u) old).1) (h.later old))
+            (λ (new : NewView s t (key u)). part_begins s.group (t.views.chosen (key u)).before h.join new.accepted)
             (g.new (key u) d));
-      }
+        begins = λ d member. part_stays (s.node i).list (t.node i).list report.stored (line t u) (g.each i).list h.within (⊎_elim
+            (λ (old : s.views.decided (key u) ≡ true).
+            begins_trans (h.begins old (subst (λ (c : Chosen). has c.members i ≡ true) (g.decided (key u) old).1 member)) (g.lines (key u) old))
+            (λ (new : NewView s t (key u)). part_begins (s.node i).list (line t u) report.stored (new.leavers i leaves member))
+            (g.new (key u) d));
+      })
 
   welcome_stays : (i : ℕ) (u : Stamp) (base join : ℕ) (image : Image) (name : ℕ) → WelcomeSays s i u base join image name
       → WelcomeSays t i u base join image name
@@ -167,24 +195,25 @@ module _ (w v : World) (s t : Group) (g : Grows s t) (more : (rest : List Record
 pub letters_stay : LettersStay
 letters_stay w v s t to (Request i u report req body) more g h = record { reports = report_stays w v s t g more i u report h.reports; asked = asked_stays w v s t g more i req body h.asked }
 letters_stay w v s t to (Spread i u report req body) more g h = record { reports = report_stays w v s t g more i u report h.reports; asked = asked_stays w v s t g more i req body h.asked }
-letters_stay w v s t to (Bcast i u base acc number e) more g h = entry_stays w v s t g more i u acc number e h
-letters_stay w v s t to (Order i u base acc number from req) more g h = record { body = h.body; entry = entry_stays w v s t g more i u acc number (Data from req h.body) h.entry; asked = asked_stays w v s t g more from req h.body h.asked }
-letters_stay w v s t to (Accept i u base acc high poll) more g h = sequencer_stays w v s t g more i u acc h
+letters_stay w v s t to (Bcast i u base acc number e) more g h = (trimmed_stays w v s t g more base h.0, entry_stays w v s t g more i u acc number e h.1)
+letters_stay w v s t to (Order i u base acc number from req) more g h = (trimmed_stays w v s t g more base h.0, (let k = h.1 in
+    record { body = k.body; entry = entry_stays w v s t g more i u acc number (Data from req k.body) k.entry; asked = asked_stays w v s t g more from req k.body k.asked }))
+letters_stay w v s t to (Accept i u base acc high poll) more g h = (trimmed_stays w v s t g more base h.0, sequencer_stays w v s t g more i u acc h.1)
 letters_stay w v s t to (Ack i u report) more g h = report_stays w v s t g more i u report h
 letters_stay w v s t to (Nack i u report) more g h = report_stays w v s t g more i u report h
 letters_stay w v s t to (Hold i u base high req) more g h = tt
 letters_stay w v s t to (JoinAsk i u) more g h = tt
-letters_stay w v s t to (Welcome i u base join image) more g h = λ name in_. welcome_to_stays w v s t g more i u base join image name (h name in_)
+letters_stay w v s t to (Welcome i u base join image) more g h = (trimmed_stays w v s t g more base h.0, λ name in_. welcome_to_stays w v s t g more i u base join image name (h.1 name in_))
 letters_stay w v s t to (LeaveAsk i u report) more g h = leaver_stays w v s t g more i u report h
 letters_stay w v s t to (Gone i u number) more g h = λ name in_. gone_stays w v s t g more number name (h name in_)
 letters_stay w v s t to (Invite i u) more g h = tt
 letters_stay w v s t to (VoteOf i u shown) more g h = vote_stays w v s t g more i u shown h
 letters_stay w v s t to (Fetch i u stored) more g h = fetch_stays w v s t g more i u to h
-letters_stay w v s t to (Piece i u base number e) more g h = piece_stays w v s t g more i u number e h
-letters_stay w v s t to (Result i u base number names resilience) more g h = λ own. (let k = h own in
+letters_stay w v s t to (Piece i u base number e) more g h = (trimmed_stays w v s t g more base h.0, piece_stays w v s t g more i u number e h.1)
+letters_stay w v s t to (Result i u base number names resilience) more g h = (trimmed_stays w v s t g more base h.0, λ own. (let k = h.1 own in
     record {
       by = k.by;
       decided = decided_stays w v s t g more (key u) k.decided;
       stands = item_stays (line s u) (line t u) number (View u names resilience) (g.lines (key u) k.decided) k.stands;
-    })
+    }))
 letters_stay w v s t to (HandOver i u) more g h = tt

@@ -35,3 +35,5 @@ pub mod Leaving
 pub mod Going
 pub mod Sending
 pub mod Branches
+pub mod Reporting
+pub mod Trimming

@@ -78,7 +78,7 @@ need_whole v i n x a h low set =
 plain_number : (a : List Entry) (e : Entry) → is_view e ≡ false → (told (a ++ e ∷ [])).view_number ≡ (told a).view_number
 plain_number a e f = ap (λ (g : Image). g.view_number) (told_push a e) ∙ (after_same (told a) (1 + length a) e f).number
 
-view_its : (image : Image) (number : ℕ) (e : Entry) → is_view e ≡ true → (after image number e).view_number ≡ number
+pub view_its : (image : Image) (number : ℕ) (e : Entry) → is_view e ≡ true → (after image number e).view_number ≡ number
 unfolding after
 view_its image number (Data from req body) t = absurd (cc)
 view_its image number (Join name) t = absurd (cc)

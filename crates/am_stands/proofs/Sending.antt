@@ -1,5 +1,5 @@
 -- Each letter that is sent is so.
-use Rattle.std.proofs.Common.{◌≡◌, ◌≢◌, ℕ, ◌<◌, ◌≤◌, ◌==◌, ◌&&◌, ◌||◌, true, false, List, [], ◌∷◌, length, refl, sym, ap, ◌∙◌, subst, arith}
+use Rattle.std.proofs.Common.{◌≡◌, ◌≢◌, ℕ, ◌<◌, ◌≤◌, ◌==◌, ◌&&◌, ◌||◌, true, false, List, [], ◌∷◌, length, take, refl, sym, ap, ◌∙◌, subst, arith}
 use Rattle.std.proofs.lemmas.Bool.Decides.{nat_tests}
 use Rattle.std.proofs.lemmas.Option.{slice_get_within}
 use Rattle.am_base.specs.declared.entry.Entry.{Entry}
@@ -11,10 +11,11 @@ use Rattle.am_base.specs.Stamps.{stamp_eq, no_stamp}
 use Rattle.am_base.specs.Lists.{row_of, entry_at, image_at, fold}
 use Rattle.am_packet.specs.declared.packet.Packet.{Packet}
 use Rattle.am_packet.specs.declared.packet.Packet.TheVariants as packet
-use Rattle.am_chain_lists.specs.Whole.{Begins, view_of, key}
+use Rattle.am_chain_lists.specs.Whole.{Begins, mem, view_of, key}
 use Rattle.am_chain_lists.proofs.Members.{good_begins}
 use Rattle.am_chain_lists.proofs.Order.{key_by}
-use Rattle.am_chain_moves.specs.Group.{Group, opening}
+use Rattle.am_chain_moves.specs.Group as groups
+use Rattle.am_chain_moves.specs.Group.{Group, IsThere, opening}
 use Rattle.am_model.specs.declared.status.Status.{Status}
 use Rattle.am_model.specs.declared.status.Status.TheVariants as status
 use Rattle.am_model.specs.Node as nodes
@@ -34,7 +35,7 @@ use Rattle.am_laws.proofs.Stamps.{same_stamp}
 use Rattle.am_stands.specs.Letters as says
 use Rattle.am_stands.specs.Letters.{line, IsDecided, AllShown, FetchSays, PacketSays, ResultSays}
 use Rattle.am_stands.specs.Moving.{none, Leads}
-use Rattle.am_stands.specs.Sending.{KeptWhole, Sender, SaysSo, SentSays}
+use Rattle.am_stands.specs.Sending.{KeptWhole, Sender, ShowsMore, SaysSo, SentSays}
 use Rattle.am_stands.proofs.Changes.{told_all, long_all}
 use Rattle.am_stands.proofs.Entries.{key_stamp}
 use Rattle.am_stands.proofs.Going.{gone_says}
@@ -200,14 +201,21 @@ module _ (v : World) (i : ℕ) (c : Cause) (m n : Node) (s : Group) (h : Sender 
 
 -- ---- each letter
 
+trimmed_same : (s t : Group) (base : ℕ) → ShowsMore s t → says.Trimmed s base → says.Trimmed t base
+trimmed_same s t base same h = record {
+  accepted = subst (λ l. base ≤ length l) (sym same.group_) h.accepted;
+  stored = λ j. subst (λ (f : ℕ → groups.Node). IsThere (f j) → (f j).leaving ≡ false → mem (take base t.group) j ≡ true → Begins (take base t.group) (f j).list) (sym same.node)
+      (subst (λ l. IsThere (s.node j) → (s.node j).leaving ≡ false → mem (take base l) j ≡ true → Begins (take base l) (s.node j).list) (sym same.group_) (h.stored j));
+}
+
 pub sent_says : SentSays
 sent_says v i c m n s to p h (request _ req body a f has_it) = so v i c m n s h to _ (sends_own v i c m n s h to req body a has_it)
 sent_says v i c m n s to p h (spread _ req body a f has_it) = so v i c m n s h to _ (sends_own v i c m n s h to req body a has_it)
-sent_says v i c m n s to p h (bcast _ number e t at) = so v i c m n s h to _ (subst (λ j. says.EntrySays s j n.core.promise n.core.acc number e) (sym h.who) (numbered v i c m n s h number e t at))
+sent_says v i c m n s to p h (bcast _ number e t at) = so v i c m n s h to _ (h.trimmed, subst (λ j. says.EntrySays s j n.core.promise n.core.acc number e) (sym h.who) (numbered v i c m n s h number e t at))
 sent_says v i c m n s to p h (order _ number from req u report body is t at) = so v i c m n s h to _
-    (subst (λ j. says.OrderSays v s j n.core.promise n.core.acc number from req) (sym h.who)
+    (h.trimmed, subst (λ j. says.OrderSays v s j n.core.promise n.core.acc number from req) (sym h.who)
     (record { body = body; entry = numbered v i c m n s h number (Data from req body) t at; asked = h.sends.numbered at.index from req body at.there }))
-sent_says v i c m n s to p h (accept _ poll t) = so v i c m n s h to _ (subst (λ j. says.SequencerSays s j n.core.promise n.core.acc) (sym h.who) (sequencer v i c m n s h t))
+sent_says v i c m n s to p h (accept _ poll t) = so v i c m n s h to _ (h.trimmed, subst (λ j. says.SequencerSays s j n.core.promise n.core.acc) (sym h.who) (sequencer v i c m n s h t))
 sent_says v i c m n s to p h (ack _ a) = so v i c m n s h to _ (subst (λ j. says.ReportSays s j n.core.promise (nodes.report_of n)) (sym h.who) (reports v i c m n s h a))
 sent_says v i c m n s to p h (nack _ a) = so v i c m n s h to _ (subst (λ j. says.ReportSays s j n.core.promise (nodes.report_of n)) (sym h.who) (reports v i c m n s h a))
 sent_says v i c m n s to p h (hold _ from u report req body by t) = so v i c m n s h to _ tt
@@ -217,9 +225,9 @@ sent_says v i c m n s to p h (welcome name t may) =
     let base = h.numbers.base in
     let taken = h.numbers.taken in
     let is = is_welcomed v i m n (s.node i) name h.stands good h.lives h.numbers.start h.numbers.accepted may in
-    so v i c m n s h (only_name name) _ (λ j in_.
+    so v i c m n s h (only_name name) _ (h.trimmed, λ j in_.
     subst (λ k. says.WelcomeTo s k n.core.promise n.core.base (row_of (nodes.told n) name).joined (image_at n.core.log n.core.base) j) (sym h.who)
-    (welcome_says v i n s name (speaks_leading v i c m n s h t) t h.fronts h.numbers.kept (omega arith) is (h.leader t).trimmed j in_))
+    (welcome_says v i n s name (speaks_leading v i c m n s h t) t h.fronts h.numbers.kept (omega arith) is h.trimmed j in_))
 sent_says v i c m n s to p h (leave_ask _ member leaves) = so v i c m n s h to _
     (subst (λ j. says.LeaverSays s j n.core.promise (nodes.report_of n)) (sym h.who) (leaver_said v i n s (speaks v i c m n s h member) leaves))
 sent_says v i c m n s to p h (gone name t may) =
@@ -235,7 +243,7 @@ sent_says v i c m n s to p h (gone name t may) =
       within = h.numbers.within;
       names = l.names;
       reports = l.reports;
-      trimmed = l.trimmed;
+      trimmed = h.trimmed;
       left_out = h.group.left_out;
     }) may)
 sent_says v i c m n s to p h (invite _ may) = so v i c m n s h to _ tt
@@ -254,8 +262,8 @@ sent_says v i c m n s to p h (piece from u stored number e is may at) =
     record {
       to = r.to;
       path = r.path;
-      is = record { same = r.is.same; says = subst (λ j. says.PieceSays r.to j n.core.promise number e) (sym h.who) r.is.says };
+      is = record { same = r.is.same; says = (trimmed_same s r.to n.core.base r.is.same h.trimmed, subst (λ j. says.PieceSays r.to j n.core.promise number e) (sym h.who) r.is.says) };
     }
 sent_says v i c m n s to p h (result _ number names is viewed may) = so v i c m n s h to _
-    (λ mine. subst (λ j. ResultSays s j n.core.promise number names (nodes.told n).resilience) (sym h.who) (told_result v i c m n s h number names is viewed may (mine ∙ h.who)))
+    (h.trimmed, λ mine. subst (λ j. ResultSays s j n.core.promise number names (nodes.told n).resilience) (sym h.who) (told_result v i c m n s h number names is viewed may (mine ∙ h.who)))
 sent_says v i c m n s to p h (hand_over _ t leaves) = so v i c m n s h to _ tt

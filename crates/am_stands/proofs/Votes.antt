@@ -90,11 +90,11 @@ best_low x b own none small views j vote few is =
 
 -- ---- who is needed
 
-some_vote : (o : Option Vote) → is_some o ≡ true → (v : Vote) × (o ≡ Some v)
+pub some_vote : (o : Option Vote) → is_some o ≡ true → (v : Vote) × (o ≡ Some v)
 some_vote None h = absurd (cc)
 some_vote (Some v) h = (v, refl)
 
-voted : (who j : ℕ) (b : Ballot) → is_waited_for who b j ≡ false → b.given_up j ≡ false → (j == who) ≡ false → is_some (b.votes j) ≡ true
+pub voted : (who j : ℕ) (b : Ballot) → is_waited_for who b j ≡ false → b.given_up j ≡ false → (j == who) ≡ false → is_some (b.votes j) ≡ true
 voted who j b waits stays other = split (is_some (b.votes j))
     (λ t. t)
     (λ f. absurd (
@@ -102,7 +102,7 @@ voted who j b waits stays other = split (is_some (b.votes j))
     let z : (not (has_voted who b j) && not (b.given_up j)) ≡ true = rw (v, stays) refl in
     cc))
 
-not_waited : (x : Node) (b : Ballot) (j : ℕ) → nat_lt 0 (size (those (is_waited_for x.core.who b) (need_of x b))) ≡ false → has (need_of x b) j ≡ true
+pub not_waited : (x : Node) (b : Ballot) (j : ℕ) → nat_lt 0 (size (those (is_waited_for x.core.who b) (need_of x b))) ≡ false → has (need_of x b) j ≡ true
     → is_waited_for x.core.who b j ≡ false
 not_waited x b j none needed = split (is_waited_for x.core.who b j)
     (λ t. absurd (let some = some_left (is_waited_for x.core.who b) (need_of x b) j needed t in let z : nat_lt 0 (size (those (is_waited_for x.core.who b) (need_of x b))) ≡ true = grind (arith, nat_tests) in cc))

@@ -21,8 +21,7 @@ use Rattle.am_model.specs.World.{World}
 use Rattle.am_model.proofs.Greatest.{split}
 use Rattle.am_effects.specs.Letters.{MayWelcome, just_joined, asks_again}
 use Rattle.am_stands.specs.Standing.{NameStands, FrontsStand}
-use Rattle.am_stands.specs.Letters.{WelcomeSays, WelcomeTo, has_begun, has_gone, has_left, is_leaving, may_begin}
-use Rattle.am_stands.specs.States.{Trimmed}
+use Rattle.am_stands.specs.Letters.{Trimmed, WelcomeSays, WelcomeTo, has_begun, has_gone, has_left, is_leaving, may_begin}
 use Rattle.am_stands.specs.Sending.{RowsLive}
 use Rattle.am_stands.proofs.Changes.{told_all, long_all}
 use Rattle.am_stands.proofs.Ends.{taken_more}

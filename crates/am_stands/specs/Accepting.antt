@@ -25,7 +25,8 @@ CountsNames x = (n : ℕ) → IsSet (counted_at x.core.log n)
 pub record MayCount (x : Node) (list : List Entry) : Type 0 where
   pub good : IsGood list
   pub kept : x.core.log.start ≤ x.core.base
-  pub base : x.core.base ≤ x.core.acc
+  pub base : x.core.base ≤ x.core.taken
+  pub taken : x.core.taken ≤ x.core.acc
   pub within : x.core.acc ≤ top x
   pub sets : CountsNames x
 

@@ -18,9 +18,9 @@ use Rattle.am_effects.specs.Causes.{Cause, hears}
 use Rattle.am_effects.specs.Looks.{HasOpen}
 use Rattle.am_effects.specs.Letters.{HasSend, MayWelcome, Says}
 use Rattle.am_stands.specs.Standing.{NameStands, FrontsStand, ViewsStand}
-use Rattle.am_stands.specs.Letters.{AllShown, WasAsked, FetchSays, PacketSays}
+use Rattle.am_stands.specs.Letters.{Trimmed, AllShown, WasAsked, FetchSays, PacketSays}
 use Rattle.am_stands.specs.Moving.{Leads}
-use Rattle.am_stands.specs.States.{OwnDecided, ReportsStand, LinesOpen, RoundsOk, LeftOut, Trimmed}
+use Rattle.am_stands.specs.States.{OwnDecided, ReportsStand, LinesOpen, RoundsOk, LeftOut}
 
 -- a life of a place where somebody joined isn't none
 abbrev pub RowsLive : Node → Type 0
@@ -46,7 +46,6 @@ pub record NumbersStand (m n : Node) : Type 0 where
 pub record LeaderStands (s : Group) (i : ℕ) (n : Node) : Type 0 where
   pub names : (j : ℕ) → has (concerned n) j ≡ true → j < 256
   pub reports : ReportsStand s i n
-  pub trimmed : Trimmed s n.core.base
   -- its last View stands in its log
   pub viewed : n.core.log.start < (told n).view_number
 
@@ -73,6 +72,7 @@ pub record Sender (v : World) (i : ℕ) (c : Cause) (m n : Node) (s : Group) : T
   pub small : n.core.promise.by < 256
   pub begun : key n.core.promise ≤ key (s.node n.core.promise.by).promise
   pub lives : RowsLive n
+  pub trimmed : Trimmed s n.core.base
   pub numbers : NumbersStand m n
   pub leader : is_sequencer n ≡ true → LeaderStands s i n
   pub ballots : BallotStands s i n

@@ -1,20 +1,24 @@
 -- What states keep besides what they share with the group.
-use Rattle.std.specs.Prelude.{◌≡◌, ◌≢◌, ℕ, ◌<◌, ◌≤◌, List, [], ◌∷◌, ◌++◌, length, take, Option, Some, None, true, false}
+use Rattle.std.specs.Prelude.{◌≡◌, ◌≢◌, ◌⊎◌, ℕ, ◌<◌, ◌≤◌, List, [], ◌∷◌, ◌++◌, length, take, Option, Some, None, true, false}
 use Rattle.am_base.specs.declared.image.Report.{Report}
 use Rattle.am_base.specs.declared.image.Vote.{Vote}
 use Rattle.am_base.specs.declared.entry.Entry.{Entry}
 use Rattle.am_base.specs.declared.entry.Entry.TheVariants.{View}
 use Rattle.am_base.specs.declared.name.Stamp.{Stamp}
 use Rattle.am_base.specs.declared.outcome.Outcome.TheVariants as said
-use Rattle.am_base.specs.Names.{has}
+use Rattle.am_base.specs.declared.image.Image.{Image}
+use Rattle.am_base.specs.Names.{life_of, has}
+use Rattle.am_base.specs.Lists.{at_place}
 use Rattle.am_chain_lists.specs.Whole.{Begins, told, mem, view_of, key}
 use Rattle.am_chain_moves.specs.Group as groups
-use Rattle.am_chain_moves.specs.Group.{Group, IsThere, opening, chain_of}
-use Rattle.am_model.specs.Node.{Node, Ballot}
+use Rattle.am_chain_moves.specs.Group.{Group, opening, chain_of}
+use Rattle.am_model.specs.Node as nodes
+use Rattle.am_model.specs.Node.{Node, Ballot, is_member}
+use Rattle.am_model.specs.Calls.{is_unfinished}
 use Rattle.am_chain_moves.specs.Runs.{Run}
 use Rattle.am_model.specs.Receiving.{body_of}
 use Rattle.am_model.specs.World.{World}
-use Rattle.am_stands.specs.Letters.{VoteTells, IsDecided, WasAsked, line}
+use Rattle.am_stands.specs.Letters.{VoteTells, AllShown, IsDecided, WasAsked, line}
 
 -- besides what LinesOpen has of the list of who is up: its view isn't above its promise, and it opens with what its view chose
 pub record ListStands (s : Group) (i : ℕ) : Type 0 where
@@ -42,11 +46,29 @@ pub record IsConcerned (list : List Entry) (name : ℕ) : Type 0 where
 -- joins again, it need not be.
 pub record Reporting (node : ℕ → groups.Node) (list : List Entry) (base : ℕ) (reports : ℕ → Report) : Type 0 where
   pub within : (name : ℕ) → (reports name).stored ≤ length list
+  pub taken : (name : ℕ) → (reports name).taken ≤ (reports name).stored
   pub true_ : (name : ℕ) → name < 256 → IsConcerned list name → base < (reports name).stored
       → Begins (take (reports name).stored list) (node name).list
 
 abbrev pub ReportsStand : Group → ℕ → Node → Type 0
 ReportsStand s i m = Reporting s.node (s.node i).list m.core.base m.reports
+
+-- no Join of this name could have come: nobody joined at its place, or a life before it
+abbrev pub IsNew : Image → ℕ → Type 0
+IsNew image name = ((at_place image name).joined ≡ 0) ⊎ ((at_place image name).life < life_of name)
+
+-- what such a name reported, if it did, is no more than the base
+abbrev pub ReportsFresh : Node → Type 0
+ReportsFresh m = (name : ℕ) → IsNew (nodes.told m) name → (m.reports name).stored ≤ m.core.base
+
+-- an unfinished ballot that fetches has been shown all that it needs
+abbrev pub FetchesStand : Group → Option Ballot → Type 0
+FetchesStand s None = Unit {0}
+FetchesStand s (Some b) = b.is_over ≡ false → (from want : ℕ) → b.answer ≡ said.Fetching from want → AllShown s b.stamp from
+
+-- and is of a member that isn't leaving
+abbrev pub OpensStand : Node → Type 0
+OpensStand m = is_unfinished m.ballot ≡ true → (is_member m.status ≡ true) × (m.leaving ≡ false)
 
 -- at a decision each other name of the View, whether it stopped or not, had shown a beginning of what was chosen
 pub record ChosenShown (s : Group) (x : ℕ) : Type 0 where
@@ -98,11 +120,3 @@ LeftOut s = (a : List Entry) (v : Stamp) (names : List ℕ) (resilience name : �
 -- in every lawful run of the group
 abbrev pub RunsLeaveOut : Type 0
 RunsLeaveOut = (founders : List ℕ) (first resilience : ℕ) (s : Group) → Run founders first resilience s → LeftOut s
-
--- ---- what is trimmed
-
--- what is accepted up to here is stored by each name that was a member by then, is there, and isn't leaving
-pub record Trimmed (s : Group) (base : ℕ) : Type 0 where
-  pub accepted : base ≤ length s.group
-  pub stored : (j : ℕ) → IsThere (s.node j) → (s.node j).leaving ≡ false → mem (take base s.group) j ≡ true
-      → Begins (take base s.group) (s.node j).list
