@@ -115,7 +115,7 @@ result_needs w name from above base number x v names resilience s k who runs old
 
 -- ---- what a sequencer numbers
 
-fits_data : (image : Image) (name req : ℕ) (body : List ℕ) → has (members_of image) name ≡ true → req ≡ (row_of image name).last + 1
+pub fits_data : (image : Image) (name req : ℕ) (body : List ℕ) → has (members_of image) name ≡ true → req ≡ (row_of image name).last + 1
     → fits image (Data name req body) ≡ true
 unfolding fits
 fits_data image name req body member next = let t : (req == (row_of image name).last + 1) ≡ true = grind (arith, nat_tests) in rw (member, t) refl

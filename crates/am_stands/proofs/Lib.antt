@@ -37,3 +37,4 @@ pub mod Sending
 pub mod Branches
 pub mod Reporting
 pub mod Trimming
+pub mod Requests

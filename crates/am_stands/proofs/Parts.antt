@@ -28,7 +28,7 @@ use Rattle.am_stands.proofs.Counting.{names_few}
 
 -- ---- by numbers
 
-part_get : (front entries : List Entry) (i : ℕ) → slice_get (front ++ entries) (length front + i) ≡ slice_get entries i
+pub part_get : (front entries : List Entry) (i : ℕ) → slice_get (front ++ entries) (length front + i) ≡ slice_get entries i
 part_get front entries i = sym (slice_get-drop (length front) i (front ++ entries)) ∙ ap (λ l. slice_get l i) (drop-append_seam front entries)
 
 pub image_whole : (v : World) (i n : ℕ) (x : Node) (a : groups.Node) → NameStands v i x a → x.core.log.start ≤ n
