@@ -25,7 +25,7 @@ use Rattle.am_chain_moves.proofs.Nodes.{own_above}
 use Rattle.am_chain.proofs.Heart.{ballot_ok, list_chain, group_in}
 use Rattle.am_chain.proofs.Decide.{group_low}
 use Rattle.am_stands.specs.Growing.{NewView, DecidesNew}
-use Rattle.am_stands.specs.Branches.{OnBranch, on_chain, left_out, BranchesOk, DecidesVoted, MovesBranch, DecisionsAreNew, BranchesBegin}
+use Rattle.am_stands.specs.Branches.{OnBranch, on_chain, left_out, BranchesOk, MovesBranch, DecisionsAreNew, BranchesBegin}
 use Rattle.am_stands.proofs.LeftOut.{longer_chain, none_departed}
 
 two : (a b : ℕ) → (a ≤ b) ⊎ (b < a)
@@ -351,7 +351,7 @@ moves_branch s t (group.fetches i f list e up ballot served shown next) voted k 
   steady = λ z. inl (up_as (s.node i) _ refl refl refl up);
   opened = λ z open_. (up, open_, refl, more_list (s.node i).list e);
 }) b
-moves_branch s t (group.decides i members resilience may) voted k law kt b = choice_branches s k law i members resilience may voted kt b
+moves_branch s t (group.decides i members resilience may) voted k law kt b = choice_branches s k law i members resilience may voted.1 kt b
 moves_branch s t (group.gives_over i) voted k law kt b = one_name s t i (record (s.node i) { ballot = false }) kt (record {
   node = refl;
   shown = refl;
@@ -404,7 +404,7 @@ decisions_are_new s t (group.decides i members resilience may) voted k law b = (
   by_cases (s.views.decided (key (s.node i).promise))
       (λ d. absurd (let above = (ballot_ok s k law i members resilience may).above in let most = k.views.order (key (s.node i).promise) d in omega arith))
       (λ f. f),
-  new_view s k law i members resilience may b voted,
+  new_view s k law i members resilience may b voted.1,
 )
 decisions_are_new s t (group.numbers i e leads fit may) voted k law b = tt
 decisions_are_new s t (group.stores i e up decided other stays next) voted k law b = tt

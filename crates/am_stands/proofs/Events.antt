@@ -103,7 +103,7 @@ unfolding unchanged
 stop_stands w e o name s h =
     let v = record w { stopped = w.stopped ++ name ∷ [] } in
     let next = with_node s name (record (s.node name) { stopped = true }) in
-    one_move (Stands (unchanged v e o)) s next (group.stops name) (recorded v e o next (stopped_more w v name s refl refl refl refl h))
+    one_move (Stands (unchanged v e o)) s next (group.stops name) tt (recorded v e o next (stopped_more w v name s refl refl refl refl h))
 
 -- the name of a place that returns stops, if it hadn't
 same_lives : (w v : World) (s : Group) → v.nodes ≡ w.nodes → v.group ≡ w.group → v.views ≡ w.views → v.stopped ≡ w.stopped → Stands w s → Stands v s
@@ -121,7 +121,7 @@ return_stands w e o place s h =
   where
     by_stop : (b : Bool) → Leads (Stands (record (unchanged w e o) { lives = set_at w.lives place (w.lives place + 1); stopped = if b then w.stopped else w.stopped ++ current w place ∷ [] })) s
     by_stop true = no_move (Stands (record (unchanged w e o) { lives = set_at w.lives place (w.lives place + 1); stopped = w.stopped })) s (same_lives w (record (unchanged w e o) { lives = set_at w.lives place (w.lives place + 1); stopped = w.stopped }) s refl refl refl refl h)
-    by_stop false = one_move (Stands (record (unchanged w e o) { lives = set_at w.lives place (w.lives place + 1); stopped = w.stopped ++ current w place ∷ [] })) s (with_node s (current w place) (record (s.node (current w place)) { stopped = true })) (group.stops (current w place))
+    by_stop false = one_move (Stands (record (unchanged w e o) { lives = set_at w.lives place (w.lives place + 1); stopped = w.stopped ++ current w place ∷ [] })) s (with_node s (current w place) (record (s.node (current w place)) { stopped = true })) (group.stops (current w place)) tt
         (stopped_more w (record (unchanged w e o) { lives = set_at w.lives place (w.lives place + 1); stopped = w.stopped ++ current w place ∷ [] }) (current w place) s refl refl refl refl h)
 
 pub events_stand : EventsStand

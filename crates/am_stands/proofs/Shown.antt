@@ -138,7 +138,7 @@ vote_said v i n s h =
         (put2_cases s.shown (key a.promise) i (Some a.list) (key n.core.promise) i) in
         record {
           to = t;
-          path = moves (group.shows i h.there small other begun (ap (λ (u : Stamp). s.shown (key u) i) promised ∙ is)) none;
+          path = moves (group.shows i h.there small other begun (ap (λ (u : Stamp). s.shown (key u) i) promised ∙ is)) tt none;
           is = record { same = record { node = refl; views = refl; group_ = refl }; says = tells (tells_list v i n s t h shown) };
         }
 
@@ -171,7 +171,7 @@ shown_said v i from base number n e s to h by other asked (for_ballot own_by all
     (put2_cases s.served (key a.promise) i true (key p) i) in
     record {
       to = record s { served = put2 s.served (key a.promise) i true };
-      path = moves (group.serves i list h.up shown others) none;
+      path = moves (group.serves i list h.up shown others) tt none;
       is = record {
         same = record { node = refl; views = refl; group_ = refl };
         says = of_shown (record { served = served; list = list; shown = known.shown; stands = ap (λ l. item_at l number) (sym still) ∙ list_item v i n a base number e h.stands low at });

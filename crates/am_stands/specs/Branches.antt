@@ -6,9 +6,10 @@ use Rattle.am_base.specs.declared.entry.Entry.TheVariants.{View}
 use Rattle.am_base.specs.Names.{has}
 use Rattle.am_chain_lists.specs.Whole.{Begins, BeginsBelow, IsGood, mem, key}
 use Rattle.am_chain_moves.specs.Group.{Group, IsUp, chain_of}
-use Rattle.am_chain_moves.specs.Moves.{Move, Voted, decides}
+use Rattle.am_chain_moves.specs.Moves.{Move}
 use Rattle.am_chain_moves.specs.Kept.{Kept}
 use Rattle.am_chain_moves.specs.Runs.{IsLawful, MayBegin, start}
+use Rattle.am_stands.specs.Moving.{MoveOk}
 use Rattle.am_stands.specs.Growing.{DecidesNew}
 
 -- the list of a name that hasn't departed begins the chain, or it was left out by a View on it, up to where it did
@@ -25,18 +26,13 @@ pub record BranchesOk (s : Group) : Type 0 where
   pub short : (c k : ℕ) (list : List Entry) → IsUp (s.node c) → (s.node c).ballot ≡ true → s.shown (key (s.node c).promise) k ≡ Some list
       → (s.node k).departed ≡ false → (length (s.node k).list ≤ length list) ⊎ (length (s.node k).list ≤ length (s.node c).list)
 
--- at a decision each other name of the View has voted for no better list, whether it stopped or not
-abbrev pub DecidesVoted : {s t : Group} → Move s t → Type 0
-DecidesVoted {s = s} (decides i members resilience may) = (j : ℕ) → has members j ≡ true → (j ≡ i) ⊎ Voted s (key (s.node i).promise) j (s.node i).list
-DecidesVoted _ = Unit {0}
-
 -- with each move of a lawful run
 abbrev pub MovesBranch : Type 0
-MovesBranch = (s t : Group) (move : Move s t) → DecidesVoted move → Kept s → IsLawful s → Kept t → BranchesOk s → BranchesOk t
+MovesBranch = (s t : Group) (move : Move s t) → MoveOk move → Kept s → IsLawful s → Kept t → BranchesOk s → BranchesOk t
 
 -- so a decided view is a new one, which found all that was accepted, and what each of its members has that leaves
 abbrev pub DecisionsAreNew : Type 0
-DecisionsAreNew = (s t : Group) (move : Move s t) → DecidesVoted move → Kept s → IsLawful s → BranchesOk s → DecidesNew move
+DecisionsAreNew = (s t : Group) (move : Move s t) → MoveOk move → Kept s → IsLawful s → BranchesOk s → DecidesNew move
 
 -- at the start
 abbrev pub BranchesBegin : Type 0

@@ -6,6 +6,7 @@ use Rattle.am_base.specs.declared.image.Image.{Image}
 use Rattle.am_base.specs.declared.entry.Entry.{Entry}
 use Rattle.am_base.specs.declared.entry.Entry.TheVariants.{View}
 use Rattle.am_base.specs.declared.outcome.Outcome.{Outcome}
+use Rattle.am_base.specs.Names.{IsSet, has}
 use Rattle.am_base.specs.Lists.{fits}
 use Rattle.am_packet.specs.declared.packet.Packet.TheVariants as packet
 use Rattle.am_group.specs.declared.event.Event.{Event}
@@ -26,7 +27,7 @@ use Rattle.am_effects.specs.Changes.{Promises, Change, numbers, stores, begins_l
 use Rattle.am_effects.specs.Events.{Happens, steps}
 use Rattle.am_stands.specs.Standing.{StandsBut, Stands, within}
 use Rattle.am_stands.specs.Letters.{GoneSays}
-use Rattle.am_stands.specs.Moving.{Leads}
+use Rattle.am_stands.specs.Moving.{NamesNamed, AllVoted, Leads}
 
 -- a stamp of a letter was begun: its name has promised it
 pub record WasBegun (s : Group) (v : Stamp) : Type 0 where
@@ -51,6 +52,7 @@ pub record MayMove (w : World) (name : ℕ) (c : Cause) (x : Node) (s : Group) :
 pub record NeedsNumber (s : Group) (name : ℕ) (x : Node) (e : Entry) : Type 0 where
   pub chain : s.views.line (key (view_of (s.node name).list)) ≡ (s.node name).list
   pub fit : fits (told x) e ≡ true
+  pub named : NamesNamed e
   pub may : MayNumber s.node name e
 
 -- an entry more isn't one of the node's own view, but for a View
@@ -93,6 +95,8 @@ pub record NeedsDecision (s : Group) (name : ℕ) (x : Node) (b : Ballot) : Type
   pub fresh : s.views.decided (key x.core.promise) ≡ false
   pub unseen : list_any (is_view_of x.core.promise) (s.node name).list ≡ false
   pub members_ : members (looks.view_of x b) ≡ left_in b (need_of x b)
+  pub set : IsSet (left_in b (need_of x b))
+  pub voted : AllVoted s name (λ j. has (left_in b (need_of x b)) j ≡ true)
 
 abbrev pub NeedsLook : {m : Node} {b : Ballot} {v : Verdict} → Group → ℕ → Looks m b v → Type 0
 NeedsLook {m = m} {b = b} s name (decides may) = NeedsDecision s name m b
