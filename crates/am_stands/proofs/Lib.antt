@@ -38,3 +38,4 @@ pub mod Branches
 pub mod Reporting
 pub mod Trimming
 pub mod Requests
+pub mod ChainNames

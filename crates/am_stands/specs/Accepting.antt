@@ -17,9 +17,9 @@ use Rattle.am_stands.specs.Letters.{SequencerSays}
 use Rattle.am_stands.specs.States.{Reporting, ReportsStand}
 use Rattle.am_stands.specs.Ends.{Accepts, MayLearn, NeedsClose, closed}
 
--- who counts at each number is a set of names
+-- who counts at each number above its list's start is a set of names
 abbrev pub CountsNames : Node → Type 0
-CountsNames x = (n : ℕ) → IsSet (counted_at x.core.log n)
+CountsNames x = (n : ℕ) → x.core.log.start < n → IsSet (counted_at x.core.log n)
 
 -- a node that may count: its list is a good one, and its numbers stand in their order
 pub record MayCount (x : Node) (list : List Entry) : Type 0 where

@@ -1,5 +1,5 @@
 -- Whose list isn't on the chain any more, and so what a decision finds of leavers.
-use Rattle.std.specs.Prelude.{◌≡◌, ◌⊎◌, ℕ, ◌≤◌, List, [], ◌∷◌, ◌++◌, length, Some, true, false}
+use Rattle.std.specs.Prelude.{◌≡◌, ◌⊎◌, ℕ, ◌≤◌, List, [], ◌∷◌, ◌++◌, length, Some, true, false, All}
 use Rattle.am_base.specs.declared.name.Stamp.{Stamp}
 use Rattle.am_base.specs.declared.entry.Entry.{Entry}
 use Rattle.am_base.specs.declared.entry.Entry.TheVariants.{View}
@@ -9,7 +9,7 @@ use Rattle.am_chain_moves.specs.Group.{Group, IsUp, chain_of}
 use Rattle.am_chain_moves.specs.Moves.{Move}
 use Rattle.am_chain_moves.specs.Kept.{Kept}
 use Rattle.am_chain_moves.specs.Runs.{IsLawful, MayBegin, start}
-use Rattle.am_stands.specs.Moving.{MoveOk}
+use Rattle.am_stands.specs.Moving.{NamesNamed, MoveOk}
 use Rattle.am_stands.specs.Growing.{DecidesNew}
 
 -- the list of a name that hasn't departed begins the chain, or it was left out by a View on it, up to where it did
@@ -37,3 +37,12 @@ DecisionsAreNew = (s t : Group) (move : Move s t) → MoveOk move → Kept s →
 -- at the start
 abbrev pub BranchesBegin : Type 0
 BranchesBegin = (founders : List ℕ) (first resilience : ℕ) → MayBegin founders first resilience → BranchesOk (start founders first resilience)
+
+-- ---- who joins is one of the 256 names
+
+-- and each View on the chain has a set of them
+abbrev pub ChainNamed : Group → Type 0
+ChainNamed s = All NamesNamed (chain_of s.views)
+
+abbrev pub MovesNamed : Type 0
+MovesNamed = (s t : Group) (move : Move s t) → MoveOk move → Kept s → ChainNamed s → ChainNamed t
