@@ -39,3 +39,4 @@ pub mod Reporting
 pub mod Trimming
 pub mod Requests
 pub mod ChainNames
+pub mod Onward

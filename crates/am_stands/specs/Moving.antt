@@ -5,7 +5,7 @@ use Rattle.am_base.specs.declared.entry.Entry.TheVariants.{Data, Join, Leave, Vi
 use Rattle.am_base.specs.Names.{IsSet, has}
 use Rattle.am_chain_lists.specs.Whole.{key}
 use Rattle.am_chain_moves.specs.Group.{Group}
-use Rattle.am_chain_moves.specs.Moves.{Move, Voted, decides, numbers}
+use Rattle.am_chain_moves.specs.Moves.{Move, Voted, decides, numbers, stops}
 
 -- who joins is one of the 256 names, and a View has a set of them
 abbrev pub NamesNamed : Entry → Type 0
@@ -18,10 +18,11 @@ NamesNamed (View stamp members resilience) = IsSet members
 abbrev pub AllVoted : (s : Group) (i : ℕ) → (ℕ → Type 0) → Type 0
 AllVoted s i in_view = (j : ℕ) → in_view j → (j ≡ i) ⊎ Voted s (key (s.node i).promise) j (s.node i).list
 
--- what is so of a move besides what the group asks of it
+-- what is so of a move within a step besides what the group asks of it
 abbrev pub MoveOk : {s t : Group} → Move s t → Type 0
 MoveOk (numbers i e leads fit may) = NamesNamed e
 MoveOk {s = s} (decides i members resilience may) = IsSet members × AllVoted s i (λ j. has members j ≡ true)
+MoveOk (stops i) = ⊥
 MoveOk _ = Unit {0}
 
 pub data Moves : Group → Group → Type 0 where

@@ -13,7 +13,7 @@ use Rattle.am_group.specs.declared.event.Event.{Event}
 use Rattle.am_chain_lists.specs.Whole as whole
 use Rattle.am_chain_lists.specs.Whole.{view_of, key}
 use Rattle.am_chain_moves.specs.Group.{Group, IsOngoing}
-use Rattle.am_chain_moves.specs.Moves.{MayNumber, MayWelcome, MayDecide}
+use Rattle.am_chain_moves.specs.Moves.{with_node, MayNumber, MayWelcome, MayDecide}
 use Rattle.am_model.specs.Node.{Node, Ballot, told, view, members}
 use Rattle.am_model.specs.Calls.{is_unfinished}
 use Rattle.am_model.specs.Receiving.{is_view}
@@ -138,6 +138,10 @@ abbrev pub IsNoStep : {w : World} {e : Event} {v : World} → Happens w e v → 
 IsNoStep (steps c s runs cause effect) = ⊥
 IsNoStep _ = Unit {0}
 
--- each of these is moves of the group, too: none, or that a name stops
+-- each of these is no move of the group, or that a name stops
+pub data EventStands (v : World) (s : Group) : Type 0 where
+  no_move : Stands v s → EventStands v s
+  stop : (i : ℕ) → Stands v (with_node s i (record (s.node i) { stopped = true })) → EventStands v s
+
 abbrev pub EventsStand : Type 0
-EventsStand = (w : World) (e : Event) (v : World) (s : Group) (z : Happens w e v) → IsNoStep z → Stands w s → Leads (Stands v) s
+EventsStand = (w : World) (e : Event) (v : World) (s : Group) (z : Happens w e v) → IsNoStep z → Stands w s → EventStands v s
