@@ -207,7 +207,7 @@ letters_stay w v s t to (Welcome i u base join image) more g h = (trimmed_stays 
 letters_stay w v s t to (LeaveAsk i u report) more g h = leaver_stays w v s t g more i u report h
 letters_stay w v s t to (Gone i u number) more g h = λ name in_. gone_stays w v s t g more number name (h name in_)
 letters_stay w v s t to (Invite i u) more g h = tt
-letters_stay w v s t to (VoteOf i u shown) more g h = vote_stays w v s t g more i u shown h
+letters_stay w v s t to (VoteOf i u shown) more g h = (h.0, vote_stays w v s t g more i u shown h.1)
 letters_stay w v s t to (Fetch i u stored) more g h = fetch_stays w v s t g more i u to h
 letters_stay w v s t to (Piece i u base number e) more g h = (trimmed_stays w v s t g more base h.0, piece_stays w v s t g more i u number e h.1)
 letters_stay w v s t to (Result i u base number names resilience) more g h = (trimmed_stays w v s t g more base h.0, λ own. (let k = h.1 own in

@@ -40,3 +40,4 @@ pub mod Trimming
 pub mod Requests
 pub mod ChainNames
 pub mod Onward
+pub mod Keeping

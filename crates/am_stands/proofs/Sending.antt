@@ -13,7 +13,7 @@ use Rattle.am_packet.specs.declared.packet.Packet.{Packet}
 use Rattle.am_packet.specs.declared.packet.Packet.TheVariants as packet
 use Rattle.am_chain_lists.specs.Whole.{Begins, mem, view_of, key}
 use Rattle.am_chain_lists.proofs.Members.{good_begins}
-use Rattle.am_chain_lists.proofs.Order.{key_by}
+use Rattle.am_chain_lists.proofs.Order.{key_by, view_small}
 use Rattle.am_chain_moves.specs.Group as groups
 use Rattle.am_chain_moves.specs.Group.{Group, IsThere, opening}
 use Rattle.am_model.specs.declared.status.Status.{Status}
@@ -201,6 +201,16 @@ module _ (v : World) (i : ℕ) (c : Cause) (m n : Node) (s : Group) (h : Sender 
 
 -- ---- each letter
 
+-- its view is of a name
+view_named : (v : World) (i : ℕ) (c : Cause) (m n : Node) (s : Group) → Sender v i c m n s → (view n).by < 256
+unfolding view_of
+view_named v i c m n s h =
+    let same : view_of (s.node i).list ≡ view n = ap (λ (x : Image). x.view) (told_all v i n (s.node i) h.stands) in
+    subst (λ (u : Stamp). u.by < 256) same (split (s.node i).has_log
+    (λ t. view_small (s.node i).list (good_begins ((h.group.kept.each i).list (record { log = t; there = h.there })) h.group.kept.views.good))
+    (λ f. subst (λ l. (view_of l).by < 256) (sym ((h.group.kept.each i).blank f)) (subst (λ (u : Stamp). u.by < 256) (sym nothing_viewed) (omega arith))))
+
+
 trimmed_same : (s t : Group) (base : ℕ) → ShowsMore s t → says.Trimmed s base → says.Trimmed t base
 trimmed_same s t base same h = record {
   accepted = subst (λ l. base ≤ length l) (sym same.group_) h.accepted;
@@ -254,7 +264,7 @@ sent_says v i c m n s to p h (vote from u is) =
     record {
       to = r.to;
       path = r.path;
-      is = record { same = r.is.same; says = subst (λ j. says.VoteSays r.to j n.core.promise (own_vote n)) (sym h.who) r.is.says };
+      is = record { same = r.is.same; says = (view_named v i c m n s h, subst (λ j. says.VoteSays r.to j n.core.promise (own_vote n)) (sym h.who) r.is.says) };
     }
 sent_says v i c m n s to p h (fetch _ may) = so v i c m n s h to _ (subst (λ j. FetchSays s j n.core.promise to) (sym h.who) (fetched v i c m n s h to may))
 sent_says v i c m n s to p h (piece from u stored number e is may at) =

@@ -35,7 +35,7 @@ use Rattle.am_stands.proofs.Sent.{Speaks, list_item}
 
 -- ---- the votes that a coordinator keeps
 
-votes_grow : (s t : Group) (ballot : Option Ballot) → Grows s t → VotesStand s ballot → VotesStand t ballot
+pub votes_grow : (s t : Group) (ballot : Option Ballot) → Grows s t → VotesStand s ballot → VotesStand t ballot
 votes_grow s t None g h = tt
 votes_grow s t (Some b) g h = λ open_ j vote is. (let k = h open_ j vote is in record { list = k.list; shown = g.shown (key b.stamp) j k.list k.shown; view = k.view; top = k.top; members = k.members; taken = k.taken })
 
