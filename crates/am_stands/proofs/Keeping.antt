@@ -152,7 +152,7 @@ module _ (rules : Rules) (w : World) (name : ℕ) (c : Cause) (x : Node) (s : Gr
   }
 
   -- the ballot that is looked at
-  looked_last : (b : Ballot) → Balloting c x b → BallotStands w b
+  pub looked_last : (b : Ballot) → Balloting c x b → BallotStands w b
   looked_last b (as_it_is was o on) = subst (LastStands w) o.last h.keeps.last
   looked_last b (without_one was other is o apart) =
       let k = subst (LastStands w) o.last h.keeps.last in

@@ -41,3 +41,4 @@ pub mod Requests
 pub mod ChainNames
 pub mod Onward
 pub mod Keeping
+pub mod Keeps

@@ -1,0 +1,190 @@
+-- What a node keeps, through each of its changes.
+use Rattle.std.proofs.Common.{◌≡◌, ◌≢◌, ◌⊎◌, inl, inr, ⊎_elim, ℕ, ◌+◌, ◌<◌, ◌≤◌, ◌==◌, ◌&&◌, ◌||◌, not, max, min, nat_lt, nat_le, if◌then◌else◌, Bool, true, false, List, [], ◌∷◌, ◌++◌, length, take, Option, Some, None, unwrap_or, slice_get, refl, sym, ap, ◌∙◌, subst, arith, append-nil}
+use Rattle.std.proofs.lemmas.Bool.Decides.{nat_tests}
+use Rattle.std.proofs.lemmas.List.{append_assoc}
+use Rattle.am_base.specs.declared.entry.Entry.{Entry}
+use Rattle.am_base.specs.declared.entry.Entry.TheVariants.{Data, Join, View}
+use Rattle.am_base.specs.declared.image.Image.{Image}
+use Rattle.am_base.specs.declared.image.Report.{Report}
+use Rattle.am_base.specs.declared.image.Vote.{Vote}
+use Rattle.am_base.specs.declared.name.Stamp.{Stamp}
+use Rattle.am_base.specs.declared.outcome.Outcome.{Outcome}
+use Rattle.am_base.specs.declared.outcome.Outcome.TheVariants as said
+use Rattle.am_base.specs.Founding.{Rules}
+use Rattle.am_base.specs.Names.{has, names_of}
+use Rattle.am_base.specs.Stamps.{stamp_lt, stamp_eq}
+use Rattle.am_base.specs.Lists.{Log, fits, after, told_by, top_of}
+use Rattle.am_packet.specs.declared.packet.Packet.TheVariants as packet
+use Rattle.am_fronts.specs.Reports.{least_of}
+use Rattle.am_sender.specs.Sends as own
+use Rattle.am_chain_lists.specs.Whole.{Begins, IsGood, told, mem, view_of, key}
+use Rattle.am_chain_lists.proofs.Prefixes.{begins_refl, begins_more, begins_length}
+use Rattle.am_chain_moves.specs.Group as groups
+use Rattle.am_chain_moves.specs.Group.{Group, IsUp, opening}
+use Rattle.am_chain_moves.specs.Kept.{Kept}
+use Rattle.am_model.specs.Node as nodes
+use Rattle.am_model.specs.Node.{Node, Ballot, view, is_member, is_asking, is_sequencer, pushed, trimmed, lowest_or_first}
+use Rattle.am_model.specs.Ballots.{Verdict, overtaken as overtaken_by, need_of, left_in, taken_by, goes_on, ends}
+use Rattle.am_model.specs.Calls.{is_unfinished}
+use Rattle.am_model.specs.Group.{has_log}
+use Rattle.am_model.specs.Receiving.{noted}
+use Rattle.am_model.specs.Refresh.{settle}
+use Rattle.am_model.specs.World.{Decided, World, has_departed}
+use Rattle.am_model.proofs.Greatest.{split, and_both}
+use Rattle.am_effects.specs.Causes.{Cause, hears, BringsSend, by_request, by_spread, BringsReport, with_send, by_ack, by_nack, by_leave_ask, BringsFronts, with_entry, with_number, alone}
+use Rattle.am_effects.specs.Looks.{Balloting, Looks, finds_itself_out, waits, fetches_from_best, finds_too_few, finds_no_room, decides, HasLearned}
+use Rattle.am_effects.specs.Changes.{MayReport, MayStore, Change}
+use Rattle.am_effects.proofs.Rests.{settle_is}
+use Rattle.am_effects.proofs.Says.{told_pushed}
+use Rattle.am_laws.proofs.Trims.{told_used}
+use Rattle.am_stands.specs.Standing.{NameStands, StandsBut, within}
+use Rattle.am_stands.specs.Letters as says
+use Rattle.am_stands.specs.Letters.{Trimmed, VoteTells, AllShown, PacketSays, IsDecided, line}
+use Rattle.am_stands.specs.Growing.{Grows}
+use Rattle.am_stands.specs.States.{VotesStand, FetchesStand, ReportsStand, ReportsFresh, OpensStand, IsNew, Reporting}
+use Rattle.am_stands.proofs.Changes.{told_whole, long_all}
+use Rattle.am_stands.proofs.Entries.{key_stamp}
+use Rattle.am_stands.proofs.Keeping.{GroupFor, BallotStands, LastStands, NodeKeeps, HeardSo, Stepping, kept, whole, old, up, good, known, looked_last, unfinished, list_member}
+use Rattle.am_stands.proofs.Letters.{all_stay, trimmed_stays}
+use Rattle.am_stands.proofs.Reporting.{reporting_grow, reporting_base, reporting_anew, reporting_admit, reporting_more, reporting_pushed, fits_new, new_before, known_old, report_true, leaver_true}
+use Rattle.am_stands.proofs.Requests.{OwnTurn, turn_grows, turn_queued, turn_collected, turn_settled}
+use Rattle.am_stands.proofs.Sent.{Speaks, Leading, leading}
+use Rattle.am_stands.proofs.Shown.{votes_grow}
+use Rattle.am_stands.proofs.Trimming.{trimmed_max, trimmed_none, TakenKnown, votes_trim}
+use Rattle.am_stands.proofs.Votes.{best_shown}
+
+-- ---- what stays, as the group goes on
+
+fetches_grow : (w : World) (s t : Group) (ballot : Option Ballot) → Grows s t → FetchesStand s ballot → FetchesStand t ballot
+fetches_grow w s t None g h = tt
+fetches_grow w s t (Some b) g h = λ open_ from want is. all_stay w w s t g ([], sym (append-nil w.records)) b.stamp from (h open_ from want is)
+
+trimmed_grow : (w : World) (s t : Group) (base : ℕ) → Grows s t → Trimmed s base → Trimmed t base
+trimmed_grow w s t base g h = trimmed_stays w w s t g ([], sym (append-nil w.records)) base h
+
+record Ballots (w : World) (s : Group) (ballot : Option Ballot) : Type 0 where
+  votes : VotesStand s ballot
+  fetches : FetchesStand s ballot
+  last : LastStands w ballot
+
+ballots_grow : (w : World) (s t : Group) (ballot : Option Ballot) → Grows s t → Ballots w s ballot → Ballots w t ballot
+ballots_grow w s t ballot g h = record { votes = votes_grow s t ballot g h.votes; fetches = fetches_grow w s t ballot g h.fetches; last = h.last }
+
+-- an overtaken one is over
+ballots_overtaken : (w : World) (s : Group) (v : Stamp) (ballot : Option Ballot) → Ballots w s ballot → Ballots w s (overtaken_by v ballot)
+ballots_overtaken w s v None h = h
+ballots_overtaken w s v (Some b) h = split (not b.is_over && stamp_lt b.stamp v)
+    (λ t. rw t (record {
+      votes = λ open_ name vote is. absurd (cc);
+      fetches = λ open_ from want is. absurd (cc);
+      last = (let k = h.last in record { given = k.given; names = k.names });
+    }))
+    (λ f. rw f h)
+
+-- one that has ended, and one that goes on
+ballots_over : (w : World) (s : Group) (b : Ballot) (o : Outcome) → BallotStands w b → Ballots w s (Some (record b { answer = o; is_over = true }))
+ballots_over w s b o k = record { votes = λ open_ name vote is. absurd (cc); fetches = λ open_ from want is. absurd (cc); last = record { given = k.given; names = k.names } }
+
+ballots_open : (w : World) (s : Group) (b : Ballot) (o : Outcome) → BallotStands w b → ((j : ℕ) (vote : Vote) → b.votes j ≡ Some vote → VoteTells s j b.stamp vote)
+    → ((from want : ℕ) → o ≡ said.Fetching from want → AllShown s b.stamp from) → Ballots w s (Some (record b { answer = o; is_over = false }))
+ballots_open w s b o k votes shown = record { votes = λ open_ name vote is. votes name vote is; fetches = λ open_ from want is. shown from want is; last = record { given = k.given; names = k.names } }
+
+not_shown : (o : Outcome) → ((from want : ℕ) → o ≡ said.Fetching from want → ⊥) → (from want : ℕ) → o ≡ said.Fetching from want → ⊥
+not_shown o f = f
+
+module _ (rules : Rules) (w : World) (name : ℕ) (c : Cause) (x : Node) (s : Group) (h : Stepping rules w name c x s) where
+  ballots : Ballots w s x.ballot
+  ballots = record { votes = h.keeps.votes; fetches = h.keeps.fetches; last = h.keeps.last }
+
+  -- a look
+  looked : (b : Ballot) (v : Verdict) → Balloting c x b → Looks x b v → Ballots w s v.node.ballot
+  looked b v why (finds_itself_out y) = ballots_over w s b _ (looked_last rules w name c x s h b why)
+  looked b v why (waits y z) = ballots_open w s b _ (looked_last rules w name c x s h b why) (known rules w name c x s h b why).votes (λ from want is. absurd (cc))
+  looked b v why (fetches_from_best y z u) =
+      let k = known rules w name c x s h b why in
+      let all = best_shown w name x b s (kept rules w name c x s h) k u z in
+      ballots_open w s b _ (looked_last rules w name c x s h b why) k.votes (λ from want is. (let same : _ ≡ from = ap fetched_from is in subst (AllShown s b.stamp) same all))
+    where
+      fetched_from : Outcome → ℕ
+      fetched_from (said.Fetching from want) = from
+      fetched_from _ = 0
+  looked b v why (finds_too_few y z) = ballots_over w s b _ (looked_last rules w name c x s h b why)
+  looked b v why (finds_no_room y) = ballots_over w s b _ (looked_last rules w name c x s h b why)
+  looked b v why (decides may) = ballots_over w s b _ (looked_last rules w name c x s h b why)
+
+-- ---- each part, at the group that the moves of a change lead to
+
+module _ (rules : Rules) (w v : World) (name : ℕ) (c : Cause) (x y : Node) (s t : Group) (h : Stepping rules w name c x s) (g : Grows s t) (group_ : v.group ≡ w.group)
+    (new : NameStands (within v name y) name y (t.node name)) where
+  olds : NameStands (within w name x) name x (s.node name)
+  olds = old rules w name c x s h
+
+  k : NodeKeeps w s name x
+  k = h.keeps
+
+  grow : (i : ℕ) → Begins (s.node i).list (t.node i).list
+  grow i = (g.each i).list
+
+  same_list : y.core.log ≡ x.core.log → (t.node name).list ≡ (s.node name).list
+  same_list log = new.list ∙ (λ i. take (log i).start (group_ i) ++ (log i).entries) ∙ sym olds.list
+
+  more_list : (e : Entry) → y.core.log ≡ (pushed x e).core.log → (t.node name).list ≡ (s.node name).list ++ e ∷ []
+  more_list e log = new.list ∙ (λ i. take (log i).start (group_ i) ++ (log i).entries) ∙ sym (append_assoc (take x.core.log.start w.group) x.core.log.entries (e ∷ [])) ∙ ap (λ l. l ++ e ∷ []) (sym olds.list)
+
+  ballots_same : y.ballot ≡ x.ballot → Ballots w t y.ballot
+  ballots_same same = subst (Ballots w t) (sym same) (ballots_grow w s t x.ballot g (ballots rules w name c x s h))
+
+  opens_same : y.ballot ≡ x.ballot → y.status ≡ x.status → y.leaving ≡ x.leaving → OpensStand y
+  opens_same ballot stays leaving open_ = (let o = k.opens (sym (ap is_unfinished ballot) ∙ open_) in (ap is_member stays ∙ o.0, leaving ∙ o.1))
+
+  reports_same : y.core.log ≡ x.core.log → y.reports ≡ x.reports → x.core.base ≤ y.core.base → ReportsStand t name y
+  reports_same log reports base = subst (Reporting t.node (t.node name).list y.core.base) (sym reports) (subst (λ l. Reporting t.node l y.core.base x.reports) (sym (same_list log))
+      (reporting_base t.node (s.node name).list x.core.base y.core.base x.reports base (reporting_grow s.node t.node (s.node name).list x.core.base x.reports grow k.reports)))
+
+  fresh_same : nodes.told y ≡ nodes.told x → y.reports ≡ x.reports → x.core.base ≤ y.core.base → ReportsFresh y
+  fresh_same told_ reports base j new_ = (let old_ = k.fresh j (subst (λ (i : Image). IsNew i j) told_ new_) in
+      let is : (y.reports j).stored ≡ (x.reports j).stored = ap (λ f. (f j).stored) reports in omega arith)
+
+  trimmed_same : y.core.base ≡ x.core.base → Trimmed t y.core.base
+  trimmed_same same = subst (Trimmed t) (sym same) (trimmed_grow w s t x.core.base g k.trimmed)
+
+  turn_same : y.core.who ≡ x.core.who → y.sends ≡ x.sends → OwnTurn y.core.who (t.node name).list y.sends
+  turn_same who sends = subst (λ i. OwnTurn i (t.node name).list y.sends) (sym who) (subst (OwnTurn x.core.who (t.node name).list) (sym sends)
+      (turn_grows x.core.who (s.node name).list (t.node name).list x.sends (grow name) k.turn))
+
+  leaves_same : has_log y.status ≡ has_log x.status → y.leaving ≡ x.leaving → y.leaving ≡ true → has_log y.status ≡ true
+  leaves_same log leaving u = log ∙ k.leaves (sym leaving ∙ u)
+
+  keep : Ballots w t y.ballot → OpensStand y → ReportsStand t name y → ReportsFresh y → Trimmed t y.core.base → OwnTurn y.core.who (t.node name).list y.sends
+      → (y.leaving ≡ true → has_log y.status ≡ true) → NodeKeeps w t name y
+  keep b o r f tr tu l = record { votes = b.votes; fetches = b.fetches; last = b.last; opens = o; reports = r; fresh = f; trimmed = tr; turn = tu; leaves = l }
+
+  -- nothing of that changes but sends, and no list
+  keep_same : y.core.log ≡ x.core.log → y.core.who ≡ x.core.who → y.core.base ≡ x.core.base → y.reports ≡ x.reports → y.ballot ≡ x.ballot → y.status ≡ x.status
+      → y.leaving ≡ x.leaving → OwnTurn y.core.who (t.node name).list y.sends → NodeKeeps w t name y
+  keep_same log who base reports ballot stays leaving turn =
+      keep (ballots_same ballot) (opens_same ballot stays leaving) (reports_same log reports (let z = base in omega arith))
+      (fresh_same (ap told_by log) reports (let z = base in omega arith)) (trimmed_same base) turn (leaves_same (ap has_log stays) leaving)
+
+  -- an entry more, above a base that isn't lower
+  keep_pushed : (e : Entry) → IsGood (s.node name).list → y.core.log ≡ (pushed x e).core.log → fits (nodes.told x) e ≡ true → y.core.who ≡ x.core.who
+      → x.core.base ≤ y.core.base → y.reports ≡ x.reports → y.ballot ≡ x.ballot → y.status ≡ x.status → y.leaving ≡ x.leaving → y.sends ≡ x.sends
+      → Trimmed t y.core.base → NodeKeeps w t name y
+  keep_pushed e fine log fit who base reports ballot stays leaving sends trims =
+      keep (ballots_same ballot) (opens_same ballot stays leaving)
+      (subst (Reporting t.node (t.node name).list y.core.base) (sym reports) (subst (λ l. Reporting t.node l y.core.base x.reports) (sym (more_list e log))
+      (reporting_base t.node ((s.node name).list ++ e ∷ []) x.core.base y.core.base x.reports base
+      (reporting_pushed s.node t.node (s.node name).list e x.core.base x.reports fine grow
+      (λ i is. k.fresh i (fits_new (nodes.told x) i (subst (λ z. fits (nodes.told x) z ≡ true) is fit))) k.reports))))
+      (λ j new_. (let told_ : nodes.told y ≡ after (nodes.told x) (nodes.top x + 1) e = ap told_by log ∙ told_pushed x e in
+      let old_ = k.fresh j (new_before (nodes.told x) (nodes.top x + 1) e j (told_used x h.along.owned.fronts).places (omega arith) fit (subst (λ (i : Image). IsNew i j) told_ new_)) in
+      let is : (y.reports j).stored ≡ (x.reports j).stored = ap (λ f. (f j).stored) reports in
+      omega arith))
+      trims (turn_same who sends) (leaves_same (ap has_log stays) leaving)
+
+-- ---- letters
+
+brings_trim : (w : World) (s : Group) (name : ℕ) (c : Cause) (from : ℕ) (v : Stamp) (base acc : ℕ) → ((p : _) → c ≡ hears p → HeardSo w s name p) → BringsFronts c from v base acc → Trimmed s base
+brings_trim w s name c from v base acc heard (with_entry _ _ _ _ number e) = (heard (packet.Bcast from v base acc number e) refl).says.0
+brings_trim w s name c from v base acc heard (with_number _ _ _ _ number sender req) = (heard (packet.Order from v base acc number sender req) refl).says.0
+brings_trim w s name c from v base acc heard (alone _ _ _ _ high poll) = (heard (packet.Accept from v base acc high poll) refl).says.0
