@@ -117,6 +117,7 @@ pub record Stepping (rules : Rules) (w : World) (name : ℕ) (c : Cause) (x : No
   pub heard : (p : Packet) → c ≡ hears p → HeardSo w s name p
   pub given : (other : ℕ) → c ≡ calls (GiveUp other) → is_stopped w other ≡ true
   pub keeps : NodeKeeps w s name x
+  pub accepted : x.core.acc ≤ length w.group
 
 module _ (rules : Rules) (w : World) (name : ℕ) (c : Cause) (x : Node) (s : Group) (h : Stepping rules w name c x s) where
   pub kept : Kept s

@@ -14,8 +14,9 @@ use Rattle.am_base.specs.Founding.{Rules}
 use Rattle.am_base.specs.Names.{has, names_of}
 use Rattle.am_base.specs.Stamps.{stamp_lt, stamp_eq}
 use Rattle.am_base.specs.Lists.{Log, fits, after, told_by, top_of}
+use Rattle.am_packet.specs.declared.packet.Packet.{Packet}
 use Rattle.am_packet.specs.declared.packet.Packet.TheVariants as packet
-use Rattle.am_fronts.specs.Reports.{least_of}
+use Rattle.am_fronts.specs.Reports.{least_of, reported}
 use Rattle.am_sender.specs.Sends as own
 use Rattle.am_chain_lists.specs.Whole.{Begins, IsGood, told, mem, view_of, key}
 use Rattle.am_chain_lists.proofs.Prefixes.{begins_refl, begins_more, begins_length}
@@ -23,7 +24,7 @@ use Rattle.am_chain_moves.specs.Group as groups
 use Rattle.am_chain_moves.specs.Group.{Group, IsUp, opening}
 use Rattle.am_chain_moves.specs.Kept.{Kept}
 use Rattle.am_model.specs.Node as nodes
-use Rattle.am_model.specs.Node.{Node, Ballot, view, is_member, is_asking, is_sequencer, pushed, trimmed, lowest_or_first}
+use Rattle.am_model.specs.Node.{Node, Ballot, view, acts, is_member, is_asking, is_sequencer, pushed, trimmed, lowest_or_first}
 use Rattle.am_model.specs.Ballots.{Verdict, overtaken as overtaken_by, need_of, left_in, taken_by, goes_on, ends}
 use Rattle.am_model.specs.Calls.{is_unfinished}
 use Rattle.am_model.specs.Group.{has_log}
@@ -36,15 +37,17 @@ use Rattle.am_effects.specs.Looks.{Balloting, Looks, finds_itself_out, waits, fe
 use Rattle.am_effects.specs.Changes.{MayReport, MayStore, Change}
 use Rattle.am_effects.proofs.Rests.{settle_is}
 use Rattle.am_effects.proofs.Says.{told_pushed}
+use Rattle.am_laws.proofs.Stamps.{same_stamp}
+use Rattle.am_laws.proofs.TakenRuns.{Along}
 use Rattle.am_laws.proofs.Trims.{told_used}
 use Rattle.am_stands.specs.Standing.{NameStands, StandsBut, within}
 use Rattle.am_stands.specs.Letters as says
 use Rattle.am_stands.specs.Letters.{Trimmed, VoteTells, AllShown, PacketSays, IsDecided, line}
 use Rattle.am_stands.specs.Growing.{Grows}
-use Rattle.am_stands.specs.States.{VotesStand, FetchesStand, ReportsStand, ReportsFresh, OpensStand, IsNew, Reporting}
+use Rattle.am_stands.specs.States.{VotesStand, FetchesStand, ReportsStand, ReportsFresh, OpensStand, IsNew, IsConcerned, Reporting}
 use Rattle.am_stands.proofs.Changes.{told_whole, long_all}
 use Rattle.am_stands.proofs.Entries.{key_stamp}
-use Rattle.am_stands.proofs.Keeping.{GroupFor, BallotStands, LastStands, NodeKeeps, HeardSo, Stepping, kept, whole, old, up, good, known, looked_last, unfinished, list_member}
+use Rattle.am_stands.proofs.Keeping.{GroupFor, BallotStands, LastStands, NodeKeeps, HeardSo, Stepping, kept, whole, old, up, good, known, looked_last, unfinished, list_member, sequencer_member}
 use Rattle.am_stands.proofs.Letters.{all_stay, trimmed_stays}
 use Rattle.am_stands.proofs.Reporting.{reporting_grow, reporting_base, reporting_anew, reporting_admit, reporting_more, reporting_pushed, fits_new, new_before, known_old, report_true, leaver_true}
 use Rattle.am_stands.proofs.Requests.{OwnTurn, turn_grows, turn_queued, turn_collected, turn_settled}
@@ -188,3 +191,158 @@ brings_trim : (w : World) (s : Group) (name : ℕ) (c : Cause) (from : ℕ) (v :
 brings_trim w s name c from v base acc heard (with_entry _ _ _ _ number e) = (heard (packet.Bcast from v base acc number e) refl).says.0
 brings_trim w s name c from v base acc heard (with_number _ _ _ _ number sender req) = (heard (packet.Order from v base acc number sender req) refl).says.0
 brings_trim w s name c from v base acc heard (alone _ _ _ _ high poll) = (heard (packet.Accept from v base acc high poll) refl).says.0
+
+-- ---- a report that a sequencer takes
+
+send_said : (w : World) (s : Group) (name : ℕ) (c : Cause) (from : ℕ) (v : Stamp) (report : Report) (req : ℕ) (body : List ℕ)
+    → ((p : Packet) → c ≡ hears p → HeardSo w s name p) → BringsSend c from v report req body → says.ReportSays s from v report
+send_said w s name c from v report req body heard (by_request _ _ _ _ _) = (heard (packet.Request from v report req body) refl).says.reports
+send_said w s name c from v report req body heard (by_spread _ _ _ _ _) = (heard (packet.Spread from v report req body) refl).says.reports
+
+reports_said : (w : World) (s : Group) (name : ℕ) (c : Cause) (from : ℕ) (v : Stamp) (report : Report) → ((p : Packet) → c ≡ hears p → HeardSo w s name p)
+    → BringsReport c from v report → says.ReportSays s from v report ⊎ says.LeaverSays s from v report
+reports_said w s name c from v report heard (with_send _ _ _ req body b) = inl (send_said w s name c from v report req body heard b)
+reports_said w s name c from v report heard (by_ack _ _ _) = inl (heard (packet.Ack from v report) refl).says
+reports_said w s name c from v report heard (by_nack _ _ _) = inl (heard (packet.Nack from v report) refl).says
+reports_said w s name c from v report heard (by_leave_ask _ _ _) = inr (heard (packet.LeaveAsk from v report) refl).says
+
+module _ (rules : Rules) (w : World) (name : ℕ) (c : Cause) (x : Node) (s : Group) (h : Stepping rules w name c x s) (t : is_sequencer x ≡ true) where
+  speaks : Speaks (within w name x) name x s
+  speaks = record { kept = kept rules w name c x s h; stands = old rules w name c x s h; up = up rules w name c x s h (sequencer_member rules w name c x s h t); who = h.who }
+
+  leads : Leading name x s
+  leads = leading (within w name x) name x s speaks t
+
+  -- its view's View
+  record Viewed : Type 0 where
+    stamp : (s.views.chosen (key x.core.promise)).stamp ≡ x.core.promise
+    opens : Begins (opening (s.views.chosen (key x.core.promise))) (s.node name).list
+
+  viewed : Viewed
+  viewed =
+      let l = leads in
+      let noted_ = h.stands.views.decided (key x.core.promise) l.decided in
+      let k = h.stands.views.noted noted_.index noted_.view noted_.there in
+      let same : noted_.view.stamp ≡ x.core.promise = key_stamp noted_.view.stamp x.core.promise (h.noted noted_.index noted_.view noted_.there) h.along.names.promise_ noted_.is in
+      record {
+        stamp = subst (λ (u : Stamp). (s.views.chosen (key u)).stamp ≡ u) same k.stamp;
+        opens = subst (Begins (opening (s.views.chosen (key x.core.promise)))) l.line_ (subst (λ (u : Stamp). Begins (opening (s.views.chosen (key u))) (s.views.line (key u))) same k.opens);
+      }
+
+  report_so : (from : ℕ) (report : Report) → says.ReportSays s from x.core.promise report ⊎ says.LeaverSays s from x.core.promise report
+      → report.stored ≤ length (s.node name).list → IsConcerned (s.node name).list from → Begins (take report.stored (s.node name).list) (s.node from).list
+  report_so from report its low concerned = ⊎_elim
+      (λ (z : says.ReportSays s from x.core.promise report). report_true s from x.core.promise (s.node name).list report leads.line_ low z)
+      (λ (z : says.LeaverSays s from x.core.promise report). (let q = viewed in
+      leaver_true s from x.core.promise (s.node name).list report leads.decided leads.line_ (good rules w name c x s h (sequencer_member rules w name c x s h t)) q.stamp leads.viewed q.opens low
+      z concerned))
+      its
+
+  taken_report : (from : ℕ) (v : Stamp) (report : Report) → BringsReport c from v report → MayReport x from v report
+      → Reporting s.node (s.node name).list x.core.base (reported x.reports from report)
+  taken_report from v report by may =
+      let long = long_all (within w name x) name x (s.node name) (old rules w name c x s h) in
+      let fit = and_both (nat_le report.taken report.stored) (nat_le report.stored (nodes.top x)) may.fits in
+      let took : report.taken ≤ report.stored = (let z = fit.0 in grind (arith, nat_tests)) in
+      let low : report.stored ≤ nodes.top x = (let z = fit.1 in grind (arith, nat_tests)) in
+      let acting = and_both (is_member x.status) (stamp_eq x.core.promise (view x)) (and_both (acts x) ((view x).by == x.core.who) t).0 in
+      let same : v ≡ x.core.promise = same_stamp v (view x) may.view ∙ sym (same_stamp x.core.promise (view x) acting.1) in
+      reporting_more s.node (s.node name).list x.core.base from report x.reports (omega arith) took
+      (report_so from report (subst (λ u. says.ReportSays s from u report ⊎ says.LeaverSays s from u report) same (reports_said w s name c from v report h.heard by)) (omega arith)) h.keeps.reports
+
+-- ---- each change
+
+was_open : (v : Stamp) (ballot : Option Ballot) → is_unfinished (overtaken_by v ballot) ≡ true → is_unfinished ballot ≡ true
+was_open v None u = u
+was_open v (Some b) u = split (not b.is_over && stamp_lt b.stamp v) (λ t. absurd (let z = rw t at u in cc)) (λ f. rw f at u)
+
+module _ (rules : Rules) (w v : World) (name : ℕ) (c : Cause) (o : Outcome) (x y : Node) (s t : Group) (h : Stepping rules w name c x s) (g : Grows s t) (group_ : v.group ≡ w.group)
+    (new : NameStands (within v name y) name y (t.node name)) (later : Along rules y) where
+  abbrev same : y.core.log ≡ x.core.log → y.core.who ≡ x.core.who → y.core.base ≡ x.core.base → y.reports ≡ x.reports → y.ballot ≡ x.ballot → y.status ≡ x.status
+      → y.leaving ≡ x.leaving → OwnTurn y.core.who (t.node name).list y.sends → NodeKeeps w t name y
+  same = keep_same rules w v name c x y s t h g group_ new
+
+  abbrev turns : y.core.who ≡ x.core.who → y.sends ≡ x.sends → OwnTurn y.core.who (t.node name).list y.sends
+  turns = turn_same rules w v name c x y s t h g group_ new
+
+  abbrev parts : Ballots w t y.ballot → OpensStand y → ReportsStand t name y → ReportsFresh y → Trimmed t y.core.base → OwnTurn y.core.who (t.node name).list y.sends
+      → (y.leaving ≡ true → has_log y.status ≡ true) → NodeKeeps w t name y
+  parts = keep rules w v name c x y s t h g group_ new
+
+  trims : (base : ℕ) → Trimmed s base → Trimmed t base
+  trims base k = trimmed_grow w s t base g k
+
+  -- its base stands within its list
+  base_within : y.core.base ≤ length (t.node name).list
+  base_within =
+      let f = later.owned.fronts in
+      let a = f.base in
+      let b = f.given in
+      let d = f.accepted in
+      let long = long_all (within v name y) name y (t.node name) new in
+      omega arith
+
+  -- a look: with the same list and base
+  looked_plain : Ballots w t y.ballot → OpensStand y → y.core.log ≡ x.core.log → y.core.who ≡ x.core.who → y.core.base ≡ x.core.base → y.reports ≡ x.reports
+      → y.status ≡ x.status → y.leaving ≡ x.leaving → y.sends ≡ x.sends → NodeKeeps w t name y
+  looked_plain b opens_ log who base reports stays leaving sends = parts b opens_
+      (reports_same rules w v name c x y s t h g group_ new log reports (let z = base in omega arith))
+      (fresh_same rules w v name c x y s t h g group_ new (ap told_by log) reports (let z = base in omega arith))
+      (trimmed_same rules w v name c x y s t h g group_ new base) (turns who sends)
+      (leaves_same rules w v name c x y s t h g group_ new (ap has_log stays) leaving)
+
+module _ (rules : Rules) (w : World) (name : ℕ) (c : Cause) (x : Node) (s : Group) (h : Stepping rules w name c x s) (b : Ballot) (why : Balloting c x b) where
+  open_same : (y : Node) → y.status ≡ x.status → y.leaving ≡ x.leaving → OpensStand y
+  open_same y stays leaving u = (let z = h.keeps.opens (unfinished rules w name c x s h b why) in (ap is_member stays ∙ z.0, leaving ∙ z.1))
+
+  over_none : (y : Node) (a : Outcome) → y.ballot ≡ Some (record b { answer = a; is_over = true }) → OpensStand y
+  over_none y a ballot u = absurd (let z = sym (ap is_unfinished ballot) ∙ u in cc)
+
+  taken_known : TakenKnown x s
+  taken_known =
+      let f = h.along.owned.fronts in
+      let low = h.accepted in
+      let size = ap length h.stands.group in
+      record { taken = f.given; within = f.accepted; accepted = omega arith }
+
+  least : ℕ
+  least = unwrap_or (least_of (taken_by x.core.who x.core.taken b) (names_of (left_in b (need_of x b)))) 0
+
+  -- its base after it trimmed by the votes
+  trimmed_votes : HasLearned x b → Trimmed s (max x.core.base (unwrap_or (least_of (taken_by x.core.who x.core.taken b) (names_of (left_in b (need_of x b)))) 0))
+  trimmed_votes learned = trimmed_max s x.core.base (unwrap_or (least_of (taken_by x.core.who x.core.taken b) (names_of (left_in b (need_of x b)))) 0) h.keeps.trimmed
+      (votes_trim w name x b s (kept rules w name c x s h) (known rules w name c x s h b why) learned taken_known)
+
+keeps_look : (rules : Rules) (w v : World) (name : ℕ) (c : Cause) (o : Outcome) (x : Node) (s t : Group) (h : Stepping rules w name c x s) (g : Grows s t) → v.group ≡ w.group
+    → (b : Ballot) (verdict : Verdict) (why : Balloting c x b) → Looks x b verdict → NameStands (within v name verdict.node) name verdict.node (t.node name)
+    → Along rules verdict.node → NodeKeeps w t name verdict.node
+keeps_look rules w v name c o x s t h g group_ b verdict why (finds_itself_out a) new later =
+    looked_plain rules w v name c o x verdict.node s t h g group_ new later (ballots_grow w s t verdict.node.ballot g (looked rules w name c x s h b verdict why (finds_itself_out a)))
+    (over_none rules w name c x s h b why verdict.node _ refl) refl refl refl refl refl refl refl
+keeps_look rules w v name c o x s t h g group_ b verdict why (waits a d) new later =
+    looked_plain rules w v name c o x verdict.node s t h g group_ new later (ballots_grow w s t verdict.node.ballot g (looked rules w name c x s h b verdict why (waits a d)))
+    (open_same rules w name c x s h b why verdict.node refl refl) refl refl refl refl refl refl refl
+keeps_look rules w v name c o x s t h g group_ b verdict why (fetches_from_best a d e) new later =
+    looked_plain rules w v name c o x verdict.node s t h g group_ new later (ballots_grow w s t verdict.node.ballot g (looked rules w name c x s h b verdict why (fetches_from_best a d e)))
+    (open_same rules w name c x s h b why verdict.node refl refl) refl refl refl refl refl refl refl
+keeps_look rules w v name c o x s t h g group_ b verdict why (finds_too_few a d) new later =
+    looked_plain rules w v name c o x verdict.node s t h g group_ new later (ballots_grow w s t verdict.node.ballot g (looked rules w name c x s h b verdict why (finds_too_few a d)))
+    (over_none rules w name c x s h b why verdict.node _ refl) refl refl refl refl refl refl refl
+keeps_look rules w v name c o x s t h g group_ b verdict why (finds_no_room learned) new later =
+    let y = verdict.node in
+    keep rules w v name c x y s t h g group_ new (ballots_grow w s t y.ballot g (looked rules w name c x s h b verdict why (finds_no_room learned)))
+    (over_none rules w name c x s h b why y _ refl)
+    (reports_same rules w v name c x y s t h g group_ new refl refl (omega arith))
+    (fresh_same rules w v name c x y s t h g group_ new refl refl (omega arith))
+    (trimmed_grow w s t y.core.base g (trimmed_votes rules w name c x s h b why learned))
+    (turn_same rules w v name c x y s t h g group_ new refl refl)
+    (leaves_same rules w v name c x y s t h g group_ new refl refl)
+keeps_look rules w v name c o x s t h g group_ b verdict why (decides may) new later =
+    let y = verdict.node in
+    keep rules w v name c x y s t h g group_ new (ballots_grow w s t y.ballot g (looked rules w name c x s h b verdict why (decides may)))
+    (over_none rules w name c x s h b why y _ refl)
+    (reporting_anew t.node (t.node name).list y.core.base (base_within rules w v name c o x y s t h g group_ new later))
+    (λ j new_. split (nat_lt j 256) (λ u. rw u (omega arith)) (λ f. rw f (omega arith)))
+    (trimmed_grow w s t y.core.base g (trimmed_votes rules w name c x s h b why may.learned))
+    (turn_same rules w v name c x y s t h g group_ new refl refl)
+    (leaves_same rules w v name c x y s t h g group_ new refl refl)
