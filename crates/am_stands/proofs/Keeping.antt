@@ -81,6 +81,7 @@ LastStands w None = Unit {0}
 LastStands w (Some b) = BallotStands w b
 
 pub record NodeKeeps (w : World) (s : Group) (i : ℕ) (x : Node) : Type 0 where
+  pub good : IsGood (s.node i).list
   pub votes : VotesStand s x.ballot
   pub fetches : FetchesStand s x.ballot
   pub last : LastStands w x.ballot
@@ -228,7 +229,7 @@ module _ (rules : Rules) (w : World) (name : ℕ) (c : Cause) (x : Node) (s : Gr
   member_set t = subst (λ (i : Image). IsSet (members_of i)) (told_whole w name name x (s.node name) old)
       (members_named (s.node name).list (front_named (s.node name).list (chain_of s.views) ((kept.each name).list (up t)) h.group.named))
 
-  number_ok : (e : Entry) → is_sequencer x ≡ true → Numbers c x e → NeedsNumber s name x e
+  pub number_ok : (e : Entry) → is_sequencer x ≡ true → Numbers c x e → NeedsNumber s name x e
   number_ok e t why = number_needs w name c x e s kept h.who h.runs old (is_leading w name x (s.node name) h.who t old) (told_used x h.along.owned.fronts).places
       (own_fits (within w name x) name x (s.node name) old (good (sequencer_member t)) (subst (λ k. mem (s.node name).list k ≡ true) (sym h.who) (list_member t)) h.keeps.turn)
       (λ from v report is. (h.heard (packet.LeaveAsk from v report) is).says)
@@ -277,7 +278,7 @@ module _ (rules : Rules) (w : World) (name : ℕ) (c : Cause) (x : Node) (s : Gr
   look_ok b v why (finds_no_room y) = tt
   look_ok b v why (decides may) = decision_needs w name x b s kept (known b why) (looks_own b why) (member_set (h.keeps.opens (unfinished b why)).0) may
 
-  other_heard : (from : ℕ) → hears_member x from ≡ true → ((from == x.core.who) ≡ false) × (is_member x.status ≡ true)
+  pub other_heard : (from : ℕ) → hears_member x from ≡ true → ((from == x.core.who) ≡ false) × (is_member x.status ≡ true)
   other_heard from t = (let both = and_both (not (from == x.core.who)) (is_member x.status) t in (not_true (from == x.core.who) both.0, both.1))
 
   fetch_ok : (from : ℕ) (v : Stamp) (base number : ℕ) (e : Entry) → c ≡ hears (packet.Piece from v base number e) → hears_member x from ≡ true

@@ -19,22 +19,28 @@ use Rattle.am_packet.specs.declared.packet.Packet.TheVariants as packet
 use Rattle.am_fronts.specs.Reports.{least_of, reported}
 use Rattle.am_sender.specs.Sends as own
 use Rattle.am_chain_lists.specs.Whole.{Begins, IsGood, told, mem, view_of, key}
+use Rattle.am_chain_lists.proofs.Members.{good_begins}
 use Rattle.am_chain_lists.proofs.Prefixes.{begins_refl, begins_more, begins_length}
 use Rattle.am_chain_moves.specs.Group as groups
 use Rattle.am_chain_moves.specs.Group.{Group, IsUp, opening}
 use Rattle.am_chain_moves.specs.Kept.{Kept}
+use Rattle.am_model.specs.declared.status.Status.{Status}
+use Rattle.am_model.specs.declared.status.Status.TheVariants as status
 use Rattle.am_model.specs.Node as nodes
-use Rattle.am_model.specs.Node.{Node, Ballot, view, acts, is_member, is_asking, is_sequencer, pushed, trimmed, lowest_or_first}
+use Rattle.am_model.specs.Node.{Node, Ballot, view, acts, unsettled, is_member, is_asking, is_sequencer, pushed, trimmed, lowest_or_first}
 use Rattle.am_model.specs.Ballots.{Verdict, overtaken as overtaken_by, need_of, left_in, taken_by, goes_on, ends}
 use Rattle.am_model.specs.Calls.{is_unfinished}
 use Rattle.am_model.specs.Group.{has_log}
 use Rattle.am_model.specs.Receiving.{noted}
 use Rattle.am_model.specs.Refresh.{settle}
-use Rattle.am_model.specs.World.{Decided, World, has_departed}
+use Rattle.am_model.specs.World.{Decided, World, is_stopped, has_departed}
 use Rattle.am_model.proofs.Greatest.{split, and_both}
 use Rattle.am_effects.specs.Causes.{Cause, hears, BringsSend, by_request, by_spread, BringsReport, with_send, by_ack, by_nack, by_leave_ask, BringsFronts, with_entry, with_number, alone}
 use Rattle.am_effects.specs.Looks.{Balloting, Looks, finds_itself_out, waits, fetches_from_best, finds_too_few, finds_no_room, decides, HasLearned}
-use Rattle.am_effects.specs.Changes.{MayReport, MayStore, Change}
+use Rattle.am_model.specs.Hearing.{hears_member, hears_in_view, hears_sequencer}
+use Rattle.am_effects.specs.Changes.{MayReport, MayStore, Change, refreshes, settles, takes_report, admits, numbers, keeps_body, notes, stores, begins_list, departs, promises}
+use Rattle.am_effects.specs.Changes.{opens, looks, fetches, stores_view, queues, collects, takes, asks_to_join, asks_to_leave, closes}
+use Rattle.am_effects.proofs.Statuses.{logged}
 use Rattle.am_effects.proofs.Rests.{settle_is}
 use Rattle.am_effects.proofs.Says.{told_pushed}
 use Rattle.am_laws.proofs.Stamps.{same_stamp}
@@ -45,9 +51,10 @@ use Rattle.am_stands.specs.Letters as says
 use Rattle.am_stands.specs.Letters.{Trimmed, VoteTells, AllShown, PacketSays, IsDecided, line}
 use Rattle.am_stands.specs.Growing.{Grows}
 use Rattle.am_stands.specs.States.{VotesStand, FetchesStand, ReportsStand, ReportsFresh, OpensStand, IsNew, IsConcerned, Reporting}
-use Rattle.am_stands.proofs.Changes.{told_whole, long_all}
+use Rattle.am_stands.proofs.Changes.{or_last, told_whole, long_all}
+use Rattle.am_stands.proofs.Onward.{group_kept}
 use Rattle.am_stands.proofs.Entries.{key_stamp}
-use Rattle.am_stands.proofs.Keeping.{GroupFor, BallotStands, LastStands, NodeKeeps, HeardSo, Stepping, kept, whole, old, up, good, known, looked_last, unfinished, list_member, sequencer_member}
+use Rattle.am_stands.proofs.Keeping.{GroupFor, BallotStands, LastStands, NodeKeeps, HeardSo, Stepping, kept, whole, old, up, good, known, looked_last, unfinished, list_member, sequencer_member, number_ok, other_heard}
 use Rattle.am_stands.proofs.Letters.{all_stay, trimmed_stays}
 use Rattle.am_stands.proofs.Reporting.{reporting_grow, reporting_base, reporting_anew, reporting_admit, reporting_more, reporting_pushed, fits_new, new_before, known_old, report_true, leaver_true}
 use Rattle.am_stands.proofs.Requests.{OwnTurn, turn_grows, turn_queued, turn_collected, turn_settled}
@@ -115,9 +122,15 @@ module _ (rules : Rules) (w : World) (name : ℕ) (c : Cause) (x : Node) (s : Gr
   looked b v why (finds_no_room y) = ballots_over w s b _ (looked_last rules w name c x s h b why)
   looked b v why (decides may) = ballots_over w s b _ (looked_last rules w name c x s h b why)
 
+stays_member : (t : Status) → is_member t ≡ true → has_departed t ≡ false
+stays_member status.Stranger h = refl
+stays_member status.Asking h = refl
+stays_member status.Member h = refl
+stays_member status.Departed h = absurd (cc)
+
 -- ---- each part, at the group that the moves of a change lead to
 
-module _ (rules : Rules) (w v : World) (name : ℕ) (c : Cause) (x y : Node) (s t : Group) (h : Stepping rules w name c x s) (g : Grows s t) (group_ : v.group ≡ w.group)
+module _ (rules : Rules) (w v : World) (name : ℕ) (c : Cause) (x y : Node) (s t : Group) (h : Stepping rules w name c x s) (g : Grows s t) (gt : GroupFor rules t) (runs : is_stopped v name ≡ false) (group_ : v.group ≡ w.group)
     (new : NameStands (within v name y) name y (t.node name)) where
   olds : NameStands (within w name x) name x (s.node name)
   olds = old rules w name c x s h
@@ -133,6 +146,15 @@ module _ (rules : Rules) (w v : World) (name : ℕ) (c : Cause) (x y : Node) (s 
 
   more_list : (e : Entry) → y.core.log ≡ (pushed x e).core.log → (t.node name).list ≡ (s.node name).list ++ e ∷ []
   more_list e log = new.list ∙ (λ i. take (log i).start (group_ i) ++ (log i).entries) ∙ sym (append_assoc (take x.core.log.start w.group) x.core.log.entries (e ∷ [])) ∙ ap (λ l. l ++ e ∷ []) (sym olds.list)
+
+  -- the list of a member is a good one, and so is one that is the same
+  good_member : is_member y.status ≡ true → IsGood (t.node name).list
+  good_member u =
+      let k_ = group_kept rules.founders (lowest_or_first rules.founders) rules.resilience t gt in
+      good_begins ((k_.each name).list (record { log = new.log_ ∙ logged y.status u; there = record { goes = new.stopped ∙ runs; stays = new.departed ∙ stays_member y.status u } })) k_.views.good
+
+  good_same : y.core.log ≡ x.core.log → IsGood (t.node name).list
+  good_same log = subst IsGood (sym (same_list log)) k.good
 
   ballots_same : y.ballot ≡ x.ballot → Ballots w t y.ballot
   ballots_same same = subst (Ballots w t) (sym same) (ballots_grow w s t x.ballot g (ballots rules w name c x s h))
@@ -158,26 +180,26 @@ module _ (rules : Rules) (w v : World) (name : ℕ) (c : Cause) (x y : Node) (s 
   leaves_same : has_log y.status ≡ has_log x.status → y.leaving ≡ x.leaving → y.leaving ≡ true → has_log y.status ≡ true
   leaves_same log leaving u = log ∙ k.leaves (sym leaving ∙ u)
 
-  keep : Ballots w t y.ballot → OpensStand y → ReportsStand t name y → ReportsFresh y → Trimmed t y.core.base → OwnTurn y.core.who (t.node name).list y.sends
+  keep : IsGood (t.node name).list → Ballots w t y.ballot → OpensStand y → ReportsStand t name y → ReportsFresh y → Trimmed t y.core.base → OwnTurn y.core.who (t.node name).list y.sends
       → (y.leaving ≡ true → has_log y.status ≡ true) → NodeKeeps w t name y
-  keep b o r f tr tu l = record { votes = b.votes; fetches = b.fetches; last = b.last; opens = o; reports = r; fresh = f; trimmed = tr; turn = tu; leaves = l }
+  keep fine b o r f tr tu l = record { good = fine; votes = b.votes; fetches = b.fetches; last = b.last; opens = o; reports = r; fresh = f; trimmed = tr; turn = tu; leaves = l }
 
   -- nothing of that changes but sends, and no list
   keep_same : y.core.log ≡ x.core.log → y.core.who ≡ x.core.who → y.core.base ≡ x.core.base → y.reports ≡ x.reports → y.ballot ≡ x.ballot → y.status ≡ x.status
       → y.leaving ≡ x.leaving → OwnTurn y.core.who (t.node name).list y.sends → NodeKeeps w t name y
   keep_same log who base reports ballot stays leaving turn =
-      keep (ballots_same ballot) (opens_same ballot stays leaving) (reports_same log reports (let z = base in omega arith))
+      keep (good_same log) (ballots_same ballot) (opens_same ballot stays leaving) (reports_same log reports (let z = base in omega arith))
       (fresh_same (ap told_by log) reports (let z = base in omega arith)) (trimmed_same base) turn (leaves_same (ap has_log stays) leaving)
 
   -- an entry more, above a base that isn't lower
-  keep_pushed : (e : Entry) → IsGood (s.node name).list → y.core.log ≡ (pushed x e).core.log → fits (nodes.told x) e ≡ true → y.core.who ≡ x.core.who
+  keep_pushed : (e : Entry) → is_member x.status ≡ true → y.core.log ≡ (pushed x e).core.log → fits (nodes.told x) e ≡ true → y.core.who ≡ x.core.who
       → x.core.base ≤ y.core.base → y.reports ≡ x.reports → y.ballot ≡ x.ballot → y.status ≡ x.status → y.leaving ≡ x.leaving → y.sends ≡ x.sends
       → Trimmed t y.core.base → NodeKeeps w t name y
-  keep_pushed e fine log fit who base reports ballot stays leaving sends trims =
-      keep (ballots_same ballot) (opens_same ballot stays leaving)
+  keep_pushed e member log fit who base reports ballot stays leaving sends trims =
+      keep (good_member (ap is_member stays ∙ member)) (ballots_same ballot) (opens_same ballot stays leaving)
       (subst (Reporting t.node (t.node name).list y.core.base) (sym reports) (subst (λ l. Reporting t.node l y.core.base x.reports) (sym (more_list e log))
       (reporting_base t.node ((s.node name).list ++ e ∷ []) x.core.base y.core.base x.reports base
-      (reporting_pushed s.node t.node (s.node name).list e x.core.base x.reports fine grow
+      (reporting_pushed s.node t.node (s.node name).list e x.core.base x.reports k.good grow
       (λ i is. k.fresh i (fits_new (nodes.told x) i (subst (λ z. fits (nodes.told x) z ≡ true) is fit))) k.reports))))
       (λ j new_. (let told_ : nodes.told y ≡ after (nodes.told x) (nodes.top x + 1) e = ap told_by log ∙ told_pushed x e in
       let old_ = k.fresh j (new_before (nodes.told x) (nodes.top x + 1) e j (told_used x h.along.owned.fronts).places (omega arith) fit (subst (λ (i : Image). IsNew i j) told_ new_)) in
@@ -256,18 +278,18 @@ was_open : (v : Stamp) (ballot : Option Ballot) → is_unfinished (overtaken_by 
 was_open v None u = u
 was_open v (Some b) u = split (not b.is_over && stamp_lt b.stamp v) (λ t. absurd (let z = rw t at u in cc)) (λ f. rw f at u)
 
-module _ (rules : Rules) (w v : World) (name : ℕ) (c : Cause) (o : Outcome) (x y : Node) (s t : Group) (h : Stepping rules w name c x s) (g : Grows s t) (group_ : v.group ≡ w.group)
+module _ (rules : Rules) (w v : World) (name : ℕ) (c : Cause) (o : Outcome) (x y : Node) (s t : Group) (h : Stepping rules w name c x s) (g : Grows s t) (gt : GroupFor rules t) (runs : is_stopped v name ≡ false) (group_ : v.group ≡ w.group)
     (new : NameStands (within v name y) name y (t.node name)) (later : Along rules y) where
   abbrev same : y.core.log ≡ x.core.log → y.core.who ≡ x.core.who → y.core.base ≡ x.core.base → y.reports ≡ x.reports → y.ballot ≡ x.ballot → y.status ≡ x.status
       → y.leaving ≡ x.leaving → OwnTurn y.core.who (t.node name).list y.sends → NodeKeeps w t name y
-  same = keep_same rules w v name c x y s t h g group_ new
+  same = keep_same rules w v name c x y s t h g gt runs group_ new
 
   abbrev turns : y.core.who ≡ x.core.who → y.sends ≡ x.sends → OwnTurn y.core.who (t.node name).list y.sends
-  turns = turn_same rules w v name c x y s t h g group_ new
+  turns = turn_same rules w v name c x y s t h g gt runs group_ new
 
-  abbrev parts : Ballots w t y.ballot → OpensStand y → ReportsStand t name y → ReportsFresh y → Trimmed t y.core.base → OwnTurn y.core.who (t.node name).list y.sends
+  abbrev parts : IsGood (t.node name).list → Ballots w t y.ballot → OpensStand y → ReportsStand t name y → ReportsFresh y → Trimmed t y.core.base → OwnTurn y.core.who (t.node name).list y.sends
       → (y.leaving ≡ true → has_log y.status ≡ true) → NodeKeeps w t name y
-  parts = keep rules w v name c x y s t h g group_ new
+  parts = keep rules w v name c x y s t h g gt runs group_ new
 
   trims : (base : ℕ) → Trimmed s base → Trimmed t base
   trims base k = trimmed_grow w s t base g k
@@ -285,11 +307,11 @@ module _ (rules : Rules) (w v : World) (name : ℕ) (c : Cause) (o : Outcome) (x
   -- a look: with the same list and base
   looked_plain : Ballots w t y.ballot → OpensStand y → y.core.log ≡ x.core.log → y.core.who ≡ x.core.who → y.core.base ≡ x.core.base → y.reports ≡ x.reports
       → y.status ≡ x.status → y.leaving ≡ x.leaving → y.sends ≡ x.sends → NodeKeeps w t name y
-  looked_plain b opens_ log who base reports stays leaving sends = parts b opens_
-      (reports_same rules w v name c x y s t h g group_ new log reports (let z = base in omega arith))
-      (fresh_same rules w v name c x y s t h g group_ new (ap told_by log) reports (let z = base in omega arith))
-      (trimmed_same rules w v name c x y s t h g group_ new base) (turns who sends)
-      (leaves_same rules w v name c x y s t h g group_ new (ap has_log stays) leaving)
+  looked_plain b opens_ log who base reports stays leaving sends = parts (good_same rules w v name c x y s t h g gt runs group_ new log) b opens_
+      (reports_same rules w v name c x y s t h g gt runs group_ new log reports (let z = base in omega arith))
+      (fresh_same rules w v name c x y s t h g gt runs group_ new (ap told_by log) reports (let z = base in omega arith))
+      (trimmed_same rules w v name c x y s t h g gt runs group_ new base) (turns who sends)
+      (leaves_same rules w v name c x y s t h g gt runs group_ new (ap has_log stays) leaving)
 
 module _ (rules : Rules) (w : World) (name : ℕ) (c : Cause) (x : Node) (s : Group) (h : Stepping rules w name c x s) (b : Ballot) (why : Balloting c x b) where
   open_same : (y : Node) → y.status ≡ x.status → y.leaving ≡ x.leaving → OpensStand y
@@ -305,44 +327,174 @@ module _ (rules : Rules) (w : World) (name : ℕ) (c : Cause) (x : Node) (s : Gr
       let size = ap length h.stands.group in
       record { taken = f.given; within = f.accepted; accepted = omega arith }
 
-  least : ℕ
-  least = unwrap_or (least_of (taken_by x.core.who x.core.taken b) (names_of (left_in b (need_of x b)))) 0
-
   -- its base after it trimmed by the votes
   trimmed_votes : HasLearned x b → Trimmed s (max x.core.base (unwrap_or (least_of (taken_by x.core.who x.core.taken b) (names_of (left_in b (need_of x b)))) 0))
   trimmed_votes learned = trimmed_max s x.core.base (unwrap_or (least_of (taken_by x.core.who x.core.taken b) (names_of (left_in b (need_of x b)))) 0) h.keeps.trimmed
       (votes_trim w name x b s (kept rules w name c x s h) (known rules w name c x s h b why) learned taken_known)
 
-keeps_look : (rules : Rules) (w v : World) (name : ℕ) (c : Cause) (o : Outcome) (x : Node) (s t : Group) (h : Stepping rules w name c x s) (g : Grows s t) → v.group ≡ w.group
+keeps_look : (rules : Rules) (w v : World) (name : ℕ) (c : Cause) (o : Outcome) (x : Node) (s t : Group) (h : Stepping rules w name c x s) (g : Grows s t) (gt : GroupFor rules t) → is_stopped v name ≡ false → v.group ≡ w.group
     → (b : Ballot) (verdict : Verdict) (why : Balloting c x b) → Looks x b verdict → NameStands (within v name verdict.node) name verdict.node (t.node name)
     → Along rules verdict.node → NodeKeeps w t name verdict.node
-keeps_look rules w v name c o x s t h g group_ b verdict why (finds_itself_out a) new later =
-    looked_plain rules w v name c o x verdict.node s t h g group_ new later (ballots_grow w s t verdict.node.ballot g (looked rules w name c x s h b verdict why (finds_itself_out a)))
+keeps_look rules w v name c o x s t h g gt runs group_ b verdict why (finds_itself_out a) new later =
+    looked_plain rules w v name c o x verdict.node s t h g gt runs group_ new later (ballots_grow w s t verdict.node.ballot g (looked rules w name c x s h b verdict why (finds_itself_out a)))
     (over_none rules w name c x s h b why verdict.node _ refl) refl refl refl refl refl refl refl
-keeps_look rules w v name c o x s t h g group_ b verdict why (waits a d) new later =
-    looked_plain rules w v name c o x verdict.node s t h g group_ new later (ballots_grow w s t verdict.node.ballot g (looked rules w name c x s h b verdict why (waits a d)))
+keeps_look rules w v name c o x s t h g gt runs group_ b verdict why (waits a d) new later =
+    looked_plain rules w v name c o x verdict.node s t h g gt runs group_ new later (ballots_grow w s t verdict.node.ballot g (looked rules w name c x s h b verdict why (waits a d)))
     (open_same rules w name c x s h b why verdict.node refl refl) refl refl refl refl refl refl refl
-keeps_look rules w v name c o x s t h g group_ b verdict why (fetches_from_best a d e) new later =
-    looked_plain rules w v name c o x verdict.node s t h g group_ new later (ballots_grow w s t verdict.node.ballot g (looked rules w name c x s h b verdict why (fetches_from_best a d e)))
+keeps_look rules w v name c o x s t h g gt runs group_ b verdict why (fetches_from_best a d e) new later =
+    looked_plain rules w v name c o x verdict.node s t h g gt runs group_ new later (ballots_grow w s t verdict.node.ballot g (looked rules w name c x s h b verdict why (fetches_from_best a d e)))
     (open_same rules w name c x s h b why verdict.node refl refl) refl refl refl refl refl refl refl
-keeps_look rules w v name c o x s t h g group_ b verdict why (finds_too_few a d) new later =
-    looked_plain rules w v name c o x verdict.node s t h g group_ new later (ballots_grow w s t verdict.node.ballot g (looked rules w name c x s h b verdict why (finds_too_few a d)))
+keeps_look rules w v name c o x s t h g gt runs group_ b verdict why (finds_too_few a d) new later =
+    looked_plain rules w v name c o x verdict.node s t h g gt runs group_ new later (ballots_grow w s t verdict.node.ballot g (looked rules w name c x s h b verdict why (finds_too_few a d)))
     (over_none rules w name c x s h b why verdict.node _ refl) refl refl refl refl refl refl refl
-keeps_look rules w v name c o x s t h g group_ b verdict why (finds_no_room learned) new later =
+keeps_look rules w v name c o x s t h g gt runs group_ b verdict why (finds_no_room learned) new later =
     let y = verdict.node in
-    keep rules w v name c x y s t h g group_ new (ballots_grow w s t y.ballot g (looked rules w name c x s h b verdict why (finds_no_room learned)))
+    keep rules w v name c x y s t h g gt runs group_ new (good_same rules w v name c x y s t h g gt runs group_ new refl) (ballots_grow w s t y.ballot g (looked rules w name c x s h b verdict why (finds_no_room learned)))
     (over_none rules w name c x s h b why y _ refl)
-    (reports_same rules w v name c x y s t h g group_ new refl refl (omega arith))
-    (fresh_same rules w v name c x y s t h g group_ new refl refl (omega arith))
+    (reports_same rules w v name c x y s t h g gt runs group_ new refl refl (omega arith))
+    (fresh_same rules w v name c x y s t h g gt runs group_ new refl refl (omega arith))
     (trimmed_grow w s t y.core.base g (trimmed_votes rules w name c x s h b why learned))
-    (turn_same rules w v name c x y s t h g group_ new refl refl)
-    (leaves_same rules w v name c x y s t h g group_ new refl refl)
-keeps_look rules w v name c o x s t h g group_ b verdict why (decides may) new later =
+    (turn_same rules w v name c x y s t h g gt runs group_ new refl refl)
+    (leaves_same rules w v name c x y s t h g gt runs group_ new refl refl)
+keeps_look rules w v name c o x s t h g gt runs group_ b verdict why (decides may) new later =
     let y = verdict.node in
-    keep rules w v name c x y s t h g group_ new (ballots_grow w s t y.ballot g (looked rules w name c x s h b verdict why (decides may)))
+    keep rules w v name c x y s t h g gt runs group_ new (good_member rules w v name c x y s t h g gt runs group_ new (h.keeps.opens (unfinished rules w name c x s h b why)).0) (ballots_grow w s t y.ballot g (looked rules w name c x s h b verdict why (decides may)))
     (over_none rules w name c x s h b why y _ refl)
-    (reporting_anew t.node (t.node name).list y.core.base (base_within rules w v name c o x y s t h g group_ new later))
+    (reporting_anew t.node (t.node name).list y.core.base (base_within rules w v name c o x y s t h g gt runs group_ new later))
     (λ j new_. split (nat_lt j 256) (λ u. rw u (omega arith)) (λ f. rw f (omega arith)))
     (trimmed_grow w s t y.core.base g (trimmed_votes rules w name c x s h b why may.learned))
-    (turn_same rules w v name c x y s t h g group_ new refl refl)
-    (leaves_same rules w v name c x y s t h g group_ new refl refl)
+    (turn_same rules w v name c x y s t h g gt runs group_ new refl refl)
+    (leaves_same rules w v name c x y s t h g gt runs group_ new refl refl)
+
+heard_member : (x : Node) (from : ℕ) (v : Stamp) → hears_sequencer x from v ≡ true → is_member x.status ≡ true
+heard_member x from v heard =
+    (and_both (not (from == x.core.who)) (is_member x.status)
+    (and_both (hears_member x from) (acts x && stamp_eq v (view x)) (and_both (hears_in_view x from v) (v.by == from) heard).0).0).1
+
+-- its own sends, where one is settled
+settled_turns : (rules : Rules) (w : World) (name : ℕ) (c : Cause) (x : Node) (s t : Group) (h : Stepping rules w name c x s) → Grows s t
+    → OwnTurn x.core.who (t.node name).list (settle x).sends
+settled_turns rules w name c x s t h g = turn_grows x.core.who (s.node name).list (t.node name).list (settle x).sends (g.each name).list
+    (turn_settled (within w name x) name x (s.node name) (old rules w name c x s h) h.keeps.good h.keeps.turn)
+
+-- ---- each change, but for a refresh and the last member's end
+
+abbrev IsPlain : {c : Cause} {o : Outcome} {x y : Node} → Change c o x y → Type 0
+IsPlain refreshes = ⊥
+IsPlain (closes leads_ leaves alone_ room) = ⊥
+IsPlain _ = Unit {0}
+
+no_log_none : (t : Status) → is_member t ≡ false → (is_member t || is_asking t) ≡ true → has_log t ≡ false
+no_log_none status.Stranger f h = absurd (cc)
+no_log_none status.Asking f h = refl
+no_log_none status.Member f h = absurd (cc)
+no_log_none status.Departed f h = absurd (cc)
+
+keeps_next : (rules : Rules) (w v : World) (name : ℕ) (c : Cause) (o : Outcome) (x y : Node) (s t : Group) (z : Change c o x y) → IsPlain z → (h : Stepping rules w name c x s) (g : Grows s t) (gt : GroupFor rules t)
+    → is_stopped v name ≡ false → v.group ≡ w.group → NameStands (within v name y) name y (t.node name) → Along rules y → NodeKeeps w t name y
+keeps_next rules w v name c o x y s t refreshes plain h g gt runs group_ new later = absurd plain
+keeps_next rules w v name c o x y s t settles plain h g gt runs group_ new later =
+    let is = settle_is x in
+    keep_same rules w v name c x y s t h g gt runs group_ new (ap (λ (n : Node). n.core.log) is) (ap (λ (n : Node). n.core.who) is) (ap (λ (n : Node). n.core.base) is)
+    (ap (λ (n : Node). n.reports) is) (ap (λ (n : Node). n.ballot) is) (ap (λ (n : Node). n.status) is) (ap (λ (n : Node). n.leaving) is)
+    (subst (λ k. OwnTurn k (t.node name).list y.sends) (sym (ap (λ (n : Node). n.core.who) is)) (settled_turns rules w name c x s t h g))
+keeps_next rules w v name c o x y s t (takes_report from u report by may) plain h g gt runs group_ new later =
+    let taken_ = taken_report rules w name c x s h may.leads from u report by may in
+    keep rules w v name c x y s t h g gt runs group_ new (good_same rules w v name c x y s t h g gt runs group_ new refl) (ballots_same rules w v name c x y s t h g gt runs group_ new refl) (opens_same rules w v name c x y s t h g gt runs group_ new refl refl refl)
+    (subst (λ l. Reporting t.node l y.core.base y.reports) (sym (same_list rules w v name c x y s t h g gt runs group_ new refl))
+    (reporting_grow s.node t.node (s.node name).list y.core.base y.reports (λ i. (g.each i).list) taken_))
+    (λ j new_. split (j == from)
+    (λ u_. absurd (let is : j ≡ from = grind (arith, nat_tests) in known_old (nodes.told x) from may.known (subst (IsNew (nodes.told x)) is new_)))
+    (λ f. rw f (h.keeps.fresh j new_)))
+    (trimmed_same rules w v name c x y s t h g gt runs group_ new refl) (turn_same rules w v name c x y s t h g gt runs group_ new refl refl)
+    (leaves_same rules w v name c x y s t h g gt runs group_ new refl refl)
+keeps_next rules w v name c o x y s t (admits from u is leads_ fit) plain h g gt runs group_ new later =
+    let low = base_within rules w v name c o x y s t h g gt runs group_ new later in
+    let size = ap length (same_list rules w v name c x y s t h g gt runs group_ new refl) in
+    keep rules w v name c x y s t h g gt runs group_ new (good_same rules w v name c x y s t h g gt runs group_ new refl) (ballots_same rules w v name c x y s t h g gt runs group_ new refl) (opens_same rules w v name c x y s t h g gt runs group_ new refl refl refl)
+    (subst (λ l. Reporting t.node l y.core.base y.reports) (sym (same_list rules w v name c x y s t h g gt runs group_ new refl))
+    (reporting_admit t.node (s.node name).list x.core.base from x.reports (omega arith)
+    (reporting_grow s.node t.node (s.node name).list x.core.base x.reports (λ i. (g.each i).list) h.keeps.reports)))
+    (λ j new_. split (j == from) (λ u_. rw u_ (omega arith)) (λ f. rw f (h.keeps.fresh j new_)))
+    (trimmed_same rules w v name c x y s t h g gt runs group_ new refl) (turn_same rules w v name c x y s t h g gt runs group_ new refl refl)
+    (leaves_same rules w v name c x y s t h g gt runs group_ new refl refl)
+keeps_next rules w v name c o x y s t (numbers e leads_ room why) plain h g gt runs group_ new later =
+    keep_pushed rules w v name c x y s t h g gt runs group_ new e (sequencer_member rules w name c x s h leads_) refl (number_ok rules w name c x s h e leads_ why).fit refl
+    (omega arith) refl refl refl refl refl (trimmed_same rules w v name c x y s t h g gt runs group_ new refl)
+keeps_next rules w v name c o x y s t (keeps_body from u report req body is heard) plain h g gt runs group_ new later =
+    keep_same rules w v name c x y s t h g gt runs group_ new refl refl refl refl refl refl refl (turn_same rules w v name c x y s t h g gt runs group_ new refl refl)
+keeps_next rules w v name c o x y s t (notes from u base acc by heard) plain h g gt runs group_ new later =
+    let trim = brings_trim w s name c from u base acc h.heard by in
+    keep rules w v name c x y s t h g gt runs group_ new (good_same rules w v name c x y s t h g gt runs group_ new refl) (ballots_same rules w v name c x y s t h g gt runs group_ new refl) (opens_same rules w v name c x y s t h g gt runs group_ new refl refl refl)
+    (reports_same rules w v name c x y s t h g gt runs group_ new refl refl (omega arith))
+    (fresh_same rules w v name c x y s t h g gt runs group_ new refl refl (omega arith))
+    (trimmed_grow w s t y.core.base g (trimmed_max s x.core.base _ h.keeps.trimmed (either (nat_le base x.core.taken) base x.core.base trim h.keeps.trimmed)))
+    (turn_same rules w v name c x y s t h g gt runs group_ new refl refl) (leaves_same rules w v name c x y s t h g gt runs group_ new refl refl)
+  where
+    either : (b : Bool) (p q : ℕ) → Trimmed s p → Trimmed s q → Trimmed s (if b then p else q)
+    either true p q a d = a
+    either false p q a d = d
+keeps_next rules w v name c o x y s t (stores from u base acc number e by heard plain_ may) plain h g gt runs group_ new later =
+    keep_pushed rules w v name c x y s t h g gt runs group_ new e (heard_member x from u heard) refl may.fits refl (omega arith) refl refl refl refl refl
+    (trimmed_same rules w v name c x y s t h g gt runs group_ new refl)
+keeps_next rules w v name c o x y s t (begins_list from u base join image is says_ may) plain h g gt runs group_ new later =
+    let none = no_log_none x.status may.no_member (and_both (not (from == x.core.who)) (is_member x.status || is_asking x.status) may.asks).1 in
+    let trim = (h.heard (packet.Welcome from u base join image) is).says.0 in
+    let nothing : (s.node name).list ≡ [] = ((kept rules w name c x s h).each name).blank ((old rules w name c x s h).log_ ∙ none) in
+    let size = ap length nothing in
+    keep rules w v name c x y s t h g gt runs group_ new (good_member rules w v name c x y s t h g gt runs group_ new refl) (ballots_same rules w v name c x y s t h g gt runs group_ new refl)
+    (λ u_. absurd (let k = (h.keeps.opens u_).0 in let z = may.no_member in cc))
+    (record {
+      within = λ j. (let low = h.keeps.reports.within j in omega arith);
+      taken = h.keeps.reports.taken;
+      true_ = λ j few concerned above. absurd (let low = h.keeps.reports.within j in omega arith);
+    })
+    (λ j new_. (let low = h.keeps.reports.within j in omega arith))
+    (trimmed_grow w s t base g trim) (turn_same rules w v name c x y s t h g gt runs group_ new refl refl) (λ u_. refl)
+keeps_next rules w v name c o x y s t (departs from u number is heard leaves) plain h g gt runs group_ new later =
+    keep rules w v name c x y s t h g gt runs group_ new (good_same rules w v name c x y s t h g gt runs group_ new refl) (ballots_same rules w v name c x y s t h g gt runs group_ new refl) (λ u_. absurd (let k = (h.keeps.opens u_).1 in cc))
+    (reports_same rules w v name c x y s t h g gt runs group_ new refl refl (omega arith))
+    (fresh_same rules w v name c x y s t h g gt runs group_ new refl refl (omega arith))
+    (trimmed_same rules w v name c x y s t h g gt runs group_ new refl) (turn_same rules w v name c x y s t h g gt runs group_ new refl refl) (λ u_. refl)
+keeps_next rules w v name c o x y s t (promises u low why) plain h g gt runs group_ new later =
+    keep rules w v name c x y s t h g gt runs group_ new (good_same rules w v name c x y s t h g gt runs group_ new refl) (ballots_grow w s t y.ballot g (ballots_overtaken w s u x.ballot (ballots rules w name c x s h))) (λ u_. h.keeps.opens (was_open u x.ballot u_))
+    (reports_same rules w v name c x y s t h g gt runs group_ new refl refl (omega arith))
+    (fresh_same rules w v name c x y s t h g gt runs group_ new refl refl (omega arith))
+    (trimmed_same rules w v name c x y s t h g gt runs group_ new refl) (turn_same rules w v name c x y s t h g gt runs group_ new refl refl)
+    (leaves_same rules w v name c x y s t h g gt runs group_ new refl refl)
+keeps_next rules w v name c o x y s t (opens least resilience by may) plain h g gt runs group_ new later =
+    keep rules w v name c x y s t h g gt runs group_ new (good_same rules w v name c x y s t h g gt runs group_ new refl)
+    (record { votes = λ open_ j vote is. absurd (cc); fetches = λ open_ from want is. absurd (cc); last = record { given = λ j u_. absurd (cc); names = λ j vote is. absurd (cc) } })
+    (λ u_. (may.member, may.stays))
+    (reports_same rules w v name c x y s t h g gt runs group_ new refl refl (omega arith))
+    (fresh_same rules w v name c x y s t h g gt runs group_ new refl refl (omega arith))
+    (trimmed_same rules w v name c x y s t h g gt runs group_ new refl) (turn_same rules w v name c x y s t h g gt runs group_ new refl refl)
+    (leaves_same rules w v name c x y s t h g gt runs group_ new refl refl)
+keeps_next rules w v name c o x y s t (looks b verdict over why look is) plain h g gt runs group_ new later = keeps_look rules w v name c o x s t h g gt runs group_ b verdict why look new later
+keeps_next rules w v name c o x y s t (fetches from u base number e is heard promise below why may) plain h g gt runs group_ new later =
+    keep_pushed rules w v name c x y s t h g gt runs group_ new e (other_heard rules w name c x s h from heard).1 refl may.fits refl (omega arith) refl refl refl refl refl
+    (trimmed_grow w s t y.core.base g (trimmed_max s x.core.base base h.keeps.trimmed (h.heard (packet.Piece from u base number e) is).says.0))
+keeps_next rules w v name c o x y s t (stores_view from u base number names resilience is heard own_ other promise below may) plain h g gt runs group_ new later =
+    keep_pushed rules w v name c x y s t h g gt runs group_ new (View u names resilience) (other_heard rules w name c x s h from heard).1 refl may.fits refl (omega arith) refl refl refl refl refl
+    (trimmed_grow w s t y.core.base g (trimmed_max s x.core.base base h.keeps.trimmed (h.heard (packet.Result from u base number names resilience) is).says.0))
+keeps_next rules w v name c o x y s t (queues body is says_ member stays few) plain h g gt runs group_ new later =
+    keep_same rules w v name c x y s t h g gt runs group_ new refl refl refl refl refl refl refl
+    (turn_queued x.core.who (t.node name).list body x.sends (turn_grows x.core.who (s.node name).list (t.node name).list x.sends (g.each name).list h.keeps.turn))
+keeps_next rules w v name c o x y s t (collects req is) plain h g gt runs group_ new later =
+    keep_same rules w v name c x y s t h g gt runs group_ new refl refl refl refl refl refl refl
+    (turn_collected x.core.who req (t.node name).list x.sends (turn_grows x.core.who (s.node name).list (t.node name).list x.sends (g.each name).list h.keeps.turn))
+keeps_next rules w v name c o x y s t (takes e is says_ member some there) plain h g gt runs group_ new later =
+    keep_same rules w v name c x y s t h g gt runs group_ new refl refl refl refl refl refl refl (turn_same rules w v name c x y s t h g gt runs group_ new refl refl)
+keeps_next rules w v name c o x y s t (asks_to_join is was) plain h g gt runs group_ new later =
+    keep rules w v name c x y s t h g gt runs group_ new (good_same rules w v name c x y s t h g gt runs group_ new refl) (ballots_same rules w v name c x y s t h g gt runs group_ new refl) (λ u_. absurd (let k = (h.keeps.opens u_).0 in let z = ap is_member was in cc))
+    (reports_same rules w v name c x y s t h g gt runs group_ new refl refl (omega arith))
+    (fresh_same rules w v name c x y s t h g gt runs group_ new refl refl (omega arith))
+    (trimmed_same rules w v name c x y s t h g gt runs group_ new refl) (turn_same rules w v name c x y s t h g gt runs group_ new refl refl)
+    (leaves_same rules w v name c x y s t h g gt runs group_ new (sym (ap has_log was)) refl)
+keeps_next rules w v name c o x y s t (asks_to_leave is was stays done) plain h g gt runs group_ new later =
+    keep rules w v name c x y s t h g gt runs group_ new (good_same rules w v name c x y s t h g gt runs group_ new refl) (ballots_same rules w v name c x y s t h g gt runs group_ new refl) (λ u_. absurd (let k = or_last (nat_lt 0 (unsettled x)) (is_unfinished x.ballot) done in cc))
+    (reports_same rules w v name c x y s t h g gt runs group_ new refl refl (omega arith))
+    (fresh_same rules w v name c x y s t h g gt runs group_ new refl refl (omega arith))
+    (trimmed_same rules w v name c x y s t h g gt runs group_ new refl) (turn_same rules w v name c x y s t h g gt runs group_ new refl refl)
+    (λ u_. ap has_log was)
+keeps_next rules w v name c o x y s t (closes leads_ leaves alone_ room) plain h g gt runs group_ new later = absurd plain
