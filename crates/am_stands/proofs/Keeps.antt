@@ -69,15 +69,15 @@ fetches_grow : (w : World) (s t : Group) (ballot : Option Ballot) → Grows s t 
 fetches_grow w s t None g h = tt
 fetches_grow w s t (Some b) g h = λ open_ from want is. all_stay w w s t g ([], sym (append-nil w.records)) b.stamp from (h open_ from want is)
 
-trimmed_grow : (w : World) (s t : Group) (base : ℕ) → Grows s t → Trimmed s base → Trimmed t base
+pub trimmed_grow : (w : World) (s t : Group) (base : ℕ) → Grows s t → Trimmed s base → Trimmed t base
 trimmed_grow w s t base g h = trimmed_stays w w s t g ([], sym (append-nil w.records)) base h
 
-record Ballots (w : World) (s : Group) (ballot : Option Ballot) : Type 0 where
-  votes : VotesStand s ballot
-  fetches : FetchesStand s ballot
-  last : LastStands w ballot
+pub record Ballots (w : World) (s : Group) (ballot : Option Ballot) : Type 0 where
+  pub votes : VotesStand s ballot
+  pub fetches : FetchesStand s ballot
+  pub last : LastStands w ballot
 
-ballots_grow : (w : World) (s t : Group) (ballot : Option Ballot) → Grows s t → Ballots w s ballot → Ballots w t ballot
+pub ballots_grow : (w : World) (s t : Group) (ballot : Option Ballot) → Grows s t → Ballots w s ballot → Ballots w t ballot
 ballots_grow w s t ballot g h = record { votes = votes_grow s t ballot g h.votes; fetches = fetches_grow w s t ballot g h.fetches; last = h.last }
 
 -- an overtaken one is over
@@ -103,7 +103,7 @@ not_shown : (o : Outcome) → ((from want : ℕ) → o ≡ said.Fetching from wa
 not_shown o f = f
 
 module _ (rules : Rules) (w : World) (name : ℕ) (c : Cause) (x : Node) (s : Group) (h : Stepping rules w name c x s) where
-  ballots : Ballots w s x.ballot
+  pub ballots : Ballots w s x.ballot
   ballots = record { votes = h.keeps.votes; fetches = h.keeps.fetches; last = h.keeps.last }
 
   -- a look
@@ -390,7 +390,7 @@ no_log_none status.Asking f h = refl
 no_log_none status.Member f h = absurd (cc)
 no_log_none status.Departed f h = absurd (cc)
 
-keeps_next : (rules : Rules) (w v : World) (name : ℕ) (c : Cause) (o : Outcome) (x y : Node) (s t : Group) (z : Change c o x y) → IsPlain z → (h : Stepping rules w name c x s) (g : Grows s t) (gt : GroupFor rules t)
+pub keeps_next : (rules : Rules) (w v : World) (name : ℕ) (c : Cause) (o : Outcome) (x y : Node) (s t : Group) (z : Change c o x y) → IsPlain z → (h : Stepping rules w name c x s) (g : Grows s t) (gt : GroupFor rules t)
     → is_stopped v name ≡ false → v.group ≡ w.group → NameStands (within v name y) name y (t.node name) → Along rules y → NodeKeeps w t name y
 keeps_next rules w v name c o x y s t refreshes plain h g gt runs group_ new later = absurd plain
 keeps_next rules w v name c o x y s t settles plain h g gt runs group_ new later =

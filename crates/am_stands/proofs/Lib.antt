@@ -42,3 +42,4 @@ pub mod ChainNames
 pub mod Onward
 pub mod Keeping
 pub mod Keeps
+pub mod Refreshing

@@ -120,7 +120,7 @@ module _ (v : World) (i : ℕ) (x y : Node) (s : Group) (h : Refreshed v i x y s
       begins_take_all : (l : List Entry) → Begins l l
       begins_take_all l = record { rest = []; same = append-nil l }
 
-  refresh_trims : Trimmed s y.core.base
+  pub refresh_trims : Trimmed s y.core.base
   refresh_trims = by_least (least_taken y.reports (concerned y)) refl
     where
       base_y : y.core.base ≡ base_after (least_taken y.reports (concerned y)) x.core.base
