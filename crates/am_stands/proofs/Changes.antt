@@ -33,7 +33,7 @@ use Rattle.am_laws.proofs.Stamps.{equal_stamps}
 use Rattle.am_packet.specs.declared.packet.Packet.TheVariants as packet
 use Rattle.am_stands.specs.Standing.{NameStands, FrontsStand, StandsBut, within}
 use Rattle.am_stands.specs.Letters.{GoneSays, has_stopped, may_go}
-use Rattle.am_stands.specs.Moving.{Leads}
+use Rattle.am_stands.specs.Moving.{MoveOk, Leads}
 use Rattle.am_stands.specs.Steps.{MayMove}
 use Rattle.am_stands.proofs.Names.{one_move, no_move, name_in, views_in, lines_within, each_within, fronts_within}
 
@@ -49,7 +49,7 @@ pub record Unmoved (x y : Node) : Type 0 where
   pub start : y.core.start ≡ x.core.start
 
 -- the same to what stands for it
-same_name : (w : World) (name i : ℕ) (x y : Node) (a : groups.Node) → Unmoved x y → NameStands (within w name x) i x a → NameStands (within w name y) i y a
+pub same_name : (w : World) (name i : ℕ) (x y : Node) (a : groups.Node) → Unmoved x y → NameStands (within w name x) i x a → NameStands (within w name y) i y a
 same_name w name i x y a u h = record {
   begins = record {
     within = subst (λ (l : Log). l.start ≤ length w.group) (sym u.log) h.begins.within;
@@ -90,10 +90,10 @@ unmoved w name x y s u h = no_move (StandsBut name (within w name y)) s (record 
 
 -- ---- a move of one node, whose list stays
 
-moved : (w : World) (name : ℕ) (x y : Node) (s : Group) (b : groups.Node) → y.core.log ≡ x.core.log → Move s (with_node s name b)
+moved : (w : World) (name : ℕ) (x y : Node) (s : Group) (b : groups.Node) → y.core.log ≡ x.core.log → (move : Move s (with_node s name b)) → MoveOk move
     → (NameStands (within w name x) name x (s.node name) → NameStands (within w name y) name y b)
     → StandsBut name (within w name x) s → Leads (StandsBut name (within w name y)) s
-moved w name x y s b log move f h = one_move (StandsBut name (within w name y)) s (with_node s name b) move (record {
+moved w name x y s b log move ok f h = one_move (StandsBut name (within w name y)) s (with_node s name b) move ok (record {
   each = each_within w name x y s b f h.each;
   fronts = fronts_within w name x y s b h.fronts;
   views = views_in (within w name x) (within w name y) s.views refl (lines_within w name x y log) h.views;
@@ -188,7 +188,7 @@ promise_stands w name c x v s may low why h =
     let above : IsAbove s.node name v = record { greater = omega arith; small = begun.small; other = other; begun = begun.begun } in
     let ends : is_unfinished (overtaken v x.ballot) ≡ false = over v x.ballot (λ b is open_. subst (λ u. stamp_lt u v ≡ true) (sym (may.ballot b is open_)) t) in
     moved w name x (promised x v) s (record (s.node name) { promise = v; ballot = false }) refl
-    (group.raises name v (is_there w name x (s.node name) may.runs (promiser_stays c x v why) old) above)
+    (group.raises name v (is_there w name x (s.node name) may.runs (promiser_stays c x v why) old) above) tt
     (λ k. record { begins = record { within = k.begins.within; image = k.begins.image }; list = k.list; log_ = k.log_; stopped = k.stopped; departed = k.departed; leaving = k.leaving; promise = refl; ballot = sym ends; start = k.start }) h)
     (λ f.
     let same : v ≡ x.core.promise = equal_stamps v x.core.promise begun.small small low f in
@@ -202,7 +202,7 @@ pub given_over : (w : World) (name : ℕ) (x y : Node) (s : Group) → y.core.lo
     → y.core.promise ≡ x.core.promise → is_unfinished y.ballot ≡ false → y.core.start ≡ x.core.start → StandsBut name (within w name x) s
     → Leads (StandsBut name (within w name y)) s
 given_over w name x y s log stays leaving promise ends start_ h =
-    moved w name x y s (record (s.node name) { ballot = false }) log (group.gives_over name)
+    moved w name x y s (record (s.node name) { ballot = false }) log (group.gives_over name) tt
     (λ k. record {
       begins = record { within = subst (λ (l : Log). l.start ≤ length w.group) (sym log) k.begins.within; image = subst (λ (l : Log). l.image ≡ told (take l.start w.group)) (sym log) k.begins.image };
       list = k.list ∙ ap (λ (l : Log). take l.start w.group ++ l.entries) (sym log);
@@ -227,7 +227,7 @@ open_stands w name c x y s may member listed stays log same_status same_leaving 
     let in_list : mem (s.node name).list name ≡ true = ap (λ (i : Image). has (members_of i) name) (told_whole w name name x (s.node name) old) ∙ ap (has (members x)) (sym who) ∙ listed in
     let own : own_stamp name (s.node name) ≡ y.core.promise = (λ i. record { round = (old.promise i).round + 1; by = sym who i }) ∙ sym promise in
     moved w name x y s (record (s.node name) { promise = own_stamp name (s.node name); ballot = true }) log
-    (group.begins name may.few up (old.leaving ∙ stays) in_list)
+    (group.begins name may.few up (old.leaving ∙ stays) in_list) tt
     (λ k. record {
       begins = record { within = subst (λ (l : Log). l.start ≤ length w.group) (sym log) k.begins.within; image = subst (λ (l : Log). l.image ≡ told (take l.start w.group)) (sym log) k.begins.image };
       list = k.list ∙ ap (λ (l : Log). take l.start w.group ++ l.entries) (sym log);
@@ -271,7 +271,7 @@ pub ask_stands : (w : World) (name : ℕ) (c : Cause) (x : Node) (s : Group) →
 ask_stands w name c x s may was none h =
     let old = own_name w name x s may.few h in
     moved w name x (record x { leaving = true }) s (record (s.node name) { leaving = true }) refl
-    (group.asks name (is_up w name x (s.node name) may.runs (ap is_member was) old) (old.ballot ∙ none))
+    (group.asks name (is_up w name x (s.node name) may.runs (ap is_member was) old) (old.ballot ∙ none)) tt
     (λ k. record { begins = record { within = k.begins.within; image = k.begins.image }; list = k.list; log_ = k.log_; stopped = k.stopped; departed = k.departed; leaving = refl; promise = k.promise; ballot = k.ballot; start = k.start }) h
 
 -- it is told to go only once it may
@@ -289,5 +289,5 @@ depart_stands w name from number v c x s may is heard leaves h =
     let up = is_up w name x (s.node name) may.runs member old in
     let go = may_depart w name number x s may.runs up (old.leaving ∙ leaves) old (may.gone from v number is) in
     moved w name x (record x { status = status.Departed }) s (record (s.node name) { departed = true }) refl
-    (group.departs name go.0 go.1)
+    (group.departs name go.0 go.1) tt
     (λ k. record { begins = record { within = k.begins.within; image = k.begins.image }; list = k.list; log_ = up.log; stopped = k.stopped; departed = refl; leaving = k.leaving; promise = k.promise; ballot = k.ballot; start = λ t. k.start (logged x.status member) }) h

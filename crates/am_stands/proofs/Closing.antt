@@ -19,6 +19,7 @@ use Rattle.am_model.proofs.Greatest.{split}
 use Rattle.am_effects.proofs.Rests.{rests_at_end}
 use Rattle.am_stands.specs.Standing.{NameStands, FrontsStand, StandsBut, Stands, within}
 use Rattle.am_stands.specs.Ends.{NeedsClose, closed, CloseStands}
+use Rattle.am_stands.specs.Moving.{MoveOk}
 use Rattle.am_stands.proofs.Names.{one_move, views_noted}
 use Rattle.am_stands.proofs.Changes.{own_name, is_up}
 use Rattle.am_stands.proofs.Entries.{is_leading, numbered_stands}
@@ -52,14 +53,14 @@ module _ (w : World) (e : Event) (name : ℕ) (x : Node) (step : Step) (s : Grou
     (small : (k : ℕ) (v : Decided) → slice_get w.views k ≡ Some v → v.stamp.by < 256) (log : (s.node name).has_log ≡ true)
     (needs : NeedsClose w s name step.node) (h : StandsBut name (within w name (pushed x (Leave x.core.who))) (with_line s name (longer (s.node name) (Leave x.core.who)))) where
   t : Group
-  t = record (with_line s name (record (longer (s.node name) (Leave x.core.who)) { departed = true })) { group = take step.node.core.acc ((s.node name).list ++ Leave x.core.who ∷ []) }
+  t = record (with_line s name (record (longer (s.node name) (Leave x.core.who)) { departed = true })) { group = take needs.upto ((s.node name).list ++ Leave x.core.who ∷ []) }
 
   -- the node is this one's
   same_log : step.node.core.log ≡ (pushed x (Leave x.core.who)).core.log
   same_log = ap (λ (n : Node). n.core.log) is ∙ (rests_at_end (pushed x (Leave x.core.who))).log
 
-  grown : group_after w.group step.node ≡ take step.node.core.acc ((s.node name).list ++ Leave x.core.who ∷ [])
-  grown = needs.accepted ∙ ap (λ k. take step.node.core.acc ((s.node name).list ++ Leave k ∷ [])) (sym who)
+  grown : group_after w.group step.node ≡ take needs.upto ((s.node name).list ++ Leave x.core.who ∷ [])
+  grown = needs.accepted ∙ ap (λ k. take needs.upto ((s.node name).list ++ Leave k ∷ [])) (sym who)
 
   each : (i : ℕ) → i < 256 → NameStands (stepped w e name step) i (set_at w.nodes name step.node i) (put s.node name (record (longer (s.node name) (Leave x.core.who)) { departed = true }) i)
   unfolding put stepped
@@ -111,7 +112,9 @@ close_stands w e name c x step s may leads leaves is needs h =
     let leading = is_leading w name x a may.who leads old in
     let up = is_up w name x a may.runs leading.member old in
     let plain = numbered_stands w name x (Leave x.core.who) s may.few leading may.noted refl needs.chain h in
-    one_move (Stands (stepped w e name step)) s (t w e name x step s is may.who may.few may.noted up.log needs plain)
-    (let who = may.who in subst (λ k. Move s (record (with_line s name (record (longer (s.node name) (Leave k)) { departed = true })) { group = take step.node.core.acc ((s.node name).list ++ Leave k ∷ []) })) (sym who)
-    (group.closes name step.node.core.acc (record { up = up; acts = leading.acts_; by = leading.by }) (old.leaving ∙ leaves) needs.alone needs.accepts))
+    let who = may.who in
+    let move : (m : Move s (record (with_line s name (record (longer (s.node name) (Leave x.core.who)) { departed = true })) { group = take needs.upto ((s.node name).list ++ Leave x.core.who ∷ []) })) × MoveOk m =
+    subst (λ k. (m : Move s (record (with_line s name (record (longer (s.node name) (Leave k)) { departed = true })) { group = take needs.upto ((s.node name).list ++ Leave k ∷ []) })) × MoveOk m) (sym who)
+    (group.closes name needs.upto (record { up = up; acts = leading.acts_; by = leading.by }) (old.leaving ∙ leaves) needs.alone needs.accepts, tt) in
+    one_move (Stands (stepped w e name step)) s (t w e name x step s is may.who may.few may.noted up.log needs plain) move.0 move.1
     (stands w e name x step s is may.who may.few may.noted up.log needs plain)

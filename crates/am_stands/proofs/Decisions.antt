@@ -197,7 +197,7 @@ decision_stands w name c x b s may why needs h =
       ballot = refl;
       start = k.start;
     } in
-    one_move (StandsBut name (within w2 name y)) s (with_choice s name names r) (group.decides name names r needs.may)
+    one_move (StandsBut name (within w2 name y)) s (with_choice s name names r) (group.decides name names r needs.may) (needs.set, needs.voted)
     (record {
       each = λ i few. name_in (within w name y) (within w2 name y) i _ _ refl refl (each_within w name x y s chosen name_ h.each i few);
       fronts = fronts_within w name x y s chosen h.fronts;

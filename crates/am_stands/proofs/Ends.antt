@@ -79,11 +79,11 @@ module _ (w : World) (e : Event) (name : ℕ) (step : Step) where
 
 accept_moves : (w : World) (s : Group) (name : ℕ) (n : Node) → s.group ≡ w.group → Accepts w s name n → Moves s (record s { group = group_after w.group n })
 accept_moves w s name n same (no_more is) = subst (λ (g : List Entry). Moves s (record s { group = g })) (same ∙ sym is) none
-accept_moves w s name n same (rises lead may is) = subst (λ (g : List Entry). Moves s (record s { group = g })) (sym is) (moves (group.accepts name n.core.acc lead may) none)
+accept_moves w s name n same (rises lead may is) = subst (λ (g : List Entry). Moves s (record s { group = g })) (sym is) (moves (group.accepts name n.core.acc lead may) tt none)
 
 pub then_moves : {s t u : Group} → Moves s t → Moves t u → Moves s u
 then_moves none m = m
-then_moves (moves x xs) m = moves x (then_moves xs m)
+then_moves (moves x ok xs) m = moves x ok (then_moves xs m)
 
 -- ---- what is learned
 
@@ -143,7 +143,7 @@ learn_stands w e name step s same h few (learns m) =
     let told_ = max (s.node name).told n.core.told in
     let long : told_ ≤ length s.group = subst (λ (g : List Entry). told_ ≤ length g) (sym same) m.told in
     let t = with_node s name (record (s.node name) { told = told_; acc = n.core.acc }) in
-    one_move (Stands (stepped w e name step)) s t (group.learns name told_ n.core.acc m.up (omega arith) long m.before m.up_to m.given m.within)
+    one_move (Stands (stepped w e name step)) s t (group.learns name told_ n.core.acc m.up (omega arith) long m.before m.up_to m.given m.within) tt
     (all_stands w e name step t (learned w e name step s told_ n.core.acc h) (λ d. own_fronts n name s told_ (omega arith)))
 
 -- ---- the end

@@ -29,7 +29,7 @@ use Rattle.am_effects.specs.Causes.{Cause}
 use Rattle.am_effects.specs.Changes.{Numbers, asked_send, own_send, asked_join, asked_leave}
 use Rattle.am_laws.proofs.Stamps.{same_stamp}
 use Rattle.am_stands.specs.Standing.{NameStands, NotedStands, ViewsStand, StandsBut, within}
-use Rattle.am_stands.specs.Moving.{Leads}
+use Rattle.am_stands.specs.Moving.{MoveOk, Leads}
 use Rattle.am_stands.specs.Steps.{MayMove, NeedsNumber, IsOthers, NeedsEntry, NeedsPiece, of_line, of_shown, NeedsWelcome}
 use Rattle.am_stands.proofs.Names.{one_move, views_noted, each_within, fronts_within}
 use Rattle.am_stands.proofs.Changes.{own_name, is_up, told_whole}
@@ -103,11 +103,11 @@ lines_longer w name x y e a views l old others h k d at = split (d.stamp.by == n
 
 -- a move that makes one list longer, and no line of its own
 grows : (w : World) (name : ℕ) (x y : Node) (e : Entry) (s : Group) → name < 256 → Longer x y e → IsOthers name x e
-    → Move s (with_node s name (longer (s.node name) e)) → StandsBut name (within w name x) s → Leads (StandsBut name (within w name y)) s
-grows w name x y e s few l others move h =
+    → (move : Move s (with_node s name (longer (s.node name) e))) → MoveOk move → StandsBut name (within w name x) s → Leads (StandsBut name (within w name y)) s
+grows w name x y e s few l others move ok h =
     let old = own_name w name x s few h in
     let b = longer (s.node name) e in
-    one_move (StandsBut name (within w name y)) s (with_node s name b) move (record {
+    one_move (StandsBut name (within w name y)) s (with_node s name b) move ok (record {
       each = each_within w name x y s b (name_longer w name x y e (s.node name) l) h.each;
       fronts = fronts_within w name x y s b h.fronts;
       views = views_noted (within w name x) (within w name y) s.views refl (lines_longer w name x y e (s.node name) s.views l old others h.views) h.views;
@@ -120,14 +120,14 @@ entry_stands : (w : World) (name : ℕ) (x y : Node) (e : Entry) (s : Group) →
     → Longer x y e → NeedsEntry s name x e → StandsBut name (within w name x) s → Leads (StandsBut name (within w name y)) s
 entry_stands w name x y e s few runs member l needs h =
     let old = own_name w name x s few h in
-    grows w name x y e s few l needs.others (group.stores name e (is_up w name x (s.node name) runs member old) needs.decided needs.other needs.stays needs.next) h
+    grows w name x y e s few l needs.others (group.stores name e (is_up w name x (s.node name) runs member old) needs.decided needs.other needs.stays needs.next) tt h
 
 pub piece_stands : (w : World) (name : ℕ) (x y : Node) (e : Entry) (s : Group) → name < 256 → is_stopped w name ≡ false → is_member x.status ≡ true
     → Longer x y e → NeedsPiece s name x e → StandsBut name (within w name x) s → Leads (StandsBut name (within w name y)) s
 piece_stands w name x y e s few runs member l (of_line needs) h = entry_stands w name x y e s few runs member l needs h
 piece_stands w name x y e s few runs member l (of_shown open_ needs) h =
     let old = own_name w name x s few h in
-    grows w name x y e s few l needs.others (group.fetches name needs.from needs.list e (is_up w name x (s.node name) runs member old) (old.ballot ∙ open_) needs.served needs.shown needs.next) h
+    grows w name x y e s few l needs.others (group.fetches name needs.from needs.list e (is_up w name x (s.node name) runs member old) (old.ballot ∙ open_) needs.served needs.shown needs.next) tt h
 
 -- ---- a sequencer's own entry
 
@@ -244,7 +244,7 @@ number_stands w name c x e s may leads why needs h =
     let leading = is_leading w name x a may.who leads old in
     let fit : fits (told a.list) e ≡ true = ap (λ (i : Image). fits i e) (told_whole w name name x a old) ∙ needs.fit in
     one_move (StandsBut name (within w name y)) s (with_line s name (longer a e))
-    (group.numbers name e (record { up = is_up w name x a may.runs leading.member old; acts = leading.acts_; by = leading.by }) fit needs.may)
+    (group.numbers name e (record { up = is_up w name x a may.runs leading.member old; acts = leading.acts_; by = leading.by }) fit needs.may) needs.named
     (numbered_stands w name x e s may.few leading may.noted (numbers_plain c x e why) needs.chain h)
 
 -- ---- a joiner's list begins
@@ -271,7 +271,7 @@ welcome_stands w name c x v base join image s may needs h =
     let ch = s.views.chosen (key d.stamp) in
     absurd (none_opens ch.before (View ch.stamp ch.members ch.resilience) (subst (Begins (opening ch)) (n.line ∙ none) n.opens)))
     (λ f. rw f refl) in
-    one_move (StandsBut name (within w name y)) s (with_node s name b) (group.welcomes name v base join needs.may)
+    one_move (StandsBut name (within w name y)) s (with_node s name b) (group.welcomes name v base join needs.may) tt
     (record {
       each = each_within w name x y s b (λ k. record {
         begins = record { within = subst (λ (g : List Entry). base ≤ length g) h.group needs.within; image = needs.image_ ∙ ap told all_of };

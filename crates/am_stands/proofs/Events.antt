@@ -18,9 +18,8 @@ use Rattle.am_model.specs.World.{World, current, is_stopped, has_departed, uncha
 use Rattle.am_model.proofs.Greatest.{split}
 use Rattle.am_effects.specs.Events.{actor, idles, stops, returns, steps}
 use Rattle.am_stands.specs.Standing.{NameStands, FrontsStand, Stands}
-use Rattle.am_stands.specs.Moving.{Leads}
-use Rattle.am_stands.specs.Steps.{EventsStand}
-use Rattle.am_stands.proofs.Names.{one_move, no_move, name_in, views_in}
+use Rattle.am_stands.specs.Steps.{EventsStand, EventStands, no_move, stop}
+use Rattle.am_stands.proofs.Names.{name_in, views_in}
 
 -- ---- a record more
 
@@ -94,16 +93,16 @@ stopped_more w v name s nodes group_ views stopped h =
 
 -- ---- each event that no node does
 
-pub idle_stands : (w : World) (e : Event) (o : Outcome) (s : Group) → Stands w s → Leads (Stands (unchanged w e o)) s
-idle_stands w e o s h = no_move (Stands (unchanged w e o)) s (recorded w e o s h)
+pub idle_stands : (w : World) (e : Event) (o : Outcome) (s : Group) → Stands w s → EventStands (unchanged w e o) s
+idle_stands w e o s h = no_move (recorded w e o s h)
 
 pub stop_stands : (w : World) (e : Event) (o : Outcome) (name : ℕ) (s : Group) → Stands w s
-    → Leads (Stands (unchanged (record w { stopped = w.stopped ++ name ∷ [] }) e o)) s
+    → EventStands (unchanged (record w { stopped = w.stopped ++ name ∷ [] }) e o) s
 unfolding unchanged
 stop_stands w e o name s h =
     let v = record w { stopped = w.stopped ++ name ∷ [] } in
     let next = with_node s name (record (s.node name) { stopped = true }) in
-    one_move (Stands (unchanged v e o)) s next (group.stops name) (recorded v e o next (stopped_more w v name s refl refl refl refl h))
+    stop name (recorded v e o next (stopped_more w v name s refl refl refl refl h))
 
 -- the name of a place that returns stops, if it hadn't
 same_lives : (w v : World) (s : Group) → v.nodes ≡ w.nodes → v.group ≡ w.group → v.views ≡ w.views → v.stopped ≡ w.stopped → Stands w s → Stands v s
@@ -114,15 +113,18 @@ same_lives w v s nodes group_ views stopped h = record {
   group = h.group ∙ sym group_;
 }
 
-pub return_stands : (w : World) (e : Event) (o : Outcome) (place : ℕ) (s : Group) → Stands w s → Leads (Stands (lives_on (unchanged w e o) place)) s
+pub return_stands : (w : World) (e : Event) (o : Outcome) (place : ℕ) (s : Group) → Stands w s → EventStands (lives_on (unchanged w e o) place) s
 unfolding unchanged
 return_stands w e o place s h =
     by_stop (is_stopped w (current w place))
   where
-    by_stop : (b : Bool) → Leads (Stands (record (unchanged w e o) { lives = set_at w.lives place (w.lives place + 1); stopped = if b then w.stopped else w.stopped ++ current w place ∷ [] })) s
-    by_stop true = no_move (Stands (record (unchanged w e o) { lives = set_at w.lives place (w.lives place + 1); stopped = w.stopped })) s (same_lives w (record (unchanged w e o) { lives = set_at w.lives place (w.lives place + 1); stopped = w.stopped }) s refl refl refl refl h)
-    by_stop false = one_move (Stands (record (unchanged w e o) { lives = set_at w.lives place (w.lives place + 1); stopped = w.stopped ++ current w place ∷ [] })) s (with_node s (current w place) (record (s.node (current w place)) { stopped = true })) (group.stops (current w place))
-        (stopped_more w (record (unchanged w e o) { lives = set_at w.lives place (w.lives place + 1); stopped = w.stopped ++ current w place ∷ [] }) (current w place) s refl refl refl refl h)
+    after_ : List ℕ → World
+    after_ names = record (unchanged w e o) { lives = set_at w.lives place (w.lives place + 1); stopped = names }
+
+    by_stop : (b : Bool) → EventStands (after_ (if b then w.stopped else w.stopped ++ current w place ∷ [])) s
+    by_stop true = no_move (same_lives w (after_ w.stopped) s refl refl refl refl h)
+    by_stop false = stop (current w place)
+        (stopped_more w (after_ (w.stopped ++ current w place ∷ [])) (current w place) s refl refl refl refl h)
 
 pub events_stand : EventsStand
 events_stand w e v s (idles o idle) is h = idle_stands w e o s h

@@ -85,7 +85,7 @@ same_lines s t decided lines h x list d some part =
     let o = h x list (ap (λ f. f x) (sym decided) ∙ d) some (subst (λ f. Begins list (f x)) lines part) in
     record { decided = ap (λ f. f (key (view_of list))) decided ∙ o.decided; line_ = subst (λ f. Begins list (f (key (view_of list)))) (sym lines) o.line_ }
 
-numbers_plain : (node : ℕ → groups.Node) (i : ℕ) (e : Entry) → MayNumber node i e → NotView e
+pub numbers_plain : (node : ℕ → groups.Node) (i : ℕ) (e : Entry) → MayNumber node i e → NotView e
 numbers_plain node i (Data from req body) may = tt
 numbers_plain node i (Join name) may = tt
 numbers_plain node i (Leave name) may = tt

@@ -50,7 +50,7 @@ rises a (Leave name) h g = absurd (cc)
 rises a (View stamp names resilience) h g = subst (λ (u : Stamp). key (view_of a) < key u) (sym (view_viewed a stamp names resilience)) (view_below a stamp names resilience g)
 
 -- behind the last View there is none
-none_after : (a es : List Entry) → IsGood (a ++ es) → view_of (a ++ es) ≡ view_of a → list_any is_view es ≡ false
+pub none_after : (a es : List Entry) → IsGood (a ++ es) → view_of (a ++ es) ≡ view_of a → list_any is_view es ≡ false
 none_after a [] g same = refl
 none_after a (e ∷ es) g same =
     let again : (a ++ e ∷ []) ++ es ≡ a ++ e ∷ es = append_assoc a (e ∷ []) es in

@@ -1,5 +1,5 @@
 -- What a sender says is so.
-use Rattle.std.proofs.Common.{◌≡◌, ⊎_elim, ℕ, suc, ◌+◌, ◌<◌, ◌≤◌, ◌==◌, List, [], ◌∷◌, ◌++◌, length, take, true, Some, slice_get, sym, ap, ◌∙◌, subst, arith}
+use Rattle.std.proofs.Common.{◌≡◌, ⊎_elim, ℕ, suc, ◌+◌, ◌<◌, ◌≤◌, ◌==◌, List, [], ◌∷◌, ◌++◌, length, take, true, false, Some, slice_get, sym, ap, ◌∙◌, subst, arith}
 use Rattle.std.proofs.lemmas.Bool.{cases_lt}
 use Rattle.std.proofs.lemmas.List.{length-take}
 use Rattle.std.proofs.lemmas.Bool.Decides.{nat_tests}
@@ -16,11 +16,11 @@ use Rattle.am_chain_moves.specs.Kept.{Kept}
 use Rattle.am_model.specs.Node as nodes
 use Rattle.am_model.specs.Node.{Node, view, is_member, acts, is_sequencer}
 use Rattle.am_model.specs.World.{World}
-use Rattle.am_model.proofs.Greatest.{and_both}
+use Rattle.am_model.proofs.Greatest.{split, and_both}
 use Rattle.am_effects.specs.Letters as letters
 use Rattle.am_laws.proofs.Stamps.{same_stamp}
 use Rattle.am_stands.specs.Standing.{NameStands, FrontsStand}
-use Rattle.am_stands.specs.Letters.{line, IsDecided, SequencerSays, EntrySays, ReportSays, LeaverSays, PieceSays, of_line}
+use Rattle.am_stands.specs.Letters.{line, IsDecided, SequencerSays, EntrySays, ReportSays, LeaverSays, of_view, before_it, PieceSays, of_line}
 use Rattle.am_stands.proofs.Changes.{told_all, long_all}
 use Rattle.am_stands.proofs.Growing.{leads_line}
 
@@ -63,11 +63,17 @@ report_said v i n s h d =
 pub leaver_said : (v : World) (i : ℕ) (n : Node) (s : Group) → Speaks v i n s → n.leaving ≡ true → LeaverSays s i n.core.promise (nodes.report_of n)
 leaver_said v i n s h leaves =
     let long = long_all v i n (s.node i) h.stands in
-    record {
-      leaves = h.stands.leaving ∙ leaves;
+    let joined = (h.kept.each i).joined h.up.log in
+    split (s.views.decided (key n.core.promise))
+    (λ d. of_view (h.stands.leaving ∙ leaves) (report_said v i n s h d))
+    (λ f. before_it (h.stands.leaving ∙ leaves) (record {
       within = omega arith;
-      begins = λ d member. subst (λ l. Begins l (line s n.core.promise)) (sym (all_taken (s.node i).list (nodes.top n) (sym long))) (promise_line v i n s h d);
-    }
+      join = (s.node i).start;
+      accepted = joined.accepted;
+      joined = joined.member;
+      later = λ d. absurd (cc);
+      begins = λ d member. absurd (cc);
+    }))
 
 -- ---- a sequencer
 

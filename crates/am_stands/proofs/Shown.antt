@@ -28,13 +28,14 @@ use Rattle.am_stands.specs.Letters.{VoteTells, VoteSays, FetchSays, PieceSays, o
 use Rattle.am_stands.specs.Moving.{Moves, none, moves, Leads}
 use Rattle.am_stands.specs.States.{VotesStand}
 use Rattle.am_stands.specs.Growing.{Grows}
+use Rattle.am_stands.specs.Sending.{ShowsMore}
 use Rattle.am_effects.specs.Letters as letters
 use Rattle.am_stands.proofs.Changes.{told_all, long_all}
 use Rattle.am_stands.proofs.Sent.{Speaks, list_item}
 
 -- ---- the votes that a coordinator keeps
 
-votes_grow : (s t : Group) (ballot : Option Ballot) → Grows s t → VotesStand s ballot → VotesStand t ballot
+pub votes_grow : (s t : Group) (ballot : Option Ballot) → Grows s t → VotesStand s ballot → VotesStand t ballot
 votes_grow s t None g h = tt
 votes_grow s t (Some b) g h = λ open_ j vote is. (let k = h open_ j vote is in record { list = k.list; shown = g.shown (key b.stamp) j k.list k.shown; view = k.view; top = k.top; members = k.members; taken = k.taken })
 
@@ -100,12 +101,6 @@ tells_list v i n s t h is =
       taken = omega arith;
     }
 
--- the group is the same but for what was shown
-pub record ShowsMore (s t : Group) : Type 0 where
-  pub node : t.node ≡ s.node
-  pub views : t.views ≡ s.views
-  pub group_ : t.group ≡ s.group
-
 pub record VoteStands (i : ℕ) (n : Node) (s t : Group) : Type 0 where
   pub same : ShowsMore s t
   pub says : VoteSays t i n.core.promise (own_vote n)
@@ -143,7 +138,7 @@ vote_said v i n s h =
         (put2_cases s.shown (key a.promise) i (Some a.list) (key n.core.promise) i) in
         record {
           to = t;
-          path = moves (group.shows i h.there small other begun (ap (λ (u : Stamp). s.shown (key u) i) promised ∙ is)) none;
+          path = moves (group.shows i h.there small other begun (ap (λ (u : Stamp). s.shown (key u) i) promised ∙ is)) tt none;
           is = record { same = record { node = refl; views = refl; group_ = refl }; says = tells (tells_list v i n s t h shown) };
         }
 
@@ -176,7 +171,7 @@ shown_said v i from base number n e s to h by other asked (for_ballot own_by all
     (put2_cases s.served (key a.promise) i true (key p) i) in
     record {
       to = record s { served = put2 s.served (key a.promise) i true };
-      path = moves (group.serves i list h.up shown others) none;
+      path = moves (group.serves i list h.up shown others) tt none;
       is = record {
         same = record { node = refl; views = refl; group_ = refl };
         says = of_shown (record { served = served; list = list; shown = known.shown; stands = ap (λ l. item_at l number) (sym still) ∙ list_item v i n a base number e h.stands low at });

@@ -102,7 +102,7 @@ told_next rules k s h = split (has rules.founders k)
           (λ x d above. absurd (let e : (x == key (begun.first_stamp (lowest_or_first rules.founders))) ≡ true = ap (λ (v : groups.Views). v.decided x) (sym h.views) ∙ d in
           let same : key (s.node k).promise ≡ key (begun.first_stamp (lowest_or_first rules.founders)) = ap key a.promise in
           let z : ⊥ = grind (arith, nat_tests) in z))
-          (omega arith) (omega arith) (omega arith)) none;
+          (omega arith) (omega arith) (omega arith)) tt none;
       is = record {
         node = λ i. split (i == k)
             (λ u. (let same : i ≡ k = grind (arith, nat_tests) in

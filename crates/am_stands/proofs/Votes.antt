@@ -6,10 +6,11 @@ use Rattle.am_base.specs.declared.entry.Entry.{Entry}
 use Rattle.am_base.specs.declared.image.Vote.{Vote}
 use Rattle.am_base.specs.declared.image.Image.{Image}
 use Rattle.am_base.specs.declared.name.Stamp.{Stamp}
-use Rattle.am_base.specs.Names.{place_of, life_of, nobody, has, size, is_within}
+use Rattle.am_base.specs.Names.{IsSet, place_of, life_of, name_at, by_place, nobody, has, size, is_within}
+use Rattle.am_base.proofs.Places.{slice_index-by_place}
 use Rattle.am_base.specs.Stamps.{stamp_lt, stamp_eq}
 use Rattle.am_base.specs.Votes.{vote_lt}
-use Rattle.am_base.specs.Lists.{members_of}
+use Rattle.am_base.specs.Lists.{member_life, members_of}
 use Rattle.am_chain_lists.specs.Whole.{Begins, told, mem, view_of, resilience_of, key}
 use Rattle.am_chain_lists.proofs.Order.{key_lt, view_up}
 use Rattle.am_chain_lists.proofs.Prefixes.{begins_trans}
@@ -20,7 +21,7 @@ use Rattle.am_chain_moves.specs.Kept.{Kept}
 use Rattle.am_model.specs.Node as nodes
 use Rattle.am_model.specs.Node.{Node, Ballot, view, members, only_name, name_where, those, is_member}
 use Rattle.am_base.specs.declared.entry.Entry.TheVariants.{View}
-use Rattle.std.proofs.lemmas.List.{append_assoc, get_or-set_same, get_or-set_other, get_or-replicate}
+use Rattle.std.proofs.lemmas.List.{append_assoc, length-map, get_or-set_same, get_or-set_other, get_or-replicate}
 use Rattle.am_chain_lists.proofs.Rows.{mod16}
 use Rattle.am_model.specs.Lawful.{is_view_of}
 use Rattle.am_model.specs.Ballots.{trimmed_for, own_vote, best_of, need_of, has_voted, is_waited_for, left_in}
@@ -29,12 +30,14 @@ use Rattle.am_model.proofs.BestVotes.{best_vote_is}
 use Rattle.am_model.proofs.Greatest.{split}
 use Rattle.am_effects.specs.Looks as looks
 use Rattle.am_bounded.proofs.Changes.{some_left}
+use Rattle.am_laws.proofs.Limits.{set_those}
 use Rattle.am_laws.proofs.Stamps.{equal_stamps}
 use Rattle.am_laws.proofs.Taken.{own_need, those_at}
 use Rattle.am_laws.proofs.ViewMembers.{viewed_members, those_some, those_long}
 use Rattle.am_stands.specs.Standing.{NameStands, within}
 use Rattle.am_effects.proofs.Says.{told_pushed}
 use Rattle.am_stands.specs.Letters.{VoteTells, AllShown, FetchSays, for_ballot}
+use Rattle.am_stands.specs.Moving.{AllVoted}
 use Rattle.am_stands.specs.Steps.{NeedsDecision}
 use Rattle.am_stands.proofs.Lines.{HasViewOf, viewed_as}
 use Rattle.am_stands.proofs.Changes.{told_whole, long_all}
@@ -90,11 +93,11 @@ best_low x b own none small views j vote few is =
 
 -- ---- who is needed
 
-some_vote : (o : Option Vote) → is_some o ≡ true → (v : Vote) × (o ≡ Some v)
+pub some_vote : (o : Option Vote) → is_some o ≡ true → (v : Vote) × (o ≡ Some v)
 some_vote None h = absurd (cc)
 some_vote (Some v) h = (v, refl)
 
-voted : (who j : ℕ) (b : Ballot) → is_waited_for who b j ≡ false → b.given_up j ≡ false → (j == who) ≡ false → is_some (b.votes j) ≡ true
+pub voted : (who j : ℕ) (b : Ballot) → is_waited_for who b j ≡ false → b.given_up j ≡ false → (j == who) ≡ false → is_some (b.votes j) ≡ true
 voted who j b waits stays other = split (is_some (b.votes j))
     (λ t. t)
     (λ f. absurd (
@@ -102,7 +105,7 @@ voted who j b waits stays other = split (is_some (b.votes j))
     let z : (not (has_voted who b j) && not (b.given_up j)) ≡ true = rw (v, stays) refl in
     cc))
 
-not_waited : (x : Node) (b : Ballot) (j : ℕ) → nat_lt 0 (size (those (is_waited_for x.core.who b) (need_of x b))) ≡ false → has (need_of x b) j ≡ true
+pub not_waited : (x : Node) (b : Ballot) (j : ℕ) → nat_lt 0 (size (those (is_waited_for x.core.who b) (need_of x b))) ≡ false → has (need_of x b) j ≡ true
     → is_waited_for x.core.who b j ≡ false
 not_waited x b j none needed = split (is_waited_for x.core.who b j)
     (λ t. absurd (let some = some_left (is_waited_for x.core.who b) (need_of x b) j needed t in let z : nat_lt 0 (size (those (is_waited_for x.core.who b) (need_of x b))) ≡ true = grind (arith, nat_tests) in cc))
@@ -126,6 +129,30 @@ is_some_of test names place low =
     or_true : (a b : Bool) → b ≡ true → (a || b) ≡ true
     or_true true b t = refl
     or_true false b t = t
+
+is_equal : (a b : ℕ) → a ≡ b → (a == b) ≡ true
+is_equal a b same = grind (arith, nat_tests)
+
+is_the_same : (a b : ℕ) → (a == b) ≡ true → a ≡ b
+is_the_same a b t = grind (arith, nat_tests)
+
+not_equal : (a b : ℕ) → (a == b) ≡ false → a ≢ b
+not_equal a b f same = grind (arith, nat_tests)
+
+-- who is among those of a set that pass is in the set, and passes
+those_in : (test : ℕ → Bool) (names : List ℕ) (j : ℕ) → has (those test names) j ≡ true → (has names j ≡ true) × (test j ≡ true)
+unfolding those
+those_in test names j in_ =
+    let is = slice_index-by_place (λ place. name_where test place (slice_index names place)) (place_of j) (mod16 j) in
+    let at : name_where test (place_of j) (slice_index names (place_of j)) ≡ life_of j = sym is ∙ is_the_same (slice_index (by_place (λ place. name_where test place (slice_index names place))) (place_of j)) (life_of j) in_ in
+    split (slice_index names (place_of j) == 0)
+    (λ t. absurd (let z : 0 ≡ life_of j = rw t at at in omega arith))
+    (λ f. split (test (name_at (place_of j) (slice_index names (place_of j))))
+    (λ t.
+    let life : slice_index names (place_of j) ≡ life_of j = rw (f, t) at at in
+    let name : name_at (place_of j) (slice_index names (place_of j)) ≡ j = omega arith in
+    (is_equal (slice_index names (place_of j)) (life_of j) life, ap test (sym name) ∙ t))
+    (λ g. absurd (let z : 0 ≡ life_of j = rw (f, g) at at in omega arith)))
 
 -- ---- the group's own test
 
@@ -208,28 +235,54 @@ view_members x b long need =
     λ place low. ⊎_elim (λ (z : slice_index names place ≡ 0). inl z) (λ (z : slice_index names place ≡ slice_index (need_of x b) place). inr (z ∙ ap (λ set. slice_index set place) need)) (those_some test (need_of x b) place low) in
     ap members_of (told_pushed before (View b.stamp names r)) ∙ viewed_members (nodes.told x) (nodes.top x + 1) b.stamp names r long (omega arith) (those_long test (need_of x b)) some
 
+-- each other name of the View has voted for no better list, whether it stopped or not
+all_voted : (w : World) (name : ℕ) (x : Node) (b : Ballot) (s : Group) → BallotKnown w name x b s → looks.MayDecide x b
+    → AllVoted s name (λ j. has (left_in b (need_of x b)) j ≡ true)
+unfolding view_of
+all_voted w name x b s h may j in_ =
+    let a = s.node name in
+    let told_is = told_whole w name name x a h.stands in
+    let long = long_all (within w name x) name x a h.stands in
+    let stamp : b.stamp ≡ a.promise = h.stamp ∙ sym h.stands.promise in
+    let both = those_in (λ k. not (b.given_up k)) (need_of x b) j in_ in
+    split (j == x.core.who)
+    (λ t. inl (is_the_same j x.core.who t ∙ h.who))
+    (λ f. (let vote = some_vote (b.votes j) (voted x.core.who j b (not_waited x b j may.learned.all both.0) (not_false_of (b.given_up j) both.1) f) in
+    let tells = h.votes j vote.0 vote.1 in
+    let low = best_low x b may.learned.own h.own h.view_ h.views j vote.0 (h.names j vote.0 vote.1) vote.1 in
+    let order = vote_low (own_vote x) vote.0 h.view_ (h.views j vote.0 vote.1) low in
+    let seen : key vote.0.view ≡ key (view_of tells.list) = ap key tells.view in
+    let mine : key (view x) ≡ key (view_of a.list) = ap (λ (i : Image). key i.view) (sym told_is) in
+    let top = tells.top in
+    inr (record {
+      vote = tells.list;
+      is = ap (λ (u : Stamp). s.shown (key u) j) (sym stamp) ∙ tells.shown;
+      worse = ⊎_elim
+          (λ (z : key vote.0.view < key (view x)). inl (omega arith))
+          (λ (z : (key vote.0.view ≡ key (view x)) × (vote.0.top ≤ nodes.top x)). (let y = z.0 in let u = z.1 in inr (omega arith, omega arith)))
+          order;
+    })))
+  where
+    not_false_of : (b : Bool) → not b ≡ true → b ≡ false
+    not_false_of true h = absurd (cc)
+    not_false_of false h = refl
+
 pub decision_needs : (w : World) (name : ℕ) (x : Node) (b : Ballot) (s : Group) → Kept s → BallotKnown w name x b s → x.core.promise.by ≡ name
-    → length (nodes.told x).rows ≡ 16 → looks.MayDecide x b → NeedsDecision s name x b
-decision_needs w name x b s k h own long may =
+    → IsSet (members x) → looks.MayDecide x b → NeedsDecision s name x b
+decision_needs w name x b s k h own set may =
     let same = h.stands.promise in
+    let need = own_need x b may.learned.own h.own in
     record {
       may = may_decide w name x b s h may;
       own = own;
       fresh = ap (λ (u : Stamp). s.views.decided (key u)) (sym same) ∙ undecided s name k h.up h.ballot;
       unseen = ap (λ (u : Stamp). list_any (is_view_of u) (s.node name).list) (sym same) ∙ unseen s name k h.up h.ballot;
-      members_ = view_members x b long (own_need x b may.learned.own h.own);
+      members_ = view_members x b (sym (length-map (nodes.told x).rows member_life) ∙ set.places) need;
+      set = set_those (λ j. not (b.given_up j)) (need_of x b) (subst IsSet (sym need) set);
+      voted = all_voted w name x b s h may;
     }
 
 -- ---- whom a coordinator fetches from
-
-is_equal : (a b : ℕ) → a ≡ b → (a == b) ≡ true
-is_equal a b same = grind (arith, nat_tests)
-
-is_the_same : (a b : ℕ) → (a == b) ≡ true → a ≡ b
-is_the_same a b t = grind (arith, nat_tests)
-
-not_equal : (a b : ℕ) → (a == b) ≡ false → a ≢ b
-not_equal a b f same = grind (arith, nat_tests)
 
 -- all whose votes it needs have shown a list, and the best of these is another's
 pub best_shown : (w : World) (name : ℕ) (x : Node) (b : Ballot) (s : Group) → Kept s → BallotKnown w name x b s → ((best_of x b).by == x.core.who) ≡ false
@@ -255,7 +308,7 @@ best_shown w name x b s k h other none = ⊎_elim
     (best_vote_is b.votes x.core.who (own_vote x) h.view_ h.views).shown
 
 -- who is in a set of one name is that name
-only_one : (a h : ℕ) → has (only_name a) h ≡ true → h ≡ a
+pub only_one : (a h : ℕ) → has (only_name a) h ≡ true → h ≡ a
 only_one a h t = split (place_of h == place_of a)
     (λ p.
     let same = is_the_same (place_of h) (place_of a) p in

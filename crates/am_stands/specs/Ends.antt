@@ -56,12 +56,13 @@ EndsStand = (w : World) (e : Event) (name : ℕ) (step : Step) (s : Group) → N
 
 -- ---- the last member goes
 
--- it has its view's line, and is alone; it accepts what it may, and the group with it
+-- it has its view's line, and is alone; and the group accepts what it does, up to where it is the group that has accepted more
 pub record NeedsClose (w : World) (s : Group) (name : ℕ) (n : Node) : Type 0 where
   pub chain : s.views.line (key (view_of (s.node name).list)) ≡ (s.node name).list
   pub alone : (j : ℕ) → mem (s.node name).list j ≡ true → j ≡ name
-  pub accepts : MayAccept (put s.node name (longer (s.node name) (Leave name))) ((s.node name).list ++ Leave name ∷ []) (length s.group) n.core.acc
-  pub accepted : group_after w.group n ≡ take n.core.acc ((s.node name).list ++ Leave name ∷ [])
+  pub upto : ℕ
+  pub accepts : MayAccept (put s.node name (longer (s.node name) (Leave name))) ((s.node name).list ++ Leave name ∷ []) (length s.group) upto
+  pub accepted : group_after w.group n ≡ take upto ((s.node name).list ++ Leave name ∷ [])
   pub grows : Begins w.group (group_after w.group n)
   pub no_view : views_after w.views (w.nodes name) n ≡ w.views
 

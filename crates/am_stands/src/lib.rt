@@ -2,11 +2,14 @@
 //! (docs/SAFETY.md), and how each event is moves of that group, with what it needs of it.
 #![tactic(auto)]
 
+ghost use Rattle.am_stands.specs.Accepting.{RefreshAccepts, RefreshLearns, ClosingAccepts};
+ghost use Rattle.am_stands.specs.Branches.{MovesBranch, DecisionsAreNew, BranchesBegin};
 ghost use Rattle.am_stands.specs.Ends.{EndsStand, CloseStands};
 ghost use Rattle.am_stands.specs.Growing.{LettersStay, MovesGrow};
 ghost use Rattle.am_stands.specs.Lawful.{RunsGoOn};
 ghost use Rattle.am_stands.specs.Standing.{StartStands};
-ghost use Rattle.am_stands.specs.States.{RunsOpen};
+ghost use Rattle.am_stands.specs.Sending.{SentSays};
+ghost use Rattle.am_stands.specs.States.{RunsHaveRounds, RunsLeaveOut, RunsOpen};
 ghost use Rattle.am_stands.specs.Steps.{ChangesStand, EventsStand};
 
 /// At the start each founder is told of the first entry, and then the group stands for the world.
@@ -32,6 +35,20 @@ pub fn ends_stand()
     ensures close { CloseStands }
 {}
 
+/// What a sequencer's refresh accepts is held by enough names, where what they reported is true. So a step ends by what the group may
+/// accept, and by what its name may learn of it; and the last member's own Leave needs nothing else.
+pub fn reports_accept()
+    ensures refresh { RefreshAccepts }
+    ensures learn { RefreshLearns }
+    ensures close { ClosingAccepts }
+{}
+
+/// Each letter that a name sends at the end of its step is so, once a voter has shown the list that its vote tells, and served what it sends
+/// of it.
+pub fn letters_are_so()
+    ensures { SentSays }
+{}
+
 /// With each move the group goes on so that what a letter says of it stays so, where a decided view is a new one that found all that was
 /// accepted.
 pub fn letters_stay()
@@ -47,4 +64,18 @@ pub fn runs_go_on()
 /// In a lawful run of the group, what begins the line of a decided view begins the line of its own last View's, which was decided.
 pub fn lines_open()
     ensures { RunsOpen }
+{}
+
+/// And in such a run each decided stamp has a round, and whom a View on the chain left out has stopped.
+pub fn views_leave_out()
+    ensures rounds { RunsHaveRounds }
+    ensures left { RunsLeaveOut }
+{}
+
+/// What a name has that hasn't departed is on the chain, or was left out of it by a View; so a decision finds what each of its members has,
+/// also one that leaves or has stopped, where each of them has voted.
+pub fn decisions_find_leavers()
+    ensures begin { BranchesBegin }
+    ensures moves { MovesBranch }
+    ensures new { DecisionsAreNew }
 {}
