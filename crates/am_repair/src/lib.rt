@@ -1,0 +1,34 @@
+//! What a lossless schedule repairs: laws of a group that stands in one view, proved on the definitions alone.
+#![tactic(auto)]
+
+ghost use Rattle.am_repair.specs.Rows.{
+  EntriesAreStored,
+  FrontsAreHeard,
+  FrontsRise,
+  GapsAreAsked,
+  MembersReport,
+  NacksAreServed,
+  ReportsAreTaken,
+  SequencersPoll,
+};
+
+/// What a tick sends: the sequencer's poll, and a member's report.
+pub fn ticks_tell()
+    ensures poll { SequencersPoll }
+    ensures report { MembersReport }
+{}
+
+/// What a member does with what its sequencer tells: it accepts as far as it has stored, asks for what is missing, and stores what comes
+/// next.
+pub fn members_follow()
+    ensures fronts { FrontsAreHeard }
+    ensures gaps { GapsAreAsked }
+    ensures entries { EntriesAreStored }
+{}
+
+/// What the sequencer does with reports: it keeps them, sends again what is missing, and accepts what all who count have reported.
+pub fn sequencers_serve()
+    ensures reports { ReportsAreTaken }
+    ensures entries { NacksAreServed }
+    ensures fronts { FrontsRise }
+{}
