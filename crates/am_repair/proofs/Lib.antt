@@ -1,6 +1,11 @@
 pub mod Sets
 pub mod Letters
 pub mod Ends
+pub mod Lists
+pub mod Nodes
+pub mod Leading
+pub mod Following
+pub mod Apart
 pub mod Ticks
 pub mod Members
 pub mod Sequencers

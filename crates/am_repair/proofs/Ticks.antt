@@ -15,7 +15,7 @@ use Rattle.am_model.specs.Refresh.{refresh_at_end}
 use Rattle.am_model.specs.Emit.{Plan, telling, ack_of, accept_of, request_of, spread_of, finish}
 use Rattle.am_model.specs.Step.{step, row}
 use Rattle.am_model.specs.Calls.{is_unfinished, would_emit, hand_in, emit}
-use Rattle.am_model.specs.Ticks.{tick_row, tick_by, tick_with, tick_acting, tick_member, tick_sequencer, and_result, put_off}
+use Rattle.am_model.specs.Ticks.{tick_row, tick_by, tick_with, tick_acting, tick_member, tick_sequencer, and_result, put_off, going}
 use Rattle.am_model.proofs.Greatest.{and_both}
 use Rattle.am_effects.proofs.Tests.{not_false}
 use Rattle.am_effects.proofs.Rests.{rests_at_end, leads_rests}
@@ -71,6 +71,9 @@ emitted m (Some s) o leads =
 leads_row : (m : Node) → acts m ≡ true → ((view m).by == m.core.who) ≡ true → tick_acting m ≡ tick_sequencer m
 leads_row m acting own = rw (acting, own) refl
 
+goes_not : (m : Node) (p : Plan) → m.leaving ≡ false → going m p ≡ p
+goes_not m p stays = rw stays refl
+
 pub sequencers_poll : SequencersPoll
 unfolding step row
 sequencers_poll m leads rest =
@@ -79,7 +82,7 @@ sequencers_poll m leads rest =
     let own = both.1 in
     let p = and_result (record (emit m (waiting m) (put_off m (waiting m))) { polls = true }) in
     let e = emitted m (waiting m) (put_off m (waiting m)) leads in
-    let is : tick_row m ≡ p = acting_row m acting rest ∙ leads_row m acting own ∙ rw rest.stays refl in
+    let is : tick_row m ≡ p = acting_row m acting rest ∙ leads_row m acting own ∙ goes_not m p rest.stays in
     subst (λ (q : Plan). Polls (finish m q)) (sym is) (polls_done m p e.stays refl e.leads)
 
 -- ---- a member reports
