@@ -1,33 +1,27 @@
 -- What the sequencer's changes keep while a schedule runs.
-use Rattle.std.proofs.Common.{◌≡◌, ◌≢◌, ℕ, ◌+◌, ◌-◌, ◌<◌, ◌≤◌, ◌==◌, ◌&&◌, not, max, Bool, true, false, if◌then◌else◌, List, length, Option, Some, None, refl, sym, ap, ◌∙◌, subst, arith, length-append}
+use Rattle.std.proofs.Common.{◌≡◌, ℕ, ◌+◌, ◌≤◌, ◌==◌, true, false, Option, Some, None, refl, sym, ap, ◌∙◌, subst, arith, length-append}
 use Rattle.std.specs.Prelude.{All}
 use Rattle.std.proofs.lemmas.Bool.Decides.{nat_tests}
 use Rattle.am_base.specs.declared.name.Stamp.{Stamp}
 use Rattle.am_base.specs.declared.image.Image.{Image}
 use Rattle.am_base.specs.declared.image.Report.{Report}
 use Rattle.am_base.specs.declared.entry.Entry.{Entry}
-use Rattle.am_base.specs.declared.entry.Entry.TheVariants.{Data, Join}
 use Rattle.am_base.specs.declared.outcome.Outcome.{Outcome}
-use Rattle.am_base.specs.Names.{place_of, life_of, has, names_of}
+use Rattle.am_base.specs.Names.{has, names_of}
 use Rattle.am_base.specs.Stamps.{stamp_eq}
-use Rattle.am_base.specs.Founding.{Rules}
-use Rattle.am_base.specs.Lists.{Log, top_of, told_by, image_at, members_of, members_at}
+use Rattle.am_base.specs.Lists.{Log, top_of, told_by, members_of, members_at}
 use Rattle.am_base.specs.Fronts.{counted_at}
-use Rattle.am_packet.specs.declared.packet.Packet.{Packet}
-use Rattle.am_packet.specs.declared.packet.Packet.TheVariants as packet
 use Rattle.am_core.specs.Cores.{CoreState, accept, pass_over, since_accepted}
 use Rattle.am_core.proofs.Ends.{image-top}
 use Rattle.am_core.proofs.Lives.{IsUsed, used_fold, member_row}
-use Rattle.am_fronts.specs.Reports as reports
 use Rattle.am_fronts.specs.Reports.{least_taken}
 use Rattle.am_fronts.specs.Refresh.{base_after, own_report, tell, go_on, let_go}
-use Rattle.am_model.specs.Node.{Node, Ballot, top, told, view, members, acts, is_member, is_sequencer, pushed, with_report, report_of}
+use Rattle.am_model.specs.Node.{Node, Ballot, top, told, view, members, acts, is_member, pushed, with_report}
 use Rattle.am_model.specs.Refresh.{lead, refresh, settle}
 use Rattle.am_model.specs.Joining.{admitted}
-use Rattle.am_model.specs.Hearing.{hears_sequencer}
 use Rattle.am_model.specs.World.{World}
 use Rattle.am_model.proofs.Greatest.{split, and_both}
-use Rattle.am_effects.specs.Causes.{Cause, calls, hears, BringsSend, BringsReport, with_send, by_request, by_spread, by_ack, by_nack, by_leave_ask}
+use Rattle.am_effects.specs.Causes.{Cause, BringsReport, with_send, by_request, by_spread, by_ack, by_nack, by_leave_ask}
 use Rattle.am_effects.specs.Looks.{HasOpen, BeginsBy, by_reset, by_hand_over, Balloting, with_more, without_one, as_it_is}
 use Rattle.am_effects.specs.Changes.{Promises, invited, overtaken, told_result, Numbers, asked_send, own_send, asked_join, asked_leave, Change, refreshes, settles, takes_report, admits, numbers, keeps_body, notes, stores, begins_list, departs, promises, opens, looks, fetches, stores_view, queues, collects, takes, asks_to_join, asks_to_leave, closes}
 use Rattle.am_effects.proofs.Rests.{settle_is}
@@ -35,10 +29,9 @@ use Rattle.am_effects.proofs.Says.{told_pushed, view_pushed, leads_pushed}
 use Rattle.am_laws.proofs.Stamps.{same_stamp}
 use Rattle.am_laws.proofs.LeaderRows.{JoinsFit, least_within}
 use Rattle.am_laws.proofs.Trims.{Fronts, told_used}
-use Rattle.am_repair.specs.Rows.{IsAtRest}
-use Rattle.am_repair.specs.Calm.{Repair, Leads, ReportIs, IsCalm}
+use Rattle.am_repair.specs.Calm.{Repair, Leads, ReportIs}
 use Rattle.am_repair.proofs.Ends.{follows}
-use Rattle.am_repair.proofs.Lists.{LogGrows, grows_same, grows_then, grows_push, counted_stays, number_after, IsJoinOrData, is_data, is_join, plain, member_after}
+use Rattle.am_repair.proofs.Lists.{LogGrows, grows_then, grows_push, counted_stays, number_after, IsJoinOrData, is_data, is_join, plain, member_after}
 use Rattle.am_repair.proofs.Nodes.{CalmCause, acting, leading, not_open, same_itself, Alike, alike_here, alike_refresh, alike_settle, view_alike, leads_alike, rest_alike}
 
 -- ---- what is kept

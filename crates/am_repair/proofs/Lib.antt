@@ -6,6 +6,10 @@ pub mod Nodes
 pub mod Leading
 pub mod Following
 pub mod Apart
+pub mod Saying
+pub mod Departed
+pub mod Going
+pub mod Steps
 pub mod Ticks
 pub mod Members
 pub mod Sequencers

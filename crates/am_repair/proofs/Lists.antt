@@ -1,18 +1,17 @@
 -- A list that goes on tells what it told, and what it tells after an entry more.
-use Rattle.std.proofs.Common.{◌≡◌, ℕ, zero, suc, ◌+◌, ◌-◌, ◌<◌, ◌≤◌, ◌==◌, nat_le, Bool, true, false, if◌then◌else◌, List, [], ◌∷◌, ◌++◌, length, Option, Some, None, slice_get, refl, sym, ap, ◌∙◌, subst, arith, length-append}
+use Rattle.std.proofs.Common.{◌≡◌, ℕ, zero, suc, ◌-◌, ◌<◌, ◌≤◌, ◌==◌, nat_le, true, false, List, [], ◌∷◌, ◌++◌, length, Some, slice_get, refl, ap, ◌∙◌, arith, length-append}
 use Rattle.std.proofs.lemmas.Bool.Decides.{nat_tests}
 use Rattle.std.proofs.lemmas.Option.{slice_get_within}
 use Rattle.am_base.specs.declared.entry.Entry.{Entry}
 use Rattle.am_base.specs.declared.entry.Entry.TheVariants.{Data, Join, Leave, View}
 use Rattle.am_base.specs.declared.image.Image.{Image}
 use Rattle.am_base.specs.Names.{life_of, has}
-use Rattle.am_base.specs.Lists.{Log, top_of, entry_at, image_at, told_by, members_of, at_place, after, fits, with_entry}
+use Rattle.am_base.specs.Lists.{Log, top_of, entry_at, image_at, members_of, at_place, after, fits, with_entry}
 use Rattle.am_base.specs.Fronts.{counted_of, counted_at}
 use Rattle.am_core.proofs.Ends.{image-push}
 use Rattle.am_chain_lists.proofs.Rows.{long_after, in_after}
 use Rattle.am_model.specs.Receiving.{is_view}
 use Rattle.am_model.proofs.Greatest.{split}
-use Rattle.am_effects.proofs.Items.{get_front}
 use Rattle.am_laws.proofs.LeaderRows.{is_in, in_is, data_member}
 
 -- ---- a list that goes on

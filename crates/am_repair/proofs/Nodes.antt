@@ -1,16 +1,11 @@
 -- Nodes that differ in nothing that a calm world speaks of.
-use Rattle.std.proofs.Common.{◌≡◌, ℕ, ◌+◌, ◌<◌, ◌≤◌, ◌==◌, ◌&&◌, not, Bool, true, false, Option, Some, None, List, refl, sym, ap, ◌∙◌, subst, arith}
-use Rattle.std.specs.Prelude.{All}
+use Rattle.std.proofs.Common.{◌≡◌, ℕ, ◌≤◌, ◌==◌, ◌&&◌, true, false, Option, Some, None, refl, sym, ap, ◌∙◌, subst, arith}
 use Rattle.std.proofs.lemmas.Bool.Decides.{nat_tests}
 use Rattle.am_base.specs.declared.name.Stamp.{Stamp}
-use Rattle.am_base.specs.declared.event.NodeEvent.{NodeEvent}
 use Rattle.am_base.specs.declared.event.NodeEvent.TheVariants as does
-use Rattle.am_base.specs.Names.{has}
 use Rattle.am_base.specs.Stamps.{stamp_lt, stamp_eq}
-use Rattle.am_base.specs.Lists.{Log, told_by, top_of, image_at, members_of}
-use Rattle.am_packet.specs.declared.packet.Packet.{Packet}
-use Rattle.am_model.specs.declared.status.Status.{Status}
-use Rattle.am_model.specs.Node.{Node, Ballot, top, told, view, members, acts, is_member, is_sequencer}
+use Rattle.am_base.specs.Lists.{Log, told_by}
+use Rattle.am_model.specs.Node.{Node, Ballot, view, acts, is_member, is_sequencer}
 use Rattle.am_model.specs.Calls.{is_unfinished}
 use Rattle.am_model.specs.Refresh.{refresh, settle}
 use Rattle.am_model.specs.World.{World}
@@ -22,7 +17,7 @@ use Rattle.am_effects.proofs.Rests.{rests_refresh, settle_is}
 use Rattle.am_laws.proofs.Stamps.{same_stamp, not_above_itself}
 use Rattle.am_laws.proofs.ViewChanges.{Balloted, OpenBallot}
 use Rattle.am_repair.specs.Rows.{IsAtRest}
-use Rattle.am_repair.specs.Calm.{Repair, Leads, Follows, IsApart, IsCalm}
+use Rattle.am_repair.specs.Calm.{Repair, IsCalm}
 
 -- ---- what makes nodes do steps in a schedule
 

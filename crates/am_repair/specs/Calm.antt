@@ -87,6 +87,7 @@ IsCalm r w (HandOver s v) = ⊥
 
 pub record Calm (r : Repair) (w : World) : Type 0 where
   pub own : r.view.by ≡ r.by
+  pub listed : has r.members r.by ≡ true
   pub who : (name : ℕ) → (w.nodes name).core.who ≡ name
   pub leads : Leads r (w.nodes r.by)
   pub follows : (name : ℕ) → has r.members name ≡ true → (name == r.by) ≡ false → Follows r (w.nodes r.by) (w.nodes name)
