@@ -27,7 +27,7 @@ use Rattle.am_laws.proofs.Taken.{HeardUsed}
 use Rattle.am_laws.proofs.TakenRuns.{Along, along_changes}
 use Rattle.am_repair.specs.Calm.{Repair, Calm}
 use Rattle.am_repair.proofs.Nodes.{CalmCause}
-use Rattle.am_repair.proofs.Leading.{Goes, lead_change}
+use Rattle.am_repair.proofs.Leading.{Goes, lead_change, TellsTaken}
 use Rattle.am_repair.proofs.Following.{FollowsOn, follow_change}
 use Rattle.am_repair.proofs.Apart.{StaysApart, apart_change}
 use Rattle.am_repair.proofs.Departed.{IsStill, departed_ticks, departed_hears}
@@ -85,14 +85,14 @@ ours r w e (hears_ place number late) h = our_letter r w place number (letter_at
 
 -- ---- changes in turn
 
-pub lead_changes : (rules : Rules) (r : Repair) (w : World) (q : Node) {c : Cause} {o : Outcome} (m n : Node) → r.view.by ≡ r.by → CalmCause r w c → HeardNames c → HeardUsed c → Changes c o m n → Along rules m
-    → Goes r (λ name. (w.nodes name).core.taken) q m → Goes r (λ name. (w.nodes name).core.taken) q n
-lead_changes rules r w q m n by calm names used no_change a h = h
-lead_changes rules r w q m n by calm names used (changed {n = x} one more) a h =
-    lead_changes rules r w q x n by calm names used more (along_changes rules m x names used (changed one no_change) a) (lead_change r w q _ _ m x by calm a.owned.fronts one h)
+pub lead_changes : (rules : Rules) (r : Repair) (taken : ℕ → ℕ) (w : World) (q : Node) {c : Cause} {o : Outcome} (m n : Node) → r.view.by ≡ r.by → CalmCause r w c → TellsTaken r taken c → HeardNames c → HeardUsed c
+    → Changes c o m n → Along rules m → Goes r taken q m → Goes r taken q n
+lead_changes rules r taken w q m n by calm tells names used no_change a h = h
+lead_changes rules r taken w q m n by calm tells names used (changed {n = x} one more) a h =
+    lead_changes rules r taken w q x n by calm tells names used more (along_changes rules m x names used (changed one no_change) a) (lead_change r taken w q _ _ m x by calm tells a.owned.fronts one h)
 
 pub follow_changes : (r : Repair) (w : World) {c : Cause} {o : Outcome} (m x y : Node) → r.view.by ≡ r.by → (m.core.who == r.by) ≡ false → CalmCause r w c → Changes c o x y
-    → FollowsOn r (w.nodes r.by) m x → FollowsOn r (w.nodes r.by) m y
+    → FollowsOn r c (w.nodes r.by) m x → FollowsOn r c (w.nodes r.by) m y
 follow_changes r w m x y by other calm no_change h = h
 follow_changes r w m x y by other calm (changed {n = z} one more) h = follow_changes r w m z y by other calm more (follow_change r w _ _ m x z by other calm one h)
 

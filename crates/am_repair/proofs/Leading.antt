@@ -1,5 +1,5 @@
 -- What the sequencer's changes keep while a schedule runs.
-use Rattle.std.proofs.Common.{◌≡◌, ℕ, ◌+◌, ◌≤◌, ◌==◌, true, false, Option, Some, None, refl, sym, ap, ◌∙◌, subst, arith, length-append}
+use Rattle.std.proofs.Common.{◌-◌, ◌≡◌, ℕ, ◌+◌, ◌≤◌, ◌==◌, true, false, Option, Some, None, refl, sym, ap, ◌∙◌, subst, arith, length-append}
 use Rattle.std.specs.Prelude.{All}
 use Rattle.std.proofs.lemmas.Bool.Decides.{nat_tests}
 use Rattle.am_base.specs.declared.name.Stamp.{Stamp}
@@ -9,7 +9,7 @@ use Rattle.am_base.specs.declared.entry.Entry.{Entry}
 use Rattle.am_base.specs.declared.outcome.Outcome.{Outcome}
 use Rattle.am_base.specs.Names.{has, names_of}
 use Rattle.am_base.specs.Stamps.{stamp_eq}
-use Rattle.am_base.specs.Lists.{Log, top_of, told_by, members_of, members_at}
+use Rattle.am_base.specs.Lists.{Log, top_of, told_by, members_of, members_at, entry_at, fits, image_at}
 use Rattle.am_base.specs.Fronts.{counted_at}
 use Rattle.am_core.specs.Cores.{CoreState, accept, pass_over, since_accepted}
 use Rattle.am_core.proofs.Ends.{image-top}
@@ -54,18 +54,19 @@ pub record Goes (r : Repair) (taken : ℕ → ℕ) (q m : Node) : Type 0 where
 leads_as : (r : Repair) (m n : Node) → Alike m n → Leads r m → Leads r n
 leads_as r m n a h =
     let same = ap (λ (l : Log). top_of l) a.log in
-    let number = ap (λ (l : Log). (told_by l).view_number) a.log in
     let high = h.high in
-    let reached = h.reached in
     let acc = a.acc in
     record {
       leads = leads_alike a ∙ h.leads;
       view_ = view_alike a ∙ h.view_;
+      number = ap (λ (l : Log). (told_by l).view_number) a.log ∙ h.number;
       rest = rest_alike a h.rest;
       high = omega arith;
-      reached = omega arith;
+      reached = h.reached;
+      fit = subst (λ (l : Log). (k : ℕ) (e : Entry) → k ≤ r.high → entry_at l k ≡ Some e → fits (image_at l (k - 1)) e ≡ true) (sym a.log) h.fit;
+      listed = subst (λ (l : Log). (name : ℕ) → has r.members name ≡ true → has (members_at l r.high) name ≡ true) (sym a.log) h.listed;
       members_ = λ name there. ap (λ (l : Log). has (members_of (told_by l)) name) a.log ∙ h.members_ name there;
-      counted = λ k above within view. subst (λ (l : Log). All (λ name. has r.members name ≡ true) (names_of (counted_at l k))) (sym a.log) (h.counted k (omega arith) within (omega arith));
+      counted = λ k above within view. subst (λ (l : Log). All (λ name. has r.members name ≡ true) (names_of (counted_at l k))) (sym a.log) (h.counted k (omega arith) within view);
     }
 
 goes_as : (r : Repair) (taken : ℕ → ℕ) (q m n : Node) → Alike m n → Trusts r taken n → Goes r taken q m → Goes r taken q n
@@ -166,24 +167,30 @@ numbered_plain r w c m e h (own_send s is last) = is_data m.core.who s.req s.bod
 numbered_plain r w c m e h (asked_join s v is other fit) = is_join s fit
 numbered_plain r w c m e h (asked_leave s v report is other known stays) = absurd (subst (CalmCause r w) is h)
 
+-- what a list told up to a number it tells when it goes on
+fit_on : (r : Repair) (a b : Log) → r.high ≤ top_of a → LogGrows a b → ((k : ℕ) (e : Entry) → k ≤ r.high → entry_at a k ≡ Some e → fits (image_at a (k - 1)) e ≡ true)
+    → (k : ℕ) (e : Entry) → k ≤ r.high → entry_at b k ≡ Some e → fits (image_at b (k - 1)) e ≡ true
+fit_on r a b high grows h k e low is = ap (λ (i : Image). fits i e) (grows.image (k - 1) (omega arith)) ∙ h k e low (sym (grows.entry k (omega arith)) ∙ is)
+
 leads_pushed_ : (r : Repair) (m : Node) (e : Entry) → Fronts m → IsJoinOrData (told m) e → Leads r m → Leads r (pushed m e)
 leads_pushed_ r m e f joins h =
     let p = plain (told m) e joins in
     let high = h.high in
     let more : top (pushed m e) ≡ top m + 1 = simp length-append (omega arith) in
     let image = told_pushed m e in
-    let number : (told (pushed m e)).view_number ≡ (told m).view_number = ap (λ (i : Image). i.view_number) image ∙ number_after (told m) (top m + 1) e p in
-    let reached = h.reached in
     let grows = grows_push m.core.log e in
     let used = told_used m f in
     record {
       leads = leads_pushed m e p ∙ h.leads;
       view_ = view_pushed m e p ∙ h.view_;
+      number = ap (λ (i : Image). i.view_number) image ∙ number_after (told m) (top m + 1) e p ∙ h.number;
       rest = record { stays = h.rest.stays; no_ballot = h.rest.no_ballot };
       high = omega arith;
-      reached = omega arith;
+      reached = h.reached;
+      fit = fit_on r m.core.log (pushed m e).core.log high grows h.fit;
+      listed = λ name there. ap (λ (i : Image). has (members_of i) name) (grows.image r.high high) ∙ h.listed name there;
       members_ = λ name there. ap (λ (i : Image). has (members_of i) name) image ∙ member_after (told m) (top m + 1) e name used.places joins (h.members_ name there);
-      counted = λ k above within view. subst (λ set. All (λ name. has r.members name ≡ true) (names_of set)) (sym (counted_stays m.core.log (pushed m e).core.log k grows (omega arith))) (h.counted k above within (omega arith));
+      counted = λ k above within view. subst (λ set. All (λ name. has r.members name ≡ true) (names_of set)) (sym (counted_stays m.core.log (pushed m e).core.log k grows (omega arith))) (h.counted k above within view);
     }
 
 goes_pushed : (r : Repair) (taken : ℕ → ℕ) (q m : Node) (e : Entry) → Fronts m → IsJoinOrData (told m) e → Goes r taken q m → Goes r taken q (pushed m e)
@@ -226,32 +233,34 @@ not_behind m v a same below =
     let t : stamp_eq (view m) v ≡ true = ap (stamp_eq (view m)) (same ∙ is) ∙ same_itself (view m) in
     cc
 
-pub lead_change : (r : Repair) (w : World) (q : Node) (c : Cause) (o : Outcome) (m n : Node) → r.view.by ≡ r.by → CalmCause r w c → Fronts m → Change c o m n
-    → Goes r (λ name. (w.nodes name).core.taken) q m → Goes r (λ name. (w.nodes name).core.taken) q n
-lead_change r w q c o m n by calm f refreshes h = goes_as r _ q m n (alike_refresh m) (trusts_refresh r _ m h.own h.leads f h.trusts) h
-lead_change r w q c o m n by calm f settles h = goes_as r _ q m n (alike_settle m) (trusts_settle r _ m h.trusts) h
-lead_change r w q c o m n by calm f (takes_report s v report brings may) h =
-    let told = told_taken r w c s v report brings calm in
-    goes_as r _ q m n (alike_here m n refl refl refl refl refl refl (omega arith) (omega arith)) (trusts_report r _ m s report told.taken h.trusts) h
-lead_change r w q c o m n by calm f (admits s v is leads fit) h = goes_as r _ q m n (alike_here m n refl refl refl refl refl refl (omega arith) (omega arith)) (trusts_admitted r _ m s h.trusts) h
-lead_change r w q c o m n by calm f (numbers e leads room why) h = goes_pushed r _ q m e f (numbered_plain r w c m e calm why) h
-lead_change r w q c o m n by calm f (keeps_body s v report req body is heard) h =
+-- what a cause tells of members to have taken
+abbrev pub TellsTaken : Repair → (ℕ → ℕ) → Cause → Type 0
+TellsTaken r taken c = (s : ℕ) (v : Stamp) (report : Report) → BringsReport c s v report → has r.members s ≡ true → report.taken ≤ taken s
+
+pub lead_change : (r : Repair) (taken : ℕ → ℕ) (w : World) (q : Node) (c : Cause) (o : Outcome) (m n : Node) → r.view.by ≡ r.by → CalmCause r w c → TellsTaken r taken c → Fronts m → Change c o m n → Goes r taken q m → Goes r taken q n
+lead_change r taken w q c o m n by calm tells f refreshes h = goes_as r _ q m n (alike_refresh m) (trusts_refresh r _ m h.own h.leads f h.trusts) h
+lead_change r taken w q c o m n by calm tells f settles h = goes_as r _ q m n (alike_settle m) (trusts_settle r _ m h.trusts) h
+lead_change r taken w q c o m n by calm tells f (takes_report s v report brings may) h =
+    goes_as r _ q m n (alike_here m n refl refl refl refl refl refl (omega arith) (omega arith)) (trusts_report r _ m s report (tells s v report brings) h.trusts) h
+lead_change r taken w q c o m n by calm tells f (admits s v is leads fit) h = goes_as r _ q m n (alike_here m n refl refl refl refl refl refl (omega arith) (omega arith)) (trusts_admitted r _ m s h.trusts) h
+lead_change r taken w q c o m n by calm tells f (numbers e leads room why) h = goes_pushed r _ q m e f (numbered_plain r w c m e calm why) h
+lead_change r taken w q c o m n by calm tells f (keeps_body s v report req body is heard) h =
     goes_as r _ q m n (alike_here m n refl refl refl refl refl refl (omega arith) (omega arith)) (record { base = h.trusts.base; reported = h.trusts.reported }) h
-lead_change r w q c o m n by calm f (notes s v base acc brings heard) h = absurd (let a = follows m s v heard in let b = h.leads.leads in cc)
-lead_change r w q c o m n by calm f (stores s v base acc number e carries heard plain_ may) h = absurd (let a = follows m s v heard in let b = h.leads.leads in cc)
-lead_change r w q c o m n by calm f (begins_list s v base join image is says may) h =
+lead_change r taken w q c o m n by calm tells f (notes s v base acc brings heard) h = absurd (let a = follows m s v heard in let b = h.leads.leads in cc)
+lead_change r taken w q c o m n by calm tells f (stores s v base acc number e carries heard plain_ may) h = absurd (let a = follows m s v heard in let b = h.leads.leads in cc)
+lead_change r taken w q c o m n by calm tells f (begins_list s v base join image is says may) h =
     absurd (let a = (acting m (leading m h.leads.leads).0).0 in let b = may.no_member in cc)
-lead_change r w q c o m n by calm f (departs s v number is heard leaves) h = absurd (let a = h.leads.rest.stays in cc)
-lead_change r w q c o m n by calm f (promises v low why) h = absurd (no_promise r w c m v (own_view r _ q m by h) calm why)
-lead_change r w q c o m n by calm f (opens least resilience begins may) h = absurd (no_ballot_begun r w c m calm begins)
-lead_change r w q c o m n by calm f (looks b verdict over why look is) h = absurd (let k = looked_open c m b why in not_open m k.0 k.1 h.leads.rest.no_ballot)
-lead_change r w q c o m n by calm f (fetches s v base number e is heard promise below why may) h =
+lead_change r taken w q c o m n by calm tells f (departs s v number is heard leaves) h = absurd (let a = h.leads.rest.stays in cc)
+lead_change r taken w q c o m n by calm tells f (promises v low why) h = absurd (no_promise r w c m v (own_view r _ q m by h) calm why)
+lead_change r taken w q c o m n by calm tells f (opens least resilience begins may) h = absurd (no_ballot_begun r w c m calm begins)
+lead_change r taken w q c o m n by calm tells f (looks b verdict over why look is) h = absurd (let k = looked_open c m b why in not_open m k.0 k.1 h.leads.rest.no_ballot)
+lead_change r taken w q c o m n by calm tells f (fetches s v base number e is heard promise below why may) h =
     absurd (not_behind m v (leading m h.leads.leads).0 (same_stamp v m.core.promise promise) below)
-lead_change r w q c o m n by calm f (stores_view s v base number names resilience is heard own other promise below may) h =
+lead_change r taken w q c o m n by calm tells f (stores_view s v base number names resilience is heard own other promise below may) h =
     absurd (not_behind m v (leading m h.leads.leads).0 (sym promise) below)
-lead_change r w q c o m n by calm f (queues body is says member stays few) h = absurd (subst (CalmCause r w) is calm)
-lead_change r w q c o m n by calm f (collects req is) h = absurd (subst (CalmCause r w) is calm)
-lead_change r w q c o m n by calm f (takes e is says member some there) h = absurd (subst (CalmCause r w) is calm)
-lead_change r w q c o m n by calm f (asks_to_join is was) h = absurd (subst (CalmCause r w) is calm)
-lead_change r w q c o m n by calm f (asks_to_leave is was stays done) h = absurd (subst (CalmCause r w) is calm)
-lead_change r w q c o m n by calm f (closes leads leaves alone room) h = absurd (let a = h.leads.rest.stays in cc)
+lead_change r taken w q c o m n by calm tells f (queues body is says member stays few) h = absurd (subst (CalmCause r w) is calm)
+lead_change r taken w q c o m n by calm tells f (collects req is) h = absurd (subst (CalmCause r w) is calm)
+lead_change r taken w q c o m n by calm tells f (takes e is says member some there) h = absurd (subst (CalmCause r w) is calm)
+lead_change r taken w q c o m n by calm tells f (asks_to_join is was) h = absurd (subst (CalmCause r w) is calm)
+lead_change r taken w q c o m n by calm tells f (asks_to_leave is was stays done) h = absurd (subst (CalmCause r w) is calm)
+lead_change r taken w q c o m n by calm tells f (closes leads leaves alone room) h = absurd (let a = h.leads.rest.stays in cc)

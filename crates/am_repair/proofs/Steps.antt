@@ -25,7 +25,7 @@ use Rattle.am_laws.proofs.Views.{heard_names}
 use Rattle.am_laws.proofs.TakenRuns.{Along, AllOwned, heard_used, each_along}
 use Rattle.am_repair.specs.Calm.{Repair, Leads, Follows, IsApart, IsCalm, Calm}
 use Rattle.am_repair.proofs.Nodes.{CalmCause, acting, leading, leads_not}
-use Rattle.am_repair.proofs.Leading.{Goes}
+use Rattle.am_repair.proofs.Leading.{Goes, told_taken}
 use Rattle.am_repair.proofs.Lists.{LogGrows, grows_same}
 use Rattle.am_repair.proofs.Saying.{Grow, calm_stays, Sends, says_calm}
 use Rattle.am_repair.proofs.Going.{IsOurs, OurStep, Ours, idles, steps, ours, lead_changes, follow_changes, apart_changes, sender_is, member_there}
@@ -169,6 +169,7 @@ follows_on r w n name h there other g =
       acts_ = f.acts_;
       view_ = f.view_;
       rest = f.rest;
+      reached = f.reached;
       low = omega arith;
       within = omega arith;
       told_ = f.told_ ∙ sym (g.grows.image (top (w.nodes name)) within);
@@ -186,7 +187,7 @@ leader_step rules r w e s laws h k same =
     let ch = one_changed w e name s in
     let effect = subst (λ i. Effect (w.nodes i) c s) same k.effect in
     let along = subst (λ i. Along rules (w.nodes i)) same (each_along rules w name (few_names rules w e laws.blanks.views.named) laws) in
-    let g = lead_changes rules r w q q n h.own k.calm (heard_names rules w e c laws.blanks.views k.is) (heard_used rules w e c laws k.is) effect.changes along (goes_first r w h) in
+    let g = lead_changes rules r (λ i. (w.nodes i).core.taken) w q q n h.own k.calm (λ i v_ report brings. (told_taken r w c i v_ report brings k.calm).taken) (heard_names rules w e c laws.blanks.views k.is) (heard_used rules w e c laws k.is) effect.changes along (goes_first r w h) in
     let node : v.nodes r.by ≡ n = ap (λ i. v.nodes i) (sym same) ∙ ch.here in
     let acts_ = acting n (leading n g.leads.leads).0 in
     let sender = sender_is n effect.sender effect.is effect.stays (member_there n acts_.0) in
@@ -229,7 +230,7 @@ member_step r w e s h k other there =
     let ch = one_changed w e name s in
     let own : (m.core.who == r.by) ≡ false = ap (λ i. i == r.by) (h.who name) ∙ other in
     let f = h.follows name there other in
-    let g = follow_changes r w m m n h.own own k.calm k.effect.changes (record { who = refl; follows = f; stored = omega arith; taken = omega arith }) in
+    let g = follow_changes r w m m n h.own own k.calm k.effect.changes (record { who = refl; follows = f; stored = omega arith; taken = omega arith; skips = λ x. refl }) in
     let node : v.nodes r.by ≡ q = ch.others r.by (is_other name r.by other) in
     let acts_ = acting n g.follows.acts_ in
     let sender = sender_is n k.effect.sender k.effect.is k.effect.stays (member_there n acts_.0) in

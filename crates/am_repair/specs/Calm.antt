@@ -1,11 +1,11 @@
 -- What stays so while a schedule runs in a group that stands in one view.
-use Rattle.std.specs.Prelude.{◌≡◌, ℕ, ◌<◌, ◌≤◌, List, Some, None, true, false, ◌==◌, All}
+use Rattle.std.specs.Prelude.{◌≡◌, ℕ, ◌<◌, ◌≤◌, List, Some, None, true, false, ◌==◌, All, ◌-◌}
 use Rattle.am_base.specs.declared.name.Stamp.{Stamp}
 use Rattle.am_base.specs.declared.image.Report.{Report}
 use Rattle.am_base.specs.declared.entry.Entry.{Entry}
 use Rattle.am_base.specs.declared.entry.Entry.TheVariants.{Data}
 use Rattle.am_base.specs.Names.{place_of, has, names_of}
-use Rattle.am_base.specs.Lists.{image_at, entry_at}
+use Rattle.am_base.specs.Lists.{image_at, entry_at, members_at, fits}
 use Rattle.am_base.specs.Fronts.{counted_at}
 use Rattle.am_packet.specs.declared.packet.Packet.{Packet}
 use Rattle.am_packet.specs.declared.packet.Packet.TheVariants.{Request, Spread, Bcast, Order, Accept, Ack, Nack, Hold, JoinAsk, Welcome, LeaveAsk, Gone, Invite, Vote, Fetch, Piece, Result, HandOver}
@@ -15,32 +15,39 @@ use Rattle.am_model.specs.Node.{Node, top, told, view, members, acts, is_member,
 use Rattle.am_model.specs.World.{World, current, is_stopped, has_departed}
 use Rattle.am_repair.specs.Rows.{IsAtRest}
 
--- what a schedule is about: the sequencer, its view, the members of its list as it began, how far that list went then, and how many letters
--- had been sent
+-- what a schedule is about: the sequencer, its view and where its View stands, the members of its list as it began, how far that list went
+-- then, and how many letters had been sent
 pub record Repair : Type 0 where
   pub by : ℕ
   pub view : Stamp
+  pub at : ℕ
   pub members : List ℕ
   pub high : ℕ
   pub sent : ℕ
 
 -- ---- nodes
 
--- the sequencer: its list goes on by what ends nobody's membership, and whose storage counts for what isn't accepted yet is a member
+-- The sequencer: its list goes on by what ends nobody's membership. Up to where it went its entries fit, and whose storage counts for what
+-- isn't accepted yet is a member.
 pub record Leads (r : Repair) (m : Node) : Type 0 where
   pub leads : is_sequencer m ≡ true
   pub view_ : view m ≡ r.view
+  pub number : (told m).view_number ≡ r.at
   pub rest : IsAtRest m
   pub high : r.high ≤ top m
-  pub reached : (told m).view_number ≤ r.high
+  pub reached : r.at ≤ r.high
+  pub fit : (k : ℕ) (e : Entry) → k ≤ r.high → entry_at m.core.log k ≡ Some e → fits (image_at m.core.log (k - 1)) e ≡ true
+  pub listed : (name : ℕ) → has r.members name ≡ true → has (members_at m.core.log r.high) name ≡ true
   pub members_ : (name : ℕ) → has r.members name ≡ true → has (members m) name ≡ true
-  pub counted : (number : ℕ) → m.core.acc < number → number ≤ r.high → (told m).view_number ≤ number → All (λ name. has r.members name ≡ true) (names_of (counted_at m.core.log number))
+  pub counted : (k : ℕ) → m.core.acc < k → k ≤ r.high → r.at ≤ k → All (λ name. has r.members name ≡ true) (names_of (counted_at m.core.log k))
 
--- a member: its list tells what the sequencer's tells up to there, and the sequencer trims and knows no more of it than it has taken
+-- a member: its list has the view's View, and tells what the sequencer's tells up to there; and the sequencer trims and knows no more of it than
+-- it has taken
 pub record Follows (r : Repair) (q m : Node) : Type 0 where
   pub acts_ : acts m ≡ true
   pub view_ : view m ≡ r.view
   pub rest : IsAtRest m
+  pub reached : r.at ≤ top m
   pub low : q.core.log.start ≤ top m
   pub within : top m ≤ top q
   pub told_ : told m ≡ image_at q.core.log (top m)
