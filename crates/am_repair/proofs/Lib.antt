@@ -10,6 +10,7 @@ pub mod Saying
 pub mod Departed
 pub mod Going
 pub mod Steps
+pub mod Schedules
 pub mod Ticks
 pub mod Members
 pub mod Sequencers
