@@ -66,7 +66,7 @@ one_letter m p o to packet f some =
 
 -- ---- reports
 
-raise_up : (kept : ℕ → Report) (who : ℕ) (r : Report) (name : ℕ) → (kept name).stored ≤ (reports.reported kept who r name).stored
+pub raise_up : (kept : ℕ → Report) (who : ℕ) (r : Report) (name : ℕ) → (kept name).stored ≤ (reports.reported kept who r name).stored
 raise_up kept who r name = split (name == who)
     (λ t. let e : name ≡ who = grind (arith, nat_tests) in rw (t, e) (omega arith))
     (λ f. rw f (omega arith))

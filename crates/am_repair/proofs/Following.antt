@@ -35,6 +35,7 @@ pub record FollowsOn (r : Repair) (c : Cause) (q m x : Node) : Type 0 where
   pub follows : Follows r q x
   pub stored : top m ≤ top x
   pub taken : m.core.taken ≤ x.core.taken
+  pub acc : m.core.acc ≤ x.core.acc
   pub skips : Skips (top m) c → top x ≡ top m
 
 follows_as : (r : Repair) (c : Cause) (q m x y : Node) → Alike x y → FollowsOn r c q m x → FollowsOn r c q m y
@@ -42,7 +43,7 @@ follows_as r c q m x y a h =
     let f = h.follows in
     let same = ap (λ (l : Log). top_of l) a.log in
     let low = f.low in let within = f.within in let base = f.base in let reported = f.reported in let reached = f.reached in
-    let stored = h.stored in let taken = h.taken in let more = a.taken in
+    let stored = h.stored in let taken = h.taken in let more = a.taken in let acc = h.acc in let higher = a.acc in
     let who = ap (λ k. (q.reports k).taken) a.who in
     record {
       who = a.who ∙ h.who;
@@ -59,6 +60,7 @@ follows_as r c q m x y a h =
       };
       stored = omega arith;
       taken = omega arith;
+      acc = omega arith;
       skips = λ k. same ∙ h.skips k;
     }
 
@@ -86,6 +88,7 @@ follows_pushed r c q m x e there skips plain is same h =
       };
       stored = omega arith;
       taken = h.taken;
+      acc = h.acc;
       skips = λ k. absurd (skips k (let same_top = h.skips k in omega arith));
     }
 

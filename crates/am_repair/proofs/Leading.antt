@@ -1,6 +1,8 @@
 -- What the sequencer's changes keep while a schedule runs.
-use Rattle.std.proofs.Common.{◌-◌, ◌≡◌, ℕ, ◌+◌, ◌≤◌, ◌==◌, true, false, Option, Some, None, refl, sym, ap, ◌∙◌, subst, arith, length-append}
+use Rattle.std.proofs.Common.{inl, inr, ◌-◌, ◌≡◌, ℕ, ◌+◌, ◌≤◌, ◌==◌, true, false, Option, Some, None, refl, sym, ap, ◌∙◌, subst, arith, length-append, length}
 use Rattle.std.specs.Prelude.{All}
+use Rattle.std.proofs.lemmas.Bool.{cases_lt}
+use Rattle.am_base.specs.declared.entry.Entry.TheVariants.{Join}
 use Rattle.std.proofs.lemmas.Bool.Decides.{nat_tests}
 use Rattle.am_base.specs.declared.name.Stamp.{Stamp}
 use Rattle.am_base.specs.declared.image.Image.{Image}
@@ -27,10 +29,10 @@ use Rattle.am_effects.specs.Changes.{Promises, invited, overtaken, told_result, 
 use Rattle.am_effects.proofs.Rests.{settle_is}
 use Rattle.am_effects.proofs.Says.{told_pushed, view_pushed, leads_pushed}
 use Rattle.am_laws.proofs.Stamps.{same_stamp}
-use Rattle.am_laws.proofs.LeaderRows.{JoinsFit, least_within}
+use Rattle.am_laws.proofs.LeaderRows.{JoinsFit, least_within, is_in}
 use Rattle.am_laws.proofs.Trims.{Fronts, told_used}
 use Rattle.am_repair.specs.Calm.{Repair, Leads, ReportIs}
-use Rattle.am_repair.proofs.Ends.{follows}
+use Rattle.am_repair.proofs.Ends.{follows, refreshed_stay, raise_up}
 use Rattle.am_repair.proofs.Lists.{LogGrows, grows_then, grows_push, counted_stays, number_after, IsJoinOrData, is_data, is_join, plain, member_after}
 use Rattle.am_repair.proofs.Nodes.{CalmCause, acting, leading, not_open, same_itself, Alike, alike_here, alike_refresh, alike_settle, view_alike, leads_alike, rest_alike}
 
@@ -48,6 +50,9 @@ pub record Goes (r : Repair) (taken : ℕ → ℕ) (q m : Node) : Type 0 where
   pub trusts : Trusts r taken m
   pub grows : LogGrows q.core.log m.core.log
   pub up : q.core.taken ≤ m.core.taken
+  pub acc : q.core.acc ≤ m.core.acc
+  -- no report of a member is lowered
+  pub kept : (name : ℕ) → has r.members name ≡ true → (q.reports name).stored ≤ (m.reports name).stored
 
 -- ---- the same list
 
@@ -64,22 +69,29 @@ leads_as r m n a h =
       high = omega arith;
       reached = h.reached;
       fit = subst (λ (l : Log). (k : ℕ) (e : Entry) → k ≤ r.high → entry_at l k ≡ Some e → fits (image_at l (k - 1)) e ≡ true) (sym a.log) h.fit;
-      listed = subst (λ (l : Log). (name : ℕ) → has r.members name ≡ true → has (members_at l r.high) name ≡ true) (sym a.log) h.listed;
-      members_ = λ name there. ap (λ (l : Log). has (members_of (told_by l)) name) a.log ∙ h.members_ name there;
+      members_ = subst (λ (l : Log). (name k : ℕ) → has r.members name ≡ true → r.high ≤ k → k ≤ top_of l → has (members_at l k) name ≡ true) (sym a.log) h.members_;
       counted = λ k above within view. subst (λ (l : Log). All (λ name. has r.members name ≡ true) (names_of (counted_at l k))) (sym a.log) (h.counted k (omega arith) within view);
     }
 
-goes_as : (r : Repair) (taken : ℕ → ℕ) (q m n : Node) → Alike m n → Trusts r taken n → Goes r taken q m → Goes r taken q n
-goes_as r taken q m n a t h =
+goes_as : (r : Repair) (taken : ℕ → ℕ) (q m n : Node) → Alike m n → ((name : ℕ) → has r.members name ≡ true → (m.reports name).stored ≤ (n.reports name).stored) → Trusts r taken n → Goes r taken q m → Goes r taken q n
+goes_as r taken q m n a kept t h =
     let up = h.up in
     let more = a.taken in
+    let acc = h.acc in
+    let higher = a.acc in
     record {
       own = a.who ∙ h.own;
       leads = leads_as r m n a h.leads;
       trusts = t;
       grows = subst (λ (l : Log). LogGrows q.core.log l) (sym a.log) h.grows;
       up = omega arith;
+      acc = omega arith;
+      kept = λ name there. (let x = h.kept name there in let y = kept name there in omega arith);
     }
+
+-- members are members now
+pub is_member_now : (r : Repair) (m : Node) (name : ℕ) → Leads r m → has r.members name ≡ true → has (members m) name ≡ true
+is_member_now r m name h there = ap (λ (i : Image). has (members_of i) name) (sym (image-top m.core.log)) ∙ h.members_ name (top m) there h.high (omega arith)
 
 -- ---- a refresh
 
@@ -116,7 +128,7 @@ lead_base m name most f member other low reported =
 
 trusts_lead : (r : Repair) (taken : ℕ → ℕ) (m : Node) → m.core.who ≡ r.by → Leads r m → Fronts m → Trusts r taken m → Trusts r taken (lead m)
 trusts_lead r taken m own h f t = record {
-  base = λ name there other. lead_base m name (taken name) f (h.members_ name there) (not_own name other) (t.base name there other) (t.reported name there other);
+  base = λ name there other. lead_base m name (taken name) f (is_member_now r m name h there) (not_own name other) (t.base name there other) (t.reported name there other);
   reported = λ name there other. subst (λ (x : Report). x.taken ≤ taken name) (sym (lead_others m name (not_own name other))) (t.reported name there other);
 }
   where
@@ -159,6 +171,22 @@ trusts_admitted r taken m s t = record {
   reported = λ name there other. split (name == s) (λ same. rw same (t.base name there other)) (λ differs. rw differs (t.reported name there other));
 }
 
+settled_stay : (m : Node) (name : ℕ) → (m.reports name).stored ≤ ((settle m).reports name).stored
+settled_stay m name = subst (λ (x : Node). (m.reports name).stored ≤ (x.reports name).stored) (sym (settle_is m)) (omega arith)
+
+-- a joiner is no member
+member_joins : (image : Image) (name : ℕ) → length image.rows ≡ 16 → has (members_of image) name ≡ true → fits image (Join name) ≡ true → ⊥
+unfolding fits
+member_joins image name long member fit = let k = is_in image name long member in let j = k.joined in let l = k.left in let z : ⊥ = grind (arith, nat_tests) in z
+
+admitted_stay : (r : Repair) (m : Node) (s : ℕ) → Leads r m → Fronts m → fits (told m) (Join s) ≡ true → (name : ℕ) → has r.members name ≡ true → (m.reports name).stored ≤ ((admitted m s).reports name).stored
+admitted_stay r m s h f fit name there = split (name == s)
+    (λ t. absurd (
+    let same : name ≡ s = grind (arith, nat_tests) in
+    let used = told_used m f in
+    member_joins (told m) s used.places (subst (λ i. has (members m) i ≡ true) same (is_member_now r m name h there)) fit))
+    (λ t. rw t (omega arith))
+
 -- ---- an entry more
 
 numbered_plain : (r : Repair) (w : World) (c : Cause) (m : Node) (e : Entry) → CalmCause r w c → Numbers c m e → IsJoinOrData (told m) e
@@ -188,8 +216,12 @@ leads_pushed_ r m e f joins h =
       high = omega arith;
       reached = h.reached;
       fit = fit_on r m.core.log (pushed m e).core.log high grows h.fit;
-      listed = λ name there. ap (λ (i : Image). has (members_of i) name) (grows.image r.high high) ∙ h.listed name there;
-      members_ = λ name there. ap (λ (i : Image). has (members_of i) name) image ∙ member_after (told m) (top m + 1) e name used.places joins (h.members_ name there);
+      members_ = λ name k there above within. elim (cases_lt k (top m + 1)) [
+        | inl old ↦ ap (λ (i : Image). has (members_of i) name) (grows.image k (omega arith)) ∙ h.members_ name k there above (omega arith)
+        | inr new ↦ (let last : k ≡ top (pushed m e) = omega arith in
+            ap (λ (i : Image). has (members_of i) name) (ap (image_at (pushed m e).core.log) last ∙ image-top (pushed m e).core.log ∙ image)
+            ∙ member_after (told m) (top m + 1) e name used.places joins (is_member_now r m name h there))
+      ];
       counted = λ k above within view. subst (λ set. All (λ name. has r.members name ≡ true) (names_of set)) (sym (counted_stays m.core.log (pushed m e).core.log k grows (omega arith))) (h.counted k above within view);
     }
 
@@ -200,6 +232,8 @@ goes_pushed r taken q m e f joins h = record {
   trusts = record { base = h.trusts.base; reported = h.trusts.reported };
   grows = grows_then q.core.log m.core.log (pushed m e).core.log h.grows (grows_push m.core.log e);
   up = h.up;
+  acc = h.acc;
+  kept = h.kept;
 }
 
 -- ---- each change
@@ -238,14 +272,14 @@ abbrev pub TellsTaken : Repair → (ℕ → ℕ) → Cause → Type 0
 TellsTaken r taken c = (s : ℕ) (v : Stamp) (report : Report) → BringsReport c s v report → has r.members s ≡ true → report.taken ≤ taken s
 
 pub lead_change : (r : Repair) (taken : ℕ → ℕ) (w : World) (q : Node) (c : Cause) (o : Outcome) (m n : Node) → r.view.by ≡ r.by → CalmCause r w c → TellsTaken r taken c → Fronts m → Change c o m n → Goes r taken q m → Goes r taken q n
-lead_change r taken w q c o m n by calm tells f refreshes h = goes_as r _ q m n (alike_refresh m) (trusts_refresh r _ m h.own h.leads f h.trusts) h
-lead_change r taken w q c o m n by calm tells f settles h = goes_as r _ q m n (alike_settle m) (trusts_settle r _ m h.trusts) h
+lead_change r taken w q c o m n by calm tells f refreshes h = goes_as r _ q m n (alike_refresh m) (λ name there. refreshed_stay m name) (trusts_refresh r _ m h.own h.leads f h.trusts) h
+lead_change r taken w q c o m n by calm tells f settles h = goes_as r _ q m n (alike_settle m) (λ name there. settled_stay m name) (trusts_settle r _ m h.trusts) h
 lead_change r taken w q c o m n by calm tells f (takes_report s v report brings may) h =
-    goes_as r _ q m n (alike_here m n refl refl refl refl refl refl (omega arith) (omega arith)) (trusts_report r _ m s report (tells s v report brings) h.trusts) h
-lead_change r taken w q c o m n by calm tells f (admits s v is leads fit) h = goes_as r _ q m n (alike_here m n refl refl refl refl refl refl (omega arith) (omega arith)) (trusts_admitted r _ m s h.trusts) h
+    goes_as r _ q m n (alike_here m n refl refl refl refl refl refl (omega arith) (omega arith)) (λ name there. raise_up m.reports s report name) (trusts_report r _ m s report (tells s v report brings) h.trusts) h
+lead_change r taken w q c o m n by calm tells f (admits s v is leads fit) h = goes_as r _ q m n (alike_here m n refl refl refl refl refl refl (omega arith) (omega arith)) (admitted_stay r m s h.leads f fit) (trusts_admitted r _ m s h.trusts) h
 lead_change r taken w q c o m n by calm tells f (numbers e leads room why) h = goes_pushed r _ q m e f (numbered_plain r w c m e calm why) h
 lead_change r taken w q c o m n by calm tells f (keeps_body s v report req body is heard) h =
-    goes_as r _ q m n (alike_here m n refl refl refl refl refl refl (omega arith) (omega arith)) (record { base = h.trusts.base; reported = h.trusts.reported }) h
+    goes_as r _ q m n (alike_here m n refl refl refl refl refl refl (omega arith) (omega arith)) (λ name there. omega arith) (record { base = h.trusts.base; reported = h.trusts.reported }) h
 lead_change r taken w q c o m n by calm tells f (notes s v base acc brings heard) h = absurd (let a = follows m s v heard in let b = h.leads.leads in cc)
 lead_change r taken w q c o m n by calm tells f (stores s v base acc number e carries heard plain_ may) h = absurd (let a = follows m s v heard in let b = h.leads.leads in cc)
 lead_change r taken w q c o m n by calm tells f (begins_list s v base join image is says may) h =

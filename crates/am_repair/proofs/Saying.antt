@@ -26,6 +26,9 @@ pub record Grow (r : Repair) (w v : World) : Type 0 where
   pub log : LogGrows (w.nodes r.by).core.log (v.nodes r.by).core.log
   pub stored : (name : ℕ) → has r.members name ≡ true → top (w.nodes name) ≤ top (v.nodes name)
   pub taken : (name : ℕ) → has r.members name ≡ true → (w.nodes name).core.taken ≤ (v.nodes name).core.taken
+  pub acc : (name : ℕ) → has r.members name ≡ true → (w.nodes name).core.acc ≤ (v.nodes name).core.acc
+  -- and the sequencer keeps their reports
+  pub kept : (name : ℕ) → has r.members name ≡ true → ((w.nodes r.by).reports name).stored ≤ ((v.nodes r.by).reports name).stored
 
 report_stays : (r : Repair) (w v : World) (s : ℕ) (report : Report) → Grow r w v → ReportIs r w s report → ReportIs r v s report
 report_stays r w v s report g h = record {

@@ -104,7 +104,7 @@ from_walks P w number (l ∷ ls) u step h =
     let end : number + 1 + length ls ≡ number + length (l ∷ ls) = omega arith in
     subst (λ n. P n (happen u (hearings_of w number l ++ hearings_from w (number + 1) ls))) end (subst (P (number + 1 + length ls)) (sym (runs_go_on u (hearings_of w number l) (hearings_from w (number + 1) ls))) rest)
 
-letter_within : (ls : List Letter) (k : ℕ) (l : Letter) → letter_at ls k ≡ Some l → k ≤ length ls
+pub letter_within : (ls : List Letter) (k : ℕ) (l : Letter) → letter_at ls k ≡ Some l → k ≤ length ls
 letter_within ls zero l there = omega arith
 letter_within ls (suc before) l there = let low = slice_get_within ls before l there in omega arith
 
@@ -123,10 +123,10 @@ wave_walks P w after low step h =
     (from_walks P w (after + 1) (drop after w.letters) w (λ j l u there k. step (after + 1 + j) l u (omega arith) (letter_of_drop w after j l there) k) h)
 
 -- what comes about where one name hears one letter, and stays
-pub record WaveHits (P Q : World → Type 0) (after k place : ℕ) : Type 0 where
-  pub keeps : (p n : ℕ) (u : World) → after < n → P u → P (happens u (event_at p (act.Hear n)))
+pub record WaveHits (P Q : World → Type 0) (after last k place : ℕ) : Type 0 where
+  pub keeps : (p n : ℕ) (u : World) → after < n → n ≤ last → P u → P (happens u (event_at p (act.Hear n)))
   pub hits : (u : World) → P u → Q (happens u (event_at place (act.Hear k)))
-  pub stays : (p n : ℕ) (u : World) → after < n → P u → Q u → Q (happens u (event_at p (act.Hear n)))
+  pub stays : (p n : ℕ) (u : World) → after < n → n ≤ last → P u → Q u → Q (happens u (event_at p (act.Hear n)))
 
 -- a letter that is sent, and whoever hears it
 pub record IsHeard (w : World) (after k place : ℕ) : Type 0 where
@@ -137,7 +137,7 @@ pub record IsHeard (w : World) (after k place : ℕ) : Type 0 where
   pub runs : is_stopped w (current w place) ≡ false
   pub meant : is_for letter (current w place) ≡ true
 
-pub wave_hits : (P Q : World → Type 0) (w : World) (after k place : ℕ) → IsHeard w after k place → WaveHits P Q after k place → P w → P (happen w (hearings w after)) × Q (happen w (hearings w after))
+pub wave_hits : (P Q : World → Type 0) (w : World) (after k place : ℕ) → IsHeard w after k place → WaveHits P Q after (length w.letters) k place → P w → P (happen w (hearings w after)) × Q (happen w (hearings w after))
 wave_hits P Q w after k place is h first =
     let within = letter_within w.letters k is.letter is.there in
     let late = is.late in
@@ -151,10 +151,10 @@ wave_hits P Q w after k place is h first =
     step n l u late_ there x = split (n == k)
         (λ t. let same : n ≡ k = grind (arith, nat_tests) in
         let letter : is.letter ≡ l = (let e = sym (ap (letter_at w.letters) same) ∙ there in let d = is.there in cc) in
-        let one = acts_hit P Q (act.Hear n) place (record { keeps = λ p y z. h.keeps p n y late_ z; hits = λ y z. subst (λ i. Q (happens y (event_at place (act.Hear i)))) (sym same) (h.hits y z); stays = λ p y z q. h.stays p n y late_ z q })
+        let one = acts_hit P Q (act.Hear n) place (record { keeps = λ p y z. h.keeps p n y late_ (letter_within w.letters n l there) z; hits = λ y z. subst (λ i. Q (happens y (event_at place (act.Hear i)))) (sym same) (h.hits y z); stays = λ p y z q. h.stays p n y late_ (letter_within w.letters n l there) z q })
             (filter (λ p. is_for l (current w p)) (running w)) u (is_hearing w l place is.low is.runs (subst (λ i. is_for i (current w place) ≡ true) letter is.meant)) x.0 in
         (one.0, λ low. one.1))
         (λ f. let differs : n ≡ k → ⊥ = λ same. (let z : ⊥ = grind (arith, nat_tests) in z) in
         let places = filter (λ p. is_for l (current w p)) (running w) in
-        (acts_keep P (act.Hear n) (λ p y z. h.keeps p n y late_ z) places u x.0,
-        λ low. (acts_stay P Q (act.Hear n) (λ p y z. h.keeps p n y late_ z) (λ p y z q. h.stays p n y late_ z q) places u x.0 (x.1 (omega arith))).1))
+        (acts_keep P (act.Hear n) (λ p y z. h.keeps p n y late_ (letter_within w.letters n l there) z) places u x.0,
+        λ low. (acts_stay P Q (act.Hear n) (λ p y z. h.keeps p n y late_ (letter_within w.letters n l there) z) (λ p y z q. h.stays p n y late_ (letter_within w.letters n l there) z q) places u x.0 (x.1 (omega arith))).1))

@@ -58,7 +58,7 @@ letter_either xs ys (suc before) l h = get_either xs ys before l h
 -- ---- an event that no node does
 
 same_grows : (r : Repair) (w v : World) → v.nodes ≡ w.nodes → Grow r w v
-same_grows r w v same = subst (λ nodes. Grow r w (record v { nodes = nodes })) (sym same) (record { log = grows_same (w.nodes r.by).core.log; stored = λ name there. omega arith; taken = λ name there. omega arith })
+same_grows r w v same = subst (λ nodes. Grow r w (record v { nodes = nodes })) (sym same) (record { log = grows_same (w.nodes r.by).core.log; stored = λ name there. omega arith; taken = λ name there. omega arith; acc = λ name there. omega arith; kept = λ name there. omega arith })
 
 calm_unchanged : (r : Repair) (w : World) (e : Event) (o : Outcome) → Calm r w → Calm r (unchanged w e o)
 unfolding unchanged
@@ -121,17 +121,20 @@ unfolding stepped
 one_changed w e name s = record { here = (let t = is_same name name refl in rw t refl); others = λ other f. rw f refl }
 
 abbrev NoLess : Node → Node → Type 0
-NoLess x y = (top x ≤ top y) × (x.core.taken ≤ y.core.taken)
+NoLess x y = (top x ≤ top y) × (x.core.taken ≤ y.core.taken) × (x.core.acc ≤ y.core.acc)
 
 grow_changed : (r : Repair) (w v : World) (name : ℕ) (n : Node) → OneChanged w v name n → LogGrows (w.nodes r.by).core.log (v.nodes r.by).core.log
-    → (has r.members name ≡ true → (top (w.nodes name) ≤ top n) × ((w.nodes name).core.taken ≤ n.core.taken)) → Grow r w v
-grow_changed r w v name n ch log up = record { log = log; stored = λ other there. (both other there).0; taken = λ other there. (both other there).1 }
+    → ((i : ℕ) → has r.members i ≡ true → ((w.nodes r.by).reports i).stored ≤ ((v.nodes r.by).reports i).stored) → (has r.members name ≡ true → NoLess (w.nodes name) n) → Grow r w v
+grow_changed r w v name n ch log kept up = record { log = log; stored = λ other there. (both other there).0; taken = λ other there. (both other there).1; acc = λ other there. (both other there).2; kept = kept }
   where
     both : (other : ℕ) → has r.members other ≡ true → NoLess (w.nodes other) (v.nodes other)
     both other there = split (other == name)
         (λ t. let e = as_same other name t in
         subst (λ i. NoLess (w.nodes i) (v.nodes i)) (sym e) (subst (NoLess (w.nodes name)) (sym ch.here) (up (subst (λ i. has r.members i ≡ true) e there))))
-        (λ f. subst (NoLess (w.nodes other)) (sym (ch.others other f)) (omega arith, omega arith))
+        (λ f. subst (NoLess (w.nodes other)) (sym (ch.others other f)) (omega arith, omega arith, omega arith))
+
+same_reports : (r : Repair) (w v : World) (q : Node) → w.nodes r.by ≡ q → v.nodes r.by ≡ q → (i : ℕ) → has r.members i ≡ true → ((w.nodes r.by).reports i).stored ≤ ((v.nodes r.by).reports i).stored
+same_reports r w v q a b i there = let x = ap (λ (n : Node). (n.reports i).stored) (a ∙ sym b) in omega arith
 
 -- who isn't there stays so
 apart_others : (r : Repair) (w v : World) (name other : ℕ) (n : Node) → OneChanged w v name n → Calm r w → (other == name) ≡ false → has r.members other ≡ false → has_departed (v.nodes other).status ≡ false → IsApart r (v.nodes other)
@@ -157,6 +160,8 @@ goes_first r w h =
       };
       grows = grows_same q.core.log;
       up = omega arith;
+      acc = omega arith;
+      kept = λ name there. omega arith;
     }
 
 -- members follow a sequencer that goes on
@@ -207,13 +212,14 @@ leader_step rules r w e s laws h k same =
       base = λ t. omega arith;
     } in
     let not_own : (other : ℕ) → (other == r.by) ≡ false → (other == name) ≡ false = λ other f. ap (λ i. other == i) same ∙ f in
-    let up : (top (w.nodes name) ≤ top n) × ((w.nodes name).core.taken ≤ n.core.taken) = subst (λ i. (top (w.nodes i) ≤ top n) × ((w.nodes i).core.taken ≤ n.core.taken)) (sym same) (g.grows.top, g.up) in
+    let up = subst (λ i. NoLess (w.nodes i) n) (sym same) (g.grows.top, g.up, g.acc) in
+    let kept_on : (i : ℕ) → has r.members i ≡ true → (q.reports i).stored ≤ ((v.nodes r.by).reports i).stored = λ i there. subst (λ (x : Node). (q.reports i).stored ≤ (x.reports i).stored) (sym node) (g.kept i there) in
     record {
       who = g.own ∙ sym same;
       leads = subst (Leads r) (sym node) g.leads;
       follows = λ other there f. subst (λ (x : Node). Follows r x (v.nodes other)) (sym node) (subst (Follows r n) (sym (ch.others other (not_own other f))) (follows_on r w n other h there f g));
       apart = λ other none there. apart_others r w v name other n ch h (not_own other (differs r.members r.by other h.listed none)) none there;
-      grow = grow_changed r w v name n ch (subst (λ (x : Node). LogGrows q.core.log x.core.log) (sym node) g.grows) (λ there. up);
+      grow = grow_changed r w v name n ch (subst (λ (x : Node). LogGrows q.core.log x.core.log) (sym node) g.grows) kept_on (λ there. up);
       letters = sent_calm r w v q n c s.letters k.calm sends (subst (λ (x : Node). All (LetterSays q c x) s.letters) sender effect.letters);
     }
 
@@ -230,7 +236,7 @@ member_step r w e s h k other there =
     let ch = one_changed w e name s in
     let own : (m.core.who == r.by) ≡ false = ap (λ i. i == r.by) (h.who name) ∙ other in
     let f = h.follows name there other in
-    let g = follow_changes r w m m n h.own own k.calm k.effect.changes (record { who = refl; follows = f; stored = omega arith; taken = omega arith; skips = λ x. refl }) in
+    let g = follow_changes r w m m n h.own own k.calm k.effect.changes (record { who = refl; follows = f; stored = omega arith; taken = omega arith; acc = omega arith; skips = λ x. refl }) in
     let node : v.nodes r.by ≡ q = ch.others r.by (is_other name r.by other) in
     let acts_ = acting n g.follows.acts_ in
     let sender = sender_is n k.effect.sender k.effect.is k.effect.stays (member_there n acts_.0) in
@@ -256,7 +262,7 @@ member_step r w e s h k other there =
       leads = subst (Leads r) (sym node) h.leads;
       follows = λ i here d. subst (λ (x : Node). Follows r x (v.nodes i)) (sym node) (follows_new i here d);
       apart = λ i none here. apart_others r w v name i n ch h (differs r.members name i there none) none here;
-      grow = grow_changed r w v name n ch (subst (λ (x : Node). LogGrows q.core.log x.core.log) (sym node) (grows_same q.core.log)) (λ here. (g.stored, g.taken));
+      grow = grow_changed r w v name n ch (subst (λ (x : Node). LogGrows q.core.log x.core.log) (sym node) (grows_same q.core.log)) (same_reports r w v q refl node) (λ here. (g.stored, g.taken, g.acc));
       letters = sent_calm r w v m n c s.letters k.calm sends (subst (λ (x : Node). All (LetterSays m c x) s.letters) sender k.effect.letters);
     }
 
@@ -281,7 +287,7 @@ elsewhere_step r w e s h other none who apart letters =
           let same : v.nodes i ≡ n = ap (λ j. v.nodes j) e ∙ ch.here in
           subst (IsApart r) (sym same) (apart (subst (λ (x : Node). has_departed x.status ≡ false) same here)))
           (λ f. apart_others r w v name i n ch h f gone here);
-      grow = grow_changed r w v name n ch (subst (λ (x : Node). LogGrows q.core.log x.core.log) (sym node) (grows_same q.core.log)) (λ here. absurd (cc));
+      grow = grow_changed r w v name n ch (subst (λ (x : Node). LogGrows q.core.log x.core.log) (sym node) (grows_same q.core.log)) (same_reports r w v q refl node) (λ here. absurd (cc));
       letters = letters;
     }
 

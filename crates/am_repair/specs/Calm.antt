@@ -37,8 +37,7 @@ pub record Leads (r : Repair) (m : Node) : Type 0 where
   pub high : r.high ≤ top m
   pub reached : r.at ≤ r.high
   pub fit : (k : ℕ) (e : Entry) → k ≤ r.high → entry_at m.core.log k ≡ Some e → fits (image_at m.core.log (k - 1)) e ≡ true
-  pub listed : (name : ℕ) → has r.members name ≡ true → has (members_at m.core.log r.high) name ≡ true
-  pub members_ : (name : ℕ) → has r.members name ≡ true → has (members m) name ≡ true
+  pub members_ : (name k : ℕ) → has r.members name ≡ true → r.high ≤ k → k ≤ top m → has (members_at m.core.log k) name ≡ true
   pub counted : (k : ℕ) → m.core.acc < k → k ≤ r.high → r.at ≤ k → All (λ name. has r.members name ≡ true) (names_of (counted_at m.core.log k))
 
 -- a member: its list has the view's View, and tells what the sequencer's tells up to there; and the sequencer trims and knows no more of it than
