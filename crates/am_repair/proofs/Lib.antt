@@ -11,6 +11,7 @@ pub mod Departed
 pub mod Going
 pub mod Steps
 pub mod Schedules
+pub mod Fine
 pub mod Ticks
 pub mod Members
 pub mod Sequencers

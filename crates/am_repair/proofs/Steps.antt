@@ -18,7 +18,7 @@ use Rattle.am_model.proofs.Greatest.{split}
 use Rattle.am_effects.specs.Causes.{Cause}
 use Rattle.am_effects.specs.Letters.{LetterSays}
 use Rattle.am_effects.specs.Effects.{Effect}
-use Rattle.am_effects.specs.Events.{actor}
+use Rattle.am_effects.specs.Events.{actor, IsCause}
 use Rattle.am_effects.proofs.Items.{all_get}
 use Rattle.am_laws.proofs.Named.{few_names}
 use Rattle.am_laws.proofs.Views.{heard_names}
@@ -27,6 +27,7 @@ use Rattle.am_repair.specs.Calm.{Repair, Leads, Follows, IsApart, IsCalm, Calm}
 use Rattle.am_repair.proofs.Nodes.{CalmCause, acting, leading, leads_not}
 use Rattle.am_repair.proofs.Leading.{Goes, told_taken}
 use Rattle.am_repair.proofs.Lists.{LogGrows, grows_same}
+use Rattle.am_repair.proofs.Following.{Skips}
 use Rattle.am_repair.proofs.Saying.{Grow, calm_stays, Sends, says_calm}
 use Rattle.am_repair.proofs.Going.{IsOurs, OurStep, Ours, idles, steps, ours, lead_changes, follow_changes, apart_changes, sender_is, member_there}
 
@@ -342,3 +343,40 @@ calm_ours rules r w e v laws h (steps s k) = calm_stepped r w e (actor w e) s h 
 
 pub calm_goes : (rules : Rules) (r : Repair) (w : World) (e : Event) → IsOurs r e → AllOwned rules w → Calm r w → Calm r (happens w e)
 calm_goes rules r w e is laws h = calm_ours rules r w e (happens w e) laws h (ours r w e is h)
+
+-- ---- what it makes more
+
+ours_grow_by : (rules : Rules) (r : Repair) (w : World) (e : Event) (v : World) → AllOwned rules w → Calm r w → Ours r w e v → Grow r w v
+unfolding unchanged
+ours_grow_by rules r w e v laws h (idles o) = same_grows r w v refl
+ours_grow_by rules r w e v laws h (steps s k) = (step_keeps rules r w e s laws h k).grow
+
+pub ours_grow : (rules : Rules) (r : Repair) (w : World) (e : Event) → IsOurs r e → AllOwned rules w → Calm r w → Grow r w (happens w e)
+ours_grow rules r w e is laws h = ours_grow_by rules r w e (happens w e) laws h (ours r w e is h)
+
+-- a member whose letter isn't the next entry stores nothing
+skip_step : (r : Repair) (w : World) (e : Event) (s : Step) (i : ℕ) → Calm r w → (k : OurStep r w e s) → has r.members i ≡ true → (i == r.by) ≡ false → Skips (top (w.nodes i)) k.cause
+    → top ((stepped w e (actor w e) s).nodes i) ≡ top (w.nodes i)
+skip_step r w e s i h k there other skips = split (i == actor w e)
+    (λ t.
+    let name = actor w e in
+    let m = w.nodes name in
+    let same = as_same i name t in
+    let here = subst (λ j. has r.members j ≡ true) same there in
+    let own : (m.core.who == r.by) ≡ false = ap (λ j. j == r.by) (h.who name ∙ sym same) ∙ other in
+    let f = h.follows name here (ap (λ j. j == r.by) (sym same) ∙ other) in
+    let g = follow_changes r w m m s.node h.own own k.calm k.effect.changes (record { who = refl; follows = f; stored = omega arith; taken = omega arith; acc = omega arith; skips = λ x. refl }) in
+    let stays = g.skips (subst (λ j. Skips (top (w.nodes j)) k.cause) same skips) in
+    let ch = one_changed w e name s in
+    ap (λ j. top ((stepped w e name s).nodes j)) same ∙ ap (λ (x : Node). top x) ch.here ∙ stays ∙ ap (λ j. top (w.nodes j)) (sym same))
+    (λ f. ap (λ (x : Node). top x) ((one_changed w e (actor w e) s).others i f))
+
+ours_skip_by : (r : Repair) (w : World) (e : Event) (v : World) (i : ℕ) → Calm r w → Ours r w e v → has r.members i ≡ true → (i == r.by) ≡ false → ((c : Cause) → IsCause w (actor w e) e.act c → Skips (top (w.nodes i)) c)
+    → top (v.nodes i) ≡ top (w.nodes i)
+unfolding unchanged
+ours_skip_by r w e v i h (idles o) there other skips = refl
+ours_skip_by r w e v i h (steps s k) there other skips = skip_step r w e s i h k there other (skips k.cause k.is)
+
+pub ours_skip : (r : Repair) (w : World) (e : Event) (i : ℕ) → IsOurs r e → Calm r w → has r.members i ≡ true → (i == r.by) ≡ false → ((c : Cause) → IsCause w (actor w e) e.act c → Skips (top (w.nodes i)) c)
+    → top ((happens w e).nodes i) ≡ top (w.nodes i)
+ours_skip r w e i is h there other skips = ours_skip_by r w e (happens w e) i h (ours r w e is h) there other skips
