@@ -42,6 +42,14 @@ fine_goes rules r w e is h = record { laws = each_owned rules w e (happens w e) 
 pub grow_goes : (rules : Rules) (r : Repair) (w : World) (e : Event) → IsOurs r e → Fine rules r w → Grow r w (happens w e)
 grow_goes rules r w e is h = ours_grow rules r w e is h.laws h.calm
 
+-- a member is one of the 256 names
+pub few_members : (rules : Rules) (r : Repair) (w : World) (i : ℕ) → Fine rules r w → has r.members i ≡ true → i < 256
+few_members rules r w i h there =
+    let at = h.calm.current_ i there in
+    let most = h.laws.blanks.views.named.most (place_of i) in
+    let least = h.laws.blanks.views.named.least (place_of i) in
+    omega arith
+
 -- ---- letters only go on
 
 pub letter_goes : (w : World) (e : Event) (k : ℕ) (l : Letter) → letter_at w.letters k ≡ Some l → letter_at (happens w e).letters k ≡ Some l

@@ -12,6 +12,7 @@ pub mod Going
 pub mod Steps
 pub mod Schedules
 pub mod Fine
+pub mod Ticking
 pub mod Ticks
 pub mod Members
 pub mod Sequencers

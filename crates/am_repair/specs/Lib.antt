@@ -1,3 +1,4 @@
 pub mod Rows
 pub mod Calm
 pub mod Standing
+pub mod Waves
