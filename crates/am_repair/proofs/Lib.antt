@@ -13,6 +13,7 @@ pub mod Steps
 pub mod Schedules
 pub mod Fine
 pub mod Ticking
+pub mod Skipping
 pub mod Ticks
 pub mod Members
 pub mod Sequencers

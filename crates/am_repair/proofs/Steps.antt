@@ -52,7 +52,7 @@ get_either [] ys k l h = inr (k, h)
 get_either (x ∷ xs) ys zero l h = inl h
 get_either (x ∷ xs) ys (suc k) l h = get_either xs ys k l h
 
-letter_either : (xs ys : List Letter) (number : ℕ) (l : Letter) → letter_at (xs ++ ys) number ≡ Some l → (letter_at xs number ≡ Some l) ⊎ ((j : ℕ) × (slice_get ys j ≡ Some l))
+pub letter_either : (xs ys : List Letter) (number : ℕ) (l : Letter) → letter_at (xs ++ ys) number ≡ Some l → (letter_at xs number ≡ Some l) ⊎ ((j : ℕ) × (slice_get ys j ≡ Some l))
 letter_either xs ys zero l h = absurd (cc)
 letter_either xs ys (suc before) l h = get_either xs ys before l h
 

@@ -33,7 +33,7 @@ member_status status.Asking h = absurd (cc)
 member_status status.Member h = refl
 member_status status.Departed h = absurd (cc)
 
-without_ballot : (m : Node) (o : Option Ballot) → is_unfinished o ≡ false → tick_with m o ≡ tick_acting m
+pub without_ballot : (m : Node) (o : Option Ballot) → is_unfinished o ≡ false → tick_with m o ≡ tick_acting m
 without_ballot m None h = refl
 without_ballot m (Some b) h = let over = not_false b.is_over h in rw over refl
 
@@ -71,7 +71,7 @@ emitted m (Some s) o leads =
 leads_row : (m : Node) → acts m ≡ true → ((view m).by == m.core.who) ≡ true → tick_acting m ≡ tick_sequencer m
 leads_row m acting own = rw (acting, own) refl
 
-goes_not : (m : Node) (p : Plan) → m.leaving ≡ false → going m p ≡ p
+pub goes_not : (m : Node) (p : Plan) → m.leaving ≡ false → going m p ≡ p
 goes_not m p stays = rw stays refl
 
 pub sequencers_poll : SequencersPoll
