@@ -14,6 +14,7 @@ pub mod Schedules
 pub mod Fine
 pub mod Ticking
 pub mod Skipping
+pub mod Memberships
 pub mod Ticks
 pub mod Members
 pub mod Sequencers
