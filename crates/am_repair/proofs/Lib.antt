@@ -15,6 +15,7 @@ pub mod Fine
 pub mod Ticking
 pub mod Skipping
 pub mod Memberships
+pub mod FirstWave
 pub mod Ticks
 pub mod Members
 pub mod Sequencers

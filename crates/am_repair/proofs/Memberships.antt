@@ -18,7 +18,7 @@ use Rattle.am_repair.proofs.Lists.{number_after, entry_within}
 
 -- ---- entries of a list
 
-get_some : (xs : List Entry) (i : ℕ) → i < length xs → (x : Entry) × (slice_get xs i ≡ Some x)
+pub get_some : {A : Type 0} (xs : List A) (i : ℕ) → i < length xs → (x : A) × (slice_get xs i ≡ Some x)
 get_some [] i low = absurd (omega arith)
 get_some (x ∷ xs) zero low = (x, refl)
 get_some (x ∷ xs) (suc i) low = get_some xs i (omega arith)
