@@ -47,7 +47,7 @@ use Rattle.am_repair.proofs.Skipping.{SkipsLetter, AllSkip, Waits}
 use Rattle.am_repair.proofs.Fine.{Fine, fine_goes, few_members, grow_goes, letter_goes, letters_more, IsThere, member_there, hear_is}
 use Rattle.am_repair.proofs.Ticking.{sent_goes, step_sends, node_is}
 
-both_true : (a b : Bool) → a ≡ true → b ≡ true → (a && b) ≡ true
+pub both_true : (a b : Bool) → a ≡ true → b ≡ true → (a && b) ≡ true
 both_true a b x y = rw (x, y) refl
 
 same_stamp_test : (a b : Stamp) → a ≡ b → stamp_eq a b ≡ true
@@ -97,7 +97,7 @@ stays_same w = record { letters = λ k l there. there; long = omega arith }
 pub stays_goes : (w u : World) (e : Event) → Stays w u → Stays w (happens u e)
 stays_goes w u e h = let a = h.long in let b = letters_more u e in record { letters = λ k l there. letter_goes u e k l (h.letters k l there); long = omega arith }
 
-letter_is : (w u : World) (k : ℕ) (l : Letter) → Stays w u → 0 < k → k ≤ length w.letters → letter_at u.letters k ≡ Some l → letter_at w.letters k ≡ Some l
+pub letter_is : (w u : World) (k : ℕ) (l : Letter) → Stays w u → 0 < k → k ≤ length w.letters → letter_at u.letters k ≡ Some l → letter_at w.letters k ≡ Some l
 letter_is w u zero l h low high there = absurd (omega arith)
 letter_is w u (suc before) l h low high there =
     let some = get_some w.letters before (omega arith) in
@@ -208,4 +208,105 @@ first_wave_asks rules r i after stored accepted w low x poll there other short =
       hits = λ u k. asked_hear rules r i (length w.letters) stored poll.sent.number poll.letter poll.base poll.acc poll.high u k.0 there other (let late = poll.sent.late in omega arith) k.2.long k.1 short
           (k.2.letters poll.sent.number poll.letter poll.sent.there) poll.sent.meant poll.is poll.far;
       stays = λ p n u late within k q. asked_goes r i (length w.letters) stored u (event_at p (act.Hear n)) q;
+    }
+
+-- ---- the sequencer hears a report
+
+pub report_calm : (r : Repair) (w : World) (p : Packet) (s : ℕ) (v : Stamp) (report : Report) → IsReport p s v report → IsCalm r w p → ReportIs r w s report
+report_calm r w p s v report (ack s_ v_ report_) h = h
+report_calm r w p s v report (nack s_ v_ report_) h = h
+report_calm r w p s v report (request s_ v_ report_ req body) h = h
+report_calm r w p s v report (spread s_ v_ report_ req body) h = h
+
+-- a report of a member fits the sequencer's list
+pub report_fits_list : (r : Repair) (u : World) (i : ℕ) (report : Report) → Calm r u → has r.members i ≡ true → (i == r.by) ≡ false → ReportIs r u i report → report.taken ≤ report.stored → report_fits (u.nodes r.by) report ≡ true
+report_fits_list r u i report h there other is fits =
+    let stored = is.stored there in
+    let within = (h.follows i there other).within in
+    let a : nat_le report.taken report.stored ≡ true = grind (arith, nat_tests) in
+    let b : nat_le report.stored (top (u.nodes r.by)) ≡ true = grind (arith, nat_tests) in
+    both_true _ _ a b
+
+report_hear : (rules : Rules) (r : Repair) (i k high : ℕ) (l : Letter) (report : Report) (u : World) → Fine rules r u → has r.members i ≡ true → (i == r.by) ≡ false → r.sent < k
+    → letter_at u.letters k ≡ Some l → is_for l r.by ≡ true → IsReport l.packet i r.view report → report.taken ≤ report.stored → high ≤ report.stored
+    → high ≤ (((happens u (event_at (place_of r.by) (act.Hear k))).nodes r.by).reports i).stored
+report_hear rules r i k high l report u h there other late letter meant is_ fits much =
+    let e = event_at (place_of r.by) (act.Hear k) in
+    let q = u.nodes r.by in
+    let s = hear q l.packet in
+    let is = hear_is u r.by k l (member_there rules r u r.by h h.calm.listed) letter meant in
+    let node = node_is u e r.by s is in
+    let heard = hears_members r q i h.calm.leads (h.calm.who r.by) other in
+    let used = told_used q (h.laws.each r.by (few_members rules r u r.by h h.calm.listed)).fronts in
+    let known = is_known q i used (is_member_now r q i h.calm.leads there) in
+    let calm = report_calm r u l.packet i r.view report is_ (h.calm.letters k l late letter) in
+    let kept = reports_are_taken q l.packet i r.view report is_ heard known (report_fits_list r u i report h.calm there other calm fits) in
+    let same = ap (λ (x : Node). (x.reports i).stored) node in
+    omega arith
+
+-- the sequencer knows that a member has stored so much
+pub record Knows (rules : Rules) (r : Repair) (i : ℕ) (u : World) : Type 0 where
+  pub fine : Fine rules r u
+  pub known : r.high ≤ ((u.nodes r.by).reports i).stored
+
+pub first_wave_reports : (rules : Rules) (r : Repair) (i after : ℕ) (w : World) → r.sent ≤ after → Fine rules r w → Reported r i after r.high w → has r.members i ≡ true → (i == r.by) ≡ false → Knows rules r i (happen w (hearings w after))
+first_wave_reports rules r i after w low h x there other =
+    let z = wave_hits P Q w after x.sent.number (place_of r.by) (heard_there rules r w after r.by x.letter h h.calm.listed x.sent) hits (h, stays_same w) in
+    record { fine = z.0.0; known = z.1 }
+  where
+    P : World → Type 0
+    P u = Fine rules r u × Stays w u
+
+    Q : World → Type 0
+    Q u = r.high ≤ ((u.nodes r.by).reports i).stored
+
+    hits : WaveHits P Q after (length w.letters) x.sent.number (place_of r.by)
+    hits = record {
+      keeps = λ p n u late within k. (fine_goes rules r u (event_at p (act.Hear n)) (hears_ p n (omega arith)) k.0, stays_goes w u (event_at p (act.Hear n)) k.1);
+      hits = λ u k. report_hear rules r i x.sent.number r.high x.letter x.report u k.0 there other (let late = x.sent.late in omega arith) (k.1.letters x.sent.number x.letter x.sent.there) x.sent.meant x.is x.fits x.much;
+      stays = λ p n u late within k q. (let kept = (grow_goes rules r u (event_at p (act.Hear n)) (hears_ p n (omega arith)) k.0).kept i there in omega arith);
+    }
+
+-- ---- a member accepts
+
+front_hear : (rules : Rules) (r : Repair) (i k : ℕ) (l : Letter) (base acc high : ℕ) (u : World) → Fine rules r u → has r.members i ≡ true → (i == r.by) ≡ false
+    → letter_at u.letters k ≡ Some l → is_for l i ≡ true → l.packet ≡ Accept r.by r.view base acc high true → r.high ≤ acc → r.high ≤ top (u.nodes i)
+    → r.high ≤ ((happens u (event_at (place_of i) (act.Hear k))).nodes i).core.acc
+front_hear rules r i k l base acc high u h there other letter meant is_ far stored =
+    let e = event_at (place_of i) (act.Hear k) in
+    let m = u.nodes i in
+    let s = hear m l.packet in
+    let is = hear_is u i k l (member_there rules r u i h there) letter meant in
+    let node = node_is u e i s is in
+    let heard = hears_own r (u.nodes r.by) m i h.calm.own (h.calm.follows i there other) (h.calm.who i) other in
+    let hears_ = subst (λ p. HearsFront m acc (hear m p).node) (sym is_) (fronts_are_heard m r.by r.view base acc high true heard) in
+    let accepted = hears_.accepted in
+    let same = ap (λ (x : Node). x.core.acc) node in
+    omega arith
+
+-- a member has accepted so much
+pub record Accepts (rules : Rules) (r : Repair) (i : ℕ) (u : World) : Type 0 where
+  pub fine : Fine rules r u
+  pub accepted : r.high ≤ (u.nodes i).core.acc
+
+pub first_wave_accepts : (rules : Rules) (r : Repair) (i after : ℕ) (w : World) → r.sent ≤ after → Fine rules r w → Polled r i after r.high w → has r.members i ≡ true → (i == r.by) ≡ false → r.high ≤ top (w.nodes i)
+    → Accepts rules r i (happen w (hearings w after))
+first_wave_accepts rules r i after w low h poll there other stored =
+    let z = wave_hits P Q w after poll.sent.number (place_of i) (heard_there rules r w after i poll.letter h there poll.sent) hits (h, stored, stays_same w) in
+    record { fine = z.0.0; accepted = z.1 }
+  where
+    P : World → Type 0
+    P u = Fine rules r u × (r.high ≤ top (u.nodes i)) × Stays w u
+
+    Q : World → Type 0
+    Q u = r.high ≤ (u.nodes i).core.acc
+
+    hits : WaveHits P Q after (length w.letters) poll.sent.number (place_of i)
+    hits = record {
+      keeps = λ p n u late within k.
+          (let grow = (grow_goes rules r u (event_at p (act.Hear n)) (hears_ p n (omega arith)) k.0).stored i there in
+          let far = k.1 in
+          (fine_goes rules r u (event_at p (act.Hear n)) (hears_ p n (omega arith)) k.0, omega arith, stays_goes w u (event_at p (act.Hear n)) k.2));
+      hits = λ u k. front_hear rules r i poll.sent.number poll.letter poll.base poll.acc poll.high u k.0 there other (k.2.letters poll.sent.number poll.letter poll.sent.there) poll.sent.meant poll.is poll.told k.1;
+      stays = λ p n u late within k q. (let grow = (grow_goes rules r u (event_at p (act.Hear n)) (hears_ p n (omega arith)) k.0).acc i there in omega arith);
     }

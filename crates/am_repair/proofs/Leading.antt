@@ -56,7 +56,7 @@ pub record Goes (r : Repair) (taken : ℕ → ℕ) (q m : Node) : Type 0 where
 
 -- ---- the same list
 
-leads_as : (r : Repair) (m n : Node) → Alike m n → Leads r m → Leads r n
+pub leads_as : (r : Repair) (m n : Node) → Alike m n → Leads r m → Leads r n
 leads_as r m n a h =
     let same = ap (λ (l : Log). top_of l) a.log in
     let high = h.high in
@@ -135,7 +135,7 @@ trusts_lead r taken m own h f t = record {
     not_own : (name : ℕ) → (name == r.by) ≡ false → (name == m.core.who) ≡ false
     not_own name other = ap (λ k. name == k) own ∙ other
 
-trusts_refresh : (r : Repair) (taken : ℕ → ℕ) (m : Node) → m.core.who ≡ r.by → Leads r m → Fronts m → Trusts r taken m → Trusts r taken (refresh m)
+pub trusts_refresh : (r : Repair) (taken : ℕ → ℕ) (m : Node) → m.core.who ≡ r.by → Leads r m → Fronts m → Trusts r taken m → Trusts r taken (refresh m)
 unfolding refresh
 trusts_refresh r taken m own h f t = rw h.leads (trusts_lead r taken m own h f t)
 
@@ -152,7 +152,7 @@ told_taken r w c s v report (by_ack s_ v_ report_) h = h
 told_taken r w c s v report (by_nack s_ v_ report_) h = h
 told_taken r w c s v report (by_leave_ask s_ v_ report_) h = absurd h
 
-trusts_report : (r : Repair) (taken : ℕ → ℕ) (m : Node) (s : ℕ) (report : Report) → (has r.members s ≡ true → report.taken ≤ taken s) → Trusts r taken m → Trusts r taken (with_report m s report)
+pub trusts_report : (r : Repair) (taken : ℕ → ℕ) (m : Node) (s : ℕ) (report : Report) → (has r.members s ≡ true → report.taken ≤ taken s) → Trusts r taken m → Trusts r taken (with_report m s report)
 trusts_report r taken m s report low t = record {
   base = t.base;
   reported = λ name there other. split (name == s)

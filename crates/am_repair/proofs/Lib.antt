@@ -16,6 +16,7 @@ pub mod Ticking
 pub mod Skipping
 pub mod Memberships
 pub mod FirstWave
+pub mod NextWaves
 pub mod Ticks
 pub mod Members
 pub mod Sequencers

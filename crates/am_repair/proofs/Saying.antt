@@ -73,7 +73,7 @@ pub record Sends (r : Repair) (v : World) (m n : Node) : Type 0 where
   pub promise : is_sequencer n ≡ true → n.core.promise ≡ r.view
   pub base : is_sequencer n ≡ true → n.core.log.start ≤ m.core.base
 
-entry_of : (log : Log) (index number : ℕ) (e : Entry) → slice_get log.entries index ≡ Some e → number ≡ log.start + index + 1 → entry_at log number ≡ Some e
+pub entry_of : (log : Log) (index number : ℕ) (e : Entry) → slice_get log.entries index ≡ Some e → number ≡ log.start + index + 1 → entry_at log number ≡ Some e
 entry_of log index number e there is =
     let before = log.start + index in
     let at : number ≡ suc before = omega arith in

@@ -25,8 +25,9 @@ use Rattle.am_laws.proofs.Views.{heard_names}
 use Rattle.am_laws.proofs.TakenRuns.{Along, AllOwned, heard_used, each_along}
 use Rattle.am_repair.specs.Calm.{Repair, Leads, Follows, IsApart, IsCalm, Calm}
 use Rattle.am_repair.proofs.Nodes.{CalmCause, acting, leading, leads_not}
-use Rattle.am_repair.proofs.Leading.{Goes, told_taken}
+use Rattle.am_repair.proofs.Leading.{Goes, told_taken, Trusts}
 use Rattle.am_repair.proofs.Lists.{LogGrows, grows_same}
+use Rattle.am_repair.proofs.Leading.{TellsTaken}
 use Rattle.am_repair.proofs.Following.{Skips}
 use Rattle.am_repair.proofs.Saying.{Grow, calm_stays, Sends, says_calm}
 use Rattle.am_repair.proofs.Going.{IsOurs, OurStep, Ours, idles, steps, ours, lead_changes, follow_changes, apart_changes, sender_is, member_there}
@@ -380,3 +381,37 @@ ours_skip_by r w e v i h (steps s k) there other skips = skip_step r w e s i h k
 pub ours_skip : (r : Repair) (w : World) (e : Event) (i : ℕ) → IsOurs r e → Calm r w → has r.members i ≡ true → (i == r.by) ≡ false → ((c : Cause) → IsCause w (actor w e) e.act c → Skips (top (w.nodes i)) c)
     → top ((happens w e).nodes i) ≡ top (w.nodes i)
 ours_skip r w e i is h there other skips = ours_skip_by r w e (happens w e) i h (ours r w e is h) there other skips
+
+-- the sequencer goes on to trust what was taken at some time
+trust_step : (rules : Rules) (r : Repair) (taken : ℕ → ℕ) (w : World) (e : Event) (s : Step) → AllOwned rules w → Calm r w → (k : OurStep r w e s) → TellsTaken r taken k.cause → Trusts r taken (w.nodes r.by)
+    → Trusts r taken ((stepped w e (actor w e) s).nodes r.by)
+trust_step rules r taken w e s laws h k tells t = split (actor w e == r.by)
+    (λ same_.
+    let name = actor w e in
+    let same = as_same name r.by same_ in
+    let q = w.nodes r.by in
+    let c = k.cause in
+    let effect = subst (λ i. Effect (w.nodes i) c s) same k.effect in
+    let along = subst (λ i. Along rules (w.nodes i)) same (each_along rules w name (few_names rules w e laws.blanks.views.named) laws) in
+    let g = lead_changes rules r taken w q q s.node h.own k.calm tells (heard_names rules w e c laws.blanks.views k.is) (heard_used rules w e c laws k.is) effect.changes along (record {
+      own = h.who r.by;
+      leads = h.leads;
+      trusts = t;
+      grows = grows_same q.core.log;
+      up = omega arith;
+      acc = omega arith;
+      kept = λ i there. omega arith;
+    }) in
+    let node : (stepped w e name s).nodes r.by ≡ s.node = ap (λ i. (stepped w e name s).nodes i) (sym same) ∙ (one_changed w e name s).here in
+    subst (Trusts r taken) (sym node) g.trusts)
+    (λ f. subst (Trusts r taken) (sym ((one_changed w e (actor w e) s).others r.by (is_other (actor w e) r.by f))) t)
+
+ours_trust_by : (rules : Rules) (r : Repair) (taken : ℕ → ℕ) (w : World) (e : Event) (v : World) → AllOwned rules w → Calm r w → Ours r w e v → ((c : Cause) → IsCause w (actor w e) e.act c → TellsTaken r taken c)
+    → Trusts r taken (w.nodes r.by) → Trusts r taken (v.nodes r.by)
+unfolding unchanged
+ours_trust_by rules r taken w e v laws h (idles o) tells t = t
+ours_trust_by rules r taken w e v laws h (steps s k) tells t = trust_step rules r taken w e s laws h k (tells k.cause k.is) t
+
+pub ours_trust : (rules : Rules) (r : Repair) (taken : ℕ → ℕ) (w : World) (e : Event) → IsOurs r e → AllOwned rules w → Calm r w → ((c : Cause) → IsCause w (actor w e) e.act c → TellsTaken r taken c)
+    → Trusts r taken (w.nodes r.by) → Trusts r taken ((happens w e).nodes r.by)
+ours_trust rules r taken w e is laws h tells t = ours_trust_by rules r taken w e (happens w e) laws h (ours r w e is h) tells t
