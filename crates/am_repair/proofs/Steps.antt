@@ -150,7 +150,7 @@ apart_others r w v name other n ch h f none there =
 differs : (set : List ℕ) (a b : ℕ) → has set a ≡ true → has set b ≡ false → (b == a) ≡ false
 differs set a b t f = split (b == a) (λ same. absurd (let k = ap (has set) (as_same b a same) in cc)) (λ g. g)
 
-goes_first : (r : Repair) (w : World) → Calm r w → Goes r (λ name. (w.nodes name).core.taken) (w.nodes r.by) (w.nodes r.by)
+pub goes_first : (r : Repair) (w : World) → Calm r w → Goes r (λ name. (w.nodes name).core.taken) (w.nodes r.by) (w.nodes r.by)
 goes_first r w h =
     let q = w.nodes r.by in
     record {
