@@ -17,6 +17,7 @@ pub mod Skipping
 pub mod Memberships
 pub mod FirstWave
 pub mod NextWaves
+pub mod ThirdWave
 pub mod Ticks
 pub mod Members
 pub mod Sequencers

@@ -90,7 +90,7 @@ report_trims rules r taken q i report l who f t there other low =
 
 -- ---- entries on their way
 
-served_entry_goes : (rules : Rules) (r : Repair) (i letter number : ℕ) (u : World) (e : Event) → IsOurs r e → Fine rules r u → has r.members i ≡ true → IsServed rules r i letter number u → IsServed rules r i letter number (happens u e)
+pub served_entry_goes : (rules : Rules) (r : Repair) (i letter number : ℕ) (u : World) (e : Event) → IsOurs r e → Fine rules r u → has r.members i ≡ true → IsServed rules r i letter number u → IsServed rules r i letter number (happens u e)
 served_entry_goes rules r i letter number u e ours h there s =
     let grow = grow_goes rules r u e ours h in
     let low = s.taken in

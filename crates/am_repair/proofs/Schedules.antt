@@ -68,7 +68,7 @@ pub is_running : (w : World) (place : ℕ) → place < 16 → is_stopped w (curr
 unfolding running
 is_running w place low runs = any_filter (λ p. not (is_stopped w (current w p))) place (range_with_len 0 16) (ap not runs) (any_range place 0 16 (omega arith) (omega arith))
 
-is_hearing : (w : World) (l : Letter) (place : ℕ) → place < 16 → is_stopped w (current w place) ≡ false → is_for l (current w place) ≡ true → IsAmong place (filter (λ p. is_for l (current w p)) (running w))
+pub is_hearing : (w : World) (l : Letter) (place : ℕ) → place < 16 → is_stopped w (current w place) ≡ false → is_for l (current w place) ≡ true → IsAmong place (filter (λ p. is_for l (current w p)) (running w))
 is_hearing w l place low runs meant = any_filter (λ p. is_for l (current w p)) place (running w) meant (is_running w place low runs)
 
 -- ---- a wave
