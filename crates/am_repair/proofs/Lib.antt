@@ -18,6 +18,7 @@ pub mod Memberships
 pub mod FirstWave
 pub mod NextWaves
 pub mod ThirdWave
+pub mod Rounds
 pub mod Ticks
 pub mod Members
 pub mod Sequencers

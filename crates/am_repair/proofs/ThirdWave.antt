@@ -134,6 +134,9 @@ way_on rules r i after stored first many n l w u low late letter there other fin
         let have = z.1 in
         record { fine = z.0.fine; stays = z.0.stays; each = z.0.each; have = omega arith }
 
+served_within : (rules : Rules) (r : Repair) (i k number : ℕ) (w : World) → IsServed rules r i k number w → k ≤ length w.letters
+served_within rules r i k number w s = letter_within w.letters k (letter_to (only_name i) (Bcast r.by r.view s.base s.acc number s.entry)) s.there
+
 -- a member has so much
 pub record HasStored (rules : Rules) (r : Repair) (i stored : ℕ) (u : World) : Type 0 where
   pub fine : Fine rules r u
@@ -150,7 +153,7 @@ third_wave_stores rules r i after stored w low long h x have there other =
     record {
       fine = z.fine;
       stored_ = elim (cases_lt 0 x.many) [
-        | inl some ↦ (let last = letter_within w.letters (x.first + 1 + (x.many - 1)) _ (x.each (x.many - 1) (omega arith)).there in omega arith)
+        | inl some ↦ (let last = served_within rules r i (x.first + 1 + (x.many - 1)) (stored + 1 + (x.many - 1)) w (x.each (x.many - 1) (omega arith)) in omega arith)
         | inr none ↦ omega arith
       ];
     }
