@@ -19,6 +19,8 @@ pub mod FirstWave
 pub mod NextWaves
 pub mod ThirdWave
 pub mod Rounds
+pub mod Accepting
+pub mod Repaired
 pub mod Ticks
 pub mod Members
 pub mod Sequencers

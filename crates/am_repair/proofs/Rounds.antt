@@ -56,10 +56,10 @@ round_is s = refl
 pub record Stable (r : Repair) (P : World → Type 0) : Type 0 where
   pub keeps : (w : World) (e : Event) → IsOurs r e → P w → P (happens w e)
 
-ticks_keep : (r : Repair) (P : World → Type 0) → Stable r P → (w : World) → P w → P (after_ticks w)
+pub ticks_keep : (r : Repair) (P : World → Type 0) → Stable r P → (w : World) → P w → P (after_ticks w)
 ticks_keep r P s w h = acts_keep P act.Tick (λ p u k. s.keeps u (event_at p act.Tick) (our_ticks p) k) (running w) w h
 
-wave_keep : (r : Repair) (P : World → Type 0) → Stable r P → (after : ℕ) → r.sent ≤ after → (w : World) → P w → P (after_wave after w)
+pub wave_keep : (r : Repair) (P : World → Type 0) → Stable r P → (after : ℕ) → r.sent ≤ after → (w : World) → P w → P (after_wave after w)
 wave_keep r P s after low w h = wave_keeps P w after (λ p k u late x. s.keeps u (event_at p (act.Hear k)) (hears_ p k (omega arith)) x) h
 
 long_ticks : (w : World) → length w.letters ≤ length (after_ticks w).letters
@@ -98,7 +98,7 @@ round_keeps r P s w low h = later_waves r P s w low (wave_keep r P s (length w.l
 
 -- ---- a member has stored more
 
-stored_stable : (rules : Rules) (r : Repair) (i stored : ℕ) → has r.members i ≡ true → Stable r (HasStored rules r i stored)
+pub stored_stable : (rules : Rules) (r : Repair) (i stored : ℕ) → has r.members i ≡ true → Stable r (HasStored rules r i stored)
 stored_stable rules r i stored there = record {
   keeps = λ w e is h.
       (let grow = (grow_goes rules r w e is h.fine).stored i there in

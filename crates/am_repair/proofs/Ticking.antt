@@ -93,7 +93,7 @@ polled_tick rules r i after accepted w h there other low told_ =
       told = omega arith;
     }
 
-runs_there : (w : World) (name : ℕ) → IsThere w name → IsAmong (place_of name) (running w)
+pub runs_there : (w : World) (name : ℕ) → IsThere w name → IsAmong (place_of name) (running w)
 runs_there w name at = is_running w (place_of name) (omega arith) (ap (is_stopped w) at.current_ ∙ at.runs)
 
 -- what is so of each world of a schedule, and what of it bounds what the sequencer accepts

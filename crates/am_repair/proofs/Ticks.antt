@@ -37,7 +37,7 @@ pub without_ballot : (m : Node) (o : Option Ballot) → is_unfinished o ≡ fals
 without_ballot m None h = refl
 without_ballot m (Some b) h = let over = not_false b.is_over h in rw over refl
 
-acting_row : (m : Node) → acts m ≡ true → IsAtRest m → tick_row m ≡ tick_acting m
+pub acting_row : (m : Node) → acts m ≡ true → IsAtRest m → tick_row m ≡ tick_acting m
 unfolding tick_row
 acting_row m a r =
     let member = member_status m.status (and_both (is_member m.status) _ a).0 in
@@ -53,22 +53,22 @@ polls_done m p stays polls leads =
     record { there = rw (stays, polls, lead) (λ some. with_there (others n) (accept_of n true) (p.letters n) some) }
 
 -- what it sends of its own leaves it a sequencer
-record Emitted (p : Plan) : Type 0 where
-  stays : p.departs ≡ false
-  leads : is_sequencer p.node ≡ true
+pub record Emitted (p : Plan) : Type 0 where
+  pub stays : p.departs ≡ false
+  pub leads : is_sequencer p.node ≡ true
 
 emitted_if : (b : Bool) (p q : Plan) → (b ≡ true → Emitted p) → (b ≡ false → Emitted q) → Emitted (if b then p else q)
 emitted_if true p q f g = f refl
 emitted_if false p q f g = g refl
 
-emitted : (m : Node) (w : Option OwnSend) (o : Outcome) → is_sequencer m ≡ true → Emitted (emit m w o)
+pub emitted : (m : Node) (w : Option OwnSend) (o : Outcome) → is_sequencer m ≡ true → Emitted (emit m w o)
 emitted m None o leads = record { stays = refl; leads = leads }
 emitted m (Some s) o leads =
     emitted_if (not (would_emit m (Some s))) _ _ (λ t. record { stays = refl; leads = leads })
     (λ f. emitted_if (not (is_sequencer m)) _ _ (λ t. absurd (let u = rw leads at t in cc))
     (λ g. emitted_if (has_room m) _ _ (λ t. record { stays = refl; leads = leads_pushed m (Data m.core.who s.req s.body) refl ∙ leads }) (λ k. record { stays = refl; leads = leads })))
 
-leads_row : (m : Node) → acts m ≡ true → ((view m).by == m.core.who) ≡ true → tick_acting m ≡ tick_sequencer m
+pub leads_row : (m : Node) → acts m ≡ true → ((view m).by == m.core.who) ≡ true → tick_acting m ≡ tick_sequencer m
 leads_row m acting own = rw (acting, own) refl
 
 pub goes_not : (m : Node) (p : Plan) → m.leaving ≡ false → going m p ≡ p
