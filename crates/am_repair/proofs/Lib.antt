@@ -21,6 +21,7 @@ pub mod ThirdWave
 pub mod Rounds
 pub mod Accepting
 pub mod Repaired
+pub mod OldLives
 pub mod Ticks
 pub mod Members
 pub mod Sequencers

@@ -1,13 +1,20 @@
 -- What the way to the claim takes from the argument why a group has one list, where a schedule begins.
-use Rattle.std.specs.Prelude.{◌≡◌, ℕ, ◌<◌, ◌≤◌, Some, true}
-use Rattle.am_base.specs.declared.entry.Entry.TheVariants.{Leave}
-use Rattle.am_base.specs.Names.{has}
-use Rattle.am_base.specs.Lists.{image_at, entry_at}
+use Rattle.std.specs.Prelude.{◌≡◌, ℕ, List, ◌-◌, ◌<◌, ◌≤◌, Some, true, All}
+use Rattle.am_base.specs.declared.entry.Entry.{Entry}
+use Rattle.am_base.specs.Founding.{Rules, MayFound}
+use Rattle.am_base.specs.Names.{has, names_of}
+use Rattle.am_base.specs.Lists.{image_at, entry_at, fits}
+use Rattle.am_base.specs.Fronts.{counted_at}
+use Rattle.am_group.specs.declared.event.Event.{Event}
 use Rattle.am_model.specs.Node.{Node, top, told, members, is_member}
-use Rattle.am_model.specs.World.{World}
+use Rattle.am_model.specs.Settle.{settle_events}
+use Rattle.am_model.specs.World.{World, current, happen, run}
+use Rattle.am_model.specs.Claims.{MayRepair, HasCaughtUp}
 
--- a member's list tells what the sequencer's tells up to there, and the sequencer trims and knows no more of it than it has taken
+-- a member's list has the sequencer's last View, and tells what the sequencer's tells up to there; and the sequencer trims and knows no more
+-- of it than it has taken
 pub record Agrees (q m : Node) : Type 0 where
+  pub reached : (told q).view_number ≤ top m
   pub low : q.core.log.start ≤ top m
   pub within : top m ≤ top q
   pub told_ : told m ≡ image_at q.core.log (top m)
@@ -19,5 +26,18 @@ pub record Agree (w : World) (q : Node) : Type 0 where
   pub each : (name : ℕ) → has (members q) name ≡ true → Agrees q (w.nodes name)
   -- nobody else is a Member
   pub alone : (name : ℕ) → is_member (w.nodes name).status ≡ true → has (members q) name ≡ true
-  -- who has left in this view is accepted to have left
-  pub left : (number name : ℕ) → (told q).view_number < number → entry_at q.core.log number ≡ Some (Leave name) → number ≤ q.core.acc
+  -- its entries fit
+  pub fit : (number : ℕ) (e : Entry) → entry_at q.core.log number ≡ Some e → fits (image_at q.core.log (number - 1)) e ≡ true
+  -- from the last View on, whose storage counts for what isn't accepted yet is a member still
+  pub counted : (number : ℕ) → q.core.acc < number → number ≤ top q → (told q).view_number ≤ number → All (λ name. has (members q) name ≡ true) (names_of (counted_at q.core.log number))
+
+-- where lists agree so, a lossless schedule brings each member to where the sequencer stood
+abbrev pub RepairsWhereListsAgree : Type 0
+RepairsWhereListsAgree = (rules : Rules) (events : List Event) (place : ℕ) → MayFound rules → place < 16 → MayRepair (run rules events) place
+    → Agree (run rules events) ((run rules events).nodes (current (run rules events) place))
+    → (name : ℕ) → has (members ((run rules events).nodes (current (run rules events) place))) name ≡ true
+    → HasCaughtUp ((happen (run rules events) (settle_events rules (run rules events))).nodes name) (top ((run rules events).nodes (current (run rules events) place)))
+
+-- and so do all lists of a run: this isn't proved yet
+abbrev pub ListsAgree : Type 0
+ListsAgree = (rules : Rules) (events : List Event) (place : ℕ) → MayFound rules → place < 16 → MayRepair (run rules events) place → Agree (run rules events) ((run rules events).nodes (current (run rules events) place))
