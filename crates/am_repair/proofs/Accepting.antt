@@ -1,9 +1,8 @@
 -- The last two rounds: the sequencer accepts what all have reported, and all learn of it.
-use Rattle.std.proofs.Common.{◌≡◌, ◌≢◌, ◌⊎◌, inl, inr, ℕ, zero, suc, ◌+◌, ◌-◌, ◌<◌, ◌≤◌, ◌==◌, not, min, Bool, true, false, if◌then◌else◌, List, [], ◌∷◌, ◌++◌, length, Option, Some, None, refl, sym, ap, ◌∙◌, subst, arith, length-append}
+use Rattle.std.proofs.Common.{◌≡◌, inl, inr, ℕ, ◌+◌, ◌≤◌, ◌==◌, not, true, false, List, length, Option, Some, None, refl, sym, ap, ◌∙◌, subst, arith, length-append}
 use Rattle.std.specs.Prelude.{All}
 use Rattle.std.proofs.lemmas.Bool.Decides.{nat_tests}
 use Rattle.std.proofs.lemmas.List.Elements.{All-weaker}
-use Rattle.am_base.specs.declared.entry.Entry.{Entry}
 use Rattle.am_base.specs.declared.entry.Entry.TheVariants.{Data}
 use Rattle.am_base.specs.declared.image.Image.{Image}
 use Rattle.am_base.specs.declared.event.NodeEvent.TheVariants as does
@@ -12,30 +11,29 @@ use Rattle.am_base.specs.Founding.{Rules}
 use Rattle.am_base.specs.Names.{place_of, has, names_of}
 use Rattle.am_base.specs.Fronts.{counted_at}
 use Rattle.am_group.specs.declared.event.Act.TheVariants as act
-use Rattle.am_group.specs.declared.event.Event.{Event}
 use Rattle.am_sender.specs.declared.OwnSend.{OwnSend}
 use Rattle.am_model.specs.Node.{Node, top, told, view, acts, is_sequencer, has_room, waiting, pushed}
 use Rattle.am_model.specs.Emit.{Plan, finish}
 use Rattle.am_model.specs.Step.{step, row}
-use Rattle.am_model.specs.Calls.{would_emit, hand_in, emit}
+use Rattle.am_model.specs.Calls.{would_emit, emit}
 use Rattle.am_model.specs.Ticks.{tick_row, and_result, put_off}
 use Rattle.am_model.specs.Settle.{event_at, running}
-use Rattle.am_model.specs.World.{World, happens}
+use Rattle.am_model.specs.World.{World}
 use Rattle.am_model.proofs.Greatest.{split, and_both}
 use Rattle.am_effects.proofs.Calls.{node_if}
 use Rattle.am_effects.proofs.Says.{told_pushed}
 use Rattle.am_repair.specs.Rows.{IsAtRest, HasReported, HasReports}
-use Rattle.am_repair.specs.Calm.{Repair, Leads, Calm}
+use Rattle.am_repair.specs.Calm.{Repair, Leads}
 use Rattle.am_repair.proofs.Ends.{fronts_rise}
 use Rattle.am_repair.proofs.Lists.{grows_push, counted_stays, number_after}
-use Rattle.am_repair.proofs.Ticks.{Emitted, emitted, acting_row, leads_row, goes_not}
-use Rattle.am_repair.proofs.Going.{IsOurs, ticks as our_ticks}
+use Rattle.am_repair.proofs.Ticks.{emitted, acting_row, leads_row, goes_not}
+use Rattle.am_repair.proofs.Going.{ticks as our_ticks}
 use Rattle.am_repair.proofs.Schedules.{Hits, acts_hit}
 use Rattle.am_repair.proofs.Fine.{Fine, fine_goes, grow_goes, member_there, tick_is}
 use Rattle.am_repair.proofs.Ticking.{runs_there, Bounds, node_is, ticks_poll, ticks_report}
 use Rattle.am_repair.proofs.FirstWave.{Knows, first_wave_reports, Accepts, first_wave_accepts}
 use Rattle.am_repair.proofs.ThirdWave.{HasStored}
-use Rattle.am_repair.proofs.Rounds.{wave_keep, after_ticks, after_wave, after_waves, Stable, stored_stable, later_waves, round_keeps, ticks_keep}
+use Rattle.am_repair.proofs.Rounds.{wave_keep, after_ticks, after_waves, Stable, stored_stable, later_waves, ticks_keep}
 
 -- ---- the sequencer's tick
 
@@ -91,7 +89,6 @@ leads_reports r q l who known =
     }
 
 pub known_bound : (rules : Rules) (r : Repair) → Bounds rules r (AllKnown r) r.high
-
 known_bound rules r = record {
   keeps = λ w e is h x i there other. (let a = (grow_goes rules r w e is h).kept i there in let b = x i there other in omega arith);
   gives = λ w h x.

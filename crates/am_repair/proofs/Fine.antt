@@ -1,36 +1,28 @@
 -- Worlds along a schedule: laws of every run, and calm. What an event of the schedule does there.
-use Rattle.std.proofs.Common.{◌≡◌, ◌≢◌, ℕ, zero, suc, ◌+◌, ◌-◌, ◌<◌, ◌≤◌, ◌==◌, ◌%◌, not, Bool, true, false, if◌then◌else◌, List, [], ◌∷◌, ◌++◌, length, Option, Some, None, slice_get, slice_index_or, refl, sym, ap, ◌∙◌, subst, arith, length-append}
+use Rattle.std.proofs.Common.{◌≡◌, ℕ, zero, suc, ◌+◌, ◌<◌, ◌≤◌, ◌==◌, true, false, List, [], ◌∷◌, ◌++◌, length, Some, slice_get, refl, ap, ◌∙◌, arith, length-append}
 use Rattle.std.specs.Prelude.{Contains}
 use Rattle.std.proofs.lemmas.Bool.Decides.{nat_tests}
 use Rattle.std.proofs.lemmas.Option.{slice_get-get_or}
 use Rattle.am_base.specs.declared.event.NodeEvent.TheVariants as does
-use Rattle.am_base.specs.declared.outcome.Outcome.{Outcome}
 use Rattle.am_base.specs.Founding.{Rules}
 use Rattle.am_base.specs.Names.{place_of, has}
-use Rattle.am_packet.specs.declared.packet.Packet.{Packet}
 use Rattle.am_packet.specs.Boxes.{Letter}
-use Rattle.am_group.specs.declared.event.Act.{Act}
 use Rattle.am_group.specs.declared.event.Act.TheVariants as act
 use Rattle.am_group.specs.declared.event.Event.{Event}
 use Rattle.am_group.specs.Addressed.{is_for}
 use Rattle.am_group.specs.Journals.{letter_at}
-use Rattle.am_model.specs.Node.{Node, top}
 use Rattle.am_model.specs.Emit.{Step}
 use Rattle.am_model.specs.Step.{step, hear}
 use Rattle.am_model.specs.Settle.{event_at}
-use Rattle.am_model.specs.World.{World, current, is_stopped, unchanged, stepped, does_event, heard, happens}
-use Rattle.am_model.proofs.Greatest.{split}
+use Rattle.am_model.specs.World.{World, current, is_stopped, stepped, does_event, heard, happens}
 use Rattle.am_model.proofs.Beginnings.{happens_begins}
-use Rattle.am_effects.specs.Causes.{Cause, hears}
-use Rattle.am_effects.specs.Events.{actor, IsCause}
 use Rattle.am_effects.proofs.Items.{get_front}
 use Rattle.am_effects.proofs.Events.{events_have_effects}
 use Rattle.am_laws.proofs.TakenRuns.{AllOwned, each_owned}
 use Rattle.am_repair.specs.Calm.{Repair, Calm}
 use Rattle.am_repair.proofs.Saying.{Grow}
-use Rattle.am_repair.proofs.Following.{Skips}
-use Rattle.am_repair.proofs.Going.{IsOurs, ticks, hears_}
-use Rattle.am_repair.proofs.Steps.{calm_goes, ours_grow, ours_skip}
+use Rattle.am_repair.proofs.Going.{IsOurs}
+use Rattle.am_repair.proofs.Steps.{calm_goes, ours_grow}
 
 pub record Fine (rules : Rules) (r : Repair) (w : World) : Type 0 where
   pub laws : AllOwned rules w

@@ -1,14 +1,13 @@
 -- What the first wave of a round brings about: a member asks for what is missing, the sequencer keeps reports, and a member accepts.
-use Rattle.std.proofs.Common.{◌≡◌, ◌≢◌, ℕ, zero, suc, ◌+◌, ◌-◌, ◌<◌, ◌≤◌, ◌==◌, ◌&&◌, not, min, nat_lt, nat_le, Bool, true, false, if◌then◌else◌, List, [], ◌∷◌, ◌++◌, length, Option, Some, None, slice_get, refl, sym, ap, ◌∙◌, subst, arith}
+use Rattle.std.proofs.Common.{◌≡◌, ℕ, zero, suc, ◌<◌, ◌≤◌, ◌==◌, ◌&&◌, not, nat_le, Bool, true, false, List, length, Some, refl, sym, ap, ◌∙◌, subst, arith}
 use Rattle.std.specs.Prelude.{Contains}
 use Rattle.std.proofs.lemmas.Bool.Decides.{nat_tests}
 use Rattle.am_base.specs.declared.name.Stamp.{Stamp}
-use Rattle.am_base.specs.declared.image.Image.{Image}
 use Rattle.am_base.specs.declared.image.Report.{Report}
 use Rattle.am_base.specs.Founding.{Rules}
 use Rattle.am_base.specs.Names.{place_of, life_of, has}
 use Rattle.am_base.specs.Stamps.{stamp_eq}
-use Rattle.am_base.specs.Lists.{members_of, at_place, row_of}
+use Rattle.am_base.specs.Lists.{at_place}
 use Rattle.am_packet.specs.declared.packet.Packet.{Packet}
 use Rattle.am_packet.specs.declared.packet.Packet.TheVariants.{Accept, Nack}
 use Rattle.am_packet.specs.Boxes.{Letter, letter_to}
@@ -16,18 +15,17 @@ use Rattle.am_group.specs.declared.event.Act.TheVariants as act
 use Rattle.am_group.specs.declared.event.Event.{Event}
 use Rattle.am_group.specs.Addressed.{is_for}
 use Rattle.am_group.specs.Journals.{letter_at}
-use Rattle.am_model.specs.Node.{Node, top, told, view, members, only_name, acts, is_member, is_sequencer, has_own_leave, report_of, report_fits}
-use Rattle.am_model.specs.Emit.{Step, nack_of}
+use Rattle.am_model.specs.Node.{Node, top, told, view, members, only_name, report_of, report_fits}
+use Rattle.am_model.specs.Emit.{nack_of}
 use Rattle.am_model.specs.Step.{hear}
 use Rattle.am_model.specs.Settle.{event_at, hearings}
 use Rattle.am_model.specs.Sequencing.{is_unknown}
-use Rattle.am_model.specs.Hearing.{hears_member, hears_in_view, hears_sequencer, hears_as_sequencer}
-use Rattle.am_model.specs.World.{World, current, is_stopped, stepped, happens, happen}
-use Rattle.am_model.proofs.Greatest.{split}
+use Rattle.am_model.specs.Hearing.{hears_sequencer, hears_as_sequencer}
+use Rattle.am_model.specs.World.{World, is_stopped, happens, happen}
 use Rattle.am_core.proofs.Lives.{IsUsed}
 use Rattle.am_effects.specs.Causes.{Cause, calls, hears, refuses}
-use Rattle.am_effects.specs.Events.{actor, IsCause}
-use Rattle.am_laws.proofs.Trims.{Fronts, told_used}
+use Rattle.am_effects.specs.Events.{IsCause}
+use Rattle.am_laws.proofs.Trims.{told_used}
 use Rattle.am_laws.proofs.LeaderRows.{is_in}
 use Rattle.am_repair.specs.Rows.{IsReport, ack, nack, request, spread, Asks, HearsFront}
 use Rattle.am_repair.specs.Calm.{Repair, Leads, Follows, ReportIs, IsCalm, Calm}
@@ -36,15 +34,14 @@ use Rattle.am_repair.proofs.Sets.{only_has}
 use Rattle.am_repair.proofs.Nodes.{acting, leading, same_itself}
 use Rattle.am_repair.proofs.Leading.{is_member_now}
 use Rattle.am_repair.proofs.Following.{Skips}
-use Rattle.am_repair.proofs.Saying.{Grow}
 use Rattle.am_repair.proofs.Members.{fronts_are_heard, gaps_are_asked}
 use Rattle.am_repair.proofs.Sequencers.{reports_are_taken}
 use Rattle.am_repair.proofs.Steps.{ours_skip}
-use Rattle.am_repair.proofs.Going.{IsOurs, ticks, hears_}
+use Rattle.am_repair.proofs.Going.{hears_}
 use Rattle.am_repair.proofs.Memberships.{get_some, stays_in}
-use Rattle.am_repair.proofs.Schedules.{IsHeard, WaveHits, wave_hits, letter_within}
-use Rattle.am_repair.proofs.Skipping.{SkipsLetter, AllSkip, Waits}
-use Rattle.am_repair.proofs.Fine.{Fine, fine_goes, few_members, grow_goes, letter_goes, letters_more, IsThere, member_there, hear_is}
+use Rattle.am_repair.proofs.Schedules.{IsHeard, WaveHits, wave_hits}
+use Rattle.am_repair.proofs.Skipping.{AllSkip, Waits}
+use Rattle.am_repair.proofs.Fine.{Fine, fine_goes, few_members, grow_goes, letter_goes, letters_more, member_there, hear_is}
 use Rattle.am_repair.proofs.Ticking.{sent_goes, step_sends, node_is}
 
 pub both_true : (a b : Bool) → a ≡ true → b ≡ true → (a && b) ≡ true
@@ -197,10 +194,11 @@ first_wave_asks rules r i after stored accepted w low x poll there other short =
     keeps : (p n : ℕ) (u : World) → after < n → n ≤ length w.letters → P u → P (happens u (event_at p (act.Hear n)))
     keeps p n u late within k =
         let e = event_at p (act.Hear n) in
-        let ours = hears_ p n (omega arith) in
-        (fine_goes rules r u e ours k.0,
-        ours_skip r u e i ours k.0.calm there other (λ c is. subst (λ high. Skips high c) (sym k.1) (heard_cause w u stored after n _ k.2 x.skips late within c is)) ∙ k.1,
-        stays_goes w u e k.2)
+        let ours = hears_ p n (omega arith) in (
+          fine_goes rules r u e ours k.0,
+          ours_skip r u e i ours k.0.calm there other (λ c is. subst (λ high. Skips high c) (sym k.1) (heard_cause w u stored after n _ k.2 x.skips late within c is)) ∙ k.1,
+          stays_goes w u e k.2,
+        )
 
     hits : WaveHits P (Asked r i (length w.letters) stored) after (length w.letters) poll.sent.number (place_of i)
     hits = record {

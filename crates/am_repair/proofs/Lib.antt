@@ -22,6 +22,7 @@ pub mod Rounds
 pub mod Accepting
 pub mod Repaired
 pub mod OldLives
+pub mod Beginning
 pub mod Ticks
 pub mod Members
 pub mod Sequencers

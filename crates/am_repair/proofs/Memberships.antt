@@ -1,15 +1,15 @@
 -- A member hasn't left by any beginning of the sequencer's list, and has its view's View as the last one.
-use Rattle.std.proofs.Common.{◌≡◌, ◌≢◌, ◌⊎◌, inl, inr, ℕ, zero, suc, ◌+◌, ◌-◌, ◌<◌, ◌≤◌, ◌==◌, nat_lt, nat_le, Bool, true, false, if◌then◌else◌, List, [], ◌∷◌, length, take, Option, Some, None, slice_get, refl, sym, ap, ◌∙◌, subst, arith, add-one}
+use Rattle.std.proofs.Common.{◌≡◌, ◌≢◌, inr, ℕ, zero, suc, ◌+◌, ◌-◌, ◌<◌, ◌≤◌, ◌==◌, nat_lt, nat_le, true, false, List, [], ◌∷◌, length, take, Some, slice_get, refl, sym, ap, ◌∙◌, subst, arith, add-one}
 use Rattle.std.proofs.lemmas.Bool.Decides.{nat_tests}
 use Rattle.am_base.specs.declared.entry.Entry.{Entry}
 use Rattle.am_base.specs.declared.entry.Entry.TheVariants.{Data, Join, Leave, View}
 use Rattle.am_base.specs.declared.image.Image.{Image}
 use Rattle.am_base.specs.Names.{place_of, life_of, has}
-use Rattle.am_base.specs.Lists.{Log, top_of, told_by, entry_at, image_at, members_of, members_at, at_place, row_of, after, fits, fold}
-use Rattle.am_core.proofs.Ends.{image-next, image-top, entry-get}
+use Rattle.am_base.specs.Lists.{Log, top_of, told_by, entry_at, image_at, at_place, row_of, after, fits, fold}
+use Rattle.am_core.proofs.Ends.{image-next, entry-get}
 use Rattle.am_core.proofs.Lives.{IsUsed, used_fold}
-use Rattle.am_chain_lists.proofs.Rows.{row_at, In, Past, past_after, not_both, mod16}
-use Rattle.am_model.specs.Node.{Node, top, told, own_row, has_own_leave}
+use Rattle.am_chain_lists.proofs.Rows.{row_at, Past, past_after, not_both, mod16}
+use Rattle.am_model.specs.Node.{Node, top, has_own_leave}
 use Rattle.am_model.specs.Receiving.{is_view}
 use Rattle.am_model.proofs.Greatest.{split}
 use Rattle.am_laws.proofs.LeaderRows.{is_in}
@@ -73,7 +73,7 @@ stays_in r q m l used f there low = split (has_own_leave m)
     let high = l.high in
     let to : top m + (r.high - top m) ≡ r.high = omega arith in
     let at_high = subst (λ n. Past (row_at (image_at log n) (place_of who)) (life_of who)) to
-        (past_to log (top m) (r.high - top m) (place_of who) (life_of who) used start (omega arith) (mod16 who) (λ j e lower is. l.fit j e (omega arith) is) past) in
+    (past_to log (top m) (r.high - top m) (place_of who) (life_of who) used start (omega arith) (mod16 who) (λ j e lower is. l.fit j e (omega arith) is) past) in
     let h = image_used log r.high used in
     let in_ = is_in (image_at log r.high) who h.places (l.members_ who r.high there (omega arith) high) in
     not_both _ _ in_ at_high))

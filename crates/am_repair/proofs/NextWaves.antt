@@ -1,18 +1,14 @@
 -- What the second and the third wave of a round bring about: what is missing is sent again, and stored.
-use Rattle.std.proofs.Common.{◌≡◌, ◌≢◌, ◌⊎◌, inl, inr, ℕ, zero, suc, ◌+◌, ◌-◌, ◌<◌, ◌≤◌, ◌==◌, ◌&&◌, not, min, max, nat_lt, nat_le, Bool, true, false, if◌then◌else◌, List, [], ◌∷◌, ◌++◌, length, take, drop, Option, Some, None, slice_get, refl, sym, ap, ◌∙◌, subst, arith, length-drop}
-use Rattle.std.specs.Prelude.{Contains}
-use Rattle.std.proofs.lemmas.Bool.{cases_lt}
+use Rattle.std.proofs.Common.{◌≡◌, ℕ, zero, suc, ◌+◌, ◌-◌, ◌<◌, ◌≤◌, ◌==◌, min, true, false, List, [], ◌∷◌, length, drop, Some, slice_get, refl, sym, ap, ◌∙◌, subst, arith, length-drop}
 use Rattle.std.proofs.lemmas.Bool.Decides.{nat_tests}
 use Rattle.std.proofs.lemmas.List.{length-take}
 use Rattle.am_base.specs.declared.name.Stamp.{Stamp}
-use Rattle.am_base.specs.declared.image.Image.{Image}
 use Rattle.am_base.specs.declared.image.Report.{Report}
 use Rattle.am_base.specs.declared.entry.Entry.{Entry}
 use Rattle.am_base.specs.declared.event.NodeEvent.{NodeEvent}
 use Rattle.am_base.specs.Founding.{Rules}
 use Rattle.am_base.specs.Names.{place_of, has}
-use Rattle.am_base.specs.Lists.{Log, top_of, entry_at, image_at, fits}
-use Rattle.am_packet.specs.declared.packet.Packet.{Packet}
+use Rattle.am_base.specs.Lists.{Log, top_of, entry_at, fits}
 use Rattle.am_packet.specs.declared.packet.Packet.TheVariants.{Bcast, Nack}
 use Rattle.am_packet.specs.Boxes.{Letter, letter_to}
 use Rattle.am_core.proofs.Folds.{slice_get-drop}
@@ -20,34 +16,32 @@ use Rattle.am_group.specs.declared.event.Act.TheVariants as act
 use Rattle.am_group.specs.declared.event.Event.{Event}
 use Rattle.am_group.specs.Addressed.{is_for}
 use Rattle.am_group.specs.Journals.{letter_at}
-use Rattle.am_model.specs.Node.{Node, top, told, only_name, with_report}
+use Rattle.am_model.specs.Node.{Node, top, only_name, with_report}
 use Rattle.am_model.specs.Emit.{Step, bcast_of, served}
 use Rattle.am_model.specs.Step.{hear}
 use Rattle.am_model.specs.Settle.{event_at, hearings}
 use Rattle.am_model.specs.Sequencing.{reported}
 use Rattle.am_model.specs.World.{World, happens, happen}
-use Rattle.am_model.proofs.Greatest.{split}
 use Rattle.am_effects.specs.Causes.{Cause, calls, hears, refuses, BringsReport, with_send, by_request, by_spread, by_ack, by_nack, by_leave_ask}
-use Rattle.am_effects.specs.Events.{actor, IsCause}
+use Rattle.am_effects.specs.Events.{IsCause}
 use Rattle.am_effects.proofs.Items.{get_take, get_front}
 use Rattle.am_laws.proofs.Trims.{Fronts, told_used}
 use Rattle.am_repair.specs.Rows.{bcasts, Serves, ComesNext}
 use Rattle.am_repair.specs.Rows as rows
-use Rattle.am_repair.specs.Calm.{Repair, Leads, Follows, ReportIs, IsCalm, Calm}
-use Rattle.am_repair.specs.Waves.{IsSent, Asked, IsServed, Served}
+use Rattle.am_repair.specs.Calm.{Repair, Leads, IsCalm}
+use Rattle.am_repair.specs.Waves.{IsServed, Served}
 use Rattle.am_repair.proofs.Nodes.{acting, leading, alike_here}
 use Rattle.am_repair.proofs.Leading.{Trusts, TellsTaken, told_taken, is_member_now, leads_as, trusts_report, trusts_refresh}
 use Rattle.am_repair.proofs.Lists.{entry_stays, entry_within}
-use Rattle.am_repair.proofs.Saying.{Grow, entry_of}
+use Rattle.am_repair.proofs.Saying.{entry_of}
 use Rattle.am_repair.proofs.Sequencers.{nacks_are_served}
-use Rattle.am_repair.proofs.Members.{entries_are_stored}
 use Rattle.am_repair.proofs.Steps.{goes_first, ours_trust}
-use Rattle.am_repair.proofs.Going.{IsOurs, ticks, hears_}
-use Rattle.am_repair.proofs.Memberships.{get_some, stays_in, no_view_above}
-use Rattle.am_repair.proofs.Schedules.{IsHeard, WaveHits, wave_hits, letter_within}
-use Rattle.am_repair.proofs.Fine.{Fine, fine_goes, few_members, grow_goes, letter_goes, letters_more, IsThere, member_there, hear_is, sent_at}
+use Rattle.am_repair.proofs.Going.{IsOurs, hears_}
+use Rattle.am_repair.proofs.Memberships.{get_some}
+use Rattle.am_repair.proofs.Schedules.{WaveHits, wave_hits}
+use Rattle.am_repair.proofs.Fine.{Fine, fine_goes, few_members, grow_goes, letter_goes, member_there, hear_is, sent_at}
 use Rattle.am_repair.proofs.Ticking.{node_is}
-use Rattle.am_repair.proofs.FirstWave.{hears_own, hears_members, is_known, report_calm, report_fits_list, Stays, stays_same, stays_goes, letter_is, heard_there, HasAsked}
+use Rattle.am_repair.proofs.FirstWave.{hears_members, is_known, report_calm, report_fits_list, Stays, stays_same, stays_goes, letter_is, heard_there, HasAsked}
 
 -- ---- what a Nack is answered with
 

@@ -1,21 +1,18 @@
 -- Many rounds: all is stored, then reported, then accepted.
-use Rattle.std.proofs.Common.{◌≡◌, ◌≢◌, ℕ, zero, suc, ◌+◌, ◌-◌, ◌*◌, ◌/◌, ◌<◌, ◌≤◌, ◌==◌, min, Bool, true, false, List, [], ◌∷◌, ◌++◌, length, refl, sym, ap, ◌∙◌, subst, arith}
+use Rattle.std.proofs.Common.{◌≡◌, ℕ, zero, suc, ◌+◌, ◌*◌, ◌/◌, ◌≤◌, ◌==◌, min, true, false, List, [], length, refl, sym, ap, ◌∙◌, subst, arith}
 use Rattle.std.proofs.lemmas.Bool.Decides.{nat_tests}
 use Rattle.am_base.specs.Founding.{Rules}
 use Rattle.am_base.specs.Names.{has}
 use Rattle.am_group.specs.declared.event.Event.{Event}
-use Rattle.am_model.specs.Node.{Node, top}
 use Rattle.am_model.specs.Settle.{Settling, and_then, ticks, hearings, waves, round, rounds, round_count, settle_events}
-use Rattle.am_model.specs.World.{World, happens, happen}
+use Rattle.am_model.specs.World.{World, happen}
 use Rattle.am_model.specs.Claims.{HasCaughtUp}
 use Rattle.am_model.proofs.Greatest.{split}
 use Rattle.am_model.proofs.Runs.{runs_go_on}
-use Rattle.am_repair.specs.Calm.{Repair, Calm}
-use Rattle.am_repair.proofs.Going.{IsOurs}
-use Rattle.am_repair.proofs.Fine.{Fine, fine_goes, grow_goes, letters_more}
-use Rattle.am_repair.proofs.FirstWave.{Knows, Accepts}
+use Rattle.am_repair.specs.Calm.{Repair}
+use Rattle.am_repair.proofs.Fine.{Fine, fine_goes, letters_more}
 use Rattle.am_repair.proofs.ThirdWave.{HasStored}
-use Rattle.am_repair.proofs.Rounds.{after_waves, round_is, Stable, stored_stable, round_keeps, round_stores}
+use Rattle.am_repair.proofs.Rounds.{after_waves, round_is, Stable, round_keeps, round_stores}
 use Rattle.am_repair.proofs.Accepting.{AllKnown, round_reports, round_accepts, leader_accepts}
 
 -- ---- the schedule's worlds

@@ -1,31 +1,22 @@
 -- What a round brings about, and what is kept by all of its events.
-use Rattle.std.proofs.Common.{◌≡◌, ◌≢◌, ◌⊎◌, inl, inr, ℕ, zero, suc, ◌+◌, ◌-◌, ◌*◌, ◌<◌, ◌≤◌, ◌==◌, not, min, Bool, true, false, if◌then◌else◌, List, [], ◌∷◌, ◌++◌, length, Option, Some, None, refl, sym, ap, ◌∙◌, subst, arith, length-append}
-use Rattle.std.specs.Prelude.{All}
+use Rattle.std.proofs.Common.{◌≡◌, inl, inr, ℕ, ◌+◌, ◌≤◌, ◌==◌, min, true, false, length, refl, ap, ◌∙◌, arith, length-append}
 use Rattle.std.proofs.lemmas.Bool.{cases_lt}
-use Rattle.std.proofs.lemmas.Bool.Decides.{nat_tests}
-use Rattle.std.proofs.lemmas.List.Elements.{All-weaker}
-use Rattle.am_base.specs.declared.event.NodeEvent.TheVariants as does
 use Rattle.am_base.specs.Founding.{Rules}
-use Rattle.am_base.specs.Names.{place_of, has, names_of}
-use Rattle.am_base.specs.Fronts.{counted_at}
+use Rattle.am_base.specs.Names.{has}
 use Rattle.am_group.specs.declared.event.Act.TheVariants as act
 use Rattle.am_group.specs.declared.event.Event.{Event}
-use Rattle.am_model.specs.Node.{Node, top, told}
-use Rattle.am_model.specs.Step.{step}
-use Rattle.am_model.specs.Settle.{Settling, event_at, running, ticks, hearings, waves, round, rounds}
+use Rattle.am_model.specs.Node.{top}
+use Rattle.am_model.specs.Settle.{Settling, event_at, running, ticks, hearings, waves, round}
 use Rattle.am_model.specs.World.{World, happens, happen}
-use Rattle.am_model.proofs.Greatest.{split}
 use Rattle.am_model.proofs.Beginnings.{happen_begins}
-use Rattle.am_repair.specs.Rows.{HasReported, HasReports}
-use Rattle.am_repair.specs.Calm.{Repair, Leads, Follows, Calm}
-use Rattle.am_repair.specs.Waves.{Polled, Reported}
+use Rattle.am_repair.specs.Calm.{Repair}
 use Rattle.am_repair.proofs.Going.{IsOurs, ticks as our_ticks, hears_}
 use Rattle.am_repair.proofs.Schedules.{acts_keep, wave_keeps}
-use Rattle.am_repair.proofs.Fine.{Fine, fine_goes, grow_goes, letters_more}
-use Rattle.am_repair.proofs.Ticking.{Bounds, ticks_poll, ticks_report}
+use Rattle.am_repair.proofs.Fine.{fine_goes, grow_goes}
+use Rattle.am_repair.proofs.Ticking.{Bounds, ticks_poll}
 use Rattle.am_repair.proofs.Skipping.{ticks_wait}
-use Rattle.am_repair.proofs.FirstWave.{HasAsked, first_wave_asks, Knows, first_wave_reports, Accepts, first_wave_accepts}
-use Rattle.am_repair.proofs.NextWaves.{IsServing, second_wave_serves}
+use Rattle.am_repair.proofs.FirstWave.{first_wave_asks}
+use Rattle.am_repair.proofs.NextWaves.{second_wave_serves}
 use Rattle.am_repair.proofs.ThirdWave.{HasStored, third_wave_stores}
 
 -- ---- the world after a round

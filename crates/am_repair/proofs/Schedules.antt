@@ -1,21 +1,18 @@
 -- What is kept, and what comes about, along the ticks and the waves of a schedule.
-use Rattle.std.proofs.Common.{◌≡◌, ℕ, zero, suc, ◌+◌, ◌-◌, ◌<◌, ◌≤◌, ◌==◌, ◌||◌, not, Bool, true, false, if◌then◌else◌, List, [], ◌∷◌, ◌++◌, length, drop, map, Option, Some, None, slice_get, refl, sym, ap, ◌∙◌, subst, arith}
+use Rattle.std.proofs.Common.{◌≡◌, ℕ, zero, suc, ◌+◌, ◌<◌, ◌≤◌, ◌==◌, not, Bool, true, false, List, [], ◌∷◌, ◌++◌, length, drop, map, Some, slice_get, refl, sym, ap, ◌∙◌, subst, arith}
 use Rattle.std.specs.Prelude.{filter}
 use Rattle.std.specs.List.{list_any, range_with_len}
 use Rattle.std.proofs.lemmas.Bool.Decides.{nat_tests}
 use Rattle.std.proofs.lemmas.Option.{slice_get_within}
 use Rattle.std.proofs.lemmas.List.{length-drop}
 use Rattle.am_core.proofs.Folds.{slice_get-drop}
-use Rattle.am_base.specs.Names.{place_of, has}
-use Rattle.am_base.specs.Founding.{Rules}
 use Rattle.am_packet.specs.Boxes.{Letter}
 use Rattle.am_group.specs.declared.event.Act.{Act}
 use Rattle.am_group.specs.declared.event.Act.TheVariants as act
-use Rattle.am_group.specs.declared.event.Event.{Event}
 use Rattle.am_group.specs.Addressed.{is_for}
 use Rattle.am_group.specs.Journals.{letter_at}
 use Rattle.am_model.specs.World.{World, current, is_stopped, happens, happen}
-use Rattle.am_model.specs.Settle.{event_at, running, ticks, hearings_of, hearings_from, hearings}
+use Rattle.am_model.specs.Settle.{event_at, running, hearings_of, hearings_from, hearings}
 use Rattle.am_model.proofs.Greatest.{split}
 use Rattle.am_model.proofs.Runs.{runs_go_on}
 
@@ -96,11 +93,11 @@ from_walks P w number (l ∷ ls) u step h =
     let next : number + 0 + 1 ≡ number + 1 = omega arith in
     let first : P (number + 1) (happen u (hearings_of w number l)) = subst (λ n. P n (happen u (hearings_of w number l))) next (subst (λ n. P (number + 0 + 1) (happen u (hearings_of w n l))) at (step 0 l u refl (subst (λ n. P n u) (sym at) h))) in
     let rest = from_walks P w (number + 1) ls (happen u (hearings_of w number l))
-        (λ j x y there k.
-        (let e : number + 1 + j ≡ number + suc j = omega arith in
-        let g : number + suc j + 1 ≡ number + 1 + j + 1 = omega arith in
-        subst (λ n. P n (happen y (hearings_of w (number + 1 + j) x))) g (subst (λ n. P (number + suc j + 1) (happen y (hearings_of w n x))) (sym e) (step (suc j) x y there (subst (λ n. P n y) e k)))))
-        first in
+    (λ j x y there k.
+    (let e : number + 1 + j ≡ number + suc j = omega arith in
+    let g : number + suc j + 1 ≡ number + 1 + j + 1 = omega arith in
+    subst (λ n. P n (happen y (hearings_of w (number + 1 + j) x))) g (subst (λ n. P (number + suc j + 1) (happen y (hearings_of w n x))) (sym e) (step (suc j) x y there (subst (λ n. P n y) e k)))))
+    first in
     let end : number + 1 + length ls ≡ number + length (l ∷ ls) = omega arith in
     subst (λ n. P n (happen u (hearings_of w number l ++ hearings_from w (number + 1) ls))) end (subst (P (number + 1 + length ls)) (sym (runs_go_on u (hearings_of w number l) (hearings_from w (number + 1) ls))) rest)
 
@@ -152,9 +149,10 @@ wave_hits P Q w after k place is h first =
         (λ t. let same : n ≡ k = grind (arith, nat_tests) in
         let letter : is.letter ≡ l = (let e = sym (ap (letter_at w.letters) same) ∙ there in let d = is.there in cc) in
         let one = acts_hit P Q (act.Hear n) place (record { keeps = λ p y z. h.keeps p n y late_ (letter_within w.letters n l there) z; hits = λ y z. subst (λ i. Q (happens y (event_at place (act.Hear i)))) (sym same) (h.hits y z); stays = λ p y z q. h.stays p n y late_ (letter_within w.letters n l there) z q })
-            (filter (λ p. is_for l (current w p)) (running w)) u (is_hearing w l place is.low is.runs (subst (λ i. is_for i (current w place) ≡ true) letter is.meant)) x.0 in
+        (filter (λ p. is_for l (current w p)) (running w)) u (is_hearing w l place is.low is.runs (subst (λ i. is_for i (current w place) ≡ true) letter is.meant)) x.0 in
         (one.0, λ low. one.1))
         (λ f. let differs : n ≡ k → ⊥ = λ same. (let z : ⊥ = grind (arith, nat_tests) in z) in
-        let places = filter (λ p. is_for l (current w p)) (running w) in
-        (acts_keep P (act.Hear n) (λ p y z. h.keeps p n y late_ (letter_within w.letters n l there) z) places u x.0,
-        λ low. (acts_stay P Q (act.Hear n) (λ p y z. h.keeps p n y late_ (letter_within w.letters n l there) z) (λ p y z q. h.stays p n y late_ (letter_within w.letters n l there) z q) places u x.0 (x.1 (omega arith))).1))
+        let places = filter (λ p. is_for l (current w p)) (running w) in (
+          acts_keep P (act.Hear n) (λ p y z. h.keeps p n y late_ (letter_within w.letters n l there) z) places u x.0,
+          λ low. (acts_stay P Q (act.Hear n) (λ p y z. h.keeps p n y late_ (letter_within w.letters n l there) z) (λ p y z q. h.stays p n y late_ (letter_within w.letters n l there) z q) places u x.0 (x.1 (omega arith))).1,
+        ))

@@ -1,5 +1,5 @@
 -- What ticks send is no next entry of a member that has less than the sequencer's list began with.
-use Rattle.std.proofs.Common.{◌≡◌, ◌≢◌, ◌⊎◌, inl, inr, ⊎_elim, ℕ, zero, suc, ◌+◌, ◌-◌, ◌<◌, ◌≤◌, ◌==◌, ◌&&◌, not, nat_le, Bool, true, false, if◌then◌else◌, List, [], ◌∷◌, ◌++◌, length, Option, Some, None, slice_get, refl, sym, ap, ◌∙◌, subst, arith}
+use Rattle.std.proofs.Common.{◌≡◌, ◌⊎◌, inl, ⊎_elim, ℕ, ◌+◌, ◌<◌, ◌==◌, not, nat_le, Bool, true, false, if◌then◌else◌, List, [], length, Option, Some, None, slice_get, refl, sym, ap, ◌∙◌, subst, arith}
 use Rattle.std.specs.Prelude.{All}
 use Rattle.std.proofs.lemmas.Bool.Decides.{nat_tests}
 use Rattle.std.proofs.lemmas.List.Elements.{All-nil}
@@ -9,26 +9,25 @@ use Rattle.am_base.specs.declared.event.NodeEvent.TheVariants as does
 use Rattle.am_base.specs.declared.outcome.Outcome.{Outcome}
 use Rattle.am_base.specs.declared.outcome.Outcome.TheVariants as said
 use Rattle.am_base.specs.Founding.{Rules}
-use Rattle.am_base.specs.Names.{place_of, has}
+use Rattle.am_base.specs.Names.{has}
 use Rattle.am_base.specs.Lists.{entry_at}
 use Rattle.am_packet.specs.declared.packet.Packet.{Packet}
 use Rattle.am_packet.specs.Boxes.{Letter}
 use Rattle.am_group.specs.declared.event.Act.TheVariants as act
-use Rattle.am_group.specs.declared.event.Event.{Event}
 use Rattle.am_group.specs.Journals.{letter_at}
 use Rattle.am_sender.specs.declared.OwnSend.{OwnSend}
 use Rattle.am_model.specs.declared.status.Status.{Status}
 use Rattle.am_model.specs.declared.status.Status.TheVariants as status
-use Rattle.am_model.specs.Node.{Node, Ballot, top, told, view, acts, others, only_name, is_sequencer, has_room, waiting}
-use Rattle.am_model.specs.Emit.{Plan, Step, quiet, telling, bcast_of, ack_of, fetch_of, request_of, spread_of, join_ask_of, accept_of, result_of, tells_accepted, with_accept, finish}
+use Rattle.am_model.specs.Node.{Node, top, told, view, acts, others, only_name, is_sequencer, has_room, waiting}
+use Rattle.am_model.specs.Emit.{Plan, quiet, telling, bcast_of, ack_of, fetch_of, request_of, spread_of, join_ask_of, accept_of, result_of, tells_accepted, with_accept, finish}
 use Rattle.am_model.specs.Step.{step, row}
-use Rattle.am_model.specs.Calls.{is_unfinished, would_emit, hand_in, emit, ask_to_join, everywhere_else}
-use Rattle.am_model.specs.Ticks.{tick_row, tick_by, tick_with, tick_acting, tick_member, tick_promised, tick_sequencer, and_result, put_off, behind_view, viewed_by}
+use Rattle.am_model.specs.Calls.{is_unfinished, would_emit, emit, everywhere_else}
+use Rattle.am_model.specs.Ticks.{tick_row, tick_by, tick_acting, and_result, put_off, behind_view, viewed_by}
 use Rattle.am_model.specs.Settle.{event_at, running, ticks}
 use Rattle.am_model.specs.World.{World, is_stopped, has_departed, unchanged, stepped, happens, happen}
-use Rattle.am_model.proofs.Greatest.{split, and_both}
+use Rattle.am_model.proofs.Greatest.{split}
 use Rattle.am_effects.specs.Causes.{Cause, calls, hears, refuses}
-use Rattle.am_effects.specs.Events.{actor, IsCause, tick}
+use Rattle.am_effects.specs.Events.{actor, IsCause}
 use Rattle.am_effects.proofs.Items.{all_letter, all_get}
 use Rattle.am_effects.proofs.Tests.{not_false}
 use Rattle.am_repair.proofs.Schedules.{letter_within}
@@ -39,7 +38,7 @@ use Rattle.am_repair.proofs.Following.{Skips}
 use Rattle.am_repair.proofs.Departed.{departed_ticks}
 use Rattle.am_repair.proofs.Ticks.{without_ballot, goes_not}
 use Rattle.am_repair.proofs.Steps.{letter_either}
-use Rattle.am_repair.proofs.Going.{IsOurs, ticks as our_ticks, hears_}
+use Rattle.am_repair.proofs.Going.{ticks as our_ticks}
 use Rattle.am_repair.proofs.Schedules.{acts_keep}
 use Rattle.am_repair.proofs.Fine.{Fine, fine_goes}
 use Rattle.am_repair.proofs.Steps.{ours_skip}
@@ -93,8 +92,10 @@ acting_skips high m stays far =
     (λ t.
     let e = emit m (waiting m) (put_off m (waiting m)) in
     let p = and_result (record e { polls = true }) in
-    let skips : PlanSkips high p = record { each = λ n. all_letter (SkipsLetter high) (behind_view n) (result_of n (told n).view_number (viewed_by (entry_at n.core.log (told n).view_number)) (told n).resilience) (e.letters n) tt
-        ((emit_skips high m (waiting m) (put_off m (waiting m)) far).each n) } in
+    let skips : PlanSkips high p = record {
+      each = λ n. all_letter (SkipsLetter high) (behind_view n) (result_of n (told n).view_number (viewed_by (entry_at n.core.log (told n).view_number)) (told n).resilience) (e.letters n) tt
+          ((emit_skips high m (waiting m) (put_off m (waiting m)) far).each n);
+    } in
     subst (PlanSkips high) (sym (goes_not m p stays)) skips)
     (λ g. skips_if high m.leaving _ _ (λ t. absurd (cc))
     (λ t. skips_if high (would_emit m (waiting m)) _ _ (λ u. emit_skips high m (waiting m) said.Ticked far) (λ u. skips_telling high m said.Ticked (only_name (view m).by) ack_of (λ n. tt)))))

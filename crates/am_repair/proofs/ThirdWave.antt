@@ -1,35 +1,31 @@
 -- What the third wave of a round brings about: what was sent again is stored.
-use Rattle.std.proofs.Common.{◌≡◌, ◌≢◌, ◌⊎◌, inl, inr, ℕ, zero, suc, ◌+◌, ◌-◌, ◌<◌, ◌≤◌, ◌==◌, not, min, Bool, true, false, List, [], ◌∷◌, length, Option, Some, None, refl, sym, ap, ◌∙◌, subst, arith}
+use Rattle.std.proofs.Common.{◌≡◌, inl, inr, ℕ, ◌+◌, ◌-◌, ◌<◌, ◌≤◌, ◌==◌, min, true, false, List, length, Some, sym, ap, ◌∙◌, subst, arith}
 use Rattle.std.specs.Prelude.{filter}
 use Rattle.std.proofs.lemmas.Bool.{cases_lt}
-use Rattle.std.proofs.lemmas.Bool.Decides.{nat_tests}
 use Rattle.am_base.specs.declared.image.Image.{Image}
-use Rattle.am_base.specs.declared.entry.Entry.{Entry}
 use Rattle.am_base.specs.Founding.{Rules}
 use Rattle.am_base.specs.Names.{place_of, has}
 use Rattle.am_base.specs.Lists.{image_at, fits}
 use Rattle.am_packet.specs.declared.packet.Packet.TheVariants.{Bcast}
 use Rattle.am_packet.specs.Boxes.{Letter, letter_to}
 use Rattle.am_group.specs.declared.event.Act.TheVariants as act
-use Rattle.am_group.specs.declared.event.Event.{Event}
 use Rattle.am_group.specs.Addressed.{is_for}
 use Rattle.am_group.specs.Journals.{letter_at}
-use Rattle.am_model.specs.Node.{Node, top, told, only_name}
+use Rattle.am_model.specs.Node.{Node, top, only_name}
 use Rattle.am_model.specs.Step.{hear}
 use Rattle.am_model.specs.Settle.{event_at, running, hearings_of, hearings}
 use Rattle.am_model.specs.World.{World, current, is_stopped, happens, happen}
-use Rattle.am_model.proofs.Greatest.{split}
 use Rattle.am_repair.specs.Rows.{ComesNext}
-use Rattle.am_repair.specs.Calm.{Repair, Leads, Follows, Calm}
+use Rattle.am_repair.specs.Calm.{Repair}
 use Rattle.am_repair.specs.Waves.{IsServed, Served}
 use Rattle.am_repair.proofs.Sets.{only_has}
 use Rattle.am_repair.proofs.Members.{entries_are_stored}
-use Rattle.am_repair.proofs.Going.{IsOurs, ticks, hears_}
+use Rattle.am_repair.proofs.Going.{IsOurs, hears_}
 use Rattle.am_repair.proofs.Memberships.{stays_in, no_view_above}
 use Rattle.am_repair.proofs.Schedules.{acts_keep, acts_hit, is_hearing, wave_walks, letter_within}
 use Rattle.am_repair.proofs.Fine.{Fine, fine_goes, few_members, grow_goes, member_there, hear_is}
 use Rattle.am_repair.proofs.Ticking.{node_is}
-use Rattle.am_repair.proofs.FirstWave.{hears_own, Stays, stays_same, stays_goes, letter_is}
+use Rattle.am_repair.proofs.FirstWave.{hears_own, Stays, stays_same, stays_goes}
 use Rattle.am_repair.proofs.NextWaves.{served_entry_goes}
 
 -- ---- one entry
@@ -122,7 +118,7 @@ way_on rules r i after stored first many n l w u low late letter there other fin
         let at_w = member_there rules r w i fine there in
         let served_ = h.each j below in
         let same : letter_to (only_name i) (Bcast r.by r.view served_.base served_.acc (stored + 1 + j) served_.entry) ≡ l =
-            (let a = ap (letter_at u.letters) at ∙ served_.there in let b = h.stays.letters n l letter in cc) in
+        (let a = ap (letter_at u.letters) at ∙ served_.there in let b = h.stays.letters n l letter in cc) in
         let meant : is_for l (current w (place_of i)) ≡ true = ap (is_for l) at_w.current_ ∙ subst (λ x. is_for x i ≡ true) same (only_has i) in
         let among = is_hearing w l (place_of i) (omega arith) (ap (is_stopped w) at_w.current_ ∙ at_w.runs) meant in
         let z = acts_hit (IsOnWay rules r i after stored first many w n) (λ y. min (stored + j + 1) r.high ≤ top (y.nodes i)) (act.Hear n) (place_of i) (record {
@@ -148,7 +144,7 @@ third_wave_stores rules r i after stored w low long h x have there other =
     let late = x.late in
     let enough = x.enough in
     let z = wave_walks (IsOnWay rules r i after stored x.first x.many w) w after long (λ k l u later letter y. way_on rules r i after stored x.first x.many k l w u low later letter there other h y)
-        (record { fine = h; stays = stays_same w; each = x.each; have = omega arith }) in
+    (record { fine = h; stays = stays_same w; each = x.each; have = omega arith }) in
     let got = z.have in
     record {
       fine = z.fine;

@@ -11,7 +11,7 @@ use Rattle.am_packet.specs.declared.packet.Packet.{Packet}
 use Rattle.am_packet.specs.declared.packet.Packet.TheVariants.{Request, Spread, Bcast, Order, Accept, Ack, Nack, Hold, JoinAsk, Welcome, LeaveAsk, Gone, Invite, Vote, Fetch, Piece, Result, HandOver}
 use Rattle.am_packet.specs.Boxes.{Letter}
 use Rattle.am_group.specs.Journals.{letter_at}
-use Rattle.am_model.specs.Node.{Node, top, told, view, members, acts, is_member, is_sequencer}
+use Rattle.am_model.specs.Node.{Node, top, told, view, acts, is_member, is_sequencer}
 use Rattle.am_model.specs.World.{World, current, is_stopped, has_departed}
 use Rattle.am_repair.specs.Rows.{IsAtRest}
 

@@ -1,6 +1,7 @@
 //! What a lossless schedule repairs: laws of a group that stands in one view, proved on the definitions alone.
 #![tactic(auto)]
 
+ghost use Rattle.am_repair.specs.Standing.{RepairsWhereListsAgree};
 ghost use Rattle.am_repair.specs.Rows.{
   EntriesAreStored,
   FrontsAreHeard,
@@ -31,4 +32,10 @@ pub fn sequencers_serve()
     ensures reports { ReportsAreTaken }
     ensures entries { NacksAreServed }
     ensures fronts { FrontsRise }
+{}
+
+/// What a lossless schedule repairs in a run, where the lists of the view's members agree (`Agree`): each of them stores and accepts all up
+/// to where their sequencer stood.
+pub fn schedules_repair()
+    ensures { RepairsWhereListsAgree }
 {}
