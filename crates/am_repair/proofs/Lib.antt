@@ -23,6 +23,7 @@ pub mod Accepting
 pub mod Repaired
 pub mod OldLives
 pub mod Beginning
+pub mod Lawfully
 pub mod Ticks
 pub mod Members
 pub mod Sequencers

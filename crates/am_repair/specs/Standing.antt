@@ -9,6 +9,7 @@ use Rattle.am_group.specs.declared.event.Event.{Event}
 use Rattle.am_model.specs.Node.{Node, top, told, members, is_member}
 use Rattle.am_model.specs.Settle.{settle_events}
 use Rattle.am_model.specs.World.{World, current, happen, run}
+use Rattle.am_model.specs.Lawful.{lawful_front}
 use Rattle.am_model.specs.Claims.{MayRepair, HasCaughtUp}
 
 -- a member's list has the sequencer's last View, and tells what the sequencer's tells up to there; and the sequencer trims and knows no more
@@ -41,3 +42,7 @@ RepairsWhereListsAgree = (rules : Rules) (events : List Event) (place : ℕ) →
 -- and so do all lists of a run: this isn't proved yet
 abbrev pub ListsAgree : Type 0
 ListsAgree = (rules : Rules) (events : List Event) (place : ℕ) → MayFound rules → place < 16 → MayRepair (run rules events) place → Agree (run rules events) ((run rules events).nodes (current (run rules events) place))
+
+-- a run that may be repaired is lawful as a whole, since nobody is stopped undeparted
+abbrev pub RepairableIsLawful : Type 0
+RepairableIsLawful = (rules : Rules) (events : List Event) (place : ℕ) → MayRepair (run rules events) place → lawful_front rules events ≡ events

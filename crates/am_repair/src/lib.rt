@@ -1,7 +1,7 @@
 //! What a lossless schedule repairs: laws of a group that stands in one view, proved on the definitions alone.
 #![tactic(auto)]
 
-ghost use Rattle.am_repair.specs.Standing.{RepairsWhereListsAgree};
+ghost use Rattle.am_repair.specs.Standing.{RepairableIsLawful, RepairsWhereListsAgree};
 ghost use Rattle.am_repair.specs.Rows.{
   EntriesAreStored,
   FrontsAreHeard,
@@ -38,4 +38,9 @@ pub fn sequencers_serve()
 /// to where their sequencer stood.
 pub fn schedules_repair()
     ensures { RepairsWhereListsAgree }
+{}
+
+/// A run that ends where a group may be repaired is lawful from its beginning on: nobody was ever stopped undeparted.
+pub fn repairable_runs_are_lawful()
+    ensures { RepairableIsLawful }
 {}
