@@ -37,7 +37,7 @@ born rules w name laws low a =
     let member = (acting (stranger rules name) t).0 in
     cc
 
-few_acting : (rules : Rules) (w : World) (name : ℕ) → AllOwned rules w → acts (w.nodes name) ≡ true → name < 256
+pub few_acting : (rules : Rules) (w : World) (name : ℕ) → AllOwned rules w → acts (w.nodes name) ≡ true → name < 256
 few_acting rules w name laws a = elim (cases_lt name 256) [
   | inl low ↦ low
   | inr high ↦ (let most = laws.blanks.views.named.most (place_of name) in absurd (born rules w name laws (omega arith) a))

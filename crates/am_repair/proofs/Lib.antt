@@ -24,6 +24,7 @@ pub mod Repaired
 pub mod OldLives
 pub mod Beginning
 pub mod Lawfully
+pub mod OneLists
 pub mod Ticks
 pub mod Members
 pub mod Sequencers

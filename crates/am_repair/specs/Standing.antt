@@ -1,5 +1,5 @@
 -- What the way to the claim takes from the argument why a group has one list, where a schedule begins.
-use Rattle.std.specs.Prelude.{◌≡◌, ℕ, List, ◌-◌, ◌<◌, ◌≤◌, Some, true, All}
+use Rattle.std.specs.Prelude.{◌≡◌, ℕ, List, length, take, ◌-◌, ◌<◌, ◌≤◌, Some, true, All}
 use Rattle.am_base.specs.declared.entry.Entry.{Entry}
 use Rattle.am_base.specs.Founding.{Rules, MayFound}
 use Rattle.am_base.specs.Names.{has, names_of}
@@ -9,6 +9,8 @@ use Rattle.am_group.specs.declared.event.Event.{Event}
 use Rattle.am_model.specs.Node.{Node, top, told, members, is_member}
 use Rattle.am_model.specs.Settle.{settle_events}
 use Rattle.am_model.specs.World.{World, current, happen, run}
+use Rattle.am_chain_lists.specs.Whole as whole
+use Rattle.am_model.specs.Lawful as lists
 use Rattle.am_model.specs.Lawful.{lawful_front}
 use Rattle.am_model.specs.Claims.{MayRepair, HasCaughtUp}
 
@@ -39,9 +41,44 @@ RepairsWhereListsAgree = (rules : Rules) (events : List Event) (place : ℕ) →
     → (name : ℕ) → has (members ((run rules events).nodes (current (run rules events) place))) name ≡ true
     → HasCaughtUp ((happen (run rules events) (settle_events rules (run rules events))).nodes name) (top ((run rules events).nodes (current (run rules events) place)))
 
--- and so do all lists of a run: this isn't proved yet
-abbrev pub ListsAgree : Type 0
-ListsAgree = (rules : Rules) (events : List Event) (place : ℕ) → MayFound rules → place < 16 → MayRepair (run rules events) place → Agree (run rules events) ((run rules events).nodes (current (run rules events) place))
+-- ---- what of this one list gives
+
+-- a node's whole list begins the sequencer's; and where it begins itself, the group had accepted so much, and its image tells just that
+pub record IsBeginning (w : World) (q m : Node) : Type 0 where
+  pub within : m.core.log.start ≤ length w.group
+  pub image : m.core.log.image ≡ whole.told (take m.core.log.start w.group)
+  pub begins : whole.Begins (lists.whole w m) (lists.whole w q)
+
+-- the sequencer's whole list fits, each Member's begins it, and each Member is a member by it
+pub record IsOneList (w : World) (q : Node) : Type 0 where
+  pub good : whole.IsGood (lists.whole w q)
+  pub each : (name : ℕ) → is_member (w.nodes name).status ≡ true → IsBeginning w q (w.nodes name)
+  pub listed : (name : ℕ) → is_member (w.nodes name).status ≡ true → whole.mem (lists.whole w q) name ≡ true
+
+-- what is left: what the sequencer trims and knows was taken, and who has left is accepted to have left
+pub record IsTaken (q m : Node) : Type 0 where
+  pub base : q.core.base ≤ m.core.taken
+  pub reported : (q.reports m.core.who).taken ≤ m.core.taken
+
+pub record IsSettled (w : World) (q : Node) : Type 0 where
+  pub taken : (name : ℕ) → has (members q) name ≡ true → IsTaken q (w.nodes name)
+  pub counted : (number : ℕ) → q.core.acc < number → number ≤ top q → (told q).view_number ≤ number → All (λ name. has (members q) name ≡ true) (names_of (counted_at q.core.log number))
+
+abbrev pub OneListAgrees : Type 0
+OneListAgrees = (rules : Rules) (events : List Event) (place : ℕ) → MayFound rules → place < 16 → MayRepair (run rules events) place
+    → IsOneList (run rules events) ((run rules events).nodes (current (run rules events) place)) → IsSettled (run rules events) ((run rules events).nodes (current (run rules events) place))
+    → Agree (run rules events) ((run rules events).nodes (current (run rules events) place))
+
+-- both of these are so at the end of each run that may be repaired: this isn't proved yet
+abbrev pub RepairableIsOneList : Type 0
+RepairableIsOneList = (rules : Rules) (events : List Event) (place : ℕ) → MayFound rules → place < 16 → MayRepair (run rules events) place
+    → IsOneList (run rules events) ((run rules events).nodes (current (run rules events) place))
+
+abbrev pub RepairableIsSettled : Type 0
+RepairableIsSettled = (rules : Rules) (events : List Event) (place : ℕ) → MayFound rules → place < 16 → MayRepair (run rules events) place
+    → IsSettled (run rules events) ((run rules events).nodes (current (run rules events) place))
+
+-- ---- lawfulness
 
 -- a run that may be repaired is lawful as a whole, since nobody is stopped undeparted
 abbrev pub RepairableIsLawful : Type 0

@@ -1,7 +1,7 @@
 //! What a lossless schedule repairs: laws of a group that stands in one view, proved on the definitions alone.
 #![tactic(auto)]
 
-ghost use Rattle.am_repair.specs.Standing.{RepairableIsLawful, RepairsWhereListsAgree};
+ghost use Rattle.am_repair.specs.Standing.{OneListAgrees, RepairableIsLawful, RepairsWhereListsAgree};
 ghost use Rattle.am_repair.specs.Rows.{
   EntriesAreStored,
   FrontsAreHeard,
@@ -43,4 +43,10 @@ pub fn schedules_repair()
 /// A run that ends where a group may be repaired is lawful from its beginning on: nobody was ever stopped undeparted.
 pub fn repairable_runs_are_lawful()
     ensures { RepairableIsLawful }
+{}
+
+/// Lists agree where the sequencer's whole list fits and each Member's begins it, where what it trims and knows was taken, and where who has
+/// left is accepted to have left.
+pub fn one_list_agrees()
+    ensures { OneListAgrees }
 {}
