@@ -22,12 +22,13 @@ use Rattle.am_model.specs.World.{World}
 use Rattle.am_model.proofs.Greatest.{split, and_both}
 use Rattle.am_effects.proofs.Calls.{node_if}
 use Rattle.am_effects.proofs.Says.{told_pushed}
+use Rattle.am_laws.proofs.ViewSteps.{after_same}
 use Rattle.am_repair.specs.Rows.{IsAtRest, HasReported, HasReports}
 use Rattle.am_repair.specs.Calm.{Repair, Leads}
 use Rattle.am_repair.proofs.Ends.{fronts_rise}
-use Rattle.am_repair.proofs.Lists.{grows_push, counted_stays, number_after}
+use Rattle.am_repair.proofs.Lists.{grows_push, counted_stays}
 use Rattle.am_repair.proofs.Ticks.{emitted, acting_row, leads_row, goes_not}
-use Rattle.am_repair.proofs.Going.{ticks as our_ticks}
+use Rattle.am_repair.specs.Rounds.{ticks as our_ticks}
 use Rattle.am_repair.proofs.Schedules.{Hits, acts_hit}
 use Rattle.am_repair.proofs.Fine.{Fine, fine_goes, grow_goes, member_there, tick_is}
 use Rattle.am_repair.proofs.Ticking.{runs_there, Bounds, node_is, ticks_poll, ticks_report}
@@ -42,7 +43,7 @@ reports_pushed m high req body h =
     let e = Data m.core.who req body in
     let stored = h.stored in
     let more : top (pushed m e) ≡ top m + 1 = simp length-append (omega arith) in
-    let number : (told (pushed m e)).view_number ≡ (told m).view_number = ap (λ (i : Image). i.view_number) (told_pushed m e) ∙ number_after (told m) (top m + 1) e refl in
+    let number : (told (pushed m e)).view_number ≡ (told m).view_number = ap (λ (i : Image). i.view_number) (told_pushed m e) ∙ (after_same (told m) (top m + 1) e refl).number in
     let view_ = h.view in
     record {
       stored = omega arith;

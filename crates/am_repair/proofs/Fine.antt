@@ -1,5 +1,5 @@
 -- Worlds along a schedule: laws of every run, and calm. What an event of the schedule does there.
-use Rattle.std.proofs.Common.{◌≡◌, ℕ, zero, suc, ◌+◌, ◌<◌, ◌≤◌, ◌==◌, true, false, List, [], ◌∷◌, ◌++◌, length, Some, slice_get, refl, ap, ◌∙◌, arith, length-append}
+use Rattle.std.proofs.Common.{◌≡◌, ℕ, zero, suc, ◌+◌, ◌<◌, ◌≤◌, ◌==◌, true, false, List, ◌++◌, length, Some, slice_get, refl, ap, ◌∙◌, arith, length-append}
 use Rattle.std.specs.Prelude.{Contains}
 use Rattle.std.proofs.lemmas.Bool.Decides.{nat_tests}
 use Rattle.std.proofs.lemmas.Option.{slice_get-get_or}
@@ -11,6 +11,7 @@ use Rattle.am_group.specs.declared.event.Act.TheVariants as act
 use Rattle.am_group.specs.declared.event.Event.{Event}
 use Rattle.am_group.specs.Addressed.{is_for}
 use Rattle.am_group.specs.Journals.{letter_at}
+use Rattle.am_group.proofs.Places.{get_behind}
 use Rattle.am_model.specs.Emit.{Step}
 use Rattle.am_model.specs.Step.{step, hear}
 use Rattle.am_model.specs.Settle.{event_at}
@@ -21,7 +22,7 @@ use Rattle.am_effects.proofs.Events.{events_have_effects}
 use Rattle.am_laws.proofs.TakenRuns.{AllOwned, each_owned}
 use Rattle.am_repair.specs.Calm.{Repair, Calm}
 use Rattle.am_repair.proofs.Saying.{Grow}
-use Rattle.am_repair.proofs.Going.{IsOurs}
+use Rattle.am_repair.specs.Rounds.{IsOurs}
 use Rattle.am_repair.proofs.Steps.{calm_goes, ours_grow}
 
 pub record Fine (rules : Rules) (r : Repair) (w : World) : Type 0 where
@@ -87,13 +88,7 @@ hear_is w name k l h there meant =
 append_at : (xs ys : List Letter) (j : ℕ) (l : Letter) → slice_get ys j ≡ Some l → letter_at (xs ++ ys) (length xs + 1 + j) ≡ Some l
 append_at xs ys j l there =
     let at : length xs + 1 + j ≡ suc (length xs + j) = omega arith in
-    ap (letter_at (xs ++ ys)) at ∙ behind xs ys j l there
-  where
-    behind : (xs ys : List Letter) (j : ℕ) (l : Letter) → slice_get ys j ≡ Some l → slice_get (xs ++ ys) (length xs + j) ≡ Some l
-    behind [] ys j l there = let none : length {A = Letter} [] + j ≡ j = omega arith in ap (slice_get ys) none ∙ there
-    behind (x ∷ xs) ys j l there =
-        let more : length (x ∷ xs) + j ≡ suc (length xs + j) = omega arith in
-        ap (slice_get (x ∷ (xs ++ ys))) more ∙ behind xs ys j l there
+    ap (letter_at (xs ++ ys)) at ∙ get_behind xs ys j ∙ there
 
 -- by its number in the world after it
 pub sent_at : (w : World) (e : Event) (name : ℕ) (s : Step) (j : ℕ) (l : Letter) → slice_get s.letters j ≡ Some l → letter_at (stepped w e name s).letters (length w.letters + 1 + j) ≡ Some l

@@ -1,4 +1,5 @@
 -- What the first wave of a round brings about: a member asks for what is missing, the sequencer keeps reports, and a member accepts.
+use Rattle.am_laws.proofs.Views.{same_is_equal}
 use Rattle.std.proofs.Common.{◌≡◌, ℕ, zero, suc, ◌<◌, ◌≤◌, ◌==◌, ◌&&◌, not, nat_le, Bool, true, false, List, length, Some, refl, sym, ap, ◌∙◌, subst, arith}
 use Rattle.std.specs.Prelude.{Contains}
 use Rattle.std.proofs.lemmas.Bool.Decides.{nat_tests}
@@ -31,13 +32,13 @@ use Rattle.am_repair.specs.Rows.{IsReport, ack, nack, request, spread, Asks, Hea
 use Rattle.am_repair.specs.Calm.{Repair, Leads, Follows, ReportIs, IsCalm, Calm}
 use Rattle.am_repair.specs.Waves.{IsSent, Polled, Reported, Asked}
 use Rattle.am_repair.proofs.Sets.{only_has}
-use Rattle.am_repair.proofs.Nodes.{acting, leading, same_itself}
+use Rattle.am_repair.proofs.Nodes.{acting, leading}
 use Rattle.am_repair.proofs.Leading.{is_member_now}
 use Rattle.am_repair.proofs.Following.{Skips}
 use Rattle.am_repair.proofs.Members.{fronts_are_heard, gaps_are_asked}
 use Rattle.am_repair.proofs.Sequencers.{reports_are_taken}
 use Rattle.am_repair.proofs.Steps.{ours_skip}
-use Rattle.am_repair.proofs.Going.{hears_}
+use Rattle.am_repair.specs.Rounds.{hears as hears_}
 use Rattle.am_repair.proofs.Memberships.{get_some, stays_in}
 use Rattle.am_repair.proofs.Schedules.{IsHeard, WaveHits, wave_hits}
 use Rattle.am_repair.proofs.Skipping.{AllSkip, Waits}
@@ -48,7 +49,7 @@ pub both_true : (a b : Bool) → a ≡ true → b ≡ true → (a && b) ≡ true
 both_true a b x y = rw (x, y) refl
 
 same_stamp_test : (a b : Stamp) → a ≡ b → stamp_eq a b ≡ true
-same_stamp_test a b same = ap (stamp_eq a) (sym same) ∙ same_itself a
+same_stamp_test a b same = ap (stamp_eq a) (sym same) ∙ same_is_equal a
 
 other_test : (a b : ℕ) → (a == b) ≡ false → not (b == a) ≡ true
 other_test a b f = let g : (b == a) ≡ false = grind (arith, nat_tests) in rw g refl

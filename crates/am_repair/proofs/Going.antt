@@ -25,6 +25,7 @@ use Rattle.am_effects.proofs.Hearing.{steps_have_effects, hearing_has_effects}
 use Rattle.am_laws.proofs.ViewNames.{HeardNames}
 use Rattle.am_laws.proofs.Taken.{HeardUsed}
 use Rattle.am_laws.proofs.TakenRuns.{Along, along_changes}
+use Rattle.am_repair.specs.Rounds.{IsOurs, ticks, hears as hears_}
 use Rattle.am_repair.specs.Calm.{Repair, Calm}
 use Rattle.am_repair.proofs.Nodes.{CalmCause}
 use Rattle.am_repair.proofs.Leading.{Goes, lead_change, TellsTaken}
@@ -33,10 +34,6 @@ use Rattle.am_repair.proofs.Apart.{StaysApart, apart_change}
 use Rattle.am_repair.proofs.Departed.{IsStill, departed_ticks, departed_hears}
 
 -- ---- the events of a schedule
-
-pub data IsOurs (r : Repair) : Event → Type 0 where
-  ticks : (place : ℕ) → IsOurs r (event_at place act.Tick)
-  hears_ : (place number : ℕ) → r.sent < number → IsOurs r (event_at place (act.Hear number))
 
 -- a step of a schedule, with its cause
 pub record OurStep (r : Repair) (w : World) (e : Event) (s : Step) : Type 0 where

@@ -1,4 +1,5 @@
 -- What the sequencer's changes keep while a schedule runs.
+use Rattle.am_laws.proofs.Views.{same_is_equal}
 use Rattle.std.proofs.Common.{inl, inr, ◌-◌, ◌≡◌, ℕ, ◌+◌, ◌≤◌, ◌==◌, true, false, Option, Some, None, refl, sym, ap, ◌∙◌, subst, arith, length-append, length}
 use Rattle.std.specs.Prelude.{All}
 use Rattle.std.proofs.lemmas.Bool.{cases_lt}
@@ -31,10 +32,11 @@ use Rattle.am_effects.proofs.Says.{told_pushed, view_pushed, leads_pushed}
 use Rattle.am_laws.proofs.Stamps.{same_stamp}
 use Rattle.am_laws.proofs.LeaderRows.{JoinsFit, least_within, is_in}
 use Rattle.am_laws.proofs.Trims.{Fronts, told_used}
+use Rattle.am_laws.proofs.ViewSteps.{after_same}
 use Rattle.am_repair.specs.Calm.{Repair, Leads, ReportIs}
 use Rattle.am_repair.proofs.Ends.{follows, refreshed_stay, raise_up}
-use Rattle.am_repair.proofs.Lists.{LogGrows, grows_then, grows_push, counted_stays, number_after, IsJoinOrData, is_data, is_join, plain, member_after}
-use Rattle.am_repair.proofs.Nodes.{CalmCause, acting, leading, not_open, same_itself, Alike, alike_here, alike_refresh, alike_settle, view_alike, leads_alike, rest_alike}
+use Rattle.am_repair.proofs.Lists.{LogGrows, grows_then, grows_push, counted_stays, IsJoinOrData, is_data, is_join, plain, member_after}
+use Rattle.am_repair.proofs.Nodes.{CalmCause, acting, leading, not_open, Alike, alike_here, alike_refresh, alike_settle, view_alike, leads_alike, rest_alike}
 
 -- ---- what is kept
 
@@ -211,7 +213,7 @@ leads_pushed_ r m e f joins h =
     record {
       leads = leads_pushed m e p ∙ h.leads;
       view_ = view_pushed m e p ∙ h.view_;
-      number = ap (λ (i : Image). i.view_number) image ∙ number_after (told m) (top m + 1) e p ∙ h.number;
+      number = ap (λ (i : Image). i.view_number) image ∙ (after_same (told m) (top m + 1) e p).number ∙ h.number;
       rest = record { stays = h.rest.stays; no_ballot = h.rest.no_ballot };
       high = omega arith;
       reached = h.reached;
@@ -264,7 +266,7 @@ pub not_behind : (m : Node) (v : Stamp) → acts m ≡ true → v ≡ m.core.pro
 not_behind m v a same below =
     let is = (acting m a).1 in
     let both = and_both (is_member m.status) (stamp_eq m.core.promise (view m)) a in
-    let t : stamp_eq (view m) v ≡ true = ap (stamp_eq (view m)) (same ∙ is) ∙ same_itself (view m) in
+    let t : stamp_eq (view m) v ≡ true = ap (stamp_eq (view m)) (same ∙ is) ∙ same_is_equal (view m) in
     cc
 
 -- what a cause tells of members to have taken

@@ -25,6 +25,7 @@ pub mod OldLives
 pub mod Beginning
 pub mod Lawfully
 pub mod OneLists
+pub mod Claims
 pub mod Ticks
 pub mod Members
 pub mod Sequencers

@@ -1,13 +1,14 @@
 -- A list that goes on tells what it told, and what it tells after an entry more.
-use Rattle.std.proofs.Common.{◌≡◌, ℕ, zero, suc, ◌-◌, ◌<◌, ◌≤◌, ◌==◌, nat_le, true, false, List, [], ◌∷◌, ◌++◌, length, Some, slice_get, refl, ap, ◌∙◌, arith, length-append}
+use Rattle.std.proofs.Common.{◌≡◌, ℕ, zero, suc, ◌-◌, ◌<◌, ◌≤◌, nat_le, true, false, List, [], ◌∷◌, length, Some, refl, ap, ◌∙◌, arith, length-append}
 use Rattle.std.proofs.lemmas.Bool.Decides.{nat_tests}
 use Rattle.std.proofs.lemmas.Option.{slice_get_within}
 use Rattle.am_base.specs.declared.entry.Entry.{Entry}
-use Rattle.am_base.specs.declared.entry.Entry.TheVariants.{Data, Join, Leave, View}
+use Rattle.am_base.specs.declared.entry.Entry.TheVariants.{Data, Join}
 use Rattle.am_base.specs.declared.image.Image.{Image}
-use Rattle.am_base.specs.Names.{life_of, has}
-use Rattle.am_base.specs.Lists.{Log, top_of, entry_at, image_at, members_of, at_place, after, fits, with_entry}
+use Rattle.am_base.specs.Names.{has}
+use Rattle.am_base.specs.Lists.{Log, top_of, entry_at, image_at, members_of, after, fits, with_entry}
 use Rattle.am_base.specs.Fronts.{counted_of, counted_at}
+use Rattle.am_group.proofs.Places.{get_before}
 use Rattle.am_core.proofs.Ends.{image-push}
 use Rattle.am_chain_lists.proofs.Rows.{long_after, in_after}
 use Rattle.am_model.specs.Receiving.{is_view}
@@ -35,11 +36,6 @@ grows_then a b c x y =
       image = λ number low. y.image number (omega arith) ∙ x.image number low;
       entry = λ number low. y.entry number (omega arith) ∙ x.entry number low;
     }
-
-get_before : (xs ys : List Entry) (k : ℕ) → k < length xs → slice_get (xs ++ ys) k ≡ slice_get xs k
-get_before [] ys k low = absurd (omega arith)
-get_before (x ∷ xs) ys zero low = refl
-get_before (x ∷ xs) ys (suc k) low = get_before xs ys k (omega arith)
 
 entry_push : (log : Log) (e : Entry) (number : ℕ) → number ≤ top_of log → entry_at (with_entry log e) number ≡ entry_at log number
 entry_push log e zero low = refl
@@ -74,13 +70,6 @@ counted_stays a b number grows low =
     ∙ ap (λ (i : Image). counted_of (entry_at a number) (members_of i)) (grows.image (number - 1) (omega arith))
 
 -- ---- an entry more
-
-pub number_after : (image : Image) (number : ℕ) (e : Entry) → is_view e ≡ false → (after image number e).view_number ≡ image.view_number
-unfolding after
-number_after image number (Data from req body) f = split ((at_place image from).life == life_of from) (λ t. rw t refl) (λ g. rw g refl)
-number_after image number (Join name) f = refl
-number_after image number (Leave name) f = split ((at_place image name).life == life_of name) (λ t. rw t refl) (λ g. rw g refl)
-number_after image number (View stamp names resilience) f = absurd (cc)
 
 -- a Data tells the same whatever its body
 pub same_after : (image : Image) (number from req : ℕ) (body other : List ℕ) → after image number (Data from req body) ≡ after image number (Data from req other)

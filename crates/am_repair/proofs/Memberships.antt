@@ -13,8 +13,9 @@ use Rattle.am_model.specs.Node.{Node, top, has_own_leave}
 use Rattle.am_model.specs.Receiving.{is_view}
 use Rattle.am_model.proofs.Greatest.{split}
 use Rattle.am_laws.proofs.LeaderRows.{is_in}
+use Rattle.am_laws.proofs.ViewSteps.{after_same}
 use Rattle.am_repair.specs.Calm.{Repair, Leads, Follows}
-use Rattle.am_repair.proofs.Lists.{number_after, entry_within}
+use Rattle.am_repair.proofs.Lists.{entry_within}
 
 -- ---- entries of a list
 
@@ -94,7 +95,7 @@ unfolding fold
 number_up image n [] low = omega arith
 number_up image n (e ∷ es) low = split (is_view e)
     (λ t. let new = number_of_view image n e t in let more = number_up (after image n e) (n + 1) es (omega arith) in omega arith)
-    (λ f. let same = number_after image n e f in let more = number_up (after image n e) (n + 1) es (omega arith) in omega arith)
+    (λ f. let same = (after_same image n e f).number in let more = number_up (after image n e) (n + 1) es (omega arith) in omega arith)
 
 view_stands : (image : Image) (n : ℕ) (es : List Entry) (k : ℕ) (e : Entry) → slice_get es k ≡ Some e → is_view e ≡ true → n + k ≤ (fold image n es).view_number
 unfolding fold

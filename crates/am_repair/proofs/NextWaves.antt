@@ -36,7 +36,7 @@ use Rattle.am_repair.proofs.Lists.{entry_stays, entry_within}
 use Rattle.am_repair.proofs.Saying.{entry_of}
 use Rattle.am_repair.proofs.Sequencers.{nacks_are_served}
 use Rattle.am_repair.proofs.Steps.{goes_first, ours_trust}
-use Rattle.am_repair.proofs.Going.{IsOurs, hears_}
+use Rattle.am_repair.specs.Rounds.{IsOurs, hears as hears_}
 use Rattle.am_repair.proofs.Memberships.{get_some}
 use Rattle.am_repair.proofs.Schedules.{WaveHits, wave_hits}
 use Rattle.am_repair.proofs.Fine.{Fine, fine_goes, few_members, grow_goes, letter_goes, member_there, hear_is, sent_at}

@@ -30,9 +30,6 @@ CalmCause r w refuses = Unit {0}
 
 -- ---- who acts
 
-pub same_itself : (v : Stamp) → stamp_eq v v ≡ true
-same_itself v = grind (arith, nat_tests)
-
 pub acting : (m : Node) → acts m ≡ true → (is_member m.status ≡ true) × (m.core.promise ≡ view m)
 acting m a = let both = and_both (is_member m.status) (stamp_eq m.core.promise (view m)) a in (both.0, same_stamp m.core.promise (view m) both.1)
 

@@ -1,5 +1,5 @@
 -- What one list of a group gives: each member's list tells what the sequencer's tells up to there.
-use Rattle.std.proofs.Common.{◌≡◌, ◌⊎◌, inl, inr, ⊎_elim, ℕ, zero, suc, ◌+◌, ◌-◌, ◌<◌, ◌≤◌, nat_le, true, List, [], ◌∷◌, ◌++◌, length, take, Some, slice_get, refl, sym, ap, ◌∙◌, arith, length-append}
+use Rattle.std.proofs.Common.{◌≡◌, ◌⊎◌, inl, inr, ⊎_elim, ℕ, zero, suc, ◌+◌, ◌-◌, ◌<◌, ◌≤◌, nat_le, true, List, [], ◌∷◌, length, take, Some, slice_get, refl, sym, ap, ◌∙◌, arith, length-append}
 use Rattle.std.proofs.lemmas.Bool.{cases_lt}
 use Rattle.std.proofs.lemmas.Bool.Decides.{nat_tests}
 use Rattle.std.proofs.Math.Seq.{take-append-add}
@@ -14,6 +14,7 @@ use Rattle.am_chain_lists.specs.Whole.{Begins, IsGood, mem, view_of, key}
 use Rattle.am_chain_lists.proofs.Members.{fold_append, good_begins}
 use Rattle.am_chain_lists.proofs.Prefixes.{begins_length, begins_take, length_take, take_begins, begins_both, begins_push}
 use Rattle.am_chain_lists.proofs.Order.{view_up, view_below}
+use Rattle.am_group.proofs.Places.{get_behind}
 use Rattle.am_model.specs.Node.{Node, top, told, view, members}
 use Rattle.am_model.specs.Lawful as lists
 use Rattle.am_model.specs.World.{World}
@@ -27,7 +28,7 @@ use Rattle.am_laws.proofs.ViewSteps.{after_same}
 use Rattle.am_repair.specs.Standing.{IsBeginning, IsTaken, Agrees, OneListAgrees}
 use Rattle.am_repair.proofs.Nodes.{acting, leading}
 use Rattle.am_repair.proofs.Beginning.{few_acting}
-use Rattle.am_repair.proofs.Lists.{entry_within, number_after}
+use Rattle.am_repair.proofs.Lists.{entry_within}
 
 -- ---- a node's whole list
 
@@ -69,14 +70,8 @@ whole_entry w m (suc before) e low there = split (nat_le m.core.log.start before
     let long = length_take m.core.log.start w.group low in
     let get = rw t at there in
     let at : suc before - 1 ≡ length (take m.core.log.start w.group) + (before - m.core.log.start) = omega arith in
-    ap (slice_get (lists.whole w m)) at ∙ get_behind (take m.core.log.start w.group) m.core.log.entries (before - m.core.log.start) e get)
+    ap (slice_get (lists.whole w m)) at ∙ get_behind (take m.core.log.start w.group) m.core.log.entries (before - m.core.log.start) ∙ get)
     (λ f. absurd (let none = rw f at there in cc))
-  where
-    get_behind : (xs ys : List Entry) (j : ℕ) (e : Entry) → slice_get ys j ≡ Some e → slice_get (xs ++ ys) (length xs + j) ≡ Some e
-    get_behind [] ys j e there = let none : length {A = Entry} [] + j ≡ j = omega arith in ap (slice_get ys) none ∙ there
-    get_behind (x ∷ xs) ys j e there =
-        let more : length (x ∷ xs) + j ≡ suc (length xs + j) = omega arith in
-        ap (slice_get (x ∷ (xs ++ ys))) more ∙ get_behind xs ys j e there
 
 -- ---- what a member's list tells
 
@@ -118,9 +113,9 @@ Unviewed image n es = ((fold image n es).view ≡ image.view) × ((fold image n 
 view_at : (image : Image) (n : ℕ) (e : Entry) (es : List Entry) → Unviewed (after image n e) (n + 1) es → ViewIn image n (e ∷ es) ⊎ Unviewed image n (e ∷ es)
 unfolding fold after Unviewed
 view_at image n (View stamp names resilience) es h = inl (record { index = 0; names = names; resilience = resilience; number = (let at = h.1 in omega arith); there = ap (λ v. Some (View v names resilience)) (sym h.0) })
-view_at image n (Data from req body) es h = inr (h.0 ∙ (after_same image n (Data from req body) refl).view, h.1 ∙ number_after image n (Data from req body) refl)
+view_at image n (Data from req body) es h = inr (h.0 ∙ (after_same image n (Data from req body) refl).view, h.1 ∙ (after_same image n (Data from req body) refl).number)
 view_at image n (Join name) es h = inr h
-view_at image n (Leave name) es h = inr (h.0 ∙ (after_same image n (Leave name) refl).view, h.1 ∙ number_after image n (Leave name) refl)
+view_at image n (Leave name) es h = inr (h.0 ∙ (after_same image n (Leave name) refl).view, h.1 ∙ (after_same image n (Leave name) refl).number)
 
 view_in : (image : Image) (n : ℕ) (es : List Entry) → ViewIn image n es ⊎ Unviewed image n es
 unfolding fold Unviewed

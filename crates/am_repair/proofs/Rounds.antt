@@ -10,7 +10,7 @@ use Rattle.am_model.specs.Settle.{Settling, event_at, running, ticks, hearings, 
 use Rattle.am_model.specs.World.{World, happens, happen}
 use Rattle.am_model.proofs.Beginnings.{happen_begins}
 use Rattle.am_repair.specs.Calm.{Repair}
-use Rattle.am_repair.proofs.Going.{IsOurs, ticks as our_ticks, hears_}
+use Rattle.am_repair.specs.Rounds.{IsOurs, ticks as our_ticks, hears as hears_}
 use Rattle.am_repair.proofs.Schedules.{acts_keep, wave_keeps}
 use Rattle.am_repair.proofs.Fine.{fine_goes, grow_goes}
 use Rattle.am_repair.proofs.Ticking.{Bounds, ticks_poll}

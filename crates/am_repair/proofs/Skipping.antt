@@ -38,7 +38,7 @@ use Rattle.am_repair.proofs.Following.{Skips}
 use Rattle.am_repair.proofs.Departed.{departed_ticks}
 use Rattle.am_repair.proofs.Ticks.{without_ballot, goes_not}
 use Rattle.am_repair.proofs.Steps.{letter_either}
-use Rattle.am_repair.proofs.Going.{ticks as our_ticks}
+use Rattle.am_repair.specs.Rounds.{ticks as our_ticks}
 use Rattle.am_repair.proofs.Schedules.{acts_keep}
 use Rattle.am_repair.proofs.Fine.{Fine, fine_goes}
 use Rattle.am_repair.proofs.Steps.{ours_skip}

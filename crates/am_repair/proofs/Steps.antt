@@ -30,7 +30,8 @@ use Rattle.am_repair.proofs.Lists.{LogGrows, grows_same}
 use Rattle.am_repair.proofs.Leading.{TellsTaken}
 use Rattle.am_repair.proofs.Following.{Skips}
 use Rattle.am_repair.proofs.Saying.{Grow, calm_stays, Sends, says_calm}
-use Rattle.am_repair.proofs.Going.{IsOurs, OurStep, Ours, idles, steps, ours, lead_changes, follow_changes, apart_changes, sender_is, member_there}
+use Rattle.am_repair.specs.Rounds.{IsOurs}
+use Rattle.am_repair.proofs.Going.{OurStep, Ours, idles, steps, ours, lead_changes, follow_changes, apart_changes, sender_is, member_there}
 
 -- ---- names
 

@@ -20,7 +20,7 @@ use Rattle.am_repair.specs.Calm.{Repair}
 use Rattle.am_repair.specs.Waves.{IsServed, Served}
 use Rattle.am_repair.proofs.Sets.{only_has}
 use Rattle.am_repair.proofs.Members.{entries_are_stored}
-use Rattle.am_repair.proofs.Going.{IsOurs, hears_}
+use Rattle.am_repair.specs.Rounds.{IsOurs, hears as hears_}
 use Rattle.am_repair.proofs.Memberships.{stays_in, no_view_above}
 use Rattle.am_repair.proofs.Schedules.{acts_keep, acts_hit, is_hearing, wave_walks, letter_within}
 use Rattle.am_repair.proofs.Fine.{Fine, fine_goes, few_members, grow_goes, member_there, hear_is}

@@ -26,7 +26,7 @@ use Rattle.am_repair.proofs.Sets.{some_has, without_has}
 use Rattle.am_repair.proofs.Nodes.{acting, leading, leads_not}
 use Rattle.am_repair.proofs.Leading.{is_member_now}
 use Rattle.am_repair.proofs.Ticks.{sequencers_poll, members_report}
-use Rattle.am_repair.proofs.Going.{IsOurs, ticks as our_ticks}
+use Rattle.am_repair.specs.Rounds.{IsOurs, ticks as our_ticks}
 use Rattle.am_repair.proofs.Schedules.{IsAmong, Hits, acts_hit, is_running}
 use Rattle.am_repair.proofs.Fine.{Fine, few_members, fine_goes, grow_goes, letter_goes, letters_more, IsThere, member_there, tick_is, sent_at, contained_at, stepped_node}
 

@@ -2,6 +2,7 @@
 #![tactic(auto)]
 
 ghost use Rattle.am_repair.specs.Standing.{OneListAgrees, RepairableIsLawful, RepairsWhereListsAgree};
+ghost use Rattle.am_repair.specs.Rounds.{CalmStays, RoundsStore};
 ghost use Rattle.am_repair.specs.Rows.{
   EntriesAreStored,
   FrontsAreHeard,
@@ -32,6 +33,13 @@ pub fn sequencers_serve()
     ensures reports { ReportsAreTaken }
     ensures entries { NacksAreServed }
     ensures fronts { FrontsRise }
+{}
+
+/// A calm world of a run stays calm with each event of a schedule, and with each round each member has stored eight entries more, or all up
+/// to where the sequencer stood.
+pub fn calm_worlds_go_on()
+    ensures stay { CalmStays }
+    ensures store { RoundsStore }
 {}
 
 /// What a lossless schedule repairs in a run, where the lists of the view's members agree (`Agree`): each of them stores and accepts all up
