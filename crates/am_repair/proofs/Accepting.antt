@@ -43,12 +43,14 @@ reports_pushed m high req body h =
     let e = Data m.core.who req body in
     let stored = h.stored in
     let more : top (pushed m e) ≡ top m + 1 = simp length-append (omega arith) in
-    let number : (told (pushed m e)).view_number ≡ (told m).view_number = ap (λ (i : Image). i.view_number) (told_pushed m e) ∙ (after_same (told m) (top m + 1) e refl).number in
+    let number : (told (pushed m e)).view_number ≡ (told m).view_number = ap (λ (i : Image). i.view_number) (told_pushed m e)
+    ∙ (after_same (told m) (top m + 1) e refl).number in
     let view_ = h.view in
     record {
       stored = omega arith;
       view = omega arith;
-      each = λ k above within low. subst (λ set. All (HasReported m high) (names_of set)) (sym (counted_stays m.core.log (pushed m e).core.log k (grows_push m.core.log e) (omega arith))) (h.each k above within (omega arith));
+      each = λ k above within low. subst (λ set. All (HasReported m high) (names_of set))
+          (sym (counted_stays m.core.log (pushed m e).core.log k (grows_push m.core.log e) (omega arith))) (h.each k above within (omega arith));
     }
 
 emit_reports : (m : Node) (w : Option OwnSend) (o : Outcome) (high : ℕ) → HasReports m high → HasReports (emit m w o).node high
@@ -58,7 +60,8 @@ emit_reports m (Some s) o high h =
     (λ f. node_if (λ n. HasReports n high) (not (is_sequencer m)) _ _ (λ t. node_if (λ n. HasReports n high) _ _ _ (λ u. h) (λ u. h))
     (λ g. node_if (λ n. HasReports n high) (has_room m) _ _ (λ t. reports_pushed m high s.req s.body h) (λ t. h)))
 
-accepts_done : (m : Node) (p : Plan) (high : ℕ) → p.departs ≡ false → is_sequencer p.node ≡ true → HasReports p.node high → high ≤ (finish m p).node.core.acc
+accepts_done : (m : Node) (p : Plan) (high : ℕ) → p.departs ≡ false → is_sequencer p.node ≡ true → HasReports p.node high
+    → high ≤ (finish m p).node.core.acc
 unfolding finish
 accepts_done m p high stays leads h = rw stays (fronts_rise p.node high leads h)
 
@@ -77,7 +80,8 @@ tick_accepts m high leads rest h =
 abbrev pub AllKnown : Repair → World → Type 0
 AllKnown r w = (i : ℕ) → has r.members i ≡ true → (i == r.by) ≡ false → r.high ≤ ((w.nodes r.by).reports i).stored
 
-leads_reports : (r : Repair) (q : Node) → Leads r q → q.core.who ≡ r.by → ((i : ℕ) → has r.members i ≡ true → (i == r.by) ≡ false → r.high ≤ (q.reports i).stored) → HasReports q r.high
+leads_reports : (r : Repair) (q : Node) → Leads r q → q.core.who ≡ r.by
+    → ((i : ℕ) → has r.members i ≡ true → (i == r.by) ≡ false → r.high ≤ (q.reports i).stored) → HasReports q r.high
 leads_reports r q l who known =
     let number = l.number in
     let reached = l.reached in
@@ -106,10 +110,12 @@ known_bound rules r = record {
 
 knows_stable : (rules : Rules) (r : Repair) (i : ℕ) → has r.members i ≡ true → Stable r (Knows rules r i)
 knows_stable rules r i there = record {
-  keeps = λ w e is h. (let a = (grow_goes rules r w e is h.fine).kept i there in let b = h.known in record { fine = fine_goes rules r w e is h.fine; known = omega arith });
+  keeps = λ w e is h. (let a = (grow_goes rules r w e is h.fine).kept i there in
+      let b = h.known in record { fine = fine_goes rules r w e is h.fine; known = omega arith });
 }
 
-pub round_reports : (rules : Rules) (r : Repair) (i : ℕ) (w : World) → r.sent ≤ length w.letters → has r.members i ≡ true → (i == r.by) ≡ false → HasStored rules r i r.high w → Knows rules r i (after_waves w)
+pub round_reports : (rules : Rules) (r : Repair) (i : ℕ) (w : World) → r.sent ≤ length w.letters → has r.members i ≡ true → (i == r.by) ≡ false
+    → HasStored rules r i r.high w → Knows rules r i (after_waves w)
 round_reports rules r i w low there other h =
     let a = after_ticks w in
     let report = ticks_report rules r i w h.fine there other h.stored_ in
@@ -120,15 +126,18 @@ round_reports rules r i w low there other h =
 
 accepts_stable : (rules : Rules) (r : Repair) (i : ℕ) → has r.members i ≡ true → Stable r (Accepts rules r i)
 accepts_stable rules r i there = record {
-  keeps = λ w e is h. (let a = (grow_goes rules r w e is h.fine).acc i there in let b = h.accepted in record { fine = fine_goes rules r w e is h.fine; accepted = omega arith });
+  keeps = λ w e is h. (let a = (grow_goes rules r w e is h.fine).acc i there in
+      let b = h.accepted in record { fine = fine_goes rules r w e is h.fine; accepted = omega arith });
 }
 
-pub round_accepts : (rules : Rules) (r : Repair) (i : ℕ) (w : World) → r.sent ≤ length w.letters → has r.members i ≡ true → (i == r.by) ≡ false → HasStored rules r i r.high w → AllKnown r w → Accepts rules r i (after_waves w)
+pub round_accepts : (rules : Rules) (r : Repair) (i : ℕ) (w : World) → r.sent ≤ length w.letters → has r.members i ≡ true → (i == r.by) ≡ false
+    → HasStored rules r i r.high w → AllKnown r w → Accepts rules r i (after_waves w)
 round_accepts rules r i w low there other h known =
     let a = after_ticks w in
     let poll = ticks_poll rules r (AllKnown r) i r.high w (known_bound rules r) h.fine known there other in
     let kept = ticks_keep r (HasStored rules r i r.high) (stored_stable rules r i r.high there) w h in
-    later_waves r (Accepts rules r i) (accepts_stable rules r i there) w low (first_wave_accepts rules r i (length w.letters) a low kept.fine poll there other kept.stored_)
+    later_waves r (Accepts rules r i) (accepts_stable rules r i there) w low
+    (first_wave_accepts rules r i (length w.letters) a low kept.fine poll there other kept.stored_)
 
 -- and the sequencer itself
 leader_ticks : (rules : Rules) (r : Repair) (w : World) → Fine rules r w → AllKnown r w → Accepts rules r r.by (after_ticks w)
@@ -144,12 +153,17 @@ leader_ticks rules r w h known =
 
     hits : Hits P Q act.Tick (place_of r.by)
     hits = record {
-      keeps = λ p u k. (fine_goes rules r u (event_at p act.Tick) (our_ticks p) k.0, (known_bound rules r).keeps u (event_at p act.Tick) (our_ticks p) k.0 k.1);
+      keeps = λ p u k. (
+        fine_goes rules r u (event_at p act.Tick) (our_ticks p) k.0,
+        (known_bound rules r).keeps u (event_at p act.Tick)
+            (our_ticks p) k.0 k.1,
+      );
       hits = λ u k. (known_bound rules r).gives u k.0 k.1;
       stays = λ p u k q. (let a = (grow_goes rules r u (event_at p act.Tick) (our_ticks p) k.0).acc r.by k.0.calm.listed in omega arith);
     }
 
-pub leader_accepts : (rules : Rules) (r : Repair) (w : World) → r.sent ≤ length w.letters → Fine rules r w → AllKnown r w → Accepts rules r r.by (after_waves w)
+pub leader_accepts : (rules : Rules) (r : Repair) (w : World) → r.sent ≤ length w.letters → Fine rules r w → AllKnown r w
+    → Accepts rules r r.by (after_waves w)
 leader_accepts rules r w low h known =
     let s = accepts_stable rules r r.by h.calm.listed in
     let a = leader_ticks rules r w h known in

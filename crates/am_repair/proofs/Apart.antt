@@ -44,7 +44,8 @@ promised_view r w c x v calm (invited s v_ is heard own) = absurd (subst (CalmCa
 promised_view r w c x v calm (overtaken_by s v_ vote is heard above) = absurd (subst (CalmCause r w) is calm)
 promised_view r w c x v calm (told_result s v_ base number names resilience is heard own other) = subst (CalmCause r w) is calm
 
-pub apart_change : (r : Repair) (w : World) (c : Cause) (o : Outcome) (m x y : Node) → r.view.by ≡ r.by → (m.core.who == r.by) ≡ false → CalmCause r w c → Change c o x y → StaysApart r m x → StaysApart r m y
+pub apart_change : (r : Repair) (w : World) (c : Cause) (o : Outcome) (m x y : Node) → r.view.by ≡ r.by → (m.core.who == r.by) ≡ false → CalmCause r w c
+    → Change c o x y → StaysApart r m x → StaysApart r m y
 apart_change r w c o m x y by other calm refreshes h = apart_as r m x y (alike_refresh x) h
 apart_change r w c o m x y by other calm settles h = apart_as r m x y (alike_settle x) h
 apart_change r w c o m x y by other calm (takes_report s v report brings may) h = absurd (no_leader r m x by other h may.leads)
@@ -57,10 +58,26 @@ apart_change r w c o m x y by other calm (notes s v base acc brings heard) h =
 apart_change r w c o m x y by other calm (stores s v base acc number e carries heard plain may) h =
     record { who = h.who; there = h.there; apart = record { no_ballot = h.apart.no_ballot; stays = h.apart.stays; promised = h.apart.promised } }
 apart_change r w c o m x y by other calm (begins_list s v base join image is says may) h =
-    record { who = h.who; there = refl; apart = record { no_ballot = h.apart.no_ballot; stays = h.apart.stays; promised = λ member. subst (CalmCause r w) is calm } }
+    record {
+      who = h.who;
+      there = refl;
+      apart = record {
+        no_ballot = h.apart.no_ballot;
+        stays = h.apart.stays;
+        promised = λ member. subst (CalmCause r w) is calm;
+      };
+    }
 apart_change r w c o m x y by other calm (departs s v number is heard leaves) h = absurd (let a = h.apart.stays in cc)
 apart_change r w c o m x y by other calm (promises v low why) h =
-    record { who = h.who; there = h.there; apart = record { no_ballot = ap (overtaken v) h.apart.no_ballot; stays = h.apart.stays; promised = λ member. promised_view r w c x v calm why } }
+    record {
+      who = h.who;
+      there = h.there;
+      apart = record {
+        no_ballot = ap (overtaken v) h.apart.no_ballot;
+        stays = h.apart.stays;
+        promised = λ member. promised_view r w c x v calm why;
+      };
+    }
 apart_change r w c o m x y by other calm (opens least resilience begins may) h = absurd (no_ballot_begun r w c x calm begins)
 apart_change r w c o m x y by other calm (looks b verdict over why look is) h = absurd (let k = looked_open c x b why in not_open r m x h k.0 k.1)
 apart_change r w c o m x y by other calm (fetches s v base number e is heard promise below why may) h =

@@ -46,7 +46,8 @@ few_acting rules w name laws a = elim (cases_lt name 256) [
 acting_there : (m : Node) → acts m ≡ true → has_departed m.status ≡ false
 acting_there m a = member_there m (acting m a).0
 
-there_now : (rules : Rules) (w : World) (place name : ℕ) → AllOwned rules w → OldStopped w → MayRepair w place → acts (w.nodes name) ≡ true → IsThere w name
+there_now : (rules : Rules) (w : World) (place name : ℕ) → AllOwned rules w → OldStopped w → MayRepair w place → acts (w.nodes name) ≡ true
+    → IsThere w name
 there_now rules w place name laws old may a =
     let there = acting_there (w.nodes name) a in
     let runs = there_false (is_stopped w name) (λ t. (let gone = may.nobody_stopped name t in cc)) in
@@ -72,7 +73,14 @@ no_list status.Member member gone = absurd (cc)
 no_list status.Departed member gone = absurd (cc)
 
 abbrev repair_of : World → ℕ → Repair
-repair_of w q = record { by = q; view = view (w.nodes q); at = (told (w.nodes q)).view_number; members = members (w.nodes q); high = top (w.nodes q); sent = length w.letters }
+repair_of w q = record {
+  by = q;
+  view = view (w.nodes q);
+  at = (told (w.nodes q)).view_number;
+  members = members (w.nodes q);
+  high = top (w.nodes q);
+  sent = length w.letters;
+}
 
 -- a world of a run that may be repaired, and in which lists agree
 record Begun (rules : Rules) (w : World) (place : ℕ) : Type 0 where
@@ -82,7 +90,8 @@ record Begun (rules : Rules) (w : World) (place : ℕ) : Type 0 where
   may : MayRepair w place
   agree : Agree w (w.nodes (current w place))
 
-stays_here : (rules : Rules) (w : World) (place name : ℕ) → Begun rules w place → has_departed (w.nodes name).status ≡ false → (w.nodes name).leaving ≡ false
+stays_here : (rules : Rules) (w : World) (place name : ℕ) → Begun rules w place → has_departed (w.nodes name).status ≡ false
+    → (w.nodes name).leaving ≡ false
 stays_here rules w place name b there = there_false (w.nodes name).leaving (λ t. (let gone = b.may.nobody_leaves name t in cc))
 
 at_rest : (rules : Rules) (w : World) (place name : ℕ) → Begun rules w place → acts (w.nodes name) ≡ true → IsAtRest (w.nodes name)
@@ -111,11 +120,13 @@ leads_first rules w place b =
       high = omega arith;
       reached = own.reached;
       fit = λ k e low there. b.agree.fit k e there;
-      members_ = λ name k there above within. (let last : k ≡ top m = omega arith in ap (λ n. has (members_at m.core.log n) name) last ∙ ap (λ (i : Image). has (members_of i) name) (image-top m.core.log) ∙ there);
+      members_ = λ name k there above within. (let last : k ≡ top m = omega arith in ap (λ n. has (members_at m.core.log n) name) last
+          ∙ ap (λ (i : Image). has (members_of i) name) (image-top m.core.log) ∙ there);
       counted = b.agree.counted;
     }
 
-follows_first : (rules : Rules) (w : World) (place name : ℕ) → Begun rules w place → (let q = current w place in has (members (w.nodes q)) name ≡ true → Follows (repair_of w q) (w.nodes q) (w.nodes name))
+follows_first : (rules : Rules) (w : World) (place name : ℕ) → Begun rules w place
+    → (let q = current w place in has (members (w.nodes q)) name ≡ true → Follows (repair_of w q) (w.nodes q) (w.nodes name))
 follows_first rules w place name b there =
     let act = b.may.all_act name there in
     let g = b.agree.each name there in
@@ -131,7 +142,9 @@ follows_first rules w place name b there =
       reported = g.reported;
     }
 
-apart_first : (rules : Rules) (w : World) (place name : ℕ) → Begun rules w place → (let q = current w place in has (members (w.nodes q)) name ≡ false → has_departed (w.nodes name).status ≡ false → IsApart (repair_of w q) (w.nodes name))
+apart_first : (rules : Rules) (w : World) (place name : ℕ) → Begun rules w place
+    → (let q = current w place in has (members (w.nodes q)) name ≡ false → has_departed (w.nodes name).status ≡ false
+    → IsApart (repair_of w q) (w.nodes name))
 apart_first rules w place name b none there =
     let q = current w place in
     let m = w.nodes name in
@@ -165,7 +178,8 @@ calm_first rules w place b =
       letters = λ number l late there. absurd (let within = letter_within w.letters number l there in omega arith);
     }
 
-stored_first : (rules : Rules) (w : World) (place : ℕ) → Begun rules w place → (let q = current w place in AllStored rules (repair_of w q) (w.nodes q).core.base w)
+stored_first : (rules : Rules) (w : World) (place : ℕ) → Begun rules w place
+    → (let q = current w place in AllStored rules (repair_of w q) (w.nodes q).core.base w)
 stored_first rules w place b =
     let q = current w place in
     let fine : Fine rules (repair_of w q) w = record { laws = b.laws; calm = calm_first rules w place b } in

@@ -92,8 +92,10 @@ still m o f =
 
 pub departed_ticks : (m : Node) → has_departed m.status ≡ true → IsStill m (step m does.Tick)
 unfolding step row tick_row
-departed_ticks m h = subst (λ (p : Plan). IsStill m (finish m p)) (sym (ap (tick_by m) (departed_status m.status h))) (still m said.Idle (gone_node m h).leads)
+departed_ticks m h = subst (λ (p : Plan). IsStill m (finish m p)) (sym (ap (tick_by m) (departed_status m.status h)))
+    (still m said.Idle (gone_node m h).leads)
 
 pub departed_hears : (m : Node) (p : Packet) → has_departed m.status ≡ true → IsStill m (hear m p)
 unfolding hear
-departed_hears m p h = subst (λ (q : Plan). IsStill m (finish m q)) (sym (hears_nothing m p (gone_node m h))) (still m said.Elsewhere (gone_node m h).leads)
+departed_hears m p h = subst (λ (q : Plan). IsStill m (finish m q)) (sym (hears_nothing m p (gone_node m h)))
+    (still m said.Elsewhere (gone_node m h).leads)

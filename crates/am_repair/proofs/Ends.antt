@@ -99,15 +99,18 @@ lead_front m = refl
 has_stored : (m : Node) (high number name : ℕ) → high ≤ top m → number ≤ high → HasReported m high name → nat_le number (own_reports m name).stored ≡ true
 unfolding own_reports
 has_stored m high number name stored within h = ⊎_elim
-    (λ (own : name ≡ m.core.who). let t : (name == m.core.who) ≡ true = grind (arith, nat_tests) in rw t (let z : number ≤ max (m.reports name).stored (top m) = omega arith in grind (arith, nat_tests)))
+    (λ (own : name ≡ m.core.who). let t : (name == m.core.who) ≡ true = grind (arith, nat_tests) in rw t
+    (let z : number ≤ max (m.reports name).stored (top m) = omega arith in grind (arith, nat_tests)))
     (λ (told_ : high ≤ (m.reports name).stored). let up = raise_up m.reports m.core.who (report_of m) name in grind (arith, nat_tests))
     h
 
-all_hold : (m : Node) (high number : ℕ) → HasReports m high → m.core.acc < number → number ≤ high → (told m).view_number ≤ number → is_held (own_reports m) m.core.log number ≡ true
+all_hold : (m : Node) (high number : ℕ) → HasReports m high → m.core.acc < number → number ≤ high → (told m).view_number ≤ number
+    → is_held (own_reports m) m.core.log number ≡ true
 all_hold m high number h low within view =
     let set = counted_at m.core.log number in
     let count = count_named (λ name. nat_le number (own_reports m name).stored) set 0
-    (All-weaker (HasReported m high) (λ name. nat_le number (own_reports m name).stored ≡ true) (λ name x. has_stored m high number name h.stored within x) (names_of set) (h.each number low within view)) in
+    (All-weaker (HasReported m high) (λ name. nat_le number (own_reports m name).stored ≡ true) (λ name x. has_stored m high number name h.stored within x)
+    (names_of set) (h.each number low within view)) in
     grind (arith, nat_tests)
 
 all_satisfied : (m : Node) (high : ℕ) → HasReports m high → AllSatisfied (own_reports m) m.core.log m.core.acc high

@@ -30,7 +30,10 @@ pub record Fine (rules : Rules) (r : Repair) (w : World) : Type 0 where
   pub calm : Calm r w
 
 pub fine_goes : (rules : Rules) (r : Repair) (w : World) (e : Event) → IsOurs r e → Fine rules r w → Fine rules r (happens w e)
-fine_goes rules r w e is h = record { laws = each_owned rules w e (happens w e) (events_have_effects w e) h.laws; calm = calm_goes rules r w e is h.laws h.calm }
+fine_goes rules r w e is h = record {
+  laws = each_owned rules w e (happens w e) (events_have_effects w e) h.laws;
+  calm = calm_goes rules r w e is h.laws h.calm;
+}
 
 pub grow_goes : (rules : Rules) (r : Repair) (w : World) (e : Event) → IsOurs r e → Fine rules r w → Grow r w (happens w e)
 grow_goes rules r w e is h = ours_grow rules r w e is h.laws h.calm
@@ -69,7 +72,8 @@ member_there rules r w name h there = record { current_ = h.calm.current_ name t
 acts_now : (w : World) (name : ℕ) → IsThere w name → current w (place_of (place_of name)) ≡ name
 acts_now w name h = let same : place_of (place_of name) ≡ place_of name = omega arith in ap (current w) same ∙ h.current_
 
-pub tick_is : (w : World) (name : ℕ) → IsThere w name → (let e = event_at (place_of name) act.Tick in happens w e ≡ stepped w e name (step (w.nodes name) does.Tick))
+pub tick_is : (w : World) (name : ℕ) → IsThere w name
+    → (let e = event_at (place_of name) act.Tick in happens w e ≡ stepped w e name (step (w.nodes name) does.Tick))
 unfolding happens
 tick_is w name h =
     let e = event_at (place_of name) act.Tick in
@@ -91,7 +95,8 @@ append_at xs ys j l there =
     ap (letter_at (xs ++ ys)) at ∙ get_behind xs ys j ∙ there
 
 -- by its number in the world after it
-pub sent_at : (w : World) (e : Event) (name : ℕ) (s : Step) (j : ℕ) (l : Letter) → slice_get s.letters j ≡ Some l → letter_at (stepped w e name s).letters (length w.letters + 1 + j) ≡ Some l
+pub sent_at : (w : World) (e : Event) (name : ℕ) (s : Step) (j : ℕ) (l : Letter) → slice_get s.letters j ≡ Some l
+    → letter_at (stepped w e name s).letters (length w.letters + 1 + j) ≡ Some l
 unfolding stepped
 sent_at w e name s j l there = append_at w.letters s.letters j l there
 

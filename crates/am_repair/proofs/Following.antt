@@ -65,8 +65,10 @@ follows_as r c q m x y a h =
     }
 
 -- it stores what comes next in the sequencer's list
-follows_pushed : (r : Repair) (c : Cause) (q m x : Node) (e there : Entry) → (Skips (top m) c → top x + 1 ≢ top m + 1) → is_view e ≡ false → entry_at q.core.log (top x + 1) ≡ Some there
-    → ((image : Image) → after image (top x + 1) e ≡ after image (top x + 1) there) → FollowsOn r c q m x → FollowsOn r c q m (record (pushed x e) { bodies = bodies_after x.bodies e })
+follows_pushed : (r : Repair) (c : Cause) (q m x : Node) (e there : Entry) → (Skips (top m) c → top x + 1 ≢ top m + 1) → is_view e ≡ false
+    → entry_at q.core.log (top x + 1) ≡ Some there
+    → ((image : Image) → after image (top x + 1) e ≡ after image (top x + 1) there) → FollowsOn r c q m x
+    → FollowsOn r c q m (record (pushed x e) { bodies = bodies_after x.bodies e })
 follows_pushed r c q m x e there skips plain is same h =
     let f = h.follows in
     let low = f.low in let stored = h.stored in let reached = f.reached in
@@ -93,12 +95,14 @@ follows_pushed r c q m x e there skips plain is same h =
     }
 
 -- what is carried stands above no number that it skips
-carried_skips : (high : ℕ) (c : Cause) (x : Node) (s : ℕ) (v : Stamp) (base acc number : ℕ) (e : Entry) → Carries c x s v base acc number e → Skips high c → number ≢ high + 1
+carried_skips : (high : ℕ) (c : Cause) (x : Node) (s : ℕ) (v : Stamp) (base acc number : ℕ) (e : Entry) → Carries c x s v base acc number e → Skips high c
+    → number ≢ high + 1
 carried_skips high c x s v base acc number e (whole_entry e_ is) k = subst (Skips high) is k
 carried_skips high c x s v base acc number e (by_number from req body is there) k = subst (Skips high) is k
 
 -- what is carried stands in the sequencer's list
-carried : (r : Repair) (w : World) (c : Cause) (x : Node) (s : ℕ) (v : Stamp) (base acc number : ℕ) (e : Entry) → CalmCause r w c → Carries c x s v base acc number e
+carried : (r : Repair) (w : World) (c : Cause) (x : Node) (s : ℕ) (v : Stamp) (base acc number : ℕ) (e : Entry) → CalmCause r w c
+    → Carries c x s v base acc number e
     → (there : Entry) × Stands r w number there × ((image : Image) → after image number e ≡ after image number there)
 carried r w c x s v base acc number e calm (whole_entry e_ is) = (e, subst (CalmCause r w) is calm, λ image. refl)
 carried r w c x s v base acc number e calm (by_number from req body is there) =
@@ -120,26 +124,34 @@ promised_same r w c q x v calm f (told_result s v_ base number names resilience 
 no_leader : (r : Repair) (c : Cause) (q m x : Node) → r.view.by ≡ r.by → (m.core.who == r.by) ≡ false → FollowsOn r c q m x → is_sequencer x ≡ true → ⊥
 no_leader r c q m x by other h t = leads_not x r.by (ap (λ (v : Stamp). v.by) h.follows.view_ ∙ by) (ap (λ k. k == r.by) h.who ∙ other) t
 
-pub follow_change : (r : Repair) (w : World) (c : Cause) (o : Outcome) (m x y : Node) → r.view.by ≡ r.by → (m.core.who == r.by) ≡ false → CalmCause r w c → Change c o x y
+pub follow_change : (r : Repair) (w : World) (c : Cause) (o : Outcome) (m x y : Node) → r.view.by ≡ r.by → (m.core.who == r.by) ≡ false → CalmCause r w c
+    → Change c o x y
     → FollowsOn r c (w.nodes r.by) m x → FollowsOn r c (w.nodes r.by) m y
 follow_change r w c o m x y by other calm refreshes h = follows_as r c _ m x y (alike_refresh x) h
 follow_change r w c o m x y by other calm settles h = follows_as r c _ m x y (alike_settle x) h
 follow_change r w c o m x y by other calm (takes_report s v report brings may) h = absurd (no_leader r c _ m x by other h may.leads)
 follow_change r w c o m x y by other calm (admits s v is leads fit) h = absurd (no_leader r c _ m x by other h leads)
 follow_change r w c o m x y by other calm (numbers e leads room why) h = absurd (no_leader r c _ m x by other h leads)
-follow_change r w c o m x y by other calm (keeps_body s v report req body is heard) h = follows_as r c _ m x y (alike_here x y refl refl refl refl refl refl (omega arith) (omega arith)) h
-follow_change r w c o m x y by other calm (notes s v base acc brings heard) h = follows_as r c _ m x y (alike_here x y refl refl refl refl refl refl (omega arith) (omega arith)) h
+follow_change r w c o m x y by other calm (keeps_body s v report req body is heard) h = follows_as r c _ m x y
+    (alike_here x y refl refl refl refl refl refl (omega arith) (omega arith)) h
+follow_change r w c o m x y by other calm (notes s v base acc brings heard) h = follows_as r c _ m x y
+    (alike_here x y refl refl refl refl refl refl (omega arith) (omega arith)) h
 follow_change r w c o m x y by other calm (stores s v base acc number e carries heard plain may) h =
     let k = carried r w c x s v base acc number e calm carries in
     let next = may.next in
-    follows_pushed r c _ m x e k.0 (λ skips same. carried_skips (top m) c x s v base acc number e carries skips (next ∙ same)) plain (subst (λ n. Stands r w n k.0) next k.1) (subst (λ n. (image : Image) → after image n e ≡ after image n k.0) next k.2) h
-follow_change r w c o m x y by other calm (begins_list s v base join image is says may) h = absurd (let a = (acting x h.follows.acts_).0 in let b = may.no_member in cc)
+    follows_pushed r c _ m x e k.0 (λ skips same. carried_skips (top m) c x s v base acc number e carries skips (next ∙ same)) plain
+    (subst (λ n. Stands r w n k.0) next k.1) (subst (λ n. (image : Image) → after image n e ≡ after image n k.0) next k.2) h
+follow_change r w c o m x y by other calm (begins_list s v base join image is says may) h = absurd
+    (let a = (acting x h.follows.acts_).0 in let b = may.no_member in cc)
 follow_change r w c o m x y by other calm (departs s v number is heard leaves) h = absurd (let a = h.follows.rest.stays in cc)
 follow_change r w c o m x y by other calm (promises v low why) h = follows_as r c _ m x y (promised_same r w c _ x v calm h.follows why) h
 follow_change r w c o m x y by other calm (opens least resilience begins may) h = absurd (no_ballot_begun r w c x calm begins)
-follow_change r w c o m x y by other calm (looks b verdict over why look is) h = absurd (let k = looked_open c x b why in not_open x k.0 k.1 h.follows.rest.no_ballot)
-follow_change r w c o m x y by other calm (fetches s v base number e is heard promise below why may) h = absurd (not_behind x v h.follows.acts_ (same_stamp v x.core.promise promise) below)
-follow_change r w c o m x y by other calm (stores_view s v base number names resilience is heard own other_ promise below may) h = absurd (not_behind x v h.follows.acts_ (sym promise) below)
+follow_change r w c o m x y by other calm (looks b verdict over why look is) h = absurd
+    (let k = looked_open c x b why in not_open x k.0 k.1 h.follows.rest.no_ballot)
+follow_change r w c o m x y by other calm (fetches s v base number e is heard promise below why may) h = absurd
+    (not_behind x v h.follows.acts_ (same_stamp v x.core.promise promise) below)
+follow_change r w c o m x y by other calm (stores_view s v base number names resilience is heard own other_ promise below may) h = absurd
+    (not_behind x v h.follows.acts_ (sym promise) below)
 follow_change r w c o m x y by other calm (queues body is says member stays few) h = absurd (subst (CalmCause r w) is calm)
 follow_change r w c o m x y by other calm (collects req is) h = absurd (subst (CalmCause r w) is calm)
 follow_change r w c o m x y by other calm (takes e is says member some there) h = absurd (subst (CalmCause r w) is calm)

@@ -57,7 +57,13 @@ our_tick r w place =
     let e = event_at place act.Tick in
     let m = w.nodes (actor w e) in
     ours_if r w e (is_stopped w (actor w e)) _ _ (idles said.IsStopped)
-    (λ f. steps (step m does.Tick) (record { cause = calls does.Tick; calm = tt; is = tick; effect = steps_have_effects m does.Tick; still = departed_ticks m }))
+    (λ f. steps (step m does.Tick) (record {
+      cause = calls does.Tick;
+      calm = tt;
+      is = tick;
+      effect = steps_have_effects m does.Tick;
+      still = departed_ticks m;
+    }))
 
 our_letter : (r : Repair) (w : World) (place number : ℕ) (l : Option Letter) → letter_at w.letters number ≡ l → r.sent < number → Calm r w
     → (let e = event_at place (act.Hear number) in Ours r w e (heard w e (actor w e) (hear (w.nodes (actor w e))) l))
@@ -82,24 +88,31 @@ ours r w e (hears_ place number late) h = our_letter r w place number (letter_at
 
 -- ---- changes in turn
 
-pub lead_changes : (rules : Rules) (r : Repair) (taken : ℕ → ℕ) (w : World) (q : Node) {c : Cause} {o : Outcome} (m n : Node) → r.view.by ≡ r.by → CalmCause r w c → TellsTaken r taken c → HeardNames c → HeardUsed c
+pub lead_changes : (rules : Rules) (r : Repair) (taken : ℕ → ℕ) (w : World) (q : Node) {c : Cause} {o : Outcome} (m n : Node) → r.view.by ≡ r.by
+    → CalmCause r w c → TellsTaken r taken c → HeardNames c → HeardUsed c
     → Changes c o m n → Along rules m → Goes r taken q m → Goes r taken q n
 lead_changes rules r taken w q m n by calm tells names used no_change a h = h
 lead_changes rules r taken w q m n by calm tells names used (changed {n = x} one more) a h =
-    lead_changes rules r taken w q x n by calm tells names used more (along_changes rules m x names used (changed one no_change) a) (lead_change r taken w q _ _ m x by calm tells a.owned.fronts one h)
+    lead_changes rules r taken w q x n by calm tells names used more (along_changes rules m x names used (changed one no_change) a)
+    (lead_change r taken w q _ _ m x by calm tells a.owned.fronts one h)
 
-pub follow_changes : (r : Repair) (w : World) {c : Cause} {o : Outcome} (m x y : Node) → r.view.by ≡ r.by → (m.core.who == r.by) ≡ false → CalmCause r w c → Changes c o x y
+pub follow_changes : (r : Repair) (w : World) {c : Cause} {o : Outcome} (m x y : Node) → r.view.by ≡ r.by → (m.core.who == r.by) ≡ false → CalmCause r w c
+    → Changes c o x y
     → FollowsOn r c (w.nodes r.by) m x → FollowsOn r c (w.nodes r.by) m y
 follow_changes r w m x y by other calm no_change h = h
-follow_changes r w m x y by other calm (changed {n = z} one more) h = follow_changes r w m z y by other calm more (follow_change r w _ _ m x z by other calm one h)
+follow_changes r w m x y by other calm (changed {n = z} one more) h = follow_changes r w m z y by other calm more
+    (follow_change r w _ _ m x z by other calm one h)
 
-pub apart_changes : (r : Repair) (w : World) {c : Cause} {o : Outcome} (m x y : Node) → r.view.by ≡ r.by → (m.core.who == r.by) ≡ false → CalmCause r w c → Changes c o x y → StaysApart r m x → StaysApart r m y
+pub apart_changes : (r : Repair) (w : World) {c : Cause} {o : Outcome} (m x y : Node) → r.view.by ≡ r.by → (m.core.who == r.by) ≡ false → CalmCause r w c
+    → Changes c o x y → StaysApart r m x → StaysApart r m y
 apart_changes r w m x y by other calm no_change h = h
-apart_changes r w m x y by other calm (changed {n = z} one more) h = apart_changes r w m z y by other calm more (apart_change r w _ _ m x z by other calm one h)
+apart_changes r w m x y by other calm (changed {n = z} one more) h = apart_changes r w m z y by other calm more
+    (apart_change r w _ _ m x z by other calm one h)
 
 -- ---- who sends is the node after the step
 
-pub sender_is : (n sender : Node) → n ≡ record sender { status = n.status } → (n.status ≡ sender.status) ⊎ (n.status ≡ status.Departed) → has_departed n.status ≡ false → sender ≡ n
+pub sender_is : (n sender : Node) → n ≡ record sender { status = n.status } → (n.status ≡ sender.status) ⊎ (n.status ≡ status.Departed)
+    → has_departed n.status ≡ false → sender ≡ n
 sender_is n sender is (inl same) there = sym (is ∙ ap (λ st. record sender { status = st }) same)
 sender_is n sender is (inr gone) there = absurd (let g = ap has_departed gone in cc)
 

@@ -80,7 +80,8 @@ stays_lawful : (es : List Event) (s : Watch) → s.broken ≡ None → NoneLost 
 unfolding watch_all happen
 stays_lawful [] s whole h = whole
 stays_lawful (e ∷ es) s whole h =
-    stays_lawful es (watch s e) (watch_lawful s e whole (none_before (happens s.world e) es h)) (subst (λ w. NoneLost (happen w es)) (sym (watch_world s e)) h)
+    stays_lawful es (watch s e) (watch_lawful s e whole (none_before (happens s.world e) es h))
+    (subst (λ w. NoneLost (happen w es)) (sym (watch_world s e)) h)
 
 pub repairable_is_lawful : RepairableIsLawful
 repairable_is_lawful rules events place may =

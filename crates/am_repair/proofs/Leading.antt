@@ -71,11 +71,14 @@ leads_as r m n a h =
       high = omega arith;
       reached = h.reached;
       fit = subst (λ (l : Log). (k : ℕ) (e : Entry) → k ≤ r.high → entry_at l k ≡ Some e → fits (image_at l (k - 1)) e ≡ true) (sym a.log) h.fit;
-      members_ = subst (λ (l : Log). (name k : ℕ) → has r.members name ≡ true → r.high ≤ k → k ≤ top_of l → has (members_at l k) name ≡ true) (sym a.log) h.members_;
-      counted = λ k above within view. subst (λ (l : Log). All (λ name. has r.members name ≡ true) (names_of (counted_at l k))) (sym a.log) (h.counted k (omega arith) within view);
+      members_ = subst (λ (l : Log). (name k : ℕ) → has r.members name ≡ true → r.high ≤ k → k ≤ top_of l → has (members_at l k) name ≡ true)
+          (sym a.log) h.members_;
+      counted = λ k above within view. subst (λ (l : Log). All (λ name. has r.members name ≡ true) (names_of (counted_at l k))) (sym a.log)
+          (h.counted k (omega arith) within view);
     }
 
-goes_as : (r : Repair) (taken : ℕ → ℕ) (q m n : Node) → Alike m n → ((name : ℕ) → has r.members name ≡ true → (m.reports name).stored ≤ (n.reports name).stored) → Trusts r taken n → Goes r taken q m → Goes r taken q n
+goes_as : (r : Repair) (taken : ℕ → ℕ) (q m n : Node) → Alike m n → ((name : ℕ) → has r.members name ≡ true
+    → (m.reports name).stored ≤ (n.reports name).stored) → Trusts r taken n → Goes r taken q m → Goes r taken q n
 goes_as r taken q m n a kept t h =
     let up = h.up in
     let more = a.taken in
@@ -93,12 +96,14 @@ goes_as r taken q m n a kept t h =
 
 -- members are members now
 pub is_member_now : (r : Repair) (m : Node) (name : ℕ) → Leads r m → has r.members name ≡ true → has (members m) name ≡ true
-is_member_now r m name h there = ap (λ (i : Image). has (members_of i) name) (sym (image-top m.core.log)) ∙ h.members_ name (top m) there h.high (omega arith)
+is_member_now r m name h there = ap (λ (i : Image). has (members_of i) name) (sym (image-top m.core.log))
+    ∙ h.members_ name (top m) there h.high (omega arith)
 
 -- ---- a refresh
 
 -- what a member has reported to have taken bounds what is let go
-least_low : (m : Node) (kept : ℕ → Report) (c : CoreState) (name to : ℕ) → Fronts m → c.log ≡ m.core.log → c.log.start ≤ c.acc → c.acc ≤ top_of c.log → has (members m) name ≡ true
+least_low : (m : Node) (kept : ℕ → Report) (c : CoreState) (name to : ℕ) → Fronts m → c.log ≡ m.core.log → c.log.start ≤ c.acc → c.acc ≤ top_of c.log
+    → has (members m) name ≡ true
     → least_taken kept (since_accepted c) ≡ Some to → to ≤ (kept name).taken
 least_low m kept c name to f log low high member least =
     let d = record c { who = name; taken = (kept name).taken } in
@@ -118,7 +123,8 @@ lead_others : (m : Node) (name : ℕ) → (name == m.core.who) ≡ false → (le
 unfolding lead own_report tell go_on let_go accept pass_over
 lead_others m name other = rw other refl
 
-lead_base : (m : Node) (name most : ℕ) → Fronts m → has (members m) name ≡ true → (name == m.core.who) ≡ false → m.core.base ≤ most → (m.reports name).taken ≤ most → (lead m).core.base ≤ most
+lead_base : (m : Node) (name most : ℕ) → Fronts m → has (members m) name ≡ true → (name == m.core.who) ≡ false → m.core.base ≤ most
+    → (m.reports name).taken ≤ most → (lead m).core.base ≤ most
 unfolding lead own_report tell go_on let_go accept pass_over
 lead_base m name most f member other low reported =
     let c = (lead m).core in
@@ -130,8 +136,10 @@ lead_base m name most f member other low reported =
 
 trusts_lead : (r : Repair) (taken : ℕ → ℕ) (m : Node) → m.core.who ≡ r.by → Leads r m → Fronts m → Trusts r taken m → Trusts r taken (lead m)
 trusts_lead r taken m own h f t = record {
-  base = λ name there other. lead_base m name (taken name) f (is_member_now r m name h there) (not_own name other) (t.base name there other) (t.reported name there other);
-  reported = λ name there other. subst (λ (x : Report). x.taken ≤ taken name) (sym (lead_others m name (not_own name other))) (t.reported name there other);
+  base = λ name there other. lead_base m name (taken name) f (is_member_now r m name h there) (not_own name other) (t.base name there other)
+      (t.reported name there other);
+  reported = λ name there other. subst (λ (x : Report). x.taken ≤ taken name) (sym (lead_others m name (not_own name other)))
+      (t.reported name there other);
 }
   where
     not_own : (name : ℕ) → (name == r.by) ≡ false → (name == m.core.who) ≡ false
@@ -147,14 +155,16 @@ trusts_settle r taken m t = subst (Trusts r taken) (sym (settle_is m)) (record {
 -- ---- reports
 
 -- what a report of the schedule tells of a member
-pub told_taken : (r : Repair) (w : World) (c : Cause) (s : ℕ) (v : Stamp) (report : Report) → BringsReport c s v report → CalmCause r w c → ReportIs r w s report
+pub told_taken : (r : Repair) (w : World) (c : Cause) (s : ℕ) (v : Stamp) (report : Report) → BringsReport c s v report → CalmCause r w c
+    → ReportIs r w s report
 told_taken r w c s v report (with_send s_ v_ report_ req body (by_request s1 v1 report1 req1 body1)) h = h
 told_taken r w c s v report (with_send s_ v_ report_ req body (by_spread s1 v1 report1 req1 body1)) h = h
 told_taken r w c s v report (by_ack s_ v_ report_) h = h
 told_taken r w c s v report (by_nack s_ v_ report_) h = h
 told_taken r w c s v report (by_leave_ask s_ v_ report_) h = absurd h
 
-pub trusts_report : (r : Repair) (taken : ℕ → ℕ) (m : Node) (s : ℕ) (report : Report) → (has r.members s ≡ true → report.taken ≤ taken s) → Trusts r taken m → Trusts r taken (with_report m s report)
+pub trusts_report : (r : Repair) (taken : ℕ → ℕ) (m : Node) (s : ℕ) (report : Report) → (has r.members s ≡ true → report.taken ≤ taken s)
+    → Trusts r taken m → Trusts r taken (with_report m s report)
 trusts_report r taken m s report low t = record {
   base = t.base;
   reported = λ name there other. split (name == s)
@@ -179,9 +189,14 @@ settled_stay m name = subst (λ (x : Node). (m.reports name).stored ≤ (x.repor
 -- a joiner is no member
 member_joins : (image : Image) (name : ℕ) → length image.rows ≡ 16 → has (members_of image) name ≡ true → fits image (Join name) ≡ true → ⊥
 unfolding fits
-member_joins image name long member fit = let k = is_in image name long member in let j = k.joined in let l = k.left in let z : ⊥ = grind (arith, nat_tests) in z
+member_joins image name long member fit =
+    let k = is_in image name long member in
+    let j = k.joined in
+    let l = k.left in
+    let z : ⊥ = grind (arith, nat_tests) in z
 
-admitted_stay : (r : Repair) (m : Node) (s : ℕ) → Leads r m → Fronts m → fits (told m) (Join s) ≡ true → (name : ℕ) → has r.members name ≡ true → (m.reports name).stored ≤ ((admitted m s).reports name).stored
+admitted_stay : (r : Repair) (m : Node) (s : ℕ) → Leads r m → Fronts m → fits (told m) (Join s) ≡ true → (name : ℕ) → has r.members name ≡ true
+    → (m.reports name).stored ≤ ((admitted m s).reports name).stored
 admitted_stay r m s h f fit name there = split (name == s)
     (λ t. absurd (
     let same : name ≡ s = grind (arith, nat_tests) in
@@ -198,9 +213,11 @@ numbered_plain r w c m e h (asked_join s v is other fit) = is_join s fit
 numbered_plain r w c m e h (asked_leave s v report is other known stays) = absurd (subst (CalmCause r w) is h)
 
 -- what a list told up to a number it tells when it goes on
-fit_on : (r : Repair) (a b : Log) → r.high ≤ top_of a → LogGrows a b → ((k : ℕ) (e : Entry) → k ≤ r.high → entry_at a k ≡ Some e → fits (image_at a (k - 1)) e ≡ true)
+fit_on : (r : Repair) (a b : Log) → r.high ≤ top_of a → LogGrows a b → ((k : ℕ) (e : Entry) → k ≤ r.high → entry_at a k ≡ Some e
+    → fits (image_at a (k - 1)) e ≡ true)
     → (k : ℕ) (e : Entry) → k ≤ r.high → entry_at b k ≡ Some e → fits (image_at b (k - 1)) e ≡ true
-fit_on r a b high grows h k e low is = ap (λ (i : Image). fits i e) (grows.image (k - 1) (omega arith)) ∙ h k e low (sym (grows.entry k (omega arith)) ∙ is)
+fit_on r a b high grows h k e low is = ap (λ (i : Image). fits i e) (grows.image (k - 1) (omega arith))
+    ∙ h k e low (sym (grows.entry k (omega arith)) ∙ is)
 
 leads_pushed_ : (r : Repair) (m : Node) (e : Entry) → Fronts m → IsJoinOrData (told m) e → Leads r m → Leads r (pushed m e)
 leads_pushed_ r m e f joins h =
@@ -224,7 +241,8 @@ leads_pushed_ r m e f joins h =
             ap (λ (i : Image). has (members_of i) name) (ap (image_at (pushed m e).core.log) last ∙ image-top (pushed m e).core.log ∙ image)
             ∙ member_after (told m) (top m + 1) e name used.places joins (is_member_now r m name h there))
       ];
-      counted = λ k above within view. subst (λ set. All (λ name. has r.members name ≡ true) (names_of set)) (sym (counted_stays m.core.log (pushed m e).core.log k grows (omega arith))) (h.counted k above within view);
+      counted = λ k above within view. subst (λ set. All (λ name. has r.members name ≡ true) (names_of set))
+          (sym (counted_stays m.core.log (pushed m e).core.log k grows (omega arith))) (h.counted k above within view);
     }
 
 goes_pushed : (r : Repair) (taken : ℕ → ℕ) (q m : Node) (e : Entry) → Fronts m → IsJoinOrData (told m) e → Goes r taken q m → Goes r taken q (pushed m e)
@@ -273,23 +291,31 @@ not_behind m v a same below =
 abbrev pub TellsTaken : Repair → (ℕ → ℕ) → Cause → Type 0
 TellsTaken r taken c = (s : ℕ) (v : Stamp) (report : Report) → BringsReport c s v report → has r.members s ≡ true → report.taken ≤ taken s
 
-pub lead_change : (r : Repair) (taken : ℕ → ℕ) (w : World) (q : Node) (c : Cause) (o : Outcome) (m n : Node) → r.view.by ≡ r.by → CalmCause r w c → TellsTaken r taken c → Fronts m → Change c o m n → Goes r taken q m → Goes r taken q n
-lead_change r taken w q c o m n by calm tells f refreshes h = goes_as r _ q m n (alike_refresh m) (λ name there. refreshed_stay m name) (trusts_refresh r _ m h.own h.leads f h.trusts) h
-lead_change r taken w q c o m n by calm tells f settles h = goes_as r _ q m n (alike_settle m) (λ name there. settled_stay m name) (trusts_settle r _ m h.trusts) h
+pub lead_change : (r : Repair) (taken : ℕ → ℕ) (w : World) (q : Node) (c : Cause) (o : Outcome) (m n : Node) → r.view.by ≡ r.by → CalmCause r w c
+    → TellsTaken r taken c → Fronts m → Change c o m n → Goes r taken q m → Goes r taken q n
+lead_change r taken w q c o m n by calm tells f refreshes h = goes_as r _ q m n (alike_refresh m) (λ name there. refreshed_stay m name)
+    (trusts_refresh r _ m h.own h.leads f h.trusts) h
+lead_change r taken w q c o m n by calm tells f settles h = goes_as r _ q m n (alike_settle m) (λ name there. settled_stay m name)
+    (trusts_settle r _ m h.trusts) h
 lead_change r taken w q c o m n by calm tells f (takes_report s v report brings may) h =
-    goes_as r _ q m n (alike_here m n refl refl refl refl refl refl (omega arith) (omega arith)) (λ name there. raise_up m.reports s report name) (trusts_report r _ m s report (tells s v report brings) h.trusts) h
-lead_change r taken w q c o m n by calm tells f (admits s v is leads fit) h = goes_as r _ q m n (alike_here m n refl refl refl refl refl refl (omega arith) (omega arith)) (admitted_stay r m s h.leads f fit) (trusts_admitted r _ m s h.trusts) h
+    goes_as r _ q m n (alike_here m n refl refl refl refl refl refl (omega arith) (omega arith)) (λ name there. raise_up m.reports s report name)
+    (trusts_report r _ m s report (tells s v report brings) h.trusts) h
+lead_change r taken w q c o m n by calm tells f (admits s v is leads fit) h = goes_as r _ q m n
+    (alike_here m n refl refl refl refl refl refl (omega arith) (omega arith)) (admitted_stay r m s h.leads f fit) (trusts_admitted r _ m s h.trusts) h
 lead_change r taken w q c o m n by calm tells f (numbers e leads room why) h = goes_pushed r _ q m e f (numbered_plain r w c m e calm why) h
 lead_change r taken w q c o m n by calm tells f (keeps_body s v report req body is heard) h =
-    goes_as r _ q m n (alike_here m n refl refl refl refl refl refl (omega arith) (omega arith)) (λ name there. omega arith) (record { base = h.trusts.base; reported = h.trusts.reported }) h
+    goes_as r _ q m n (alike_here m n refl refl refl refl refl refl (omega arith) (omega arith)) (λ name there. omega arith)
+    (record { base = h.trusts.base; reported = h.trusts.reported }) h
 lead_change r taken w q c o m n by calm tells f (notes s v base acc brings heard) h = absurd (let a = follows m s v heard in let b = h.leads.leads in cc)
-lead_change r taken w q c o m n by calm tells f (stores s v base acc number e carries heard plain_ may) h = absurd (let a = follows m s v heard in let b = h.leads.leads in cc)
+lead_change r taken w q c o m n by calm tells f (stores s v base acc number e carries heard plain_ may) h = absurd
+    (let a = follows m s v heard in let b = h.leads.leads in cc)
 lead_change r taken w q c o m n by calm tells f (begins_list s v base join image is says may) h =
     absurd (let a = (acting m (leading m h.leads.leads).0).0 in let b = may.no_member in cc)
 lead_change r taken w q c o m n by calm tells f (departs s v number is heard leaves) h = absurd (let a = h.leads.rest.stays in cc)
 lead_change r taken w q c o m n by calm tells f (promises v low why) h = absurd (no_promise r w c m v (own_view r _ q m by h) calm why)
 lead_change r taken w q c o m n by calm tells f (opens least resilience begins may) h = absurd (no_ballot_begun r w c m calm begins)
-lead_change r taken w q c o m n by calm tells f (looks b verdict over why look is) h = absurd (let k = looked_open c m b why in not_open m k.0 k.1 h.leads.rest.no_ballot)
+lead_change r taken w q c o m n by calm tells f (looks b verdict over why look is) h = absurd
+    (let k = looked_open c m b why in not_open m k.0 k.1 h.leads.rest.no_ballot)
 lead_change r taken w q c o m n by calm tells f (fetches s v base number e is heard promise below why may) h =
     absurd (not_behind m v (leading m h.leads.leads).0 (same_stamp v m.core.promise promise) below)
 lead_change r taken w q c o m n by calm tells f (stores_view s v base number names resilience is heard own other promise below may) h =

@@ -43,7 +43,8 @@ all_low kind (l ∷ ls) h =
     let rest = all_low kind ls (All-tail (IsLow kind) l ls h) in
     rw first (omega arith)
 
-pub put_last : (to : List ℕ) (p : Packet) (letters : List Letter) → All (IsLow (kind_of p)) letters → (size to == 0) ≡ false → with_letter to p letters ≡ letters ++ letter_to to p ∷ []
+pub put_last : (to : List ℕ) (p : Packet) (letters : List Letter) → All (IsLow (kind_of p)) letters → (size to == 0) ≡ false
+    → with_letter to p letters ≡ letters ++ letter_to to p ∷ []
 put_last to p letters low some =
     let n = place_for (kind_of p) letters in
     let whole = all_low (kind_of p) letters low in
@@ -73,9 +74,14 @@ lower : (l : Letter) → IsLow 3 l → IsLow 5 l
 lower l h = grind (arith, nat_tests)
 
 -- and how far the list is accepted comes behind them
-pub accept_last : (m : Node) (p : Plan) (n : Node) (letters : List Letter) → All (IsLow 3) letters → (more : List Letter) × (with_accept m p n letters ≡ letters ++ more)
+pub accept_last : (m : Node) (p : Plan) (n : Node) (letters : List Letter) → All (IsLow 3) letters
+    → (more : List Letter) × (with_accept m p n letters ≡ letters ++ more)
 accept_last m p n letters low = split (tells_accepted m p n)
     (λ t. split (size (others n) == 0)
     (λ none. ([], rw (t, none) (sym (append-nil letters))))
-    (λ some. (letter_to (others n) (accept_of n p.polls) ∷ [], rw t (put_last (others n) (accept_of n p.polls) letters (All-weaker (IsLow 3) (IsLow 5) lower letters low) some))))
+    (λ some. (
+      letter_to (others n) (accept_of n p.polls) ∷ [],
+      rw t (put_last (others n) (accept_of n p.polls) letters
+          (All-weaker (IsLow 3) (IsLow 5) lower letters low) some),
+    )))
     (λ f. ([], rw f (sym (append-nil letters))))

@@ -72,7 +72,8 @@ counted_stays a b number grows low =
 -- ---- an entry more
 
 -- a Data tells the same whatever its body
-pub same_after : (image : Image) (number from req : ℕ) (body other : List ℕ) → after image number (Data from req body) ≡ after image number (Data from req other)
+pub same_after : (image : Image) (number from req : ℕ) (body other : List ℕ)
+    → after image number (Data from req body) ≡ after image number (Data from req other)
 unfolding after
 same_after image number from req body other = refl
 
@@ -88,6 +89,7 @@ plain image e (is_join name fit) = refl
 -- members stay
 pub member_after : (image : Image) (number : ℕ) (e : Entry) (name : ℕ) → length image.rows ≡ 16 → IsJoinOrData image e → has (members_of image) name ≡ true
     → has (members_of (after image number e)) name ≡ true
-member_after image number e name long (is_data from req body) member = data_member image number from req body name long (long_after image number e long) member
+member_after image number e name long (is_data from req body) member = data_member image number from req body name long
+    (long_after image number e long) member
 member_after image number e name long (is_join joiner fit) member =
     in_is (after image number e) name (long_after image number e long) (in_after image number e name long fit tt (is_in image name long member))

@@ -37,7 +37,8 @@ hears_plan m base acc p follow is =
 pub fronts_are_heard : FrontsAreHeard
 unfolding hear hear_row accept_row
 fronts_are_heard m s v base acc high poll heard =
-    rw heard (hears_plan m base acc _ (follows m s v heard) (noted_if m base acc (nat_lt (top m) high && not (has_own_leave m)) _ _ (refl, refl) (refl, refl)))
+    rw heard (hears_plan m base acc _ (follows m s v heard) (noted_if m base acc (nat_lt (top m) high && not (has_own_leave m)) _ _ (refl, refl)
+    (refl, refl)))
 
 -- ---- what is missing
 

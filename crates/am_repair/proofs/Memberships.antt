@@ -35,23 +35,28 @@ image_used log number used = used_fold log.image (log.start + 1) (take (number -
 
 -- ---- who has left has left
 
-past_next : (log : Log) (k place life : ℕ) → IsUsed log.image → log.start ≤ k → k < top_of log → place < 16 → ((e : Entry) → entry_at log (k + 1) ≡ Some e → fits (image_at log k) e ≡ true)
+past_next : (log : Log) (k place life : ℕ) → IsUsed log.image → log.start ≤ k → k < top_of log → place < 16
+    → ((e : Entry) → entry_at log (k + 1) ≡ Some e → fits (image_at log k) e ≡ true)
     → Past (row_at (image_at log k) place) life → Past (row_at (image_at log (k + 1)) place) life
 past_next log k place life used low high small fit past =
     let e = entry_there log k low high in
     let u = image_used log k used in
     let next = image-next log k e.0 low e.1 in
-    subst (λ (i : Image). Past (row_at i place) life) (sym next) (past_after (image_at log k) (k + 1) e.0 place life u.places small (omega arith) (fit e.0 e.1) past)
+    subst (λ (i : Image). Past (row_at i place) life) (sym next) (past_after (image_at log k) (k + 1) e.0 place life u.places small (omega arith)
+    (fit e.0 e.1) past)
 
 past_to : (log : Log) (k more place life : ℕ) → IsUsed log.image → log.start ≤ k → k + more ≤ top_of log → place < 16
     → ((j : ℕ) (e : Entry) → j ≤ k + more → entry_at log j ≡ Some e → fits (image_at log (j - 1)) e ≡ true)
     → Past (row_at (image_at log k) place) life → Past (row_at (image_at log (k + more)) place) life
-past_to log k zero place life used low high small fit past = let same : k ≡ k + 0 = omega arith in subst (λ n. Past (row_at (image_at log n) place) life) same past
+past_to log k zero place life used low high small fit past = let same : k ≡ k + 0 = omega arith in subst
+    (λ n. Past (row_at (image_at log n) place) life) same past
 past_to log k (suc more) place life used low high small fit past =
     let before : k + 1 - 1 ≡ k = omega arith in
     let at : k + 1 + more ≡ k + suc more = omega arith in
-    let one = past_next log k place life used low (omega arith) small (λ e is. ap (λ n. fits (image_at log n) e) (sym before) ∙ fit (k + 1) e (omega arith) is) past in
-    subst (λ n. Past (row_at (image_at log n) place) life) at (past_to log (k + 1) more place life used (omega arith) (omega arith) small (λ j e lower is. fit j e (omega arith) is) one)
+    let one = past_next log k place life used low (omega arith) small (λ e is. ap (λ n. fits (image_at log n) e) (sym before)
+    ∙ fit (k + 1) e (omega arith) is) past in
+    subst (λ n. Past (row_at (image_at log n) place) life) at (past_to log (k + 1) more place life used (omega arith) (omega arith) small
+    (λ j e lower is. fit j e (omega arith) is) one)
 
 left_row : (image : Image) (name : ℕ) → IsUsed image → nat_lt 0 (row_of image name).left ≡ true → Past (row_at image (place_of name)) (life_of name)
 left_row image name used left = split ((at_place image name).life == life_of name)
@@ -62,7 +67,8 @@ left_row image name used left = split ((at_place image name).life == life_of nam
     record { joined = omega arith; gone = inr (life, (grind (arith, nat_tests))) })
     (λ f. absurd (let none = rw f at left in cc))
 
-pub stays_in : (r : Repair) (q m : Node) → Leads r q → IsUsed q.core.log.image → Follows r q m → has r.members m.core.who ≡ true → top m < r.high → has_own_leave m ≡ false
+pub stays_in : (r : Repair) (q m : Node) → Leads r q → IsUsed q.core.log.image → Follows r q m → has r.members m.core.who ≡ true → top m < r.high
+    → has_own_leave m ≡ false
 stays_in r q m l used f there low = split (has_own_leave m)
     (λ t. absurd (
     let who = m.core.who in
@@ -74,7 +80,8 @@ stays_in r q m l used f there low = split (has_own_leave m)
     let high = l.high in
     let to : top m + (r.high - top m) ≡ r.high = omega arith in
     let at_high = subst (λ n. Past (row_at (image_at log n) (place_of who)) (life_of who)) to
-    (past_to log (top m) (r.high - top m) (place_of who) (life_of who) used start (omega arith) (mod16 who) (λ j e lower is. l.fit j e (omega arith) is) past) in
+    (past_to log (top m) (r.high - top m) (place_of who) (life_of who) used start (omega arith) (mod16 who)
+    (λ j e lower is. l.fit j e (omega arith) is) past) in
     let h = image_used log r.high used in
     let in_ = is_in (image_at log r.high) who h.places (l.members_ who r.high there (omega arith) high) in
     not_both _ _ in_ at_high))
@@ -97,7 +104,8 @@ number_up image n (e ∷ es) low = split (is_view e)
     (λ t. let new = number_of_view image n e t in let more = number_up (after image n e) (n + 1) es (omega arith) in omega arith)
     (λ f. let same = (after_same image n e f).number in let more = number_up (after image n e) (n + 1) es (omega arith) in omega arith)
 
-view_stands : (image : Image) (n : ℕ) (es : List Entry) (k : ℕ) (e : Entry) → slice_get es k ≡ Some e → is_view e ≡ true → n + k ≤ (fold image n es).view_number
+view_stands : (image : Image) (n : ℕ) (es : List Entry) (k : ℕ) (e : Entry) → slice_get es k ≡ Some e → is_view e ≡ true
+    → n + k ≤ (fold image n es).view_number
 unfolding fold
 view_stands image n [] k e there is = absurd (cc)
 view_stands image n (x ∷ es) zero e there is =

@@ -68,12 +68,22 @@ pub record Alike (m n : Node) : Type 0 where
   pub acc : m.core.acc ≤ n.core.acc
   pub taken : m.core.taken ≤ n.core.taken
 
-pub alike_here : (m n : Node) → n.core.log ≡ m.core.log → n.core.who ≡ m.core.who → n.core.promise ≡ m.core.promise → n.status ≡ m.status → n.leaving ≡ m.leaving
+pub alike_here : (m n : Node) → n.core.log ≡ m.core.log → n.core.who ≡ m.core.who → n.core.promise ≡ m.core.promise → n.status ≡ m.status
+    → n.leaving ≡ m.leaving
     → n.ballot ≡ m.ballot → m.core.acc ≤ n.core.acc → m.core.taken ≤ n.core.taken → Alike m n
 alike_here m n a b d e f g acc taken = record { log = a; who = b; promise = d; status = e; leaving = f; ballot = g; acc = acc; taken = taken }
 
 pub alike_refresh : (m : Node) → Alike m (refresh m)
-alike_refresh m = let h = rests_refresh m in let r = h.rests in record { log = h.log; who = r.who; promise = r.promise; status = r.status; leaving = r.leaving; ballot = r.ballot; acc = r.acc; taken = r.taken }
+alike_refresh m = let h = rests_refresh m in let r = h.rests in record {
+  log = h.log;
+  who = r.who;
+  promise = r.promise;
+  status = r.status;
+  leaving = r.leaving;
+  ballot = r.ballot;
+  acc = r.acc;
+  taken = r.taken;
+}
 
 pub alike_settle : (m : Node) → Alike m (settle m)
 alike_settle m =

@@ -39,7 +39,8 @@ whole_long w m low =
     omega arith
 
 -- up to a number from its start on
-pub whole_part : (w : World) (q m : Node) (k : ℕ) → IsBeginning w q m → m.core.log.start ≤ k → whole.told (take k (lists.whole w m)) ≡ image_at m.core.log k
+pub whole_part : (w : World) (q m : Node) (k : ℕ) → IsBeginning w q m → m.core.log.start ≤ k
+    → whole.told (take k (lists.whole w m)) ≡ image_at m.core.log k
 whole_part w q m k h low =
     let start = m.core.log.start in
     let before = take start w.group in
@@ -62,7 +63,8 @@ whole_told w q m h =
     ∙ ap (λ n. fold (whole.told before) n m.core.log.entries) next
     ∙ ap (λ i. fold i (start + 1) m.core.log.entries) (sym h.image)
 
-pub whole_entry : (w : World) (m : Node) (number : ℕ) (e : Entry) → m.core.log.start ≤ length w.group → entry_at m.core.log number ≡ Some e → slice_get (lists.whole w m) (number - 1) ≡ Some e
+pub whole_entry : (w : World) (m : Node) (number : ℕ) (e : Entry) → m.core.log.start ≤ length w.group → entry_at m.core.log number ≡ Some e
+    → slice_get (lists.whole w m) (number - 1) ≡ Some e
 whole_entry w m zero e low there = absurd (cc)
 whole_entry w m (suc before) e low there = split (nat_le m.core.log.start before)
     (λ t.
@@ -91,7 +93,8 @@ goes_no_further w q m own h =
     omega arith
 
 -- each entry fits
-pub fits_there : (w : World) (q : Node) (number : ℕ) (e : Entry) → IsGood (lists.whole w q) → IsBeginning w q q → entry_at q.core.log number ≡ Some e → fits (image_at q.core.log (number - 1)) e ≡ true
+pub fits_there : (w : World) (q : Node) (number : ℕ) (e : Entry) → IsGood (lists.whole w q) → IsBeginning w q q → entry_at q.core.log number ≡ Some e
+    → fits (image_at q.core.log (number - 1)) e ≡ true
 fits_there w q number e good own there =
     let within = (entry_within q.core.log number e there).0 in
     let get = whole_entry w q number e own.within there in
@@ -110,10 +113,21 @@ record ViewIn (image : Image) (n : ℕ) (es : List Entry) : Type 0 where
 Unviewed : Image → ℕ → List Entry → Type 0
 Unviewed image n es = ((fold image n es).view ≡ image.view) × ((fold image n es).view_number ≡ image.view_number)
 
-view_at : (image : Image) (n : ℕ) (e : Entry) (es : List Entry) → Unviewed (after image n e) (n + 1) es → ViewIn image n (e ∷ es) ⊎ Unviewed image n (e ∷ es)
+view_at : (image : Image) (n : ℕ) (e : Entry) (es : List Entry) → Unviewed (after image n e) (n + 1) es
+    → ViewIn image n (e ∷ es) ⊎ Unviewed image n (e ∷ es)
 unfolding fold after Unviewed
-view_at image n (View stamp names resilience) es h = inl (record { index = 0; names = names; resilience = resilience; number = (let at = h.1 in omega arith); there = ap (λ v. Some (View v names resilience)) (sym h.0) })
-view_at image n (Data from req body) es h = inr (h.0 ∙ (after_same image n (Data from req body) refl).view, h.1 ∙ (after_same image n (Data from req body) refl).number)
+view_at image n (View stamp names resilience) es h = inl (record {
+  index = 0;
+  names = names;
+  resilience = resilience;
+  number = (let at = h.1 in omega arith);
+  there = ap (λ v. Some (View v names resilience)) (sym h.0);
+})
+view_at image n (Data from req body) es h = inr (
+  h.0 ∙ (after_same image n (Data from req body) refl).view,
+  h.1
+      ∙ (after_same image n (Data from req body) refl).number,
+)
 view_at image n (Join name) es h = inr h
 view_at image n (Leave name) es h = inr (h.0 ∙ (after_same image n (Leave name) refl).view, h.1 ∙ (after_same image n (Leave name) refl).number)
 
@@ -121,7 +135,8 @@ view_in : (image : Image) (n : ℕ) (es : List Entry) → ViewIn image n es ⊎ 
 unfolding fold Unviewed
 view_in image n [] = inr (refl, refl)
 view_in image n (e ∷ es) = ⊎_elim
-    (λ (h : ViewIn (after image n e) (n + 1) es). let at = h.number in inl (record { index = suc h.index; names = h.names; resilience = h.resilience; number = omega arith; there = h.there }))
+    (λ (h : ViewIn (after image n e) (n + 1) es). let at = h.number in inl
+    (record { index = suc h.index; names = h.names; resilience = h.resilience; number = omega arith; there = h.there }))
     (λ (h : Unviewed (after image n e) (n + 1) es). view_at image n e es h)
     (view_in (after image n e) (n + 1) es)
 
@@ -151,7 +166,8 @@ no_less w q m good own h same short = ⊎_elim
     let z : ⊥ = omega arith in z)
     (view_in blank 1 (lists.whole w q))
 
-pub has_last_view : (w : World) (q m : Node) → IsGood (lists.whole w q) → IsBeginning w q q → IsBeginning w q m → view m ≡ view q → (told q).view_number ≤ top m
+pub has_last_view : (w : World) (q m : Node) → IsGood (lists.whole w q) → IsBeginning w q q → IsBeginning w q m → view m ≡ view q
+    → (told q).view_number ≤ top m
 has_last_view w q m good own h same = elim (cases_lt (top m) (told q).view_number) [
   | inl short ↦ absurd (no_less w q m good own h same short)
   | inr reached ↦ reached
@@ -164,7 +180,8 @@ listed_is : (w : World) (q : Node) (name : ℕ) → IsBeginning w q q → mem (l
 unfolding mem
 listed_is w q name own there = ap (λ (i : Image). has (members_of i) name) (sym (whole_told w q q own)) ∙ there
 
-agrees : (rules : Rules) (w : World) (q m : Node) → IsGood (lists.whole w q) → IsBeginning w q q → IsBeginning w q m → view m ≡ view q → Fronts q → Fronts m → IsTaken q m → Agrees q m
+agrees : (rules : Rules) (w : World) (q m : Node) → IsGood (lists.whole w q) → IsBeginning w q q → IsBeginning w q m → view m ≡ view q → Fronts q
+    → Fronts m → IsTaken q m → Agrees q m
 agrees rules w q m good own h same fq fm t =
     let kept = fq.kept in
     let base = t.base in
@@ -192,7 +209,8 @@ one_list_agrees rules events place may low repair one settled_ =
       each = λ name there.
           (let act = repair.all_act name there in
           let m = w.nodes name in
-          agrees rules w q m one.good own (one.each name (acting m act.0).0) act.1 leads (laws.each name (few_acting rules w name laws act.0)).fronts (settled_.taken name there));
+          agrees rules w q m one.good own (one.each name (acting m act.0).0) act.1 leads (laws.each name (few_acting rules w name laws act.0)).fronts
+          (settled_.taken name there));
       alone = λ name member. listed_is w q name own (one.listed name member);
       fit = λ number e there. fits_there w q number e one.good own there;
       counted = settled_.counted;

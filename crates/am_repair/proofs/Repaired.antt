@@ -41,12 +41,14 @@ settles_then w s events h = ap (λ u. happen u events) h ∙ sym (runs_go_on w s
 settles_waves : (k after : ℕ) (w : World) (s : Settling) → Settles w s → Settles w (waves k after s)
 unfolding waves
 settles_waves zero after w s h = h
-settles_waves (suc k) after w s h = settles_waves k (length s.world.letters) w (and_then s (hearings s.world after)) (settles_then w s (hearings s.world after) h)
+settles_waves (suc k) after w s h = settles_waves k (length s.world.letters) w (and_then s (hearings s.world after))
+    (settles_then w s (hearings s.world after) h)
 
 settles_rounds : (k : ℕ) (w : World) (s : Settling) → Settles w s → Settles w (rounds k s)
 unfolding rounds
 settles_rounds zero w s h = h
-settles_rounds (suc k) w s h = settles_rounds k w (round s) (settles_waves 5 (length s.world.letters) w (and_then s (ticks s.world)) (settles_then w s (ticks s.world) h))
+settles_rounds (suc k) w s h = settles_rounds k w (round s) (settles_waves 5 (length s.world.letters) w (and_then s (ticks s.world))
+    (settles_then w s (ticks s.world) h))
 
 settled_is : (rules : Rules) (w : World) → happen w (settle_events rules w) ≡ many (round_count rules) w
 unfolding settle_events happen
@@ -78,12 +80,14 @@ many_rounds (suc k) rules r stored w h =
     subst (λ n. AllStored rules r n (many k (after_waves w))) same (many_rounds k rules r (stored + 8) (after_waves w) (one_round rules r stored w h))
 
 -- all have all
-all_high : (rules : Rules) (r : Repair) (stored : ℕ) (w : World) → r.high ≤ stored → AllStored rules r stored w → (i : ℕ) → has r.members i ≡ true → (i == r.by) ≡ false → HasStored rules r i r.high w
+all_high : (rules : Rules) (r : Repair) (stored : ℕ) (w : World) → r.high ≤ stored → AllStored rules r stored w → (i : ℕ) → has r.members i ≡ true
+    → (i == r.by) ≡ false → HasStored rules r i r.high w
 all_high rules r stored w far h i there other = let x = h.each i there other in let have = x.stored_ in record { fine = x.fine; stored_ = omega arith }
 
 -- ---- the end
 
-last_rounds : (rules : Rules) (r : Repair) (stored : ℕ) (w : World) → r.high ≤ stored → AllStored rules r stored w → (i : ℕ) → has r.members i ≡ true → HasCaughtUp ((after_waves (after_waves w)).nodes i) r.high
+last_rounds : (rules : Rules) (r : Repair) (stored : ℕ) (w : World) → r.high ≤ stored → AllStored rules r stored w → (i : ℕ) → has r.members i ≡ true
+    → HasCaughtUp ((after_waves (after_waves w)).nodes i) r.high
 last_rounds rules r stored w far h i there =
     let v = after_waves w in
     let known : AllKnown r v = λ j here other. (round_reports rules r j w h.sent here other (all_high rules r stored w far h j here other)).known in
@@ -100,11 +104,13 @@ last_rounds rules r stored w far h i there =
     })
 
 -- from a calm world in which each member has at least what leaves no more than the window and 15
-pub all_catch_up : (rules : Rules) (r : Repair) (base : ℕ) (w : World) → r.high ≤ base + (rules.window + 15) → AllStored rules r base w → (i : ℕ) → has r.members i ≡ true
+pub all_catch_up : (rules : Rules) (r : Repair) (base : ℕ) (w : World) → r.high ≤ base + (rules.window + 15) → AllStored rules r base w → (i : ℕ)
+    → has r.members i ≡ true
     → HasCaughtUp ((happen w (settle_events rules w)).nodes i) r.high
 all_catch_up rules r base w near h i there =
     let k = (rules.window + 22) / 8 in
     let enough : r.high ≤ base + 8 * k = omega arith in
     let count : round_count rules ≡ suc (suc k) = omega arith in
-    let is : happen w (settle_events rules w) ≡ after_waves (after_waves (many k w)) = settled_is rules w ∙ ap (λ n. many n w) count ∙ many_more (suc k) w ∙ ap after_waves (many_more k w) in
+    let is : happen w (settle_events rules w) ≡ after_waves (after_waves (many k w)) = settled_is rules w ∙ ap (λ n. many n w) count ∙ many_more (suc k) w
+    ∙ ap after_waves (many_more k w) in
     subst (λ v. HasCaughtUp (v.nodes i) r.high) (sym is) (last_rounds rules r (base + 8 * k) (many k w) enough (many_rounds k rules r base w h) i there)

@@ -27,7 +27,15 @@ after_ticks w = happen w (ticks w)
 abbrev pub after_wave : ℕ → World → World
 after_wave after w = happen w (hearings w after)
 
--- five waves, each of what the wave before it sent
+-- after the third of five waves, each of what the wave before it sent
+abbrev pub after_third : World → World
+after_third w =
+    let a = after_ticks w in
+    let b = after_wave (length w.letters) a in
+    let c = after_wave (length a.letters) b in
+    after_wave (length b.letters) c
+
+-- and after all of them
 abbrev pub after_waves : World → World
 after_waves w =
     let n = length w.letters in
@@ -60,8 +68,7 @@ long_wave : (after : ℕ) (w : World) → length w.letters ≤ length (after_wav
 long_wave after w = let more = (happen_begins w (hearings w after)).letters in let long = ap length more.1 ∙ length-append w.letters more.0 in omega arith
 
 -- the waves behind the third
-pub last_waves : (r : Repair) (P : World → Type 0) → Stable r P → (w : World) → r.sent ≤ length w.letters
-    → (let a = after_ticks w in let b = after_wave (length w.letters) a in let c = after_wave (length a.letters) b in let d = after_wave (length b.letters) c in P d → P (after_waves w))
+pub last_waves : (r : Repair) (P : World → Type 0) → Stable r P → (w : World) → r.sent ≤ length w.letters → P (after_third w) → P (after_waves w)
 last_waves r P s w low h =
     let a = after_ticks w in
     let b = after_wave (length w.letters) a in
@@ -75,7 +82,8 @@ last_waves r P s w low h =
     wave_keep r P s (length d.letters) (omega arith) e (wave_keep r P s (length c.letters) (omega arith) d h)
 
 -- those behind the first
-pub later_waves : (r : Repair) (P : World → Type 0) → Stable r P → (w : World) → r.sent ≤ length w.letters → (let a = after_ticks w in P (after_wave (length w.letters) a) → P (after_waves w))
+pub later_waves : (r : Repair) (P : World → Type 0) → Stable r P → (w : World) → r.sent ≤ length w.letters
+    → (let a = after_ticks w in P (after_wave (length w.letters) a) → P (after_waves w))
 later_waves r P s w low h =
     let a = after_ticks w in
     let b = after_wave (length w.letters) a in
@@ -101,7 +109,8 @@ no_bound : (rules : Rules) (r : Repair) → Bounds rules r (λ w. Unit {0}) 0
 no_bound rules r = record { keeps = λ w e is h x. tt; gives = λ w h x. omega arith }
 
 -- with eight entries more, or all
-pub round_stores : (rules : Rules) (r : Repair) (i stored : ℕ) (w : World) → r.sent ≤ length w.letters → has r.members i ≡ true → (i == r.by) ≡ false → HasStored rules r i (min stored r.high) w → HasStored rules r i (min (stored + 8) r.high) (after_waves w)
+pub round_stores : (rules : Rules) (r : Repair) (i stored : ℕ) (w : World) → r.sent ≤ length w.letters → has r.members i ≡ true → (i == r.by) ≡ false
+    → HasStored rules r i (min stored r.high) w → HasStored rules r i (min (stored + 8) r.high) (after_waves w)
 round_stores rules r i stored w low there other h = elim (cases_lt (top (w.nodes i)) r.high) [
   | inl short ↦
       (let have = top (w.nodes i) in
@@ -115,7 +124,8 @@ round_stores rules r i stored w low there other h = elim (cases_lt (top (w.nodes
       let poll = ticks_poll rules r (λ u. Unit {0}) i 0 w (no_bound rules r) h.fine tt there other in
       let asked = first_wave_asks rules r i (length w.letters) have 0 a low waits poll there other short in
       let serving = second_wave_serves rules r i (length a.letters) have b (omega arith) asked there other in
-      let kept = wave_keep r (HasStored rules r i have) (stored_stable rules r i have there) (length a.letters) (omega arith) b (record { fine = asked.fine; stored_ = (let same = asked.stored_ in omega arith) }) in
+      let kept = wave_keep r (HasStored rules r i have) (stored_stable rules r i have there) (length a.letters) (omega arith) b
+      (record { fine = asked.fine; stored_ = (let same = asked.stored_ in omega arith) }) in
       let stores = third_wave_stores rules r i (length b.letters) have c (omega arith) lc serving.fine serving.served_ kept.stored_ there other in
       let more = last_waves r (HasStored rules r i (min (have + 8) r.high)) (stored_stable rules r i (min (have + 8) r.high) there) w low stores in
       let low_ = h.stored_ in let got = more.stored_ in

@@ -73,7 +73,8 @@ pub record Sends (r : Repair) (v : World) (m n : Node) : Type 0 where
   pub promise : is_sequencer n ≡ true → n.core.promise ≡ r.view
   pub base : is_sequencer n ≡ true → n.core.log.start ≤ m.core.base
 
-pub entry_of : (log : Log) (index number : ℕ) (e : Entry) → slice_get log.entries index ≡ Some e → number ≡ log.start + index + 1 → entry_at log number ≡ Some e
+pub entry_of : (log : Log) (index number : ℕ) (e : Entry) → slice_get log.entries index ≡ Some e → number ≡ log.start + index + 1
+    → entry_at log number ≡ Some e
 entry_of log index number e there is =
     let before = log.start + index in
     let at : number ≡ suc before = omega arith in
@@ -81,7 +82,8 @@ entry_of log index number e there is =
     let skip : before - log.start ≡ index = omega arith in
     ap (entry_at log) at ∙ rw low (ap (slice_get log.entries) skip ∙ there)
 
-numbered_stands : (r : Repair) (v : World) (m n : Node) (number : ℕ) (e : Entry) → Sends r v m n → is_sequencer n ≡ true → letters.Stands n.core.log m.core.base number e → Stands r v number e
+numbered_stands : (r : Repair) (v : World) (m n : Node) (number : ℕ) (e : Entry) → Sends r v m n → is_sequencer n ≡ true
+    → letters.Stands n.core.log m.core.base number e → Stands r v number e
 numbered_stands r v m n number e h t s =
     let node = ap (λ k. v.nodes k) (sym (h.own t)) ∙ h.node in
     ap (λ (x : Node). entry_at x.core.log number) node ∙ entry_of n.core.log s.index number e s.there (s.at (h.base t))
@@ -100,7 +102,8 @@ told_view : (r : Repair) (v : World) (m n : Node) → Sends r v m n → MayTell 
 told_view r v m n h (leads t) = h.promise t
 told_view r v m n h (decided b number names is answer same) = h.decides_own b is
 
-pub says_calm : (r : Repair) (w v : World) (m n : Node) (c : Cause) (to : List ℕ) (p : Packet) → CalmCause r w c → Sends r v m n → Says m c n to p → IsCalm r v p
+pub says_calm : (r : Repair) (w v : World) (m n : Node) (c : Cause) (to : List ℕ) (p : Packet) → CalmCause r w c → Sends r v m n → Says m c n to p
+    → IsCalm r v p
 says_calm r w v m n c to p calm h (request _ req body a f s) = report_sent r v m n h
 says_calm r w v m n c to p calm h (spread _ req body a f s) = report_sent r v m n h
 says_calm r w v m n c to p calm h (bcast _ number e l s) = numbered_stands r v m n number e h l s

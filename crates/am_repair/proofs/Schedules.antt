@@ -22,7 +22,8 @@ abbrev pub IsAmong : ℕ → List ℕ → Type 0
 IsAmong place places = list_any (λ p. p == place) places ≡ true
 
 -- what each of them keeps
-pub acts_keep : (P : World → Type 0) (a : Act) → ((p : ℕ) (u : World) → P u → P (happens u (event_at p a))) → (places : List ℕ) (w : World) → P w → P (happen w (map (λ p. event_at p a) places))
+pub acts_keep : (P : World → Type 0) (a : Act) → ((p : ℕ) (u : World) → P u → P (happens u (event_at p a))) → (places : List ℕ) (w : World) → P w
+    → P (happen w (map (λ p. event_at p a) places))
 unfolding happen
 acts_keep P a keep [] w h = h
 acts_keep P a keep (p ∷ places) w h = acts_keep P a keep places (happens w (event_at p a)) (keep p w h)
@@ -33,12 +34,15 @@ pub record Hits (P Q : World → Type 0) (a : Act) (place : ℕ) : Type 0 where
   pub hits : (u : World) → P u → Q (happens u (event_at place a))
   pub stays : (p : ℕ) (u : World) → P u → Q u → Q (happens u (event_at p a))
 
-acts_stay : (P Q : World → Type 0) (a : Act) → ((p : ℕ) (u : World) → P u → P (happens u (event_at p a))) → ((p : ℕ) (u : World) → P u → Q u → Q (happens u (event_at p a))) → (places : List ℕ) (w : World) → P w → Q w → P (happen w (map (λ p. event_at p a) places)) × Q (happen w (map (λ p. event_at p a) places))
+acts_stay : (P Q : World → Type 0) (a : Act) → ((p : ℕ) (u : World) → P u → P (happens u (event_at p a)))
+    → ((p : ℕ) (u : World) → P u → Q u → Q (happens u (event_at p a))) → (places : List ℕ) (w : World) → P w → Q w
+    → P (happen w (map (λ p. event_at p a) places)) × Q (happen w (map (λ p. event_at p a) places))
 unfolding happen
 acts_stay P Q a keeps stays [] w h q = (h, q)
 acts_stay P Q a keeps stays (p ∷ places) w h q = acts_stay P Q a keeps stays places (happens w (event_at p a)) (keeps p w h) (stays p w h q)
 
-pub acts_hit : (P Q : World → Type 0) (a : Act) (place : ℕ) → Hits P Q a place → (places : List ℕ) (w : World) → IsAmong place places → P w → P (happen w (map (λ p. event_at p a) places)) × Q (happen w (map (λ p. event_at p a) places))
+pub acts_hit : (P Q : World → Type 0) (a : Act) (place : ℕ) → Hits P Q a place → (places : List ℕ) (w : World) → IsAmong place places → P w
+    → P (happen w (map (λ p. event_at p a) places)) × Q (happen w (map (λ p. event_at p a) places))
 unfolding happen
 acts_hit P Q a place k [] w among h = absurd (cc)
 acts_hit P Q a place k (p ∷ places) w among h = split (p == place)
@@ -59,19 +63,23 @@ any_range : (place a n : ℕ) → a ≤ place → place < a + n → IsAmong plac
 any_range place a zero low high = absurd (omega arith)
 any_range place a (suc n) low high = split (a == place)
     (λ t. rw t refl)
-    (λ f. rw f (any_range place (a + 1) n (let differs : a ≡ place → ⊥ = λ same. (let z : ⊥ = grind (arith, nat_tests) in z) in omega arith) (omega arith)))
+    (λ f. rw f (any_range place (a + 1) n (let differs : a ≡ place → ⊥ = λ same. (let z : ⊥ = grind (arith, nat_tests) in z) in omega arith)
+    (omega arith)))
 
 pub is_running : (w : World) (place : ℕ) → place < 16 → is_stopped w (current w place) ≡ false → IsAmong place (running w)
 unfolding running
-is_running w place low runs = any_filter (λ p. not (is_stopped w (current w p))) place (range_with_len 0 16) (ap not runs) (any_range place 0 16 (omega arith) (omega arith))
+is_running w place low runs = any_filter (λ p. not (is_stopped w (current w p))) place (range_with_len 0 16) (ap not runs)
+    (any_range place 0 16 (omega arith) (omega arith))
 
-pub is_hearing : (w : World) (l : Letter) (place : ℕ) → place < 16 → is_stopped w (current w place) ≡ false → is_for l (current w place) ≡ true → IsAmong place (filter (λ p. is_for l (current w p)) (running w))
+pub is_hearing : (w : World) (l : Letter) (place : ℕ) → place < 16 → is_stopped w (current w place) ≡ false → is_for l (current w place) ≡ true
+    → IsAmong place (filter (λ p. is_for l (current w p)) (running w))
 is_hearing w l place low runs meant = any_filter (λ p. is_for l (current w p)) place (running w) meant (is_running w place low runs)
 
 -- ---- a wave
 
 -- what each hearing keeps
-pub from_keeps : (P : World → Type 0) (w : World) (number : ℕ) (ls : List Letter) (u : World) → ((p k : ℕ) (u : World) → number ≤ k → P u → P (happens u (event_at p (act.Hear k)))) → P u → P (happen u (hearings_from w number ls))
+pub from_keeps : (P : World → Type 0) (w : World) (number : ℕ) (ls : List Letter) (u : World)
+    → ((p k : ℕ) (u : World) → number ≤ k → P u → P (happens u (event_at p (act.Hear k)))) → P u → P (happen u (hearings_from w number ls))
 unfolding hearings_from happen
 from_keeps P w number [] u keep h = h
 from_keeps P w number (l ∷ ls) u keep h =
@@ -79,7 +87,8 @@ from_keeps P w number (l ∷ ls) u keep h =
     let rest = from_keeps P w (number + 1) ls (happen u (hearings_of w number l)) (λ p k x low. keep p k x (omega arith)) first in
     subst P (sym (runs_go_on u (hearings_of w number l) (hearings_from w (number + 1) ls))) rest
 
-pub wave_keeps : (P : World → Type 0) (w : World) (after : ℕ) → ((p k : ℕ) (u : World) → after < k → P u → P (happens u (event_at p (act.Hear k)))) → P w → P (happen w (hearings w after))
+pub wave_keeps : (P : World → Type 0) (w : World) (after : ℕ) → ((p k : ℕ) (u : World) → after < k → P u → P (happens u (event_at p (act.Hear k)))) → P w
+    → P (happen w (hearings w after))
 wave_keeps P w after keep h = from_keeps P w (after + 1) (drop after w.letters) w (λ p k u low. keep p k u (omega arith)) h
 
 -- what comes about at a letter, for whoever hears it
@@ -91,15 +100,18 @@ from_walks P w number [] u step h = let z : number ≡ number + length {A = Lett
 from_walks P w number (l ∷ ls) u step h =
     let at : number + 0 ≡ number = omega arith in
     let next : number + 0 + 1 ≡ number + 1 = omega arith in
-    let first : P (number + 1) (happen u (hearings_of w number l)) = subst (λ n. P n (happen u (hearings_of w number l))) next (subst (λ n. P (number + 0 + 1) (happen u (hearings_of w n l))) at (step 0 l u refl (subst (λ n. P n u) (sym at) h))) in
+    let first : P (number + 1) (happen u (hearings_of w number l)) = subst (λ n. P n (happen u (hearings_of w number l))) next
+    (subst (λ n. P (number + 0 + 1) (happen u (hearings_of w n l))) at (step 0 l u refl (subst (λ n. P n u) (sym at) h))) in
     let rest = from_walks P w (number + 1) ls (happen u (hearings_of w number l))
     (λ j x y there k.
     (let e : number + 1 + j ≡ number + suc j = omega arith in
     let g : number + suc j + 1 ≡ number + 1 + j + 1 = omega arith in
-    subst (λ n. P n (happen y (hearings_of w (number + 1 + j) x))) g (subst (λ n. P (number + suc j + 1) (happen y (hearings_of w n x))) (sym e) (step (suc j) x y there (subst (λ n. P n y) e k)))))
+    subst (λ n. P n (happen y (hearings_of w (number + 1 + j) x))) g (subst (λ n. P (number + suc j + 1) (happen y (hearings_of w n x))) (sym e)
+    (step (suc j) x y there (subst (λ n. P n y) e k)))))
     first in
     let end : number + 1 + length ls ≡ number + length (l ∷ ls) = omega arith in
-    subst (λ n. P n (happen u (hearings_of w number l ++ hearings_from w (number + 1) ls))) end (subst (P (number + 1 + length ls)) (sym (runs_go_on u (hearings_of w number l) (hearings_from w (number + 1) ls))) rest)
+    subst (λ n. P n (happen u (hearings_of w number l ++ hearings_from w (number + 1) ls))) end
+    (subst (P (number + 1 + length ls)) (sym (runs_go_on u (hearings_of w number l) (hearings_from w (number + 1) ls))) rest)
 
 pub letter_within : (ls : List Letter) (k : ℕ) (l : Letter) → letter_at ls k ≡ Some l → k ≤ length ls
 letter_within ls zero l there = omega arith
@@ -134,7 +146,8 @@ pub record IsHeard (w : World) (after k place : ℕ) : Type 0 where
   pub runs : is_stopped w (current w place) ≡ false
   pub meant : is_for letter (current w place) ≡ true
 
-pub wave_hits : (P Q : World → Type 0) (w : World) (after k place : ℕ) → IsHeard w after k place → WaveHits P Q after (length w.letters) k place → P w → P (happen w (hearings w after)) × Q (happen w (hearings w after))
+pub wave_hits : (P Q : World → Type 0) (w : World) (after k place : ℕ) → IsHeard w after k place → WaveHits P Q after (length w.letters) k place → P w
+    → P (happen w (hearings w after)) × Q (happen w (hearings w after))
 wave_hits P Q w after k place is h first =
     let within = letter_within w.letters k is.letter is.there in
     let late = is.late in
@@ -148,11 +161,17 @@ wave_hits P Q w after k place is h first =
     step n l u late_ there x = split (n == k)
         (λ t. let same : n ≡ k = grind (arith, nat_tests) in
         let letter : is.letter ≡ l = (let e = sym (ap (letter_at w.letters) same) ∙ there in let d = is.there in cc) in
-        let one = acts_hit P Q (act.Hear n) place (record { keeps = λ p y z. h.keeps p n y late_ (letter_within w.letters n l there) z; hits = λ y z. subst (λ i. Q (happens y (event_at place (act.Hear i)))) (sym same) (h.hits y z); stays = λ p y z q. h.stays p n y late_ (letter_within w.letters n l there) z q })
-        (filter (λ p. is_for l (current w p)) (running w)) u (is_hearing w l place is.low is.runs (subst (λ i. is_for i (current w place) ≡ true) letter is.meant)) x.0 in
+        let one = acts_hit P Q (act.Hear n) place (record {
+          keeps = λ p y z. h.keeps p n y late_ (letter_within w.letters n l there) z;
+          hits = λ y z. subst (λ i. Q (happens y (event_at place (act.Hear i)))) (sym same) (h.hits y z);
+          stays = λ p y z q. h.stays p n y late_ (letter_within w.letters n l there) z q;
+        })
+        (filter (λ p. is_for l (current w p)) (running w)) u (is_hearing w l place is.low is.runs
+        (subst (λ i. is_for i (current w place) ≡ true) letter is.meant)) x.0 in
         (one.0, λ low. one.1))
         (λ f. let differs : n ≡ k → ⊥ = λ same. (let z : ⊥ = grind (arith, nat_tests) in z) in
         let places = filter (λ p. is_for l (current w p)) (running w) in (
           acts_keep P (act.Hear n) (λ p y z. h.keeps p n y late_ (letter_within w.letters n l there) z) places u x.0,
-          λ low. (acts_stay P Q (act.Hear n) (λ p y z. h.keeps p n y late_ (letter_within w.letters n l there) z) (λ p y z q. h.stays p n y late_ (letter_within w.letters n l there) z q) places u x.0 (x.1 (omega arith))).1,
+          λ low. (acts_stay P Q (act.Hear n) (λ p y z. h.keeps p n y late_ (letter_within w.letters n l there) z)
+              (λ p y z q. h.stays p n y late_ (letter_within w.letters n l there) z q) places u x.0 (x.1 (omega arith))).1,
         ))

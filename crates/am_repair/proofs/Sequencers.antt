@@ -37,7 +37,8 @@ with_has m s report = let t : (s == s) ≡ true = grind (arith, nat_tests) in rw
 reported_has : (m : Node) (s : ℕ) (report : Report) → report.stored ≤ ((reported m s report).reports s).stored
 reported_has m s report = let a = with_has m s report in let b = refreshed_stay (with_report m s report) s in omega arith
 
-requested_has : (m : Node) (s : ℕ) (stored req : ℕ) (body : List ℕ) (by_order : Bool) → stored ≤ (m.reports s).stored → Has s stored (requested m s req body by_order)
+requested_has : (m : Node) (s : ℕ) (stored req : ℕ) (body : List ℕ) (by_order : Bool) → stored ≤ (m.reports s).stored
+    → Has s stored (requested m s req body by_order)
 requested_has m s stored req body by_order h =
     has_if s stored (nat_lt 0 (row_at m s).left) _ _ (h, refl)
     (has_if s stored (nat_le req (row_at m s).last) _ _ (h, refl)
@@ -47,14 +48,17 @@ requested_has m s stored req body by_order h =
 request_has : (m : Node) (s : ℕ) (report : Report) (req : ℕ) (body : List ℕ) (by_order : Bool) → is_unknown m s ≡ false → report_fits m report ≡ true
     → Has s report.stored (request_row m s report req body by_order)
 unfolding request_row
-request_has m s report req body by_order known fits = rw (known, fits) (requested_has (reported m s report) s report.stored req body by_order (reported_has m s report))
+request_has m s report req body by_order known fits = rw (known, fits)
+    (requested_has (reported m s report) s report.stored req body by_order (reported_has m s report))
 
 pub reports_are_taken : ReportsAreTaken
 unfolding hear hear_row ack_row nack_row
 reports_are_taken m p s v report (ack s_ v_ report_) heard known fits = rw (heard, known, fits) (done_has m s report.stored _ (with_has m s report, refl))
 reports_are_taken m p s v report (nack s_ v_ report_) heard known fits =
-    rw (heard, known, fits) (done_has m s report.stored _ (has_if s report.stored (nat_lt report.stored (reported m s report).core.base) _ _ (reported_has m s report, refl) (reported_has m s report, refl)))
-reports_are_taken m p s v report (request s_ v_ report_ req body) heard known fits = rw heard (done_has m s report.stored _ (request_has m s report req body false known fits))
+    rw (heard, known, fits) (done_has m s report.stored _ (has_if s report.stored (nat_lt report.stored (reported m s report).core.base) _ _
+    (reported_has m s report, refl) (reported_has m s report, refl)))
+reports_are_taken m p s v report (request s_ v_ report_ req body) heard known fits = rw heard
+    (done_has m s report.stored _ (request_has m s report req body false known fits))
 reports_are_taken m p s v report (spread s_ v_ report_ req body) heard known fits =
     let both = and_both (hears_in_view m s v) (is_sequencer m) heard in
     rw (both.0, both.1) (done_has m s report.stored _ (request_has m s report req body true known fits))
@@ -71,7 +75,8 @@ serves_plan m p s stored same =
     let n = refresh_at_end p in
     let es = served m stored in
     let is : served p stored ≡ es = ap (λ (l : Log). served (record m { core = record (m.core) { log = l } }) stored) same in
-    let letters = ap (λ xs. put_all (bcast_of n) (only_name s) (stored + 1) xs []) is ∙ put_bcasts n (only_name s) (stored + 1) es [] (All-nil _) (only_some s) in
+    let letters = ap (λ xs. put_all (bcast_of n) (only_name s) (stored + 1) xs []) is
+    ∙ put_bcasts n (only_name s) (stored + 1) es [] (All-nil _) (only_some s) in
     let last = accept_last m (serve p s stored) n (bcasts n (only_name s) (stored + 1) es) (bcasts_low n (only_name s) (stored + 1) es) in
     record { same = (rests_at_end p).log ∙ same; more = last.0; letters = ap (with_accept m (serve p s stored) n) letters ∙ last.1 }
 

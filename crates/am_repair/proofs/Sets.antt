@@ -47,13 +47,15 @@ without_has set who other h differs = split (has set who)
     let b = is_there set other h in
     let place : place_of other ≢ place_of who = (λ same. (let life : life_of other ≡ life_of who = sym b ∙ ap (slice_index set) same ∙ a in
     let e : other ≡ who = omega arith in let z : ⊥ = grind (arith, nat_tests) in z)) in
-    let is : slice_index (slice_set set (place_of who) 0) (place_of other) ≡ life_of other = get_or-set_other set (place_of who) (place_of other) 0 0 place ∙ b in
+    let is : slice_index (slice_set set (place_of who) 0) (place_of other) ≡ life_of other = get_or-set_other set (place_of who) (place_of other) 0 0 place
+    ∙ b in
     rw t (grind (arith, nat_tests)))
     (λ f. rw f h)
 
 -- ---- how many of them pass
 
-pub count_named : (p : ℕ → Bool) (lives : List ℕ) (from : ℕ) → All (λ name. p name ≡ true) (names_from from lives) → count_by p (names_from from lives) ≡ size lives
+pub count_named : (p : ℕ → Bool) (lives : List ℕ) (from : ℕ) → All (λ name. p name ≡ true) (names_from from lives)
+    → count_by p (names_from from lives) ≡ size lives
 count_named p [] from h = refl
 count_named p (zero ∷ lives) from h =
     let rest = count_named p lives (from + 1) h in

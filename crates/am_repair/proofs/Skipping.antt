@@ -58,7 +58,8 @@ skips_if high false p q f g = g refl
 skips_quiet : (high : ℕ) (m : Node) (o : Outcome) → PlanSkips high (quiet m o)
 skips_quiet high m o = record { each = λ n. All-nil (SkipsLetter high) }
 
-skips_telling : (high : ℕ) (m : Node) (o : Outcome) (to : List ℕ) (packet : Node → Packet) → ((n : Node) → Skips high (hears (packet n))) → PlanSkips high (telling m o to packet)
+skips_telling : (high : ℕ) (m : Node) (o : Outcome) (to : List ℕ) (packet : Node → Packet) → ((n : Node) → Skips high (hears (packet n)))
+    → PlanSkips high (telling m o to packet)
 skips_telling high m o to packet h = record { each = λ n. all_letter (SkipsLetter high) to (packet n) [] (h n) (All-nil (SkipsLetter high)) }
 
 finish_skips : (high : ℕ) (m : Node) (p : Plan) → PlanSkips high p → All (SkipsLetter high) (finish m p).letters
@@ -81,24 +82,30 @@ emit_skips high m (Some s) o far =
     (λ u. skips_telling high m o (only_name (view m).by) (λ n. request_of n s.req s.body) (λ n. tt))
     (λ u. skips_telling high m o (others m) (λ n. spread_of n s.req s.body) (λ n. tt)))
     (λ g. skips_if high (has_room m) _ _
-    (λ t. record { each = λ n. all_letter (SkipsLetter high) (others m) (bcast_of n (top m + 1) (Data m.core.who s.req s.body)) [] (λ same. (let low = far (not_false _ g) in absurd (omega arith))) (All-nil (SkipsLetter high)) })
+    (λ t. record {
+      each = λ n. all_letter (SkipsLetter high) (others m) (bcast_of n (top m + 1) (Data m.core.who s.req s.body)) []
+          (λ same. (let low = far (not_false _ g) in absurd (omega arith))) (All-nil (SkipsLetter high));
+    })
     (λ t. skips_quiet high m o)))
 
 acting_skips : (high : ℕ) (m : Node) → m.leaving ≡ false → (is_sequencer m ≡ true → high < top m) → PlanSkips high (tick_acting m)
 acting_skips high m stays far =
     skips_if high (not (acts m)) _ _
-    (λ t. skips_if high (m.core.promise.by == m.core.who) _ _ (λ u. skips_quiet high m said.Ticked) (λ u. skips_telling high m said.Ticked (only_name m.core.promise.by) fetch_of (λ n. tt)))
+    (λ t. skips_if high (m.core.promise.by == m.core.who) _ _ (λ u. skips_quiet high m said.Ticked)
+    (λ u. skips_telling high m said.Ticked (only_name m.core.promise.by) fetch_of (λ n. tt)))
     (λ f. skips_if high (is_sequencer m) _ _
     (λ t.
     let e = emit m (waiting m) (put_off m (waiting m)) in
     let p = and_result (record e { polls = true }) in
     let skips : PlanSkips high p = record {
-      each = λ n. all_letter (SkipsLetter high) (behind_view n) (result_of n (told n).view_number (viewed_by (entry_at n.core.log (told n).view_number)) (told n).resilience) (e.letters n) tt
+      each = λ n. all_letter (SkipsLetter high) (behind_view n) (result_of n (told n).view_number (viewed_by (entry_at n.core.log (told n).view_number))
+          (told n).resilience) (e.letters n) tt
           ((emit_skips high m (waiting m) (put_off m (waiting m)) far).each n);
     } in
     subst (PlanSkips high) (sym (goes_not m p stays)) skips)
     (λ g. skips_if high m.leaving _ _ (λ t. absurd (cc))
-    (λ t. skips_if high (would_emit m (waiting m)) _ _ (λ u. emit_skips high m (waiting m) said.Ticked far) (λ u. skips_telling high m said.Ticked (only_name (view m).by) ack_of (λ n. tt)))))
+    (λ t. skips_if high (would_emit m (waiting m)) _ _ (λ u. emit_skips high m (waiting m) said.Ticked far)
+    (λ u. skips_telling high m said.Ticked (only_name (view m).by) ack_of (λ n. tt)))))
 
 row_skips : (high : ℕ) (m : Node) (s : Status) → IsAtRest m → (is_sequencer m ≡ true → high < top m) → PlanSkips high (tick_by m s)
 row_skips high m status.Stranger rest far = skips_quiet high m said.Idle
@@ -121,10 +128,12 @@ tick_either : (w : World) (place k : ℕ) (l : Letter) → (let e = event_at pla
 unfolding happens unchanged stepped
 tick_either w place k l there =
     let e = event_at place act.Tick in
-    split (is_stopped w (actor w e)) (λ t. inl (rw t at there)) (λ f. letter_either w.letters (step (w.nodes (actor w e)) does.Tick).letters k l (rw f at there))
+    split (is_stopped w (actor w e)) (λ t. inl (rw t at there)) (λ f. letter_either w.letters (step (w.nodes (actor w e)) does.Tick).letters k l
+    (rw f at there))
 
 -- who ticks is at rest, and only one leads
-tick_letters : (rules : Rules) (r : Repair) (w : World) (name high : ℕ) → Fine rules r w → high < r.high → All (SkipsLetter high) (step (w.nodes name) does.Tick).letters
+tick_letters : (rules : Rules) (r : Repair) (w : World) (name high : ℕ) → Fine rules r w → high < r.high
+    → All (SkipsLetter high) (step (w.nodes name) does.Tick).letters
 tick_letters rules r w name high h low = split (has_departed m.status)
     (λ t. subst (All (SkipsLetter high)) (sym (departed_ticks m t).letters) (All-nil (SkipsLetter high)))
     (λ f. split (name == r.by)
@@ -154,7 +163,8 @@ tick_cause u name high (calls event) is = tt
 tick_cause u name high (hears p) is = absurd (let x = is.there in cc)
 tick_cause u name high refuses is = tt
 
-tick_waits : (rules : Rules) (r : Repair) (i after high : ℕ) (u : World) (place : ℕ) → has r.members i ≡ true → (i == r.by) ≡ false → high < r.high → Waits rules r i after high u → Waits rules r i after high (happens u (event_at place act.Tick))
+tick_waits : (rules : Rules) (r : Repair) (i after high : ℕ) (u : World) (place : ℕ) → has r.members i ≡ true → (i == r.by) ≡ false → high < r.high
+    → Waits rules r i after high u → Waits rules r i after high (happens u (event_at place act.Tick))
 tick_waits rules r i after high u place there other low h =
     let e = event_at place act.Tick in
     record {
@@ -162,11 +172,14 @@ tick_waits rules r i after high u place there other low h =
       stored = ours_skip r u e i (our_ticks place) h.fine.calm there other (tick_cause u _ (top (u.nodes i))) ∙ h.stored;
       skips = λ k l late at. ⊎_elim
           (λ (old : letter_at u.letters k ≡ Some l). h.skips k l late old)
-          (λ (new : (j : ℕ) × (slice_get (step (u.nodes (actor u e)) does.Tick).letters j ≡ Some l)). all_get (SkipsLetter high) _ new.0 l (tick_letters rules r u (actor u e) high h.fine low) new.1)
+          (λ (new : (j : ℕ) × (slice_get (step (u.nodes (actor u e)) does.Tick).letters j ≡ Some l)). all_get (SkipsLetter high) _ new.0 l
+          (tick_letters rules r u (actor u e) high h.fine low) new.1)
           (tick_either u place k l at);
     }
 
-pub ticks_wait : (rules : Rules) (r : Repair) (i : ℕ) (w : World) → Fine rules r w → has r.members i ≡ true → (i == r.by) ≡ false → top (w.nodes i) < r.high → Waits rules r i (length w.letters) (top (w.nodes i)) (happen w (ticks w))
+pub ticks_wait : (rules : Rules) (r : Repair) (i : ℕ) (w : World) → Fine rules r w → has r.members i ≡ true → (i == r.by) ≡ false
+    → top (w.nodes i) < r.high → Waits rules r i (length w.letters) (top (w.nodes i)) (happen w (ticks w))
 ticks_wait rules r i w h there other low =
-    acts_keep (Waits rules r i (length w.letters) (top (w.nodes i))) act.Tick (λ p u k. tick_waits rules r i (length w.letters) (top (w.nodes i)) u p there other low k) (running w) w
+    acts_keep (Waits rules r i (length w.letters) (top (w.nodes i))) act.Tick
+    (λ p u k. tick_waits rules r i (length w.letters) (top (w.nodes i)) u p there other low k) (running w) w
     (record { fine = h; stored = refl; skips = λ k l late at. absurd (let within = letter_within w.letters k l at in omega arith) })

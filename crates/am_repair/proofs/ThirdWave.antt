@@ -31,7 +31,8 @@ use Rattle.am_repair.proofs.NextWaves.{served_entry_goes}
 -- ---- one entry
 
 -- what comes next is stored
-entry_hear : (rules : Rules) (r : Repair) (i k number : ℕ) (u : World) → Fine rules r u → has r.members i ≡ true → (i == r.by) ≡ false → IsServed rules r i k number u → number ≡ top (u.nodes i) + 1 → number ≤ r.high
+entry_hear : (rules : Rules) (r : Repair) (i k number : ℕ) (u : World) → Fine rules r u → has r.members i ≡ true → (i == r.by) ≡ false
+    → IsServed rules r i k number u → number ≡ top (u.nodes i) + 1 → number ≤ r.high
     → top ((happens u (event_at (place_of i) (act.Hear k))).nodes i) ≡ number
 entry_hear rules r i k number u h there other s next low =
     let e = event_at (place_of i) (act.Hear k) in
@@ -61,7 +62,8 @@ entry_hear rules r i k number u h there other s next low =
     ap (λ (x : Node). top x) node ∙ entries_are_stored m r.by r.view s.base s.acc number s.entry heard comes
 
 -- whatever it had, it has one entry more of those up to a number
-entry_hits : (rules : Rules) (r : Repair) (i k stored : ℕ) (u : World) → r.sent < k → Fine rules r u → has r.members i ≡ true → (i == r.by) ≡ false → IsServed rules r i k (stored + 1) u → min stored r.high ≤ top (u.nodes i)
+entry_hits : (rules : Rules) (r : Repair) (i k stored : ℕ) (u : World) → r.sent < k → Fine rules r u → has r.members i ≡ true → (i == r.by) ≡ false
+    → IsServed rules r i k (stored + 1) u → min stored r.high ≤ top (u.nodes i)
     → min (stored + 1) r.high ≤ top ((happens u (event_at (place_of i) (act.Hear k))).nodes i)
 entry_hits rules r i k stored u late h there other s have = elim (cases_lt (top (u.nodes i)) (min (stored + 1) r.high)) [
   | inl short ↦ (let one = entry_hear rules r i k (stored + 1) u h there other s (omega arith) (omega arith) in omega arith)
@@ -77,7 +79,8 @@ record IsOnWay (rules : Rules) (r : Repair) (i after stored first many : ℕ) (w
   each : (k : ℕ) → k < many → IsServed rules r i (first + 1 + k) (stored + 1 + k) u
   have : min (stored + min (n - (first + 1)) many) r.high ≤ top (u.nodes i)
 
-way_goes : (rules : Rules) (r : Repair) (i after stored first many n p k : ℕ) (w u : World) → r.sent ≤ after → after < k → has r.members i ≡ true → IsOnWay rules r i after stored first many w n u
+way_goes : (rules : Rules) (r : Repair) (i after stored first many n p k : ℕ) (w u : World) → r.sent ≤ after → after < k → has r.members i ≡ true
+    → IsOnWay rules r i after stored first many w n u
     → IsOnWay rules r i after stored first many w n (happens u (event_at p (act.Hear k)))
 way_goes rules r i after stored first many n p k w u low late there h =
     let e = event_at p (act.Hear k) in
@@ -92,7 +95,8 @@ way_goes rules r i after stored first many n p k w u low late there h =
     }
 
 -- all hear a letter
-way_on : (rules : Rules) (r : Repair) (i after stored first many n : ℕ) (l : Letter) (w u : World) → r.sent ≤ after → after < n → letter_at w.letters n ≡ Some l → has r.members i ≡ true → (i == r.by) ≡ false → Fine rules r w
+way_on : (rules : Rules) (r : Repair) (i after stored first many n : ℕ) (l : Letter) (w u : World) → r.sent ≤ after → after < n
+    → letter_at w.letters n ≡ Some l → has r.members i ≡ true → (i == r.by) ≡ false → Fine rules r w
     → IsOnWay rules r i after stored first many w n u → IsOnWay rules r i after stored first many w (n + 1) (happen u (hearings_of w n l))
 way_on rules r i after stored first many n l w u low late letter there other fine h = elim (cases_lt n (first + 1)) [
   | inl before ↦ plainly (omega arith)
@@ -106,10 +110,12 @@ way_on rules r i after stored first many n l w u low late letter there other fin
     places = filter (λ p. is_for l (current w p)) (running w)
 
     kept : IsOnWay rules r i after stored first many w n (happen u (hearings_of w n l))
-    kept = acts_keep (IsOnWay rules r i after stored first many w n) (act.Hear n) (λ p y k. way_goes rules r i after stored first many n p n w y low late there k) places u h
+    kept = acts_keep (IsOnWay rules r i after stored first many w n) (act.Hear n)
+        (λ p y k. way_goes rules r i after stored first many n p n w y low late there k) places u h
 
     -- one that isn't among them
-    plainly : min (n + 1 - (first + 1)) many ≡ min (n - (first + 1)) many → IsOnWay rules r i after stored first many w (n + 1) (happen u (hearings_of w n l))
+    plainly : min (n + 1 - (first + 1)) many ≡ min (n - (first + 1)) many
+        → IsOnWay rules r i after stored first many w (n + 1) (happen u (hearings_of w n l))
     plainly same = let have = kept.have in record { fine = kept.fine; stays = kept.stays; each = kept.each; have = omega arith }
 
     -- one of them, which it hears
@@ -121,10 +127,13 @@ way_on rules r i after stored first many n l w u low late letter there other fin
         (let a = ap (letter_at u.letters) at ∙ served_.there in let b = h.stays.letters n l letter in cc) in
         let meant : is_for l (current w (place_of i)) ≡ true = ap (is_for l) at_w.current_ ∙ subst (λ x. is_for x i ≡ true) same (only_has i) in
         let among = is_hearing w l (place_of i) (omega arith) (ap (is_stopped w) at_w.current_ ∙ at_w.runs) meant in
-        let z = acts_hit (IsOnWay rules r i after stored first many w n) (λ y. min (stored + j + 1) r.high ≤ top (y.nodes i)) (act.Hear n) (place_of i) (record {
+        let z = acts_hit (IsOnWay rules r i after stored first many w n) (λ y. min (stored + j + 1) r.high ≤ top (y.nodes i)) (act.Hear n) (place_of i)
+        (record {
           keeps = λ p y k. way_goes rules r i after stored first many n p n w y low late there k;
           hits = λ y k. (let have = k.have in let next : stored + 1 + j ≡ stored + j + 1 = omega arith in
-              entry_hits rules r i n (stored + j) y (omega arith) k.fine there other (subst (λ x. IsServed rules r i x (stored + j + 1) y) (sym at) (subst (λ x. IsServed rules r i (first + 1 + j) x y) next (k.each j below))) (omega arith));
+              entry_hits rules r i n (stored + j) y (omega arith) k.fine there other
+              (subst (λ x. IsServed rules r i x (stored + j + 1) y) (sym at)
+              (subst (λ x. IsServed rules r i (first + 1 + j) x y) next (k.each j below))) (omega arith));
           stays = λ p y k q. (let grow = (grow_goes rules r y (event_at p (act.Hear n)) (hears_ p n (omega arith)) k.fine).stored i there in omega arith);
         }) places u among h in
         let have = z.1 in
@@ -138,18 +147,21 @@ pub record HasStored (rules : Rules) (r : Repair) (i stored : ℕ) (u : World) :
   pub fine : Fine rules r u
   pub stored_ : stored ≤ top (u.nodes i)
 
-pub third_wave_stores : (rules : Rules) (r : Repair) (i after stored : ℕ) (w : World) → r.sent ≤ after → after ≤ length w.letters → Fine rules r w → Served rules r i after stored w → stored ≤ top (w.nodes i) → has r.members i ≡ true → (i == r.by) ≡ false
+pub third_wave_stores : (rules : Rules) (r : Repair) (i after stored : ℕ) (w : World) → r.sent ≤ after → after ≤ length w.letters → Fine rules r w
+    → Served rules r i after stored w → stored ≤ top (w.nodes i) → has r.members i ≡ true → (i == r.by) ≡ false
     → HasStored rules r i (min (stored + 8) r.high) (happen w (hearings w after))
 third_wave_stores rules r i after stored w low long h x have there other =
     let late = x.late in
     let enough = x.enough in
-    let z = wave_walks (IsOnWay rules r i after stored x.first x.many w) w after long (λ k l u later letter y. way_on rules r i after stored x.first x.many k l w u low later letter there other h y)
+    let z = wave_walks (IsOnWay rules r i after stored x.first x.many w) w after long
+    (λ k l u later letter y. way_on rules r i after stored x.first x.many k l w u low later letter there other h y)
     (record { fine = h; stays = stays_same w; each = x.each; have = omega arith }) in
     let got = z.have in
     record {
       fine = z.fine;
       stored_ = elim (cases_lt 0 x.many) [
-        | inl some ↦ (let last = served_within rules r i (x.first + 1 + (x.many - 1)) (stored + 1 + (x.many - 1)) w (x.each (x.many - 1) (omega arith)) in omega arith)
+        | inl some ↦ (let last = served_within rules r i (x.first + 1 + (x.many - 1)) (stored + 1 + (x.many - 1)) w
+            (x.each (x.many - 1) (omega arith)) in omega arith)
         | inr none ↦ omega arith
       ];
     }

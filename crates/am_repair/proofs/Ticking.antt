@@ -36,13 +36,30 @@ pub sent_goes : (w : World) (e : Event) (after name : ℕ) (l : Letter) → IsSe
 sent_goes w e after name l h = record { number = h.number; late = h.late; there = letter_goes w e h.number l h.there; meant = h.meant }
 
 pub polled_goes : (r : Repair) (i after accepted : ℕ) (w : World) (e : Event) → Polled r i after accepted w → Polled r i after accepted (happens w e)
-polled_goes r i after accepted w e h = record { letter = h.letter; sent = sent_goes w e after i h.letter h.sent; base = h.base; acc = h.acc; high = h.high; is = h.is; far = h.far; told = h.told }
+polled_goes r i after accepted w e h = record {
+  letter = h.letter;
+  sent = sent_goes w e after i h.letter h.sent;
+  base = h.base;
+  acc = h.acc;
+  high = h.high;
+  is = h.is;
+  far = h.far;
+  told = h.told;
+}
 
 pub reported_goes : (r : Repair) (i after stored : ℕ) (w : World) (e : Event) → Reported r i after stored w → Reported r i after stored (happens w e)
-reported_goes r i after stored w e h = record { letter = h.letter; sent = sent_goes w e after r.by h.letter h.sent; report = h.report; is = h.is; fits = h.fits; much = h.much }
+reported_goes r i after stored w e h = record {
+  letter = h.letter;
+  sent = sent_goes w e after r.by h.letter h.sent;
+  report = h.report;
+  is = h.is;
+  fits = h.fits;
+  much = h.much;
+}
 
 -- a letter of a step that an event is
-pub step_sends : (w : World) (e : Event) (name other after : ℕ) (s : Step) (l : Letter) → happens w e ≡ stepped w e name s → Contains s.letters l → is_for l other ≡ true → after ≤ length w.letters → IsSent (happens w e) after other l
+pub step_sends : (w : World) (e : Event) (name other after : ℕ) (s : Step) (l : Letter) → happens w e ≡ stepped w e name s → Contains s.letters l
+    → is_for l other ≡ true → after ≤ length w.letters → IsSent (happens w e) after other l
 step_sends w e name other after s l is there meant low =
     let c = contained_at s.letters l there in
     record {
@@ -60,7 +77,8 @@ node_is w e name s is = ap (λ (v : World). v.nodes name) is ∙ stepped_node w 
 same_accept : (n : Node) (s : ℕ) (v : Stamp) → n.core.who ≡ s → n.core.promise ≡ v → accept_of n true ≡ Accept s v n.core.base n.core.acc (top n) true
 same_accept n s v a b = cc
 
-polled_tick : (rules : Rules) (r : Repair) (i after accepted : ℕ) (w : World) → Fine rules r w → has r.members i ≡ true → (i == r.by) ≡ false → after ≤ length w.letters
+polled_tick : (rules : Rules) (r : Repair) (i after accepted : ℕ) (w : World) → Fine rules r w → has r.members i ≡ true → (i == r.by) ≡ false
+    → after ≤ length w.letters
     → (let e = event_at (place_of r.by) act.Tick in accepted ≤ ((happens w e).nodes r.by).core.acc → Polled r i after accepted (happens w e))
 polled_tick rules r i after accepted w h there other low told_ =
     let e = event_at (place_of r.by) act.Tick in
@@ -97,10 +115,12 @@ pub record Bounds (rules : Rules) (r : Repair) (X : World → Type 0) (accepted 
   pub keeps : (w : World) (e : Event) → IsOurs r e → Fine rules r w → X w → X (happens w e)
   pub gives : (w : World) → Fine rules r w → X w → accepted ≤ ((happens w (event_at (place_of r.by) act.Tick)).nodes r.by).core.acc
 
-pub ticks_poll : (rules : Rules) (r : Repair) (X : World → Type 0) (i accepted : ℕ) (w : World) → Bounds rules r X accepted → Fine rules r w → X w → has r.members i ≡ true → (i == r.by) ≡ false
+pub ticks_poll : (rules : Rules) (r : Repair) (X : World → Type 0) (i accepted : ℕ) (w : World) → Bounds rules r X accepted → Fine rules r w → X w
+    → has r.members i ≡ true → (i == r.by) ≡ false
     → Polled r i (length w.letters) accepted (happen w (ticks w))
 ticks_poll rules r X i accepted w b h x there other =
-    (acts_hit P (Polled r i (length w.letters) accepted) act.Tick (place_of r.by) hits (running w) w (runs_there w r.by (member_there rules r w r.by h h.calm.listed)) (h, x, omega arith)).1
+    (acts_hit P (Polled r i (length w.letters) accepted) act.Tick (place_of r.by) hits (running w) w
+    (runs_there w r.by (member_there rules r w r.by h h.calm.listed)) (h, x, omega arith)).1
   where
     P : World → Type 0
     P u = Fine rules r u × X u × (length w.letters ≤ length u.letters)
@@ -122,12 +142,14 @@ ticks_poll rules r X i accepted w b h x there other =
 -- ---- reports
 
 -- the sequencer is a member by a member's own list, once that goes as far as the sequencer's did
-lists_leader : (r : Repair) (q m : Node) → Leads r q → has r.members r.by ≡ true → Follows r q m → r.high ≤ top m → r.view.by ≡ r.by → has (members m) (view m).by ≡ true
+lists_leader : (r : Repair) (q m : Node) → Leads r q → has r.members r.by ≡ true → Follows r q m → r.high ≤ top m → r.view.by ≡ r.by
+    → has (members m) (view m).by ≡ true
 lists_leader r q m l listed f far own =
     let by : (view m).by ≡ r.by = ap (λ (v : Stamp). v.by) f.view_ ∙ own in
     ap (λ (i : Image). has (members_of i) (view m).by) f.told_ ∙ ap (has (members_at q.core.log (top m))) by ∙ l.members_ r.by (top m) listed far f.within
 
-reported_tick : (rules : Rules) (r : Repair) (i after : ℕ) (w : World) → Fine rules r w → has r.members i ≡ true → (i == r.by) ≡ false → after ≤ length w.letters → r.high ≤ top (w.nodes i)
+reported_tick : (rules : Rules) (r : Repair) (i after : ℕ) (w : World) → Fine rules r w → has r.members i ≡ true → (i == r.by) ≡ false
+    → after ≤ length w.letters → r.high ≤ top (w.nodes i)
     → Reported r i after r.high (happens w (event_at (place_of i) act.Tick))
 reported_tick rules r i after w h there other low far =
     let e = event_at (place_of i) act.Tick in
@@ -157,15 +179,18 @@ reported_tick rules r i after w h there other low far =
       letter = says.letter;
       sent = step_sends w e i r.by after s says.letter is says.there meant low;
       report = report_of n;
-      is = subst (λ k. IsReport says.letter.packet k r.view (report_of n)) who (subst (λ x. IsReport says.letter.packet n.core.who x (report_of n)) promise says.says);
+      is = subst (λ k. IsReport says.letter.packet k r.view (report_of n)) who
+          (subst (λ x. IsReport says.letter.packet n.core.who x (report_of n)) promise says.says);
       fits = omega arith;
       much = omega arith;
     }
 
-pub ticks_report : (rules : Rules) (r : Repair) (i : ℕ) (w : World) → Fine rules r w → has r.members i ≡ true → (i == r.by) ≡ false → r.high ≤ top (w.nodes i)
+pub ticks_report : (rules : Rules) (r : Repair) (i : ℕ) (w : World) → Fine rules r w → has r.members i ≡ true → (i == r.by) ≡ false
+    → r.high ≤ top (w.nodes i)
     → Reported r i (length w.letters) r.high (happen w (ticks w))
 ticks_report rules r i w h there other far =
-    (acts_hit P (Reported r i (length w.letters) r.high) act.Tick (place_of i) hits (running w) w (runs_there w i (member_there rules r w i h there)) (h, far, omega arith)).1
+    (acts_hit P (Reported r i (length w.letters) r.high) act.Tick (place_of i) hits (running w) w (runs_there w i (member_there rules r w i h there))
+    (h, far, omega arith)).1
   where
     P : World → Type 0
     P u = Fine rules r u × (r.high ≤ top (u.nodes i)) × (length w.letters ≤ length u.letters)

@@ -66,7 +66,8 @@ emitted m None o leads = record { stays = refl; leads = leads }
 emitted m (Some s) o leads =
     emitted_if (not (would_emit m (Some s))) _ _ (λ t. record { stays = refl; leads = leads })
     (λ f. emitted_if (not (is_sequencer m)) _ _ (λ t. absurd (let u = rw leads at t in cc))
-    (λ g. emitted_if (has_room m) _ _ (λ t. record { stays = refl; leads = leads_pushed m (Data m.core.who s.req s.body) refl ∙ leads }) (λ k. record { stays = refl; leads = leads })))
+    (λ g. emitted_if (has_room m) _ _ (λ t. record { stays = refl; leads = leads_pushed m (Data m.core.who s.req s.body) refl ∙ leads })
+    (λ k. record { stays = refl; leads = leads })))
 
 pub leads_row : (m : Node) → acts m ≡ true → ((view m).by == m.core.who) ≡ true → tick_acting m ≡ tick_sequencer m
 leads_row m acting own = rw (acting, own) refl
@@ -88,7 +89,8 @@ sequencers_poll m leads rest =
 -- ---- a member reports
 
 reports_telling : (m : Node) (to : List ℕ) (packet : Node → Packet) → is_sequencer m ≡ false → has to (view m).by ≡ true
-    → ((n : Node) → ((letter_to to (packet n)).any ≡ false) × IsReport (packet n) n.core.who n.core.promise (report_of n)) → Reports m (finish m (telling m said.Ticked to packet))
+    → ((n : Node) → ((letter_to to (packet n)).any ≡ false) × IsReport (packet n) n.core.who n.core.promise (report_of n))
+    → Reports m (finish m (telling m said.Ticked to packet))
 unfolding finish
 reports_telling m to packet follows there says =
     let n = refresh_at_end m in
@@ -102,21 +104,26 @@ reports_telling m to packet follows there says =
       says = (says n).1;
     }
 
-reports_if : (m : Node) (b : Bool) (p q : Plan) → (b ≡ true → Reports m (finish m p)) → (b ≡ false → Reports m (finish m q)) → Reports m (finish m (if b then p else q))
+reports_if : (m : Node) (b : Bool) (p q : Plan) → (b ≡ true → Reports m (finish m p)) → (b ≡ false → Reports m (finish m q))
+    → Reports m (finish m (if b then p else q))
 reports_if m true p q f g = f refl
 reports_if m false p q f g = g refl
 
-hands_in : (m : Node) (w : Option OwnSend) → acts m ≡ true → is_sequencer m ≡ false → has (members m) (view m).by ≡ true → would_emit m w ≡ true → Reports m (finish m (emit m w said.Ticked))
+hands_in : (m : Node) (w : Option OwnSend) → acts m ≡ true → is_sequencer m ≡ false → has (members m) (view m).by ≡ true → would_emit m w ≡ true
+    → Reports m (finish m (emit m w said.Ticked))
 hands_in m None acting follows there would = absurd (cc)
 hands_in m (Some s) acting follows there would =
     let own : ((view m).by == m.core.who) ≡ false = rw acting at follows in
     let handed : Reports m (finish m (hand_in m s said.Ticked)) = reports_if m (nat_le (length s.body) m.core.rules.pb_up_to) _ _
-    (λ t. reports_telling m (only_name (view m).by) (λ n. request_of n s.req s.body) follows (only_has (view m).by) (λ n. (refl, request n.core.who n.core.promise (report_of n) s.req s.body)))
-    (λ f. reports_telling m (others m) (λ n. spread_of n s.req s.body) follows (without_has (members m) m.core.who (view m).by there own) (λ n. (refl, spread n.core.who n.core.promise (report_of n) s.req s.body))) in
+    (λ t. reports_telling m (only_name (view m).by) (λ n. request_of n s.req s.body) follows (only_has (view m).by)
+    (λ n. (refl, request n.core.who n.core.promise (report_of n) s.req s.body)))
+    (λ f. reports_telling m (others m) (λ n. spread_of n s.req s.body) follows (without_has (members m) m.core.who (view m).by there own)
+    (λ n. (refl, spread n.core.who n.core.promise (report_of n) s.req s.body))) in
     reports_if m (not (would_emit m (Some s))) _ _ (λ t. absurd (let u = rw would at t in cc))
     (λ f. reports_if m (not (is_sequencer m)) _ _ (λ t. handed) (λ g. absurd (let u = rw follows at g in cc)))
 
-member_reports : (m : Node) → acts m ≡ true → is_sequencer m ≡ false → m.leaving ≡ false → has (members m) (view m).by ≡ true → Reports m (finish m (tick_member m))
+member_reports : (m : Node) → acts m ≡ true → is_sequencer m ≡ false → m.leaving ≡ false → has (members m) (view m).by ≡ true
+    → Reports m (finish m (tick_member m))
 member_reports m acting follows stays there =
     reports_if m m.leaving _ _ (λ t. absurd (let u = rw stays at t in cc))
     (λ f. reports_if m (would_emit m (waiting m)) _ _ (λ t. hands_in m (waiting m) acting follows there t)

@@ -15,12 +15,15 @@ pub data IsOurs (r : Repair) : Event → Type 0 where
   hears : (place number : ℕ) → r.sent < number → IsOurs r (event_at place (act.Hear number))
 
 abbrev pub CalmStays : Type 0
-CalmStays = (rules : Rules) (events more : List Event) (r : Repair) → MayFound rules → Calm r (run rules events) → All (IsOurs r) more → Calm r (run rules (events ++ more))
+CalmStays = (rules : Rules) (events more : List Event) (r : Repair) → MayFound rules → Calm r (run rules events) → All (IsOurs r) more
+    → Calm r (run rules (events ++ more))
 
 -- the world after one round
 abbrev pub round_of : World → World
 round_of w = (round (record { world = w; events = [] })).world
 
 abbrev pub RoundsStore : Type 0
-RoundsStore = (rules : Rules) (events : List Event) (r : Repair) (i stored : ℕ) → MayFound rules → Calm r (run rules events) → r.sent ≤ length (run rules events).letters
-    → has r.members i ≡ true → (i == r.by) ≡ false → min stored r.high ≤ top ((run rules events).nodes i) → min (stored + 8) r.high ≤ top ((round_of (run rules events)).nodes i)
+RoundsStore = (rules : Rules) (events : List Event) (r : Repair) (i stored : ℕ) → MayFound rules → Calm r (run rules events)
+    → r.sent ≤ length (run rules events).letters
+    → has r.members i ≡ true → (i == r.by) ≡ false → min stored r.high ≤ top ((run rules events).nodes i)
+    → min (stored + 8) r.high ≤ top ((round_of (run rules events)).nodes i)

@@ -117,7 +117,8 @@ HasReported m high name = (name ≡ m.core.who) ⊎ (high ≤ (m.reports name).s
 pub record HasReports (m : Node) (high : ℕ) : Type 0 where
   pub stored : high ≤ top m
   pub view : (told m).view_number ≤ high
-  pub each : (number : ℕ) → m.core.acc < number → number ≤ high → (told m).view_number ≤ number → All (HasReported m high) (names_of (counted_at m.core.log number))
+  pub each : (number : ℕ) → m.core.acc < number → number ≤ high → (told m).view_number ≤ number
+      → All (HasReported m high) (names_of (counted_at m.core.log number))
 
 -- it accepts all of that at the end of its step
 abbrev pub FrontsRise : Type 0

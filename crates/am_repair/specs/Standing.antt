@@ -32,14 +32,16 @@ pub record Agree (w : World) (q : Node) : Type 0 where
   -- its entries fit
   pub fit : (number : ℕ) (e : Entry) → entry_at q.core.log number ≡ Some e → fits (image_at q.core.log (number - 1)) e ≡ true
   -- from the last View on, whose storage counts for what isn't accepted yet is a member still
-  pub counted : (number : ℕ) → q.core.acc < number → number ≤ top q → (told q).view_number ≤ number → All (λ name. has (members q) name ≡ true) (names_of (counted_at q.core.log number))
+  pub counted : (number : ℕ) → q.core.acc < number → number ≤ top q → (told q).view_number ≤ number
+      → All (λ name. has (members q) name ≡ true) (names_of (counted_at q.core.log number))
 
 -- where lists agree so, a lossless schedule brings each member to where the sequencer stood
 abbrev pub RepairsWhereListsAgree : Type 0
 RepairsWhereListsAgree = (rules : Rules) (events : List Event) (place : ℕ) → MayFound rules → place < 16 → MayRepair (run rules events) place
     → Agree (run rules events) ((run rules events).nodes (current (run rules events) place))
     → (name : ℕ) → has (members ((run rules events).nodes (current (run rules events) place))) name ≡ true
-    → HasCaughtUp ((happen (run rules events) (settle_events rules (run rules events))).nodes name) (top ((run rules events).nodes (current (run rules events) place)))
+    → HasCaughtUp ((happen (run rules events) (settle_events rules (run rules events))).nodes name)
+    (top ((run rules events).nodes (current (run rules events) place)))
 
 -- ---- what of this one list gives
 
@@ -62,11 +64,13 @@ pub record IsTaken (q m : Node) : Type 0 where
 
 pub record IsSettled (w : World) (q : Node) : Type 0 where
   pub taken : (name : ℕ) → has (members q) name ≡ true → IsTaken q (w.nodes name)
-  pub counted : (number : ℕ) → q.core.acc < number → number ≤ top q → (told q).view_number ≤ number → All (λ name. has (members q) name ≡ true) (names_of (counted_at q.core.log number))
+  pub counted : (number : ℕ) → q.core.acc < number → number ≤ top q → (told q).view_number ≤ number
+      → All (λ name. has (members q) name ≡ true) (names_of (counted_at q.core.log number))
 
 abbrev pub OneListAgrees : Type 0
 OneListAgrees = (rules : Rules) (events : List Event) (place : ℕ) → MayFound rules → place < 16 → MayRepair (run rules events) place
-    → IsOneList (run rules events) ((run rules events).nodes (current (run rules events) place)) → IsSettled (run rules events) ((run rules events).nodes (current (run rules events) place))
+    → IsOneList (run rules events) ((run rules events).nodes (current (run rules events) place))
+    → IsSettled (run rules events) ((run rules events).nodes (current (run rules events) place))
     → Agree (run rules events) ((run rules events).nodes (current (run rules events) place))
 
 -- both of these are so at the end of each run that may be repaired: this isn't proved yet
