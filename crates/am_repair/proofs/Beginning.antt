@@ -1,0 +1,202 @@
+-- Where a group may be repaired and its lists agree, the world is calm; so the schedule repairs it.
+use Rattle.std.proofs.Common.{inl, inr, ◌≡◌, ℕ, ◌<◌, Bool, true, false, length, refl, ap, ◌∙◌, subst, arith}
+use Rattle.std.proofs.lemmas.Bool.{cases_lt}
+use Rattle.am_base.specs.declared.image.Image.{Image}
+use Rattle.am_base.specs.Founding.{Rules}
+use Rattle.am_base.specs.Names.{place_of, life_of, has}
+use Rattle.am_base.specs.Lists.{members_of, members_at}
+use Rattle.am_core.proofs.Ends.{image-top}
+use Rattle.am_model.specs.declared.status.Status.{Status}
+use Rattle.am_model.specs.declared.status.Status.TheVariants as status
+use Rattle.am_model.specs.Node.{Node, top, told, view, members, acts, is_member, stranger}
+use Rattle.am_model.specs.Group.{has_log}
+use Rattle.am_model.specs.World.{World, current, is_stopped, has_departed, run}
+use Rattle.am_model.specs.Claims.{MayRepair}
+use Rattle.am_laws.proofs.TakenRuns.{AllOwned, run_owned}
+use Rattle.am_repair.specs.Rows.{IsAtRest}
+use Rattle.am_repair.specs.Calm.{Repair, Leads, Follows, IsApart, Calm}
+use Rattle.am_repair.specs.Standing.{Agree, RepairsWhereListsAgree}
+use Rattle.am_repair.proofs.Nodes.{acting, leading, no_open}
+use Rattle.am_repair.proofs.Going.{member_there}
+use Rattle.am_repair.proofs.Schedules.{letter_within}
+use Rattle.am_repair.proofs.Fine.{Fine, IsThere}
+use Rattle.am_repair.proofs.Repaired.{AllStored, all_catch_up}
+use Rattle.am_repair.proofs.OldLives.{OldStopped, old_lives}
+
+-- ---- who is there
+
+there_false : (b : Bool) → (b ≡ true → ⊥) → b ≡ false
+there_false true f = absurd (f refl)
+there_false false f = refl
+
+-- a life that hasn't begun doesn't act
+born : (rules : Rules) (w : World) (name : ℕ) → AllOwned rules w → w.lives (place_of name) < life_of name → acts (w.nodes name) ≡ true → ⊥
+born rules w name laws low a =
+    let is = laws.blanks.views.named.unborn name low in
+    let t : acts (stranger rules name) ≡ true = subst (λ (m : Node). acts m ≡ true) is a in
+    let member = (acting (stranger rules name) t).0 in
+    cc
+
+pub few_acting : (rules : Rules) (w : World) (name : ℕ) → AllOwned rules w → acts (w.nodes name) ≡ true → name < 256
+few_acting rules w name laws a = elim (cases_lt name 256) [
+  | inl low ↦ low
+  | inr high ↦ (let most = laws.blanks.views.named.most (place_of name) in absurd (born rules w name laws (omega arith) a))
+]
+
+acting_there : (m : Node) → acts m ≡ true → has_departed m.status ≡ false
+acting_there m a = member_there m (acting m a).0
+
+there_now : (rules : Rules) (w : World) (place name : ℕ) → AllOwned rules w → OldStopped w → MayRepair w place → acts (w.nodes name) ≡ true
+    → IsThere w name
+there_now rules w place name laws old may a =
+    let there = acting_there (w.nodes name) a in
+    let runs = there_false (is_stopped w name) (λ t. (let gone = may.nobody_stopped name t in cc)) in
+    let least = old.born (place_of name) in
+    record {
+      current_ = elim (cases_lt (w.lives (place_of name)) (life_of name)) [
+        | inl low ↦ absurd (born rules w name laws low a)
+        | inr at_least ↦ elim (cases_lt (life_of name) (w.lives (place_of name))) [
+          | inl older ↦ absurd (let t = old.old name older in cc)
+          | inr at_most ↦ omega arith
+        ]
+      ];
+      runs = runs;
+    }
+
+-- ---- the beginning
+
+-- who isn't a Member and hasn't departed has no list
+no_list : (s : Status) → is_member s ≡ false → has_departed s ≡ false → has_log s ≡ false
+no_list status.Stranger member gone = refl
+no_list status.Asking member gone = refl
+no_list status.Member member gone = absurd (cc)
+no_list status.Departed member gone = absurd (cc)
+
+abbrev repair_of : World → ℕ → Repair
+repair_of w q = record {
+  by = q;
+  view = view (w.nodes q);
+  at = (told (w.nodes q)).view_number;
+  members = members (w.nodes q);
+  high = top (w.nodes q);
+  sent = length w.letters;
+}
+
+-- a world of a run that may be repaired, and in which lists agree
+record Begun (rules : Rules) (w : World) (place : ℕ) : Type 0 where
+  laws : AllOwned rules w
+  old : OldStopped w
+  low : place < 16
+  may : MayRepair w place
+  agree : Agree w (w.nodes (current w place))
+
+stays_here : (rules : Rules) (w : World) (place name : ℕ) → Begun rules w place → has_departed (w.nodes name).status ≡ false
+    → (w.nodes name).leaving ≡ false
+stays_here rules w place name b there = there_false (w.nodes name).leaving (λ t. (let gone = b.may.nobody_leaves name t in cc))
+
+at_rest : (rules : Rules) (w : World) (place name : ℕ) → Begun rules w place → acts (w.nodes name) ≡ true → IsAtRest (w.nodes name)
+at_rest rules w place name b a = record {
+  stays = stays_here rules w place name b (acting_there (w.nodes name) a);
+  no_ballot = no_open (w.nodes name) (b.laws.blanks.views.each name (few_acting rules w name b.laws a)).balloted a;
+}
+
+listed : (rules : Rules) (w : World) (place : ℕ) → Begun rules w place → has (members (w.nodes (current w place))) (current w place) ≡ true
+listed rules w place b =
+    let q = current w place in
+    let a = (leading (w.nodes q) b.may.leads).0 in
+    subst (λ i. has (members (w.nodes q)) i ≡ true) (b.laws.blanks.views.named.who q) ((b.laws.each q (few_acting rules w q b.laws a)).leads b.may.leads)
+
+leads_first : (rules : Rules) (w : World) (place : ℕ) → Begun rules w place → (let q = current w place in Leads (repair_of w q) (w.nodes q))
+leads_first rules w place b =
+    let q = current w place in
+    let m = w.nodes q in
+    let a = (leading m b.may.leads).0 in
+    let own = b.agree.each q (listed rules w place b) in
+    record {
+      leads = b.may.leads;
+      view_ = refl;
+      number = refl;
+      rest = at_rest rules w place q b a;
+      high = omega arith;
+      reached = own.reached;
+      fit = λ k e low there. b.agree.fit k e there;
+      members_ = λ name k there above within. (let last : k ≡ top m = omega arith in ap (λ n. has (members_at m.core.log n) name) last
+          ∙ ap (λ (i : Image). has (members_of i) name) (image-top m.core.log) ∙ there);
+      counted = b.agree.counted;
+    }
+
+follows_first : (rules : Rules) (w : World) (place name : ℕ) → Begun rules w place
+    → (let q = current w place in has (members (w.nodes q)) name ≡ true → Follows (repair_of w q) (w.nodes q) (w.nodes name))
+follows_first rules w place name b there =
+    let act = b.may.all_act name there in
+    let g = b.agree.each name there in
+    record {
+      acts_ = act.0;
+      view_ = act.1;
+      rest = at_rest rules w place name b act.0;
+      reached = g.reached;
+      low = g.low;
+      within = g.within;
+      told_ = g.told_;
+      base = g.base;
+      reported = g.reported;
+    }
+
+apart_first : (rules : Rules) (w : World) (place name : ℕ) → Begun rules w place
+    → (let q = current w place in has (members (w.nodes q)) name ≡ false → has_departed (w.nodes name).status ≡ false
+    → IsApart (repair_of w q) (w.nodes name))
+apart_first rules w place name b none there =
+    let q = current w place in
+    let m = w.nodes name in
+    let stays = stays_here rules w place name b there in
+    let no_member = there_false (is_member m.status) (λ t. (let in_ = b.agree.alone name t in cc)) in
+    elim (cases_lt name 256) [
+      | inl low ↦ record {
+        no_ballot = (b.laws.blanks.views.each name low).balloted.none (no_list m.status no_member there);
+        stays = stays;
+        promised = λ member. absurd (cc);
+      }
+      | inr high ↦
+          (let most = b.laws.blanks.views.named.most (place_of name) in
+          let is = b.laws.blanks.views.named.unborn name (omega arith) in
+          record { no_ballot = ap (λ (x : Node). x.ballot) is; stays = stays; promised = λ member. absurd (cc) })
+    ]
+
+calm_first : (rules : Rules) (w : World) (place : ℕ) → Begun rules w place → Calm (repair_of w (current w place)) w
+calm_first rules w place b =
+    let q = current w place in
+    let m = w.nodes q in
+    record {
+      own = (leading m b.may.leads).1 ∙ b.laws.blanks.views.named.who q;
+      listed = listed rules w place b;
+      who = b.laws.blanks.views.named.who;
+      leads = leads_first rules w place b;
+      follows = λ name there other. follows_first rules w place name b there;
+      apart = λ name none there. apart_first rules w place name b none there;
+      current_ = λ name there. (there_now rules w place name b.laws b.old b.may (b.may.all_act name there).0).current_;
+      runs = λ name there. (there_now rules w place name b.laws b.old b.may (b.may.all_act name there).0).runs;
+      letters = λ number l late there. absurd (let within = letter_within w.letters number l there in omega arith);
+    }
+
+stored_first : (rules : Rules) (w : World) (place : ℕ) → Begun rules w place
+    → (let q = current w place in AllStored rules (repair_of w q) (w.nodes q).core.base w)
+stored_first rules w place b =
+    let q = current w place in
+    let fine : Fine rules (repair_of w q) w = record { laws = b.laws; calm = calm_first rules w place b } in
+    record {
+      fine = fine;
+      sent = omega arith;
+      each = λ i there other.
+          (let g = b.agree.each i there in
+          let fronts = (b.laws.each i (few_acting rules w i b.laws (b.may.all_act i there).0)).fronts in
+          let base = g.base in let given = fronts.given in let accepted = fronts.accepted in
+          record { fine = fine; stored_ = omega arith });
+    }
+
+pub repairs_where_lists_agree : RepairsWhereListsAgree
+repairs_where_lists_agree rules events place may low repair agree name there =
+    let w = run rules events in
+    let q = current w place in
+    let b : Begun rules w place = record { laws = run_owned rules events may; old = old_lives rules events; low = low; may = repair; agree = agree } in
+    let few = (b.laws.kept q).few in
+    all_catch_up rules (repair_of w q) (w.nodes q).core.base w few (stored_first rules w place b) name there

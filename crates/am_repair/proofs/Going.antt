@@ -1,0 +1,126 @@
+-- A calm world stays calm while a schedule runs.
+use Rattle.std.proofs.Common.{◌≡◌, ◌⊎◌, inl, inr, ℕ, ◌<◌, ◌==◌, not, Bool, true, false, if◌then◌else◌, Option, Some, None, refl, sym, ap, ◌∙◌}
+use Rattle.am_base.specs.declared.outcome.Outcome.{Outcome}
+use Rattle.am_base.specs.declared.outcome.Outcome.TheVariants as said
+use Rattle.am_base.specs.declared.event.NodeEvent.TheVariants as does
+use Rattle.am_base.specs.Founding.{Rules}
+use Rattle.am_packet.specs.Boxes.{Letter}
+use Rattle.am_group.specs.declared.event.Act.TheVariants as act
+use Rattle.am_group.specs.declared.event.Event.{Event}
+use Rattle.am_group.specs.Addressed.{is_for}
+use Rattle.am_group.specs.Journals.{letter_at}
+use Rattle.am_model.specs.declared.status.Status.{Status}
+use Rattle.am_model.specs.declared.status.Status.TheVariants as status
+use Rattle.am_model.specs.Node.{Node, is_member}
+use Rattle.am_model.specs.Emit.{Step}
+use Rattle.am_model.specs.Step.{step, hear}
+use Rattle.am_model.specs.Settle.{event_at}
+use Rattle.am_model.specs.World.{World, is_stopped, has_departed, unchanged, stepped, happens, heard}
+use Rattle.am_effects.specs.Causes.{Cause, calls, hears}
+use Rattle.am_effects.specs.Changes.{Changes, unchanged as no_change, changed}
+use Rattle.am_effects.specs.Effects.{Effect}
+use Rattle.am_effects.specs.Events.{actor, IsCause, tick}
+use Rattle.am_effects.proofs.Tests.{not_false}
+use Rattle.am_effects.proofs.Hearing.{steps_have_effects, hearing_has_effects}
+use Rattle.am_laws.proofs.ViewNames.{HeardNames}
+use Rattle.am_laws.proofs.Taken.{HeardUsed}
+use Rattle.am_laws.proofs.TakenRuns.{Along, along_changes}
+use Rattle.am_repair.specs.Rounds.{IsOurs, ticks, hears as hears_}
+use Rattle.am_repair.specs.Calm.{Repair, Calm}
+use Rattle.am_repair.proofs.Nodes.{CalmCause}
+use Rattle.am_repair.proofs.Leading.{Goes, lead_change, TellsTaken}
+use Rattle.am_repair.proofs.Following.{FollowsOn, follow_change}
+use Rattle.am_repair.proofs.Apart.{StaysApart, apart_change}
+use Rattle.am_repair.proofs.Departed.{IsStill, departed_ticks, departed_hears}
+
+-- ---- the events of a schedule
+
+-- a step of a schedule, with its cause
+pub record OurStep (r : Repair) (w : World) (e : Event) (s : Step) : Type 0 where
+  pub cause : Cause
+  pub calm : CalmCause r w cause
+  pub is : IsCause w (actor w e) e.act cause
+  pub effect : Effect (w.nodes (actor w e)) cause s
+  pub still : has_departed (w.nodes (actor w e)).status ≡ true → IsStill (w.nodes (actor w e)) s
+
+pub data Ours (r : Repair) (w : World) (e : Event) : World → Type 0 where
+  idles : (o : Outcome) → Ours r w e (unchanged w e o)
+  steps : (s : Step) → OurStep r w e s → Ours r w e (stepped w e (actor w e) s)
+
+ours_if : (r : Repair) (w : World) (e : Event) (b : Bool) (u v : World) → Ours r w e u → (b ≡ false → Ours r w e v) → Ours r w e (if b then u else v)
+ours_if r w e true u v f g = f
+ours_if r w e false u v f g = g refl
+
+our_tick : (r : Repair) (w : World) (place : ℕ) → Ours r w (event_at place act.Tick) (happens w (event_at place act.Tick))
+unfolding happens
+our_tick r w place =
+    let e = event_at place act.Tick in
+    let m = w.nodes (actor w e) in
+    ours_if r w e (is_stopped w (actor w e)) _ _ (idles said.IsStopped)
+    (λ f. steps (step m does.Tick) (record {
+      cause = calls does.Tick;
+      calm = tt;
+      is = tick;
+      effect = steps_have_effects m does.Tick;
+      still = departed_ticks m;
+    }))
+
+our_letter : (r : Repair) (w : World) (place number : ℕ) (l : Option Letter) → letter_at w.letters number ≡ l → r.sent < number → Calm r w
+    → (let e = event_at place (act.Hear number) in Ours r w e (heard w e (actor w e) (hear (w.nodes (actor w e))) l))
+our_letter r w place number None is late h = idles said.NoPacket
+our_letter r w place number (Some l) is late h =
+    let e = event_at place (act.Hear number) in
+    let m = w.nodes (actor w e) in
+    ours_if r w e (not (is_for l (actor w e))) _ _ (idles said.NotAddressed)
+    (λ f. ours_if r w e (is_stopped w (actor w e)) _ _ (idles said.IsStopped)
+    (λ g. steps (hear m l.packet) (record {
+      cause = hears l.packet;
+      calm = h.letters number l late is;
+      is = record { letter = l; there = is; addressed = not_false _ f; is = refl };
+      effect = hearing_has_effects m l.packet;
+      still = departed_hears m l.packet;
+    })))
+
+pub ours : (r : Repair) (w : World) (e : Event) → IsOurs r e → Calm r w → Ours r w e (happens w e)
+unfolding happens
+ours r w e (ticks place) h = our_tick r w place
+ours r w e (hears_ place number late) h = our_letter r w place number (letter_at w.letters number) refl late h
+
+-- ---- changes in turn
+
+pub lead_changes : (rules : Rules) (r : Repair) (taken : ℕ → ℕ) (w : World) (q : Node) {c : Cause} {o : Outcome} (m n : Node) → r.view.by ≡ r.by
+    → CalmCause r w c → TellsTaken r taken c → HeardNames c → HeardUsed c
+    → Changes c o m n → Along rules m → Goes r taken q m → Goes r taken q n
+lead_changes rules r taken w q m n by calm tells names used no_change a h = h
+lead_changes rules r taken w q m n by calm tells names used (changed {n = x} one more) a h =
+    lead_changes rules r taken w q x n by calm tells names used more (along_changes rules m x names used (changed one no_change) a)
+    (lead_change r taken w q _ _ m x by calm tells a.owned.fronts one h)
+
+pub follow_changes : (r : Repair) (w : World) {c : Cause} {o : Outcome} (m x y : Node) → r.view.by ≡ r.by → (m.core.who == r.by) ≡ false → CalmCause r w c
+    → Changes c o x y
+    → FollowsOn r c (w.nodes r.by) m x → FollowsOn r c (w.nodes r.by) m y
+follow_changes r w m x y by other calm no_change h = h
+follow_changes r w m x y by other calm (changed {n = z} one more) h = follow_changes r w m z y by other calm more
+    (follow_change r w _ _ m x z by other calm one h)
+
+pub apart_changes : (r : Repair) (w : World) {c : Cause} {o : Outcome} (m x y : Node) → r.view.by ≡ r.by → (m.core.who == r.by) ≡ false → CalmCause r w c
+    → Changes c o x y → StaysApart r m x → StaysApart r m y
+apart_changes r w m x y by other calm no_change h = h
+apart_changes r w m x y by other calm (changed {n = z} one more) h = apart_changes r w m z y by other calm more
+    (apart_change r w _ _ m x z by other calm one h)
+
+-- ---- who sends is the node after the step
+
+pub sender_is : (n sender : Node) → n ≡ record sender { status = n.status } → (n.status ≡ sender.status) ⊎ (n.status ≡ status.Departed)
+    → has_departed n.status ≡ false → sender ≡ n
+sender_is n sender is (inl same) there = sym (is ∙ ap (λ st. record sender { status = st }) same)
+sender_is n sender is (inr gone) there = absurd (let g = ap has_departed gone in cc)
+
+pub member_there : (m : Node) → is_member m.status ≡ true → has_departed m.status ≡ false
+member_there m h = by_status m.status h
+  where
+    by_status : (s : Status) → is_member s ≡ true → has_departed s ≡ false
+    by_status status.Stranger h = absurd (cc)
+    by_status status.Asking h = absurd (cc)
+    by_status status.Member h = refl
+    by_status status.Departed h = absurd (cc)

@@ -1,0 +1,95 @@
+-- A list that goes on tells what it told, and what it tells after an entry more.
+use Rattle.std.proofs.Common.{◌≡◌, ℕ, zero, suc, ◌-◌, ◌<◌, ◌≤◌, nat_le, true, false, List, [], ◌∷◌, length, Some, refl, ap, ◌∙◌, arith, length-append}
+use Rattle.std.proofs.lemmas.Bool.Decides.{nat_tests}
+use Rattle.std.proofs.lemmas.Option.{slice_get_within}
+use Rattle.am_base.specs.declared.entry.Entry.{Entry}
+use Rattle.am_base.specs.declared.entry.Entry.TheVariants.{Data, Join}
+use Rattle.am_base.specs.declared.image.Image.{Image}
+use Rattle.am_base.specs.Names.{has}
+use Rattle.am_base.specs.Lists.{Log, top_of, entry_at, image_at, members_of, after, fits, with_entry}
+use Rattle.am_base.specs.Fronts.{counted_of, counted_at}
+use Rattle.am_group.proofs.Places.{get_before}
+use Rattle.am_core.proofs.Ends.{image-push}
+use Rattle.am_chain_lists.proofs.Rows.{long_after, in_after}
+use Rattle.am_model.specs.Receiving.{is_view}
+use Rattle.am_model.proofs.Greatest.{split}
+use Rattle.am_laws.proofs.LeaderRows.{is_in, in_is, data_member}
+
+-- ---- a list that goes on
+
+pub record LogGrows (a b : Log) : Type 0 where
+  pub top : top_of a ≤ top_of b
+  pub start : b.start ≡ a.start
+  pub image : (number : ℕ) → number ≤ top_of a → image_at b number ≡ image_at a number
+  pub entry : (number : ℕ) → number ≤ top_of a → entry_at b number ≡ entry_at a number
+
+pub grows_same : (a : Log) → LogGrows a a
+grows_same a = record { top = omega arith; start = refl; image = λ number low. refl; entry = λ number low. refl }
+
+pub grows_then : (a b c : Log) → LogGrows a b → LogGrows b c → LogGrows a c
+grows_then a b c x y =
+    let up = x.top in
+    let more = y.top in
+    record {
+      top = omega arith;
+      start = y.start ∙ x.start;
+      image = λ number low. y.image number (omega arith) ∙ x.image number low;
+      entry = λ number low. y.entry number (omega arith) ∙ x.entry number low;
+    }
+
+entry_push : (log : Log) (e : Entry) (number : ℕ) → number ≤ top_of log → entry_at (with_entry log e) number ≡ entry_at log number
+entry_push log e zero low = refl
+entry_push log e (suc before) low = split (nat_le log.start before)
+    (λ t. let high : log.start ≤ before = grind (arith, nat_tests) in rw t (get_before log.entries (e ∷ []) (before - log.start) (omega arith)))
+    (λ f. rw f refl)
+
+pub grows_push : (log : Log) (e : Entry) → LogGrows log (with_entry log e)
+grows_push log e = record {
+  top = simp length-append (omega arith);
+  start = refl;
+  image = λ number low. image-push log e number low;
+  entry = λ number low. entry_push log e number low;
+}
+
+-- what stands in a list stands within it
+pub entry_within : (log : Log) (number : ℕ) (e : Entry) → entry_at log number ≡ Some e → (log.start < number) × (number ≤ top_of log)
+entry_within log zero e is = absurd (cc)
+entry_within log (suc before) e is = split (nat_le log.start before)
+    (λ t. let high : log.start ≤ before = grind (arith, nat_tests) in
+    let within = slice_get_within log.entries (before - log.start) e (rw t at is) in
+    (omega arith, omega arith))
+    (λ f. absurd (let none = rw f at is in cc))
+
+pub entry_stays : (a b : Log) (number : ℕ) (e : Entry) → LogGrows a b → entry_at a number ≡ Some e → entry_at b number ≡ Some e
+entry_stays a b number e grows is = grows.entry number (entry_within a number e is).1 ∙ is
+
+-- whose storage counts
+pub counted_stays : (a b : Log) (number : ℕ) → LogGrows a b → number ≤ top_of a → counted_at b number ≡ counted_at a number
+counted_stays a b number grows low =
+    ap (λ e. counted_of e (members_of (image_at b (number - 1)))) (grows.entry number low)
+    ∙ ap (λ (i : Image). counted_of (entry_at a number) (members_of i)) (grows.image (number - 1) (omega arith))
+
+-- ---- an entry more
+
+-- a Data tells the same whatever its body
+pub same_after : (image : Image) (number from req : ℕ) (body other : List ℕ)
+    → after image number (Data from req body) ≡ after image number (Data from req other)
+unfolding after
+same_after image number from req body other = refl
+
+-- what a sequencer numbers while nobody leaves: a Data, or a Join that fits
+pub data IsJoinOrData (image : Image) : Entry → Type 0 where
+  is_data : (from req : ℕ) (body : List ℕ) → IsJoinOrData image (Data from req body)
+  is_join : (name : ℕ) → fits image (Join name) ≡ true → IsJoinOrData image (Join name)
+
+pub plain : (image : Image) (e : Entry) → IsJoinOrData image e → is_view e ≡ false
+plain image e (is_data from req body) = refl
+plain image e (is_join name fit) = refl
+
+-- members stay
+pub member_after : (image : Image) (number : ℕ) (e : Entry) (name : ℕ) → length image.rows ≡ 16 → IsJoinOrData image e → has (members_of image) name ≡ true
+    → has (members_of (after image number e)) name ≡ true
+member_after image number e name long (is_data from req body) member = data_member image number from req body name long
+    (long_after image number e long) member
+member_after image number e name long (is_join joiner fit) member =
+    in_is (after image number e) name (long_after image number e long) (in_after image number e name long fit tt (is_in image name long member))

@@ -1,0 +1,124 @@
+-- The letters that a schedule's steps send.
+use Rattle.std.proofs.Common.{◌≡◌, ℕ, suc, ◌+◌, ◌-◌, ◌≤◌, nat_le, true, false, List, Some, slice_get, sym, ap, ◌∙◌, subst, arith}
+use Rattle.std.proofs.lemmas.Bool.Decides.{nat_tests}
+use Rattle.am_base.specs.declared.image.Report.{Report}
+use Rattle.am_base.specs.declared.entry.Entry.{Entry}
+use Rattle.am_base.specs.declared.entry.Entry.TheVariants.{Data}
+use Rattle.am_base.specs.Names.{has}
+use Rattle.am_base.specs.Lists.{Log, entry_at}
+use Rattle.am_packet.specs.declared.packet.Packet.{Packet}
+use Rattle.am_packet.specs.declared.packet.Packet.TheVariants as packet
+use Rattle.am_model.specs.Node.{Node, Ballot, top, is_sequencer, report_of}
+use Rattle.am_model.specs.Calls.{is_unfinished}
+use Rattle.am_model.specs.Ballots.{next_stamp}
+use Rattle.am_model.specs.World.{World}
+use Rattle.am_effects.specs.Causes.{Cause}
+use Rattle.am_effects.specs.Letters as letters
+use Rattle.am_effects.specs.Letters.{MayInvite, has_begun, goes_on, MayTell, leads, decided, Says, request, spread, bcast, order, accept, ack, nack, hold, join_ask, welcome, leave_ask, gone, invite, vote, fetch, piece, result, hand_over}
+use Rattle.am_repair.specs.Calm.{Repair, ReportIs, Stands, IsCalm}
+use Rattle.am_repair.proofs.Lists.{LogGrows, entry_stays}
+use Rattle.am_repair.proofs.Nodes.{CalmCause, not_open}
+
+-- ---- what a letter says stays so
+
+-- members have no less
+pub record Grow (r : Repair) (w v : World) : Type 0 where
+  pub log : LogGrows (w.nodes r.by).core.log (v.nodes r.by).core.log
+  pub stored : (name : ℕ) → has r.members name ≡ true → top (w.nodes name) ≤ top (v.nodes name)
+  pub taken : (name : ℕ) → has r.members name ≡ true → (w.nodes name).core.taken ≤ (v.nodes name).core.taken
+  pub acc : (name : ℕ) → has r.members name ≡ true → (w.nodes name).core.acc ≤ (v.nodes name).core.acc
+  -- and the sequencer keeps their reports
+  pub kept : (name : ℕ) → has r.members name ≡ true → ((w.nodes r.by).reports name).stored ≤ ((v.nodes r.by).reports name).stored
+
+report_stays : (r : Repair) (w v : World) (s : ℕ) (report : Report) → Grow r w v → ReportIs r w s report → ReportIs r v s report
+report_stays r w v s report g h = record {
+  stored = λ there. (let a = h.stored there in let b = g.stored s there in omega arith);
+  taken = λ there. (let a = h.taken there in let b = g.taken s there in omega arith);
+}
+
+stands_stays : (r : Repair) (w v : World) (number : ℕ) (e : Entry) → Grow r w v → Stands r w number e → Stands r v number e
+stands_stays r w v number e g h = entry_stays (w.nodes r.by).core.log (v.nodes r.by).core.log number e g.log h
+
+pub calm_stays : (r : Repair) (w v : World) (p : Packet) → Grow r w v → IsCalm r w p → IsCalm r v p
+calm_stays r w v (packet.Request s v_ report req body) g h = report_stays r w v s report g h
+calm_stays r w v (packet.Spread s v_ report req body) g h = report_stays r w v s report g h
+calm_stays r w v (packet.Bcast s v_ base acc number e) g h = stands_stays r w v number e g h
+calm_stays r w v (packet.Order s v_ base acc number from req) g h = (h.0, stands_stays r w v number (Data from req h.0) g h.1)
+calm_stays r w v (packet.Accept s v_ base acc high poll) g h = tt
+calm_stays r w v (packet.Ack s v_ report) g h = report_stays r w v s report g h
+calm_stays r w v (packet.Nack s v_ report) g h = report_stays r w v s report g h
+calm_stays r w v (packet.Hold s v_ base high req) g h = tt
+calm_stays r w v (packet.JoinAsk s v_) g h = tt
+calm_stays r w v (packet.Welcome s v_ base join image) g h = h
+calm_stays r w v (packet.LeaveAsk s v_ report) g h = h
+calm_stays r w v (packet.Gone s v_ number) g h = tt
+calm_stays r w v (packet.Invite s v_) g h = h
+calm_stays r w v (packet.Vote s v_ vote_) g h = h
+calm_stays r w v (packet.Fetch s v_ stored) g h = tt
+calm_stays r w v (packet.Piece s v_ base number e) g h = tt
+calm_stays r w v (packet.Result s v_ base number names resilience) g h = h
+calm_stays r w v (packet.HandOver s v_) g h = h
+
+-- ---- what is sent is so
+
+-- a name's step, from a node to one that stands in the world after it
+pub record Sends (r : Repair) (v : World) (m n : Node) : Type 0 where
+  pub node : v.nodes n.core.who ≡ n
+  pub stays : n.leaving ≡ false
+  pub no_ballot : is_unfinished m.ballot ≡ false
+  pub begins_none : (b : Ballot) → n.ballot ≡ Some b → n.core.promise ≡ next_stamp m → ⊥
+  pub decides_own : (b : Ballot) → n.ballot ≡ Some b → n.core.promise ≡ r.view
+  -- only one leads
+  pub own : is_sequencer n ≡ true → n.core.who ≡ r.by
+  pub promise : is_sequencer n ≡ true → n.core.promise ≡ r.view
+  pub base : is_sequencer n ≡ true → n.core.log.start ≤ m.core.base
+
+pub entry_of : (log : Log) (index number : ℕ) (e : Entry) → slice_get log.entries index ≡ Some e → number ≡ log.start + index + 1
+    → entry_at log number ≡ Some e
+entry_of log index number e there is =
+    let before = log.start + index in
+    let at : number ≡ suc before = omega arith in
+    let low : nat_le log.start before ≡ true = grind (arith, nat_tests) in
+    let skip : before - log.start ≡ index = omega arith in
+    ap (entry_at log) at ∙ rw low (ap (slice_get log.entries) skip ∙ there)
+
+numbered_stands : (r : Repair) (v : World) (m n : Node) (number : ℕ) (e : Entry) → Sends r v m n → is_sequencer n ≡ true
+    → letters.Stands n.core.log m.core.base number e → Stands r v number e
+numbered_stands r v m n number e h t s =
+    let node = ap (λ k. v.nodes k) (sym (h.own t)) ∙ h.node in
+    ap (λ (x : Node). entry_at x.core.log number) node ∙ entry_of n.core.log s.index number e s.there (s.at (h.base t))
+
+report_sent : (r : Repair) (v : World) (m n : Node) → Sends r v m n → ReportIs r v n.core.who (report_of n)
+report_sent r v m n h =
+    let stored = ap (λ (x : Node). top x) h.node in
+    let taken = ap (λ (x : Node). x.core.taken) h.node in
+    record { stored = λ there. omega arith; taken = λ there. omega arith }
+
+not_invited : (r : Repair) (v : World) (m n : Node) → Sends r v m n → MayInvite m n → ⊥
+not_invited r v m n h (has_begun b is next) = h.begins_none b is next
+not_invited r v m n h (goes_on b open_) = not_open m b open_ h.no_ballot
+
+told_view : (r : Repair) (v : World) (m n : Node) → Sends r v m n → MayTell n → n.core.promise ≡ r.view
+told_view r v m n h (leads t) = h.promise t
+told_view r v m n h (decided b number names is answer same) = h.decides_own b is
+
+pub says_calm : (r : Repair) (w v : World) (m n : Node) (c : Cause) (to : List ℕ) (p : Packet) → CalmCause r w c → Sends r v m n → Says m c n to p
+    → IsCalm r v p
+says_calm r w v m n c to p calm h (request _ req body a f s) = report_sent r v m n h
+says_calm r w v m n c to p calm h (spread _ req body a f s) = report_sent r v m n h
+says_calm r w v m n c to p calm h (bcast _ number e l s) = numbered_stands r v m n number e h l s
+says_calm r w v m n c to p calm h (order _ number from req v_ report body is l s) = (body, numbered_stands r v m n number (Data from req body) h l s)
+says_calm r w v m n c to p calm h (accept _ poll l) = tt
+says_calm r w v m n c to p calm h (ack _ a) = report_sent r v m n h
+says_calm r w v m n c to p calm h (nack _ a) = report_sent r v m n h
+says_calm r w v m n c to p calm h (hold _ s v_ report req body by l) = tt
+says_calm r w v m n c to p calm h (join_ask _ a) = tt
+says_calm r w v m n c to p calm h (welcome s l may) = h.promise l
+says_calm r w v m n c to p calm h (leave_ask _ a leaves) = absurd (let s = h.stays in cc)
+says_calm r w v m n c to p calm h (gone s l may) = tt
+says_calm r w v m n c to p calm h (invite _ may) = absurd (not_invited r v m n h may)
+says_calm r w v m n c to p calm h (vote s v_ is) = absurd (subst (CalmCause r w) is calm)
+says_calm r w v m n c to p calm h (fetch _ may) = tt
+says_calm r w v m n c to p calm h (piece s v_ stored number e is may at) = tt
+says_calm r w v m n c to p calm h (result _ number names is viewed may) = told_view r v m n h may
+says_calm r w v m n c to p calm h (hand_over _ l leaves) = absurd (let s = h.stays in cc)

@@ -1,0 +1,104 @@
+-- What stays so while a schedule runs in a group that stands in one view.
+use Rattle.std.specs.Prelude.{◌≡◌, ℕ, ◌<◌, ◌≤◌, List, Some, None, true, false, ◌==◌, All, ◌-◌}
+use Rattle.am_base.specs.declared.name.Stamp.{Stamp}
+use Rattle.am_base.specs.declared.image.Report.{Report}
+use Rattle.am_base.specs.declared.entry.Entry.{Entry}
+use Rattle.am_base.specs.declared.entry.Entry.TheVariants.{Data}
+use Rattle.am_base.specs.Names.{place_of, has, names_of}
+use Rattle.am_base.specs.Lists.{image_at, entry_at, members_at, fits}
+use Rattle.am_base.specs.Fronts.{counted_at}
+use Rattle.am_packet.specs.declared.packet.Packet.{Packet}
+use Rattle.am_packet.specs.declared.packet.Packet.TheVariants.{Request, Spread, Bcast, Order, Accept, Ack, Nack, Hold, JoinAsk, Welcome, LeaveAsk, Gone, Invite, Vote, Fetch, Piece, Result, HandOver}
+use Rattle.am_packet.specs.Boxes.{Letter}
+use Rattle.am_group.specs.Journals.{letter_at}
+use Rattle.am_model.specs.Node.{Node, top, told, view, acts, is_member, is_sequencer}
+use Rattle.am_model.specs.World.{World, current, is_stopped, has_departed}
+use Rattle.am_repair.specs.Rows.{IsAtRest}
+
+-- what a schedule is about: the sequencer, its view and where its View stands, the members of its list as it began, how far that list went
+-- then, and how many letters had been sent
+pub record Repair : Type 0 where
+  pub by : ℕ
+  pub view : Stamp
+  pub at : ℕ
+  pub members : List ℕ
+  pub high : ℕ
+  pub sent : ℕ
+
+-- ---- nodes
+
+-- The sequencer: its list goes on by what ends nobody's membership. Up to where it went its entries fit, and whose storage counts for what
+-- isn't accepted yet is a member.
+pub record Leads (r : Repair) (m : Node) : Type 0 where
+  pub leads : is_sequencer m ≡ true
+  pub view_ : view m ≡ r.view
+  pub number : (told m).view_number ≡ r.at
+  pub rest : IsAtRest m
+  pub high : r.high ≤ top m
+  pub reached : r.at ≤ r.high
+  pub fit : (k : ℕ) (e : Entry) → k ≤ r.high → entry_at m.core.log k ≡ Some e → fits (image_at m.core.log (k - 1)) e ≡ true
+  pub members_ : (name k : ℕ) → has r.members name ≡ true → r.high ≤ k → k ≤ top m → has (members_at m.core.log k) name ≡ true
+  pub counted : (k : ℕ) → m.core.acc < k → k ≤ r.high → r.at ≤ k → All (λ name. has r.members name ≡ true) (names_of (counted_at m.core.log k))
+
+-- a member: its list has the view's View, and tells what the sequencer's tells up to there; and the sequencer trims and knows no more of it than
+-- it has taken
+pub record Follows (r : Repair) (q m : Node) : Type 0 where
+  pub acts_ : acts m ≡ true
+  pub view_ : view m ≡ r.view
+  pub rest : IsAtRest m
+  pub reached : r.at ≤ top m
+  pub low : q.core.log.start ≤ top m
+  pub within : top m ≤ top q
+  pub told_ : told m ≡ image_at q.core.log (top m)
+  pub base : q.core.base ≤ m.core.taken
+  pub reported : (q.reports m.core.who).taken ≤ m.core.taken
+
+-- anybody else that is there: no ballot, no leaving, and who was welcomed has promised the view
+pub record IsApart (r : Repair) (m : Node) : Type 0 where
+  pub no_ballot : m.ballot ≡ None
+  pub stays : m.leaving ≡ false
+  pub promised : is_member m.status ≡ true → m.core.promise ≡ r.view
+
+-- ---- letters of the schedule
+
+-- a report of a member tells no more than it has
+pub record ReportIs (r : Repair) (w : World) (s : ℕ) (report : Report) : Type 0 where
+  pub stored : has r.members s ≡ true → report.stored ≤ top (w.nodes s)
+  pub taken : has r.members s ≡ true → report.taken ≤ (w.nodes s).core.taken
+
+abbrev pub Stands : Repair → World → ℕ → Entry → Type 0
+Stands r w number e = entry_at (w.nodes r.by).core.log number ≡ Some e
+
+abbrev pub IsCalm : Repair → World → Packet → Type 0
+IsCalm r w (Request s v report req body) = ReportIs r w s report
+IsCalm r w (Spread s v report req body) = ReportIs r w s report
+IsCalm r w (Bcast s v base acc number e) = Stands r w number e
+IsCalm r w (Order s v base acc number from req) = (body : List ℕ) × Stands r w number (Data from req body)
+IsCalm r w (Accept s v base acc high poll) = Unit {0}
+IsCalm r w (Ack s v report) = ReportIs r w s report
+IsCalm r w (Nack s v report) = ReportIs r w s report
+IsCalm r w (Hold s v base high req) = Unit {0}
+IsCalm r w (JoinAsk s v) = Unit {0}
+IsCalm r w (Welcome s v base join image) = v ≡ r.view
+IsCalm r w (LeaveAsk s v report) = ⊥
+IsCalm r w (Gone s v number) = Unit {0}
+IsCalm r w (Invite s v) = ⊥
+IsCalm r w (Vote s v vote) = ⊥
+IsCalm r w (Fetch s v stored) = Unit {0}
+IsCalm r w (Piece s v base number e) = Unit {0}
+IsCalm r w (Result s v base number names resilience) = v ≡ r.view
+IsCalm r w (HandOver s v) = ⊥
+
+-- ---- the whole
+
+pub record Calm (r : Repair) (w : World) : Type 0 where
+  pub own : r.view.by ≡ r.by
+  pub listed : has r.members r.by ≡ true
+  pub who : (name : ℕ) → (w.nodes name).core.who ≡ name
+  pub leads : Leads r (w.nodes r.by)
+  pub follows : (name : ℕ) → has r.members name ≡ true → (name == r.by) ≡ false → Follows r (w.nodes r.by) (w.nodes name)
+  pub apart : (name : ℕ) → has r.members name ≡ false → has_departed (w.nodes name).status ≡ false → IsApart r (w.nodes name)
+  -- members are there
+  pub current_ : (name : ℕ) → has r.members name ≡ true → current w (place_of name) ≡ name
+  pub runs : (name : ℕ) → has r.members name ≡ true → is_stopped w name ≡ false
+  pub letters : (number : ℕ) (letter : Letter) → r.sent < number → letter_at w.letters number ≡ Some letter → IsCalm r w letter.packet

@@ -1,0 +1,5 @@
+pub mod Rows
+pub mod Calm
+pub mod Rounds
+pub mod Standing
+pub mod Waves

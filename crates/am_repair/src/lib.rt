@@ -1,0 +1,60 @@
+//! What a lossless schedule repairs: laws of a group that stands in one view, proved on the definitions alone.
+#![tactic(auto)]
+
+ghost use Rattle.am_repair.specs.Standing.{OneListAgrees, RepairableIsLawful, RepairsWhereListsAgree};
+ghost use Rattle.am_repair.specs.Rounds.{CalmStays, RoundsStore};
+ghost use Rattle.am_repair.specs.Rows.{
+  EntriesAreStored,
+  FrontsAreHeard,
+  FrontsRise,
+  GapsAreAsked,
+  MembersReport,
+  NacksAreServed,
+  ReportsAreTaken,
+  SequencersPoll,
+};
+
+/// What a tick sends: the sequencer's poll, and a member's report.
+pub fn ticks_tell()
+    ensures poll { SequencersPoll }
+    ensures report { MembersReport }
+{}
+
+/// What a member does with what its sequencer tells: it accepts as far as it has stored, asks for what is missing, and stores what comes
+/// next.
+pub fn members_follow()
+    ensures fronts { FrontsAreHeard }
+    ensures gaps { GapsAreAsked }
+    ensures entries { EntriesAreStored }
+{}
+
+/// What the sequencer does with reports: it keeps them, sends again what is missing, and accepts what all who count have reported.
+pub fn sequencers_serve()
+    ensures reports { ReportsAreTaken }
+    ensures entries { NacksAreServed }
+    ensures fronts { FrontsRise }
+{}
+
+/// A calm world of a run stays calm with each event of a schedule, and with each round each member has stored eight entries more, or all up
+/// to where the sequencer stood.
+pub fn calm_worlds_go_on()
+    ensures stay { CalmStays }
+    ensures store { RoundsStore }
+{}
+
+/// What a lossless schedule repairs in a run, where the lists of the view's members agree (`Agree`): each of them stores and accepts all up
+/// to where their sequencer stood.
+pub fn schedules_repair()
+    ensures { RepairsWhereListsAgree }
+{}
+
+/// A run that ends where a group may be repaired is lawful from its beginning on: nobody was ever stopped undeparted.
+pub fn repairable_runs_are_lawful()
+    ensures { RepairableIsLawful }
+{}
+
+/// Lists agree where the sequencer's whole list fits and each Member's begins it, where what it trims and knows was taken, and where who has
+/// left is accepted to have left.
+pub fn one_list_agrees()
+    ensures { OneListAgrees }
+{}
