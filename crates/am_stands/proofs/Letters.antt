@@ -196,8 +196,11 @@ pub letters_stay : LettersStay
 letters_stay w v s t to (Request i u report req body) more g h = record { reports = report_stays w v s t g more i u report h.reports; asked = asked_stays w v s t g more i req body h.asked }
 letters_stay w v s t to (Spread i u report req body) more g h = record { reports = report_stays w v s t g more i u report h.reports; asked = asked_stays w v s t g more i req body h.asked }
 letters_stay w v s t to (Bcast i u base acc number e) more g h = (trimmed_stays w v s t g more base h.0, entry_stays w v s t g more i u acc number e h.1)
-letters_stay w v s t to (Order i u base acc number from req) more g h = (trimmed_stays w v s t g more base h.0, (let k = h.1 in
-    record { body = k.body; entry = entry_stays w v s t g more i u acc number (Data from req k.body) k.entry; asked = asked_stays w v s t g more from req k.body k.asked }))
+letters_stay w v s t to (Order i u base acc number from req) more g h = (
+  trimmed_stays w v s t g more base h.0,
+  (let k = h.1 in
+      record { body = k.body; entry = entry_stays w v s t g more i u acc number (Data from req k.body) k.entry; asked = asked_stays w v s t g more from req k.body k.asked }),
+)
 letters_stay w v s t to (Accept i u base acc high poll) more g h = (trimmed_stays w v s t g more base h.0, sequencer_stays w v s t g more i u acc h.1)
 letters_stay w v s t to (Ack i u report) more g h = report_stays w v s t g more i u report h
 letters_stay w v s t to (Nack i u report) more g h = report_stays w v s t g more i u report h
@@ -210,10 +213,13 @@ letters_stay w v s t to (Invite i u) more g h = tt
 letters_stay w v s t to (VoteOf i u shown) more g h = (h.0, vote_stays w v s t g more i u shown h.1)
 letters_stay w v s t to (Fetch i u stored) more g h = fetch_stays w v s t g more i u to h
 letters_stay w v s t to (Piece i u base number e) more g h = (trimmed_stays w v s t g more base h.0, piece_stays w v s t g more i u number e h.1)
-letters_stay w v s t to (Result i u base number names resilience) more g h = (trimmed_stays w v s t g more base h.0, λ own. (let k = h.1 own in
-    record {
-      by = k.by;
-      decided = decided_stays w v s t g more (key u) k.decided;
-      stands = item_stays (line s u) (line t u) number (View u names resilience) (g.lines (key u) k.decided) k.stands;
-    }))
+letters_stay w v s t to (Result i u base number names resilience) more g h = (
+  trimmed_stays w v s t g more base h.0,
+  λ own. (let k = h.1 own in
+      record {
+        by = k.by;
+        decided = decided_stays w v s t g more (key u) k.decided;
+        stands = item_stays (line s u) (line t u) number (View u names resilience) (g.lines (key u) k.decided) k.stands;
+      }),
+)
 letters_stay w v s t to (HandOver i u) more g h = tt

@@ -210,7 +210,6 @@ view_named v i c m n s h =
     (λ t. view_small (s.node i).list (good_begins ((h.group.kept.each i).list (record { log = t; there = h.there })) h.group.kept.views.good))
     (λ f. subst (λ l. (view_of l).by < 256) (sym ((h.group.kept.each i).blank f)) (subst (λ (u : Stamp). u.by < 256) (sym nothing_viewed) (omega arith))))
 
-
 trimmed_same : (s t : Group) (base : ℕ) → ShowsMore s t → says.Trimmed s base → says.Trimmed t base
 trimmed_same s t base same h = record {
   accepted = subst (λ l. base ≤ length l) (sym same.group_) h.accepted;
@@ -222,9 +221,11 @@ pub sent_says : SentSays
 sent_says v i c m n s to p h (request _ req body a f has_it) = so v i c m n s h to _ (sends_own v i c m n s h to req body a has_it)
 sent_says v i c m n s to p h (spread _ req body a f has_it) = so v i c m n s h to _ (sends_own v i c m n s h to req body a has_it)
 sent_says v i c m n s to p h (bcast _ number e t at) = so v i c m n s h to _ (h.trimmed, subst (λ j. says.EntrySays s j n.core.promise n.core.acc number e) (sym h.who) (numbered v i c m n s h number e t at))
-sent_says v i c m n s to p h (order _ number from req u report body is t at) = so v i c m n s h to _
-    (h.trimmed, subst (λ j. says.OrderSays v s j n.core.promise n.core.acc number from req) (sym h.who)
-    (record { body = body; entry = numbered v i c m n s h number (Data from req body) t at; asked = h.sends.numbered at.index from req body at.there }))
+sent_says v i c m n s to p h (order _ number from req u report body is t at) = so v i c m n s h to _ (
+  h.trimmed,
+  subst (λ j. says.OrderSays v s j n.core.promise n.core.acc number from req) (sym h.who)
+      (record { body = body; entry = numbered v i c m n s h number (Data from req body) t at; asked = h.sends.numbered at.index from req body at.there }),
+)
 sent_says v i c m n s to p h (accept _ poll t) = so v i c m n s h to _ (h.trimmed, subst (λ j. says.SequencerSays s j n.core.promise n.core.acc) (sym h.who) (sequencer v i c m n s h t))
 sent_says v i c m n s to p h (ack _ a) = so v i c m n s h to _ (subst (λ j. says.ReportSays s j n.core.promise (nodes.report_of n)) (sym h.who) (reports v i c m n s h a))
 sent_says v i c m n s to p h (nack _ a) = so v i c m n s h to _ (subst (λ j. says.ReportSays s j n.core.promise (nodes.report_of n)) (sym h.who) (reports v i c m n s h a))
@@ -235,9 +236,12 @@ sent_says v i c m n s to p h (welcome name t may) =
     let base = h.numbers.base in
     let taken = h.numbers.taken in
     let is = is_welcomed v i m n (s.node i) name h.stands good h.lives h.numbers.start h.numbers.accepted may in
-    so v i c m n s h (only_name name) _ (h.trimmed, λ j in_.
-    subst (λ k. says.WelcomeTo s k n.core.promise n.core.base (row_of (nodes.told n) name).joined (image_at n.core.log n.core.base) j) (sym h.who)
-    (welcome_says v i n s name (speaks_leading v i c m n s h t) t h.fronts h.numbers.kept (omega arith) is h.trimmed j in_))
+    so v i c m n s h (only_name name) _ (
+      h.trimmed,
+      λ j in_.
+          subst (λ k. says.WelcomeTo s k n.core.promise n.core.base (row_of (nodes.told n) name).joined (image_at n.core.log n.core.base) j) (sym h.who)
+          (welcome_says v i n s name (speaks_leading v i c m n s h t) t h.fronts h.numbers.kept (omega arith) is h.trimmed j in_),
+    )
 sent_says v i c m n s to p h (leave_ask _ member leaves) = so v i c m n s h to _
     (subst (λ j. says.LeaverSays s j n.core.promise (nodes.report_of n)) (sym h.who) (leaver_said v i n s (speaks v i c m n s h member) leaves))
 sent_says v i c m n s to p h (gone name t may) =
