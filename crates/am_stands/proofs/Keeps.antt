@@ -379,7 +379,7 @@ settled_turns rules w name c x s t h g = turn_grows x.core.who (s.node name).lis
 
 -- ---- each change, but for a refresh and the last member's end
 
-abbrev IsPlain : {c : Cause} {o : Outcome} {x y : Node} → Change c o x y → Type 0
+abbrev pub IsPlain : {c : Cause} {o : Outcome} {x y : Node} → Change c o x y → Type 0
 IsPlain refreshes = ⊥
 IsPlain (closes leads_ leaves alone_ room) = ⊥
 IsPlain _ = Unit {0}
