@@ -28,7 +28,8 @@ use Rattle.am_model.specs.World.{World, has_departed}
 use Rattle.am_model.proofs.Greatest.{split, and_both}
 use Rattle.am_effects.specs.Causes.{Cause, hears}
 use Rattle.am_effects.specs.Letters as letters
-use Rattle.am_effects.specs.Letters.{MayFetch, for_ballot, of_promise, MayTell, leads, decided, Says, request, spread, bcast, order, accept, ack, nack, hold, join_ask, welcome}
+use Rattle.am_effects.specs.Letters.{MayFetch, for_ballot, of_promise, MayTell, leads, decided, Says, request, spread, bcast, order, accept, ack, nack, hold}
+use Rattle.am_effects.specs.Letters.{join_ask, welcome}
 use Rattle.am_effects.specs.Letters.{leave_ask, gone, invite, vote, fetch, piece, result, hand_over}
 use Rattle.am_effects.proofs.Statuses.{logged}
 use Rattle.am_laws.proofs.Stamps.{same_stamp}
@@ -178,7 +179,11 @@ module _ (v : World) (i : ℕ) (c : Cause) (m n : Node) (s : Group) (h : Sender 
       record {
         to = s;
         path = none;
-        is = record { same = record { node = refl; views = refl; group_ = refl }; says = piece_said v i n s m.core.base number e (speaks member) leads_ h.numbers.start at };
+        is = record {
+          same = record { node = refl; views = refl; group_ = refl };
+          says = piece_said v i n s m.core.base number e
+              (speaks member) leads_ h.numbers.start at;
+        };
       })
     where
       itself : (x : Stamp) → stamp_eq x x ≡ true
@@ -210,24 +215,31 @@ view_named v i c m n s h =
     (λ t. view_small (s.node i).list (good_begins ((h.group.kept.each i).list (record { log = t; there = h.there })) h.group.kept.views.good))
     (λ f. subst (λ l. (view_of l).by < 256) (sym ((h.group.kept.each i).blank f)) (subst (λ (u : Stamp). u.by < 256) (sym nothing_viewed) (omega arith))))
 
-
 trimmed_same : (s t : Group) (base : ℕ) → ShowsMore s t → says.Trimmed s base → says.Trimmed t base
 trimmed_same s t base same h = record {
   accepted = subst (λ l. base ≤ length l) (sym same.group_) h.accepted;
-  stored = λ j. subst (λ (f : ℕ → groups.Node). IsThere (f j) → (f j).leaving ≡ false → mem (take base t.group) j ≡ true → Begins (take base t.group) (f j).list) (sym same.node)
-      (subst (λ l. IsThere (s.node j) → (s.node j).leaving ≡ false → mem (take base l) j ≡ true → Begins (take base l) (s.node j).list) (sym same.group_) (h.stored j));
+  stored = λ j. subst (λ (f : ℕ → groups.Node). IsThere (f j) → (f j).leaving ≡ false → mem (take base t.group) j ≡ true
+      → Begins (take base t.group) (f j).list) (sym same.node)
+      (subst (λ l. IsThere (s.node j) → (s.node j).leaving ≡ false → mem (take base l) j ≡ true → Begins (take base l) (s.node j).list) (sym same.group_)
+      (h.stored j));
 }
 
 pub sent_says : SentSays
 sent_says v i c m n s to p h (request _ req body a f has_it) = so v i c m n s h to _ (sends_own v i c m n s h to req body a has_it)
 sent_says v i c m n s to p h (spread _ req body a f has_it) = so v i c m n s h to _ (sends_own v i c m n s h to req body a has_it)
-sent_says v i c m n s to p h (bcast _ number e t at) = so v i c m n s h to _ (h.trimmed, subst (λ j. says.EntrySays s j n.core.promise n.core.acc number e) (sym h.who) (numbered v i c m n s h number e t at))
-sent_says v i c m n s to p h (order _ number from req u report body is t at) = so v i c m n s h to _
-    (h.trimmed, subst (λ j. says.OrderSays v s j n.core.promise n.core.acc number from req) (sym h.who)
-    (record { body = body; entry = numbered v i c m n s h number (Data from req body) t at; asked = h.sends.numbered at.index from req body at.there }))
-sent_says v i c m n s to p h (accept _ poll t) = so v i c m n s h to _ (h.trimmed, subst (λ j. says.SequencerSays s j n.core.promise n.core.acc) (sym h.who) (sequencer v i c m n s h t))
-sent_says v i c m n s to p h (ack _ a) = so v i c m n s h to _ (subst (λ j. says.ReportSays s j n.core.promise (nodes.report_of n)) (sym h.who) (reports v i c m n s h a))
-sent_says v i c m n s to p h (nack _ a) = so v i c m n s h to _ (subst (λ j. says.ReportSays s j n.core.promise (nodes.report_of n)) (sym h.who) (reports v i c m n s h a))
+sent_says v i c m n s to p h (bcast _ number e t at) = so v i c m n s h to _
+    (h.trimmed, subst (λ j. says.EntrySays s j n.core.promise n.core.acc number e) (sym h.who) (numbered v i c m n s h number e t at))
+sent_says v i c m n s to p h (order _ number from req u report body is t at) = so v i c m n s h to _ (
+  h.trimmed,
+  subst (λ j. says.OrderSays v s j n.core.promise n.core.acc number from req) (sym h.who)
+      (record { body = body; entry = numbered v i c m n s h number (Data from req body) t at; asked = h.sends.numbered at.index from req body at.there }),
+)
+sent_says v i c m n s to p h (accept _ poll t) = so v i c m n s h to _
+    (h.trimmed, subst (λ j. says.SequencerSays s j n.core.promise n.core.acc) (sym h.who) (sequencer v i c m n s h t))
+sent_says v i c m n s to p h (ack _ a) = so v i c m n s h to _
+    (subst (λ j. says.ReportSays s j n.core.promise (nodes.report_of n)) (sym h.who) (reports v i c m n s h a))
+sent_says v i c m n s to p h (nack _ a) = so v i c m n s h to _
+    (subst (λ j. says.ReportSays s j n.core.promise (nodes.report_of n)) (sym h.who) (reports v i c m n s h a))
 sent_says v i c m n s to p h (hold _ from u report req body by t) = so v i c m n s h to _ tt
 sent_says v i c m n s to p h (join_ask _ a) = so v i c m n s h to _ tt
 sent_says v i c m n s to p h (welcome name t may) =
@@ -235,9 +247,12 @@ sent_says v i c m n s to p h (welcome name t may) =
     let base = h.numbers.base in
     let taken = h.numbers.taken in
     let is = is_welcomed v i m n (s.node i) name h.stands good h.lives h.numbers.start h.numbers.accepted may in
-    so v i c m n s h (only_name name) _ (h.trimmed, λ j in_.
-    subst (λ k. says.WelcomeTo s k n.core.promise n.core.base (row_of (nodes.told n) name).joined (image_at n.core.log n.core.base) j) (sym h.who)
-    (welcome_says v i n s name (speaks_leading v i c m n s h t) t h.fronts h.numbers.kept (omega arith) is h.trimmed j in_))
+    so v i c m n s h (only_name name) _ (
+      h.trimmed,
+      λ j in_.
+          subst (λ k. says.WelcomeTo s k n.core.promise n.core.base (row_of (nodes.told n) name).joined (image_at n.core.log n.core.base) j) (sym h.who)
+          (welcome_says v i n s name (speaks_leading v i c m n s h t) t h.fronts h.numbers.kept (omega arith) is h.trimmed j in_),
+    )
 sent_says v i c m n s to p h (leave_ask _ member leaves) = so v i c m n s h to _
     (subst (λ j. says.LeaverSays s j n.core.promise (nodes.report_of n)) (sym h.who) (leaver_said v i n s (speaks v i c m n s h member) leaves))
 sent_says v i c m n s to p h (gone name t may) =
@@ -272,8 +287,18 @@ sent_says v i c m n s to p h (piece from u stored number e is may at) =
     record {
       to = r.to;
       path = r.path;
-      is = record { same = r.is.same; says = (trimmed_same s r.to n.core.base r.is.same h.trimmed, subst (λ j. says.PieceSays r.to j n.core.promise number e) (sym h.who) r.is.says) };
+      is = record {
+        same = r.is.same;
+        says = (
+          trimmed_same s r.to n.core.base r.is.same h.trimmed,
+          subst (λ j. says.PieceSays r.to j n.core.promise number e)
+              (sym h.who) r.is.says,
+        );
+      };
     }
-sent_says v i c m n s to p h (result _ number names is viewed may) = so v i c m n s h to _
-    (h.trimmed, λ mine. subst (λ j. ResultSays s j n.core.promise number names (nodes.told n).resilience) (sym h.who) (told_result v i c m n s h number names is viewed may (mine ∙ h.who)))
+sent_says v i c m n s to p h (result _ number names is viewed may) = so v i c m n s h to _ (
+  h.trimmed,
+  λ mine. subst (λ j. ResultSays s j n.core.promise number names (nodes.told n).resilience) (sym h.who)
+      (told_result v i c m n s h number names is viewed may (mine ∙ h.who)),
+)
 sent_says v i c m n s to p h (hand_over _ t leaves) = so v i c m n s h to _ tt

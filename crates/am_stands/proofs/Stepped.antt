@@ -1,39 +1,35 @@
 -- One change of a step after another, while none is a refresh: what is known within the step stays known.
-use Rattle.std.proofs.Common.{◌≡◌, ◌⊎◌, ⊎_elim, ℕ, ◌<◌, ◌≤◌, max, Bool, true, false, List, [], ◌∷◌, ◌++◌, length, Option, Some, None, slice_get, refl, sym, ap, ◌∙◌, subst, arith, append-nil}
+use Rattle.std.proofs.Common.{◌≡◌, ⊎_elim, ℕ, ◌<◌, ◌≤◌, List, [], length, Option, Some, None, slice_get, refl, sym}
+use Rattle.std.proofs.Common.{ap, subst, arith, append-nil}
 use Rattle.am_base.specs.declared.outcome.Outcome.{Outcome}
-use Rattle.am_base.specs.declared.image.Vote.{Vote}
 use Rattle.am_base.specs.declared.name.Stamp.{Stamp}
 use Rattle.am_base.specs.Founding.{Rules}
-use Rattle.am_packet.specs.declared.packet.Packet.{Packet}
-use Rattle.am_chain_lists.specs.Whole.{key}
 use Rattle.am_chain_lists.proofs.Order.{view_small}
 use Rattle.am_chain_moves.specs.Group.{Group}
 use Rattle.am_model.specs.Node.{Node, Ballot, view, lowest_or_first}
 use Rattle.am_model.specs.Ballots.{Verdict}
-use Rattle.am_model.specs.Refresh.{settle}
-use Rattle.am_model.specs.World.{Decided, World, is_stopped, last_view}
-use Rattle.am_effects.specs.Causes.{Cause, calls, hears}
-use Rattle.am_effects.specs.Looks.{Balloting, Looks, finds_itself_out, waits, fetches_from_best, finds_too_few, finds_no_room, decides}
+use Rattle.am_model.specs.World.{Decided, World, last_view}
+use Rattle.am_effects.specs.Causes.{Cause}
+use Rattle.am_effects.specs.Looks.{Looks, finds_itself_out, waits, fetches_from_best, finds_too_few, finds_no_room, decides}
 use Rattle.am_effects.specs.Changes.{Change, refreshes, settles, takes_report, admits, numbers, keeps_body, notes, stores, begins_list, departs, promises}
-use Rattle.am_effects.specs.Changes.{opens, looks, fetches, stores_view, queues, collects, takes, asks_to_join, asks_to_leave, closes, Changes, unchanged, changed}
+use Rattle.am_effects.specs.Changes.{opens, looks, fetches, stores_view, queues, collects, takes, asks_to_join, asks_to_leave, closes, Changes, unchanged}
+use Rattle.am_effects.specs.Changes.{changed}
 use Rattle.am_effects.proofs.Items.{get_push}
 use Rattle.am_effects.proofs.Rests.{settle_is}
 use Rattle.am_laws.specs.Packets.{stamp_of}
 use Rattle.am_laws.proofs.Named.{change_named}
 use Rattle.am_laws.proofs.TakenRuns.{Along, along_changes}
-use Rattle.am_laws.proofs.ViewChanges.{looked_at}
-use Rattle.am_sent.proofs.Kept as sent
 use Rattle.am_sent.proofs.Changes.{CauseSent, change_sent}
 use Rattle.am_stands.specs.Standing.{StandsBut, within}
 use Rattle.am_stands.specs.Growing.{Grows}
-use Rattle.am_stands.specs.Moving.{Moves, none, moves, Leads}
-use Rattle.am_stands.specs.Steps.{WasBegun, Needs, NeedsWelcome, after_change, after_look}
+use Rattle.am_stands.specs.Moving.{Moves, none, moves}
+use Rattle.am_stands.specs.Steps.{Needs, after_change, after_look}
 use Rattle.am_stands.proofs.Carried.{changes_stand}
 use Rattle.am_stands.proofs.Changes.{own_name}
 use Rattle.am_stands.proofs.Entries.{view_whole}
 use Rattle.am_stands.specs.States.{SendsOnce}
 use Rattle.am_stands.specs.Letters.{WasAsked}
-use Rattle.am_stands.proofs.Keeping.{BallotStands, LastStands, NodeKeeps, HeardSo, Stepping, may_move, looks_own, needs, IsNoClose}
+use Rattle.am_stands.proofs.Keeping.{LastStands, NodeKeeps, Stepping, may_move, needs, IsNoClose}
 use Rattle.am_stands.proofs.Keeps.{IsPlain, keeps_next}
 use Rattle.am_stands.proofs.Letters.{letters_stay}
 use Rattle.am_stands.proofs.Onward.{GoesOn, goes_on, grows_same, grows_trans}
@@ -172,7 +168,8 @@ acc_next rules w name c o x y s (asks_to_leave was member stays done) plain is g
 acc_next rules w name c o x y s (closes leads leaves alone room) plain is group_ low = absurd plain
 
 -- a plain change ends nothing
-no_close : {c : Cause} {o : Outcome} {x y : Node} (rules : Rules) (w : World) (name : ℕ) (s : Group) (h : Stepping rules w name c x s) (z : Change c o x y) → IsPlain z
+no_close : {c : Cause} {o : Outcome} {x y : Node} (rules : Rules) (w : World) (name : ℕ) (s : Group) (h : Stepping rules w name c x s) (z : Change c o x y)
+    → IsPlain z
     → IsNoClose rules w name c x s h z
 no_close rules w name s h (closes leads leaves alone room) plain = absurd plain
 no_close rules w name s h _ plain = tt
@@ -206,8 +203,14 @@ step_to rules w views name c o x y s t z plain h sent_ on stands noted along kee
       used = h.used;
       sent = change_sent w.records name c o x y sent_ z h.sent;
       once = once_same w views h.once;
-      begun = λ p is. (let k = h.begun p is in let up = (g.each (stamp_of p).by).promise in let low = k.begun in record { small = k.small; begun = omega arith });
-      heard = λ p is. (let k = h.heard p is in record { to = k.to; addressed = k.addressed; says = letters_stay w v s t k.to p ([], sym (append-nil w.records)) g k.says });
+      begun = λ p is. (let k = h.begun p is in let up = (g.each (stamp_of p).by).promise in let low = k.begun in
+          record { small = k.small; begun = omega arith });
+      heard = λ p is. (let k = h.heard p is in record {
+        to = k.to;
+        addressed = k.addressed;
+        says = letters_stay w v s t k.to p
+            ([], sym (append-nil w.records)) g k.says;
+      });
       given = h.given;
       keeps = keeps_same w views t name y keeps;
       accepted = acc_next rules w name c o x y s z plain (needs rules w name c x s h o y z (no_close rules w name s h z plain)) h.stands.group h.accepted;
@@ -216,7 +219,8 @@ step_to rules w views name c o x y s t z plain h sent_ on stands noted along kee
 pub step_on : (rules : Rules) (w : World) (name : ℕ) (c : Cause) (o : Outcome) (x y : Node) (s : Group) (z : Change c o x y) → IsPlain z
     → Stepping rules w name c x s → CauseSent w.records name o c → Next rules (after_change z w) name c y s
 step_on rules w name c o x y s z plain h sent_ =
-    let leads = changes_stand w name c o x y s z (may_move rules w name c x s h) (needs rules w name c x s h o y z (no_close rules w name s h z plain)) h.stands in
+    let leads = changes_stand w name c o x y s z (may_move rules w name c x s h)
+    (needs rules w name c x s h o y z (no_close rules w name s h z plain)) h.stands in
     let on = goes_on rules.founders (lowest_or_first rules.founders) rules.resilience s leads.to h.group leads.path in
     let along = along_changes rules x y h.names h.used (changed z unchanged) h.along in
     let same = after_is z w in
