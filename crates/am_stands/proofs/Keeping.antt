@@ -1,6 +1,6 @@
 -- What a node keeps besides what it shares with the group, and what is known of it within a step.
-use Rattle.std.proofs.Common.{◌≡◌, ℕ, ◌<◌, ◌≤◌, ◌==◌, ◌||◌, not, max, true, false, List, length}
-use Rattle.std.proofs.Common.{Option, Some, None, slice_get, refl, sym, ap, ◌∙◌, subst, arith}
+use Rattle.std.proofs.Common.{◌≡◌, ℕ, ◌<◌, ◌==◌, ◌||◌, not, max, true, false, List}
+use Rattle.std.proofs.Common.{Some, refl, sym, ap, ◌∙◌, subst, arith}
 use Rattle.std.proofs.lemmas.Bool.Decides.{nat_tests}
 use Rattle.am_base.specs.declared.entry.Entry.{Entry}
 use Rattle.am_base.specs.declared.entry.Entry.TheVariants.{View}
@@ -8,12 +8,10 @@ use Rattle.am_base.specs.declared.image.Image.{Image}
 use Rattle.am_base.specs.declared.image.Vote.{Vote}
 use Rattle.am_base.specs.declared.name.Stamp.{Stamp}
 use Rattle.am_base.specs.declared.outcome.Outcome.{Outcome}
-use Rattle.am_base.specs.declared.event.NodeEvent.TheVariants.{GiveUp}
 use Rattle.am_base.specs.Founding.{Rules}
 use Rattle.am_base.specs.Names.{IsSet, has}
 use Rattle.am_base.specs.Stamps.{stamp_eq}
 use Rattle.am_base.specs.Lists.{members_of}
-use Rattle.am_packet.specs.declared.packet.Packet.{Packet}
 use Rattle.am_packet.specs.declared.packet.Packet.TheVariants as packet
 use Rattle.am_chain_lists.specs.Whole.{IsGood, mem, key}
 use Rattle.am_chain_lists.proofs.Members.{good_begins}
@@ -27,9 +25,9 @@ use Rattle.am_model.specs.Ballots.{Verdict}
 use Rattle.am_model.specs.Calls.{is_unfinished}
 use Rattle.am_model.specs.Hearing.{hears_member, hears_sequencer}
 use Rattle.am_model.specs.Group.{has_log}
-use Rattle.am_model.specs.World.{Decided, World, is_stopped, has_departed}
+use Rattle.am_model.specs.World.{World, is_stopped, has_departed}
 use Rattle.am_model.proofs.Greatest.{split, and_both}
-use Rattle.am_effects.specs.Causes.{Cause, calls, hears}
+use Rattle.am_effects.specs.Causes.{Cause, hears}
 use Rattle.am_effects.specs.Looks.{Balloting, Looks, finds_itself_out, waits, fetches_from_best, finds_too_few, finds_no_room, decides, with_more}
 use Rattle.am_effects.specs.Looks.{without_one, as_it_is}
 use Rattle.am_effects.specs.Changes.{Numbers, MayStore, MayBeWelcomed, Fetches}
@@ -38,84 +36,32 @@ use Rattle.am_effects.specs.Changes.{admits, numbers, keeps_body, notes, stores,
 use Rattle.am_effects.specs.Changes.{looks, promises, opens, fetches, stores_view, queues, collects, takes, asks_to_join, asks_to_leave, closes}
 use Rattle.am_effects.proofs.Tests.{not_true}
 use Rattle.am_laws.proofs.Stamps.{same_stamp}
-use Rattle.am_laws.proofs.Taken.{HeardUsed, looked_vote}
-use Rattle.am_laws.proofs.TakenRuns.{Along}
+use Rattle.am_laws.proofs.Taken.{looked_vote}
 use Rattle.am_laws.proofs.Trims.{told_used}
 use Rattle.am_laws.proofs.ViewChanges.{OpenBallot, looked_at}
-use Rattle.am_laws.proofs.ViewNames.{HeardNames}
-use Rattle.am_laws.specs.Packets.{stamp_of}
 use Rattle.am_sent.proofs.Kept as sent
 use Rattle.am_sent.proofs.Changes.{MaySend, body_of_sent}
-use Rattle.am_stands.specs.Standing.{NameStands, StandsBut, within}
+use Rattle.am_stands.specs.Standing.{NameStands, within}
 use Rattle.am_stands.specs.Letters as says
 use Rattle.am_stands.specs.Letters.{Trimmed, VoteTells, VoteSays, AllShown, WasAsked, PacketSays, IsDecided, line}
-use Rattle.am_stands.specs.States.{VotesStand, FetchesStand, ReportsStand, ReportsFresh, OpensStand, BodiesAsked, SendsOnce}
+use Rattle.am_stands.specs.States.{BodiesAsked}
 use Rattle.am_stands.specs.Steps.{WasBegun, MayMove, NeedsNumber, NeedsEntry, NeedsWelcome, Needs, NeedsLook, NeedsPiece}
 use Rattle.am_stands.specs.Sending.{KeptWhole}
 use Rattle.am_stands.proofs.Changes.{looked_open, own_name, is_up, told_whole}
 use Rattle.am_stands.proofs.ChainNames.{front_named, members_named}
 use Rattle.am_stands.proofs.Entries.{is_leading, view_whole}
 use Rattle.am_stands.proofs.Heard.{bcast_needs, order_needs, result_needs, number_needs}
-use Rattle.am_stands.proofs.Onward.{GroupOk, group_kept, group_whole}
+use Rattle.am_stands.proofs.Onward.{group_kept, group_whole}
 use Rattle.am_stands.proofs.Pieces.{piece_needs}
-use Rattle.am_stands.proofs.Requests.{OwnTurn, own_fits}
+use Rattle.am_stands.proofs.Requests.{own_fits}
 use Rattle.am_stands.proofs.Shown.{looked_votes}
 use Rattle.am_stands.proofs.Votes.{BallotKnown, decision_needs, undecided}
 use Rattle.am_stands.proofs.Welcomes.{welcome_needs}
+use Rattle.am_stands.specs.Keeping.{BallotStands, LastStands, Stepping}
 
 -- ---- a node
 
-abbrev pub GroupFor : Rules → Group → Type 0
-GroupFor rules s = GroupOk rules.founders (lowest_or_first rules.founders) rules.resilience s
-
--- only stopped names are given up, and views of votes are of names
-pub record BallotStands (w : World) (b : Ballot) : Type 0 where
-  pub given : (j : ℕ) → b.given_up j ≡ true → is_stopped w j ≡ true
-  pub names : (j : ℕ) (vote : Vote) → b.votes j ≡ Some vote → (j < 256) × (vote.view.by < 256)
-
-abbrev pub LastStands : World → Option Ballot → Type 0
-LastStands w None = Unit {0}
-LastStands w (Some b) = BallotStands w b
-
-pub record NodeKeeps (w : World) (s : Group) (i : ℕ) (x : Node) : Type 0 where
-  pub good : IsGood (s.node i).list
-  pub votes : VotesStand s x.ballot
-  pub fetches : FetchesStand s x.ballot
-  pub last : LastStands w x.ballot
-  pub opens : OpensStand x
-  pub reports : ReportsStand s i x
-  pub fresh : ReportsFresh x
-  pub trimmed : Trimmed s x.core.base
-  pub turn : OwnTurn x.core.who (s.node i).list x.sends
-  pub leaves : x.leaving ≡ true → has_log x.status ≡ true
-
 -- ---- within a step
-
--- a packet that is heard was sent to this name
-pub record HeardSo (w : World) (s : Group) (name : ℕ) (p : Packet) : Type 0 where
-  pub to : List ℕ
-  pub addressed : has to name ≡ true
-  pub says : PacketSays w s to p
-
--- the world has the step's record already
-pub record Stepping (rules : Rules) (w : World) (name : ℕ) (c : Cause) (x : Node) (s : Group) : Type 0 where
-  pub group : GroupFor rules s
-  pub stands : StandsBut name (within w name x) s
-  pub few : name < 256
-  pub who : x.core.who ≡ name
-  pub runs : is_stopped w name ≡ false
-  pub stopped : (j : ℕ) → is_stopped w j ≡ true → j < 256
-  pub noted : (k : ℕ) (d : Decided) → slice_get w.views k ≡ Some d → d.stamp.by < 256
-  pub along : Along rules x
-  pub names : HeardNames c
-  pub used : HeardUsed c
-  pub sent : sent.Keeps w.records name x
-  pub once : SendsOnce w
-  pub begun : (p : Packet) → c ≡ hears p → WasBegun s (stamp_of p)
-  pub heard : (p : Packet) → c ≡ hears p → HeardSo w s name p
-  pub given : (other : ℕ) → c ≡ calls (GiveUp other) → is_stopped w other ≡ true
-  pub keeps : NodeKeeps w s name x
-  pub accepted : x.core.acc ≤ length w.group
 
 module _ (rules : Rules) (w : World) (name : ℕ) (c : Cause) (x : Node) (s : Group) (h : Stepping rules w name c x s) where
   pub kept : Kept s

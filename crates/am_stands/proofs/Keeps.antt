@@ -53,16 +53,17 @@ use Rattle.am_stands.specs.States.{VotesStand, FetchesStand, ReportsStand, Repor
 use Rattle.am_stands.proofs.Changes.{or_last, long_all}
 use Rattle.am_stands.proofs.Onward.{group_kept}
 use Rattle.am_stands.proofs.Entries.{key_stamp}
-use Rattle.am_stands.proofs.Keeping.{GroupFor, BallotStands, LastStands, NodeKeeps, HeardSo, Stepping, kept, old, up, good, known, looked_last}
+use Rattle.am_stands.proofs.Keeping.{kept, old, up, good, known, looked_last}
 use Rattle.am_stands.proofs.Keeping.{unfinished, sequencer_member, number_ok, other_heard}
 use Rattle.am_stands.proofs.Letters.{all_stay, trimmed_stays}
 use Rattle.am_stands.proofs.Reporting.{reporting_grow, reporting_base, reporting_anew, reporting_admit, reporting_more, reporting_pushed, fits_new}
 use Rattle.am_stands.proofs.Reporting.{new_before, known_old, report_true, leaver_true}
-use Rattle.am_stands.proofs.Requests.{OwnTurn, turn_grows, turn_queued, turn_collected, turn_settled}
+use Rattle.am_stands.proofs.Requests.{turn_grows, turn_queued, turn_collected, turn_settled}
 use Rattle.am_stands.proofs.Sent.{Speaks, Leading, leading}
 use Rattle.am_stands.proofs.Shown.{votes_grow}
 use Rattle.am_stands.proofs.Trimming.{trimmed_max, TakenKnown, votes_trim}
 use Rattle.am_stands.proofs.Votes.{best_shown}
+use Rattle.am_stands.specs.Keeping.{BallotStands, GroupFor, HeardSo, IsPlain, LastStands, NodeKeeps, OwnTurn, Stepping}
 
 -- ---- what stays, as the group goes on
 
@@ -435,11 +436,6 @@ settled_turns rules w name c x s t h g = turn_grows x.core.who (s.node name).lis
     (turn_settled (within w name x) name x (s.node name) (old rules w name c x s h) h.keeps.good h.keeps.turn)
 
 -- ---- each change, but for a refresh and the last member's end
-
-abbrev pub IsPlain : {c : Cause} {o : Outcome} {x y : Node} → Change c o x y → Type 0
-IsPlain refreshes = ⊥
-IsPlain (closes leads_ leaves alone_ room) = ⊥
-IsPlain _ = Unit {0}
 
 no_log_none : (t : Status) → is_member t ≡ false → (is_member t || is_asking t) ≡ true → has_log t ≡ false
 no_log_none status.Stranger f h = absurd (cc)

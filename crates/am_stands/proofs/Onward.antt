@@ -8,11 +8,9 @@ use Rattle.am_chain_moves.specs.Group.{Group}
 use Rattle.am_chain_moves.specs.Moves as group
 use Rattle.am_chain_moves.specs.Moves.{Move}
 use Rattle.am_chain_moves.specs.Kept.{Kept}
-use Rattle.am_chain_moves.specs.Runs.{Run}
 use Rattle.am_chain.proofs.Runs.{run_keeps}
 use Rattle.am_stands.specs.Moving.{MoveOk, Moves, none, moves}
 use Rattle.am_stands.specs.Growing.{NewView, Grows}
-use Rattle.am_stands.specs.Branches.{BranchesOk, ChainNamed}
 use Rattle.am_stands.specs.Lawful.{IsNoStop}
 use Rattle.am_stands.specs.Sending.{KeptWhole}
 use Rattle.am_stands.proofs.Branches.{moves_branch, decisions_are_new}
@@ -22,12 +20,7 @@ use Rattle.am_stands.proofs.Lawful.{runs_go_on}
 use Rattle.am_stands.proofs.LeftOut.{runs_leave_out}
 use Rattle.am_stands.proofs.Opens.{runs_open}
 use Rattle.am_stands.proofs.Rounds.{runs_have_rounds}
-
--- what is so of a group that stands for a run of the definitions
-pub record GroupOk (founders : List ℕ) (first resilience : ℕ) (s : Group) : Type 0 where
-  pub run : Run founders first resilience s
-  pub branches : BranchesOk s
-  pub named : ChainNamed s
+use Rattle.am_stands.specs.Keeping.{GroupOk}
 
 pub group_kept : (founders : List ℕ) (first resilience : ℕ) (s : Group) → GroupOk founders first resilience s → Kept s
 group_kept founders first resilience s h = (run_keeps founders first resilience s h.run).kept

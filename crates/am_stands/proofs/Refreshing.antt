@@ -18,7 +18,7 @@ use Rattle.am_model.specs.Node.{Node, view, acts, is_member, is_sequencer, lowes
 use Rattle.am_model.specs.Calls.{is_unfinished}
 use Rattle.am_model.specs.Group.{has_log}
 use Rattle.am_model.specs.Refresh.{advance, lead, refresh}
-use Rattle.am_model.specs.World.{World, is_stopped}
+use Rattle.am_model.specs.World.{World}
 use Rattle.am_model.proofs.Greatest.{split}
 use Rattle.am_effects.specs.Causes.{Cause}
 use Rattle.am_effects.proofs.Rests.{rests_refresh, refresh_is, leads_rests}
@@ -30,12 +30,12 @@ use Rattle.am_stands.specs.States.{OpensStand, ReportsFresh, ReportsStand, IsNew
 use Rattle.am_stands.proofs.Accepting.{own_reporting}
 use Rattle.am_stands.proofs.Changes.{told_whole, long_all, is_up}
 use Rattle.am_stands.proofs.ChainNames.{concerned_small, front_named}
-use Rattle.am_stands.proofs.Keeping.{GroupFor, NodeKeeps, Stepping, old, list_member, sequencer_member}
+use Rattle.am_stands.proofs.Keeping.{old, list_member, sequencer_member}
 use Rattle.am_stands.proofs.Keeps.{Ballots, ballots, ballots_grow, trimmed_grow}
 use Rattle.am_stands.proofs.Onward.{group_kept}
 use Rattle.am_stands.proofs.Reporting.{reporting_grow, reporting_base}
-use Rattle.am_stands.proofs.Requests.{OwnTurn}
 use Rattle.am_stands.proofs.Trimming.{Refreshed, refresh_trims}
+use Rattle.am_stands.specs.Keeping.{GroupFor, NodeKeeps, OwnTurn, RefreshesKeep, Refreshing, Stepping}
 
 -- ---- what a refresh does to reports and base
 
@@ -68,12 +68,6 @@ member_old list name member new =
     ⊎_elim (λ z. omega arith) (λ z. omega arith) new
 
 -- ---- a refresh, where the group has accepted what it accepts
-
-pub record Refreshing (v : World) (name : ℕ) (x : Node) (s t : Group) : Type 0 where
-  pub runs : is_stopped v name ≡ false
-  pub stands : NameStands (within v name (refresh x)) name (refresh x) (t.node name)
-  pub list : (t.node name).list ≡ (s.node name).list
-  pub accepted : (refresh x).core.acc ≤ length t.group
 
 module _ (rules : Rules) (w v : World) (name : ℕ) (c : Cause) (x : Node) (s t : Group) (h : Stepping rules w name c x s) (g : Grows s t)
     (gt : GroupFor rules t) (now : Refreshing v name x s t) (later : Along rules (refresh x)) where
@@ -220,3 +214,6 @@ module _ (rules : Rules) (w v : World) (name : ℕ) (c : Cause) (x : Node) (s t 
         (subst (OwnTurn x.core.who (s.node name).list) (sym sends_y) k.turn));
     leaves = λ u. (ap has_log (rests_refresh x).rests.status ∙ k.leaves (sym (rests_refresh x).rests.leaving ∙ u));
   }
+
+pub refreshes_keep : RefreshesKeep
+refreshes_keep = keeps_refresh

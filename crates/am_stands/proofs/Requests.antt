@@ -1,5 +1,5 @@
 -- The requests of a name's own sends come in turn, whoever numbers them.
-use Rattle.std.proofs.Common.{◌≡◌, ℕ, ◌+◌, ◌-◌, ◌<◌, ◌≤◌, true, List, ◌++◌, length, map, take, Option, Some, None}
+use Rattle.std.proofs.Common.{◌≡◌, ℕ, ◌+◌, ◌-◌, ◌<◌, true, List, ◌++◌, length, map, take, Option, Some, None}
 use Rattle.std.proofs.Common.{slice_get, refl, sym, ap, ◌∙◌, subst, arith}
 use Rattle.std.proofs.lemmas.Grind.{flat_map-append}
 use Rattle.std.proofs.lemmas.Bool.Decides.{nat_tests}
@@ -30,12 +30,7 @@ use Rattle.am_stands.proofs.Changes.{told_all}
 use Rattle.am_stands.proofs.Heard.{OwnFits, fits_data}
 use Rattle.am_stands.proofs.Parts.{part_get}
 use Rattle.am_stands.proofs.Welcoming.{member_row}
-
--- what isn't settled are the next requests up to the last, and the first of them is at most the one after those that the name's list has
-pub record OwnTurn (who : ℕ) (list : List Entry) (sends : own.Sends) : Type 0 where
-  pub next : ℕ
-  pub turn : Turn next next sends.queue sends.last
-  pub low : next ≤ 1 + length (requests_of who list)
+use Rattle.am_stands.specs.Keeping.{OwnTurn}
 
 -- a longer list has no fewer
 pub turn_grows : (who : ℕ) (a b : List Entry) (sends : own.Sends) → Begins a b → OwnTurn who a sends → OwnTurn who b sends

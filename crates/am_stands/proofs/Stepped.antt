@@ -29,10 +29,11 @@ use Rattle.am_stands.proofs.Changes.{own_name}
 use Rattle.am_stands.proofs.Entries.{view_whole}
 use Rattle.am_stands.specs.States.{SendsOnce}
 use Rattle.am_stands.specs.Letters.{WasAsked}
-use Rattle.am_stands.proofs.Keeping.{LastStands, NodeKeeps, Stepping, may_move, needs, IsNoClose}
-use Rattle.am_stands.proofs.Keeps.{IsPlain, keeps_next}
+use Rattle.am_stands.proofs.Keeping.{may_move, needs, IsNoClose}
+use Rattle.am_stands.proofs.Keeps.{keeps_next}
 use Rattle.am_stands.proofs.Letters.{letters_stay}
 use Rattle.am_stands.proofs.Onward.{GoesOn, goes_on, grows_same, grows_trans}
+use Rattle.am_stands.specs.Keeping.{ChangesGoOn, IsPlain, LastStands, Next, NodeKeeps, Stepping}
 
 -- ---- the world after a change: with the views that it noted
 
@@ -176,13 +177,6 @@ no_close rules w name s h _ plain = tt
 
 -- ---- one change
 
--- the group that it leads to
-pub record Next (rules : Rules) (v : World) (name : ℕ) (c : Cause) (y : Node) (s : Group) : Type 0 where
-  pub to : Group
-  pub path : Moves s to
-  pub grows : Grows s to
-  pub goes : Stepping rules v name c y to
-
 step_to : (rules : Rules) (w : World) (views : List Decided) (name : ℕ) (c : Cause) (o : Outcome) (x y : Node) (s t : Group) (z : Change c o x y) → IsPlain z
     → (h : Stepping rules w name c x s) → CauseSent w.records name o c → GoesOn rules.founders (lowest_or_first rules.founders) rules.resilience s t
     → StandsBut name (within (viewing w views) name y) t → ((k : ℕ) (d : Decided) → slice_get views k ≡ Some d → d.stamp.by < 256)
@@ -272,3 +266,6 @@ changes_on rules name c o w x y s (changed {n = m} z more) plain h sent_ =
     in_turn : {a b d : Group} → Moves a b → Moves b d → Moves a d
     in_turn none more_ = more_
     in_turn (moves move ok rest_) more_ = moves move ok (in_turn rest_ more_)
+
+pub changes_go_on : ChangesGoOn
+changes_go_on = step_on
