@@ -1,5 +1,6 @@
 -- What a sequencer accepts is held by enough names.
-use Rattle.std.proofs.Common.{◌≡◌, ℕ, ◌+◌, ◌-◌, ◌<◌, ◌≤◌, ◌==◌, ◌&&◌, nat_le, Bool, true, false, List, [], length, take, refl, sym, ap, ◌∙◌, subst, arith, count_by}
+use Rattle.std.proofs.Common.{◌≡◌, ℕ, ◌+◌, ◌-◌, ◌<◌, ◌≤◌, ◌==◌, ◌&&◌, nat_le, Bool, true, false, List, [], length, take, refl, sym, ap, ◌∙◌, subst, arith}
+use Rattle.std.proofs.Common.{count_by}
 use Rattle.std.proofs.lemmas.Bool.Decides.{nat_tests}
 use Rattle.am_base.specs.declared.entry.Entry.{Entry}
 use Rattle.am_base.specs.declared.image.Report.{Report}
@@ -64,11 +65,13 @@ number_held v i n x a node reports stands may r blank above low high held =
     let holders : ℕ → Bool = λ h. has (counted_at log n) h && passes h in
     let all : count_by passes (names_of (counted_at log n)) ≤ how_many holders = names_pass passes (counted_at log n) set in
     let need = need_whole v i n x a stands (omega arith) set in
-    let counts : (h : ℕ) → holders h ≡ true → has (counted a.list n) h ≡ true = λ h t. ap (λ m. has m h) (sym same) ∙ (and_both (has (counted_at log n) h) (passes h) t).0 in
+    let counts : (h : ℕ) → holders h ≡ true → has (counted a.list n) h ≡ true = λ h t. ap (λ m. has m h) (sym same)
+    ∙ (and_both (has (counted_at log n) h) (passes h) t).0 in
     let stored : (h : ℕ) → holders h ≡ true → Begins (take n a.list) (node h).list = λ h t.
     (let both = and_both (has (counted_at log n) h) (passes h) t in
     let up : n ≤ (reports h).stored = (let z = both.1 in grind (arith, nat_tests)) in
-    reached node x a.list reports n h r may (name_small (counted_at log n) h set both.0) (omega arith) (omega arith) (omega arith) (omega arith) (counts h t) up) in
+    reached node x a.list reports n h r may (name_small (counted_at log n) h set both.0) (omega arith) (omega arith) (omega arith) (omega arith)
+    (counts h t) up) in
     let part = length_take n a.list (omega arith) in
     record {
       holders = holders;
@@ -107,7 +110,8 @@ front_held v i x a node reports stands may r blank =
       within = omega arith;
       held = λ n above below.
           (let there : is_front reports log acc front ≡ true = greatest_there passes acc (top_of log - acc) (omega arith) in
-          let at : is_satisfied reports log front n ≡ true = all_at (is_satisfied reports log front) (acc + 1) (front - acc) n (omega arith) (omega arith) there in
+          let at : is_satisfied reports log front n ≡ true = all_at (is_satisfied reports log front) (acc + 1) (front - acc) n (omega arith)
+          (omega arith) there in
           let m = satisfied_at reports log front n below at in
           let over = m.1 in
           let under = m.2 in
@@ -117,7 +121,8 @@ front_held v i x a node reports stands may r blank =
 -- ---- a refresh
 
 -- its own report is true of itself
-pub own_reporting : (node : ℕ → groups.Node) (list : List Entry) (base who taken : ℕ) (reports : ℕ → Report) → taken ≤ length list → (node who).list ≡ list → Reporting node list base reports
+pub own_reporting : (node : ℕ → groups.Node) (list : List Entry) (base who taken : ℕ) (reports : ℕ → Report) → taken ≤ length list → (node who).list ≡ list
+    → Reporting node list base reports
     → Reporting node list base (reported reports who (record { stored = length list; taken = taken }))
 own_reporting node list base who taken reports low own r = record {
   within = λ name. split (name == who)

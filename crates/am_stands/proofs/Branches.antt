@@ -1,6 +1,6 @@
 -- What stopped names have is on the chain, or was left out of it; so a decision finds what each of its members has.
-use Rattle.std.proofs.Common.{◌≡◌, ◌≢◌, ◌⊎◌, inl, inr, ⊎_elim, ℕ, ◌+◌, ◌<◌, ◌≤◌, ◌==◌, ◌||◌, List, [], ◌∷◌, ◌++◌, length, take, true, false, Some, slice_index, refl, sym, ap, ◌∙◌, subst, arith}
-use Rattle.std.specs.List.{list_all, range_with_len}
+use Rattle.std.proofs.Common.{◌≡◌, ◌⊎◌, inl, inr, ⊎_elim, ℕ, ◌<◌, ◌≤◌, ◌==◌, ◌||◌, List, [], ◌∷◌, ◌++◌, length, take, true, false, Some}
+use Rattle.std.proofs.Common.{slice_index, refl, sym, ap, ◌∙◌, subst, arith}
 use Rattle.std.proofs.lemmas.Bool.Decides.{nat_tests}
 use Rattle.am_base.specs.declared.entry.Entry.{Entry}
 use Rattle.am_base.specs.declared.entry.Entry.TheVariants.{Leave, View}
@@ -9,7 +9,8 @@ use Rattle.am_base.specs.Names.{place_of, life_of, has, is_within}
 use Rattle.am_base.specs.Lists.{members_of}
 use Rattle.am_core.proofs.Ranges.{all_at}
 use Rattle.am_chain_lists.specs.Whole.{Begins, BeginsBelow, IsGood, told, mem, view_of, key}
-use Rattle.am_chain_lists.proofs.Prefixes.{begins_refl, begins_nil, begins_more, begins_trans, begins_both, begins_length, begins_take, below_of, below_length, length_push}
+use Rattle.am_chain_lists.proofs.Prefixes.{begins_refl, begins_nil, begins_more, begins_trans, begins_both, begins_take, below_of}
+use Rattle.am_chain_lists.proofs.Prefixes.{below_length, length_push}
 use Rattle.am_chain_lists.proofs.Rows.{mod16}
 use Rattle.am_chain_lists.proofs.Members.{good_begins, mem_between, mem_viewed}
 use Rattle.am_chain_lists.proofs.Order.{key_by, view_up}
@@ -18,13 +19,13 @@ use Rattle.am_chain_moves.specs.Group.{Group, put, put2, opening, chain_of, IsUp
 use Rattle.am_chain_moves.specs.Moves as group
 use Rattle.am_chain_moves.specs.Moves.{Move, MayDecide, Voted, with_choice, choice_of, own_stamp, longer}
 use Rattle.am_chain_moves.specs.Kept.{Kept}
-use Rattle.am_chain_moves.specs.Runs.{IsLawful, start, first_choice, first_stamp}
+use Rattle.am_chain_moves.specs.Runs.{IsLawful, first_choice}
 use Rattle.am_chain_moves.proofs.Start.{start_kept}
-use Rattle.am_chain_moves.proofs.Puts.{by_cases, put_same, put_at, put_cases, put2_cases}
+use Rattle.am_chain_moves.proofs.Puts.{by_cases, put_same, put_at, put2_cases}
 use Rattle.am_chain_moves.proofs.Nodes.{own_above}
-use Rattle.am_chain.proofs.Heart.{ballot_ok, list_chain, group_in}
+use Rattle.am_chain.proofs.Heart.{ballot_ok, list_chain}
 use Rattle.am_chain.proofs.Decide.{group_low}
-use Rattle.am_stands.specs.Growing.{NewView, DecidesNew}
+use Rattle.am_stands.specs.Growing.{NewView}
 use Rattle.am_stands.specs.Branches.{OnBranch, on_chain, left_out, BranchesOk, MovesBranch, DecisionsAreNew, BranchesBegin}
 use Rattle.am_stands.proofs.LeftOut.{longer_chain, none_departed}
 
@@ -38,7 +39,8 @@ within_has : (members all : List ℕ) (j : ℕ) → is_within members all ≡ tr
 within_has members all j within in_ =
     let test : (place : ℕ) → _ = λ place. (slice_index members place == 0) || (slice_index members place == slice_index all place) in
     let place = mod16 j in
-    let at = all_at (λ place. (slice_index members place == 0) || (slice_index members place == slice_index all place)) 0 16 (place_of j) (omega arith) (omega arith) within in
+    let at = all_at (λ place. (slice_index members place == 0) || (slice_index members place == slice_index all place)) 0 16 (place_of j) (omega arith)
+    (omega arith) within in
     let its : slice_index members (place_of j) ≡ life_of j = grind (arith, nat_tests) in
     let same : slice_index all (place_of j) ≡ life_of j = grind (arith, nat_tests) in
     grind (arith, nat_tests)
@@ -71,7 +73,8 @@ module _ (s : Group) (k : Kept s) (lawful : IsLawful s) (c : ℕ) (members : Lis
   in_chosen j h = within_has members (members_of (told chosen)) j d.within h
 
   -- on one branch with the coordinator's list, a name of the View has no more
-  low_on : (j : ℕ) (branch : List Entry) → has members j ≡ true → (s.node j).departed ≡ false → IsGood branch → Begins chosen branch → Begins (s.node j).list branch
+  low_on : (j : ℕ) (branch : List Entry) → has members j ≡ true → (s.node j).departed ≡ false → IsGood branch → Begins chosen branch
+      → Begins (s.node j).list branch
       → Begins (s.node j).list chosen
   low_on j branch in_ stays good mine its = ⊎_elim
       (λ (z : j ≡ c). subst (λ x. Begins (s.node x).list chosen) (sym z) (begins_refl chosen))
@@ -110,7 +113,8 @@ module _ (s : Group) (k : Kept s) (lawful : IsLawful s) (c : ℕ) (members : Lis
       record {
         accepted = subst (λ (x : groups.Chosen). Begins s.group x.before) (sym same) (group_low s k lawful c members resilience d);
         leavers = λ i leaves in_. subst (Begins (s.node i).list) (sym line)
-            (begins_trans (members_low i (subst (λ (x : groups.Chosen). has x.members i ≡ true) same in_)) (begins_more chosen (View (s.node c).promise members resilience ∷ [])));
+            (begins_trans (members_low i (subst (λ (x : groups.Chosen). has x.members i ≡ true) same in_))
+            (begins_more chosen (View (s.node c).promise members resilience ∷ [])));
       }
 
   -- ---- who is on which branch then
@@ -125,7 +129,8 @@ module _ (s : Group) (k : Kept s) (lawful : IsLawful s) (c : ℕ) (members : Lis
   viewed = subst (Begins all) (sym now) (begins_refl all)
 
   -- who isn't a member of what is chosen ended in it
-  ended_in : (j : ℕ) (branch : List Entry) → (s.node j).departed ≡ false → IsGood branch → Begins chosen branch → Begins (s.node j).list branch → mem chosen j ≡ false
+  ended_in : (j : ℕ) (branch : List Entry) → (s.node j).departed ≡ false → IsGood branch → Begins chosen branch → Begins (s.node j).list branch
+      → mem chosen j ≡ false
       → Begins (s.node j).list chosen
   ended_in j branch stays good mine its none = by_cases (s.node j).has_log
       (λ log. ⊎_elim
@@ -149,11 +154,13 @@ module _ (s : Group) (k : Kept s) (lawful : IsLawful s) (c : ℕ) (members : Lis
 
   after_choice : (j : ℕ) → (s.node j).departed ≡ false → OnBranch s j
       → Begins (s.node j).list (chain_of (with_choice s c members resilience).views)
-      ⊎ ((a : List Entry) × (v : Stamp) × (names : List ℕ) × (strong : ℕ) × (branch : List Entry) × Begins (a ++ View v names strong ∷ []) (chain_of (with_choice s c members resilience).views)
+      ⊎ ((a : List Entry) × (v : Stamp) × (names : List ℕ) × (strong : ℕ) × (branch : List Entry)
+      × Begins (a ++ View v names strong ∷ []) (chain_of (with_choice s c members resilience).views)
       × Begins a branch × Begins (s.node j).list branch × IsGood branch × (mem a j ≡ true) × (has names j ≡ false))
   after_choice j stays (on_chain its) = ⊎_elim
       (λ (z : Begins (s.node j).list chosen). inl (on_new z))
-      (λ (z : (mem chosen j ≡ true) × (has members j ≡ false)). inr (chosen, (s.node c).promise, members, resilience, chain_of s.views, viewed, chain, its, k.views.good, z.0, z.1))
+      (λ (z : (mem chosen j ≡ true) × (has members j ≡ false)). inr
+      (chosen, (s.node c).promise, members, resilience, chain_of s.views, viewed, chain, its, k.views.good, z.0, z.1))
       (beside j (chain_of s.views) stays k.views.good chain its)
   after_choice j stays (left_out a v names strong branch part mine its good member out) = ⊎_elim
       (λ (z : length (a ++ View v names strong ∷ []) ≤ length chosen).
@@ -163,7 +170,8 @@ module _ (s : Group) (k : Kept s) (lawful : IsLawful s) (c : ℕ) (members : Lis
       let below = begins_trans (begins_both chain (begins_trans (begins_more a (View v names strong ∷ [])) part) (omega arith)) mine in
       ⊎_elim
       (λ (y : Begins (s.node j).list chosen). inl (on_new y))
-      (λ (y : (mem chosen j ≡ true) × (has members j ≡ false)). inr (chosen, (s.node c).promise, members, resilience, branch, viewed, below, its, good, y.0, y.1))
+      (λ (y : (mem chosen j ≡ true) × (has members j ≡ false)). inr
+      (chosen, (s.node c).promise, members, resilience, branch, viewed, below, its, good, y.0, y.1))
       (beside j branch stays good below its)))
       (two (length (a ++ View v names strong ∷ [])) (length chosen))
 
@@ -179,7 +187,8 @@ Opened s t = (c k : ℕ) (list : List Entry) → IsUp (t.node c) → (t.node c).
     → (length (t.node k).list ≤ length list)
     ⊎ (IsUp (s.node c) × ((s.node c).ballot ≡ true) × (s.shown (key (s.node c).promise) k ≡ Some list) × (length (s.node c).list ≤ length (t.node c).list))
 
-branches_of : (s t : Group) → Kept t → ((j : ℕ) → Steady (s.node j) (t.node j)) → ((j : ℕ) → (s.node j).departed ≡ false → OnBranch s j → (t.node j).list ≡ (s.node j).list → OnBranch t j)
+branches_of : (s t : Group) → Kept t → ((j : ℕ) → Steady (s.node j) (t.node j))
+    → ((j : ℕ) → (s.node j).departed ≡ false → OnBranch s j → (t.node j).list ≡ (s.node j).list → OnBranch t j)
     → Opened s t → BranchesOk s → BranchesOk t
 branches_of s t k steady moved opened b = record {
   branch = λ j stays. ⊎_elim
@@ -195,7 +204,8 @@ branches_of s t k steady moved opened b = record {
       (λ (own_up : IsUp (t.node j)). k.short c j list up ballot shown own_up)
       (λ (z : ((t.node j).list ≡ (s.node j).list) × ((s.node j).departed ≡ false)). ⊎_elim
       (λ (y : length (t.node j).list ≤ length list). inl y)
-      (λ (y : IsUp (s.node c) × ((s.node c).ballot ≡ true) × (s.shown (key (s.node c).promise) j ≡ Some list) × (length (s.node c).list ≤ length (t.node c).list)).
+      (λ (y : IsUp (s.node c) × ((s.node c).ballot ≡ true) × (s.shown (key (s.node c).promise) j ≡ Some list)
+      × (length (s.node c).list ≤ length (t.node c).list)).
       (let same = ap length z.0 in
       let grows = y.3 in
       ⊎_elim
@@ -207,7 +217,8 @@ branches_of s t k steady moved opened b = record {
 }
 
 -- on a chain that goes on
-still_on : (s t : Group) → Begins (chain_of s.views) (chain_of t.views) → (j : ℕ) → (s.node j).departed ≡ false → OnBranch s j → (t.node j).list ≡ (s.node j).list
+still_on : (s t : Group) → Begins (chain_of s.views) (chain_of t.views) → (j : ℕ) → (s.node j).departed ≡ false → OnBranch s j
+    → (t.node j).list ≡ (s.node j).list
     → OnBranch t j
 still_on s t chain j stays (on_chain its) same = on_chain (subst (λ l. Begins l (chain_of t.views)) (sym same) (begins_trans its chain))
 still_on s t chain j stays (left_out a v names strong branch part mine its good member out) same =
@@ -228,7 +239,8 @@ steady_put s i n h j = put_at (λ k (m : groups.Node). Steady (s.node k) m) s.no
 opened_put : (s t : Group) (i : ℕ) (n : groups.Node) → OneName s t i n → Opened s t
 opened_put s t i n h c k list = subst (λ (f : ℕ → groups.Node). IsUp (f c) → (f c).ballot ≡ true → t.shown (key (f c).promise) k ≡ Some list
     → (length (t.node k).list ≤ length list)
-    ⊎ (IsUp (s.node c) × ((s.node c).ballot ≡ true) × (s.shown (key (s.node c).promise) k ≡ Some list) × (length (s.node c).list ≤ length (f c).list))) (sym h.node)
+    ⊎ (IsUp (s.node c) × ((s.node c).ballot ≡ true) × (s.shown (key (s.node c).promise) k ≡ Some list) × (length (s.node c).list ≤ length (f c).list)))
+    (sym h.node)
     (put_at (λ j (m : groups.Node). IsUp m → m.ballot ≡ true → t.shown (key m.promise) k ≡ Some list
     → (length (t.node k).list ≤ length list)
     ⊎ (IsUp (s.node j) × ((s.node j).ballot ≡ true) × (s.shown (key (s.node j).promise) k ≡ Some list) × (length (s.node j).list ≤ length m.list))) s.node i n
@@ -248,7 +260,8 @@ no_name s t k node views shown b = branches_of s t k
     (still_on s t (subst (λ v. Begins (chain_of s.views) (chain_of v)) (sym views) (begins_refl (chain_of s.views))))
     (λ c k list. subst (λ (f : ℕ → groups.Node). IsUp (f c) → (f c).ballot ≡ true → t.shown (key (f c).promise) k ≡ Some list
     → (length (t.node k).list ≤ length list)
-    ⊎ (IsUp (s.node c) × ((s.node c).ballot ≡ true) × (s.shown (key (s.node c).promise) k ≡ Some list) × (length (s.node c).list ≤ length (f c).list))) (sym node)
+    ⊎ (IsUp (s.node c) × ((s.node c).ballot ≡ true) × (s.shown (key (s.node c).promise) k ≡ Some list) × (length (s.node c).list ≤ length (f c).list)))
+    (sym node)
     (λ up ballot is. inr (up, ballot, ap (λ f. f (key (s.node c).promise) k) (sym shown) ∙ is, omega arith))) b
 
 up_as : (m n : groups.Node) → n.has_log ≡ m.has_log → n.stopped ≡ m.stopped → n.departed ≡ m.departed → IsUp m → IsUp n
@@ -280,12 +293,14 @@ begun_open s i k few c j list = put_at (λ x (m : groups.Node). IsUp m → m.bal
 -- a list that is shown now
 shown_open : (s : Group) (i : ℕ) → Opened s (record s { shown = put2 s.shown (key (s.node i).promise) i (Some (s.node i).list) })
 shown_open s i c j list up ballot is = ⊎_elim
-    (λ (z : (key (s.node c).promise ≡ key (s.node i).promise) × (j ≡ i) × (put2 s.shown (key (s.node i).promise) i (Some (s.node i).list) (key (s.node c).promise) j ≡ Some (s.node i).list)).
+    (λ (z : (key (s.node c).promise ≡ key (s.node i).promise) × (j ≡ i)
+    × (put2 s.shown (key (s.node i).promise) i (Some (s.node i).list) (key (s.node c).promise) j ≡ Some (s.node i).list)).
     (let same : Some (s.node i).list ≡ Some list = sym z.2 ∙ is in
     let its : (s.node i).list ≡ list = cc in
     let long = ap (λ x. length (s.node x).list) z.1 ∙ ap length its in
     inl (omega arith)))
-    (λ (z : ((key (s.node c).promise ≡ key (s.node i).promise) × (j ≡ i) → ⊥) × (put2 s.shown (key (s.node i).promise) i (Some (s.node i).list) (key (s.node c).promise) j ≡ s.shown (key (s.node c).promise) j)).
+    (λ (z : ((key (s.node c).promise ≡ key (s.node i).promise) × (j ≡ i) → ⊥)
+    × (put2 s.shown (key (s.node i).promise) i (Some (s.node i).list) (key (s.node c).promise) j ≡ s.shown (key (s.node c).promise) j)).
     inr (up, ballot, sym z.1 ∙ is, omega arith))
     (put2_cases s.shown (key (s.node i).promise) i (Some (s.node i).list) (key (s.node c).promise) j)
 
@@ -325,13 +340,14 @@ moves_branch s t (group.stores i e up decided other stays next) voted k law kt b
   opened = λ z ballot. (up, ballot, refl, more_list (s.node i).list e);
 }) b
 moves_branch s t (group.accepts i n leads may) voted k law kt b = no_name s t kt refl refl refl b
-moves_branch s t (group.learns i told acc up rises within before up_to given low) voted k law kt b = one_name s t i (record (s.node i) { told = told; acc = acc }) kt (record {
-  node = refl;
-  shown = refl;
-  chain = same_chain s;
-  steady = λ z. inl (up_as (s.node i) _ refl refl refl up);
-  opened = λ z ballot. (up, ballot, refl, omega arith);
-}) b
+moves_branch s t (group.learns i told acc up rises within before up_to given low) voted k law kt b = one_name s t i
+    (record (s.node i) { told = told; acc = acc }) kt (record {
+      node = refl;
+      shown = refl;
+      chain = same_chain s;
+      steady = λ z. inl (up_as (s.node i) _ refl refl refl up);
+      opened = λ z ballot. (up, ballot, refl, omega arith);
+    }) b
 moves_branch s t (group.begins i few up stays member) voted k law kt b = branches_of s t kt
     (λ j. steady_put s i (record (s.node i) { promise = own_stamp i (s.node i); ballot = true }) (λ z. inl (up_as (s.node i) _ refl refl refl up)) j)
     (still_on s t (same_chain s)) (begun_open s i k few) b
@@ -342,7 +358,8 @@ moves_branch s t (group.raises i stamp there above) voted k law kt b = one_name 
   steady = λ z. inr (refl, there.stays);
   opened = λ z ballot. absurd (cc);
 }) b
-moves_branch s t (group.shows i there small other begun none) voted k law kt b = branches_of s t kt (λ j stays. inr (refl, stays)) (still_on s t (same_chain s)) (shown_open s i) b
+moves_branch s t (group.shows i there small other begun none) voted k law kt b = branches_of s t kt (λ j stays. inr (refl, stays))
+    (still_on s t (same_chain s)) (shown_open s i) b
 moves_branch s t (group.serves i list up shown others) voted k law kt b = no_name s t kt refl refl refl b
 moves_branch s t (group.fetches i f list e up ballot served shown next) voted k law kt b = one_name s t i (longer (s.node i) e) kt (record {
   node = refl;
@@ -382,13 +399,15 @@ moves_branch s t (group.departs i before may) voted k law kt b = one_name s t i 
   steady = λ z. absurd (cc);
   opened = λ z ballot. absurd (let y = z.there.stays in cc);
 }) b
-moves_branch s t (group.closes i n leads leaving alone may) voted k law kt b = one_name s t i (record (longer (s.node i) (Leave i)) { departed = true }) kt (record {
-  node = refl;
-  shown = refl;
-  chain = subst (Begins (chain_of s.views)) (sym (longer_chain s i (record (longer (s.node i) (Leave i)) { departed = true }) (Leave i) k leads refl)) (begins_more (chain_of s.views) (Leave i ∷ []));
-  steady = λ z. absurd (cc);
-  opened = λ z ballot. absurd (let y = z.there.stays in cc);
-}) b
+moves_branch s t (group.closes i n leads leaving alone may) voted k law kt b = one_name s t i (record (longer (s.node i) (Leave i)) { departed = true }) kt
+    (record {
+      node = refl;
+      shown = refl;
+      chain = subst (Begins (chain_of s.views)) (sym (longer_chain s i (record (longer (s.node i) (Leave i)) { departed = true }) (Leave i) k leads refl))
+          (begins_more (chain_of s.views) (Leave i ∷ []));
+      steady = λ z. absurd (cc);
+      opened = λ z ballot. absurd (let y = z.there.stays in cc);
+    }) b
 moves_branch s t (group.stops i) voted k law kt b = one_name s t i (record (s.node i) { stopped = true }) kt (record {
   node = refl;
   shown = refl;

@@ -1,5 +1,6 @@
 -- Who joins is one of the 256 names, and a View has a set of them: so members are sets of names.
-use Rattle.std.proofs.Common.{◌≡◌, ◌≢◌, ⊎_elim, ℕ, zero, suc, ◌+◌, ◌-◌, ◌<◌, ◌≤◌, ◌==◌, ◌&&◌, not, nat_lt, Bool, true, false, if◌then◌else◌, List, [], ◌∷◌, ◌++◌, length, take, Option, Some, None, slice_get, slice_index, refl, sym, ap, ◌∙◌, subst, arith}
+use Rattle.std.proofs.Common.{◌≡◌, ◌≢◌, ⊎_elim, ℕ, ◌+◌, ◌-◌, ◌<◌, ◌≤◌, ◌==◌, ◌&&◌, not, nat_lt, Bool, true, false, List, [], ◌∷◌}
+use Rattle.std.proofs.Common.{◌++◌, length, take, Option, Some, None, slice_get, slice_index, refl, sym, ap, ◌∙◌, subst, arith}
 use Rattle.std.specs.Prelude.{All}
 use Rattle.std.proofs.lemmas.Bool.Decides.{nat_tests}
 use Rattle.std.proofs.lemmas.List.{length-map, get_or-replicate}
@@ -9,18 +10,16 @@ use Rattle.am_base.specs.declared.entry.Entry.TheVariants.{Data, Join, Leave, Vi
 use Rattle.am_base.specs.declared.image.Row.{Row}
 use Rattle.am_base.specs.declared.image.Image.{Image}
 use Rattle.am_base.specs.Names.{IsSet, place_of, life_of, has}
-use Rattle.am_base.specs.Lists.{blank_row, blank, is_blank, at_place, member_life, members_of, members_at, with_row, viewed, after, fold, top_of}
-use Rattle.am_base.specs.Fronts.{counted_of, counted_at}
-use Rattle.am_core.specs.Cores.{unions, since_accepted}
+use Rattle.am_base.specs.Lists.{blank_row, blank, is_blank, at_place, member_life, members_of, with_row, viewed, after, fold, top_of}
+use Rattle.am_base.specs.Fronts.{counted_of}
 use Rattle.am_core.proofs.Lives.{unions_most, member_at}
-use Rattle.am_chain_lists.specs.Whole.{Begins, NotView, told, view_of, key}
+use Rattle.am_chain_lists.specs.Whole.{Begins, told, key}
 use Rattle.am_chain_lists.proofs.Rows.{by_cases, row_at, row_set, row_view, long_after, mod16}
 use Rattle.am_chain_lists.proofs.Members.{long_told}
 use Rattle.am_chain_moves.specs.Group as groups
 use Rattle.am_chain_moves.specs.Group.{Group, counted, opening, chain_of}
 use Rattle.am_chain_moves.specs.Moves as group
 use Rattle.am_chain_moves.specs.Moves.{Move, choice_of, longer}
-use Rattle.am_chain_moves.specs.Kept.{Kept}
 use Rattle.am_chain_moves.proofs.Puts.{put_same}
 use Rattle.am_effects.proofs.Items.{all_get}
 use Rattle.am_model.specs.Node as nodes
@@ -31,7 +30,7 @@ use Rattle.am_stands.specs.Moving.{NamesNamed}
 use Rattle.am_stands.specs.Standing.{NameStands}
 use Rattle.am_stands.specs.Accepting.{CountsNames}
 use Rattle.am_stands.specs.Sending.{RowsLive}
-use Rattle.am_stands.specs.Branches.{ChainNamed, MovesNamed}
+use Rattle.am_stands.specs.Branches.{MovesNamed}
 use Rattle.am_stands.proofs.Changes.{told_all}
 use Rattle.am_stands.proofs.LeftOut.{longer_chain}
 use Rattle.am_stands.proofs.Parts.{counted_whole, image_whole}
@@ -44,10 +43,12 @@ pushed_named list e h new = All-append NamesNamed list (e ∷ []) h (All-cons Na
 pub front_named : (a b : List Entry) → Begins a b → All NamesNamed b → All NamesNamed a
 front_named [] b h k = All-nil NamesNamed
 front_named (x ∷ a) b h k = (let all = subst (All NamesNamed) (sym h.same) k in
-    All-cons NamesNamed x a (All-head NamesNamed x (a ++ h.rest) all) (front_named a (a ++ h.rest) (record { rest = h.rest; same = refl }) (All-tail NamesNamed x (a ++ h.rest) all)))
+    All-cons NamesNamed x a (All-head NamesNamed x (a ++ h.rest) all)
+    (front_named a (a ++ h.rest) (record { rest = h.rest; same = refl }) (All-tail NamesNamed x (a ++ h.rest) all)))
 
 pub moves_named : MovesNamed
-moves_named s t (group.numbers i e leads fit may) ok k h = subst (All NamesNamed) (sym (longer_chain s i (longer (s.node i) e) e k leads refl)) (pushed_named (chain_of s.views) e h ok)
+moves_named s t (group.numbers i e leads fit may) ok k h = subst (All NamesNamed) (sym (longer_chain s i (longer (s.node i) e) e k leads refl))
+    (pushed_named (chain_of s.views) e h ok)
 moves_named s t (group.stores i e up decided other stays next) ok k h = h
 moves_named s t (group.accepts i n leads may) ok k h = h
 moves_named s t (group.learns i told acc up rises within before up_to given low) ok k h = h
@@ -67,7 +68,8 @@ moves_named s t (group.welcomes j stamp base join may) ok k h = h
 moves_named s t (group.asks i up none) ok k h = h
 moves_named s t (group.departs i before may) ok k h = h
 moves_named s t (group.closes i n leads leaving alone may) ok k h =
-    subst (All NamesNamed) (sym (longer_chain s i (record (longer (s.node i) (Leave i)) { departed = true }) (Leave i) k leads refl)) (pushed_named (chain_of s.views) (Leave i) h tt)
+    subst (All NamesNamed) (sym (longer_chain s i (record (longer (s.node i) (Leave i)) { departed = true }) (Leave i) k leads refl))
+    (pushed_named (chain_of s.views) (Leave i) h tt)
 moves_named s t (group.stops i) ok k h = h
 
 -- ---- rows
@@ -96,23 +98,29 @@ viewed_named false n given r low h = by_cases (nat_lt 0 (member_life r) && not (
 after_named : (image : Image) (n : ℕ) (e : Entry) → length image.rows ≡ 16 → NamesNamed e → RowsNamed image → RowsNamed (after image n e)
 unfolding after
 after_named image n (Data from req body) long e h = by_cases ((at_place image from).life == life_of from)
-    (λ t. rw t (put_named image from (record (at_place image from) { last = req }) long (let o = h (place_of from) (mod16 from) in record { life = o.life; lives = o.lives }) h))
+    (λ t. rw t (put_named image from (record (at_place image from) { last = req }) long
+    (let o = h (place_of from) (mod16 from) in record { life = o.life; lives = o.lives }) h))
     (λ f. rw f h)
-after_named image n (Join name) long e h = put_named image name (record { life = life_of name; joined = n; left = 0; last = 0 }) long (record { life = omega arith; lives = λ z. absurd (omega arith) }) h
+after_named image n (Join name) long e h = put_named image name (record { life = life_of name; joined = n; left = 0; last = 0 }) long
+    (record { life = omega arith; lives = λ z. absurd (omega arith) }) h
 after_named image n (Leave name) long e h = by_cases ((at_place image name).life == life_of name)
-    (λ t. rw t (put_named image name (record (at_place image name) { left = n }) long (let o = h (place_of name) (mod16 name) in record { life = o.life; lives = o.lives }) h))
+    (λ t. rw t (put_named image name (record (at_place image name) { left = n }) long
+    (let o = h (place_of name) (mod16 name) in record { life = o.life; lives = o.lives }) h))
     (λ f. rw f h)
 after_named image n (View stamp names resilience) long e h = λ place low.
     (let places = e.places in
-    subst RowNamed (sym (row_view image n stamp names resilience place low)) (viewed_named (is_blank image) n (slice_index names place) (row_at image place) (e.lives place (omega arith)) (h place low)))
+    subst RowNamed (sym (row_view image n stamp names resilience place low))
+    (viewed_named (is_blank image) n (slice_index names place) (row_at image place) (e.lives place (omega arith)) (h place low)))
 
 fold_named : (image : Image) (n : ℕ) (es : List Entry) → length image.rows ≡ 16 → All NamesNamed es → RowsNamed image → RowsNamed (fold image n es)
 unfolding fold
 fold_named image n [] long k h = h
-fold_named image n (e ∷ es) long k h = fold_named (after image n e) (n + 1) es (long_after image n e long) (All-tail NamesNamed e es k) (after_named image n e long (All-head NamesNamed e es k) h)
+fold_named image n (e ∷ es) long k h = fold_named (after image n e) (n + 1) es (long_after image n e long) (All-tail NamesNamed e es k)
+    (after_named image n e long (All-head NamesNamed e es k) h)
 
 rows_named : (list : List Entry) → All NamesNamed list → RowsNamed (told list)
-rows_named list k = fold_named blank 1 list refl k (λ place low. subst RowNamed (sym (get_or-replicate 16 place blank_row blank_row low)) (record { life = omega arith; lives = λ z. refl }))
+rows_named list k = fold_named blank 1 list refl k
+    (λ place low. subst RowNamed (sym (get_or-replicate 16 place blank_row blank_row low)) (record { life = omega arith; lives = λ z. refl }))
 
 member_named : (r : Row) → RowNamed r → member_life r ≤ 16
 member_named r h = by_cases (nat_lt 0 r.joined && (r.left == 0)) (λ t. rw t h.life) (λ f. rw f (omega arith))
@@ -140,7 +148,8 @@ counted_named list n (Some (View stamp names resilience)) k its = its (View stam
 -- ---- of a node, whose list is so
 
 pub counts_names : (v : World) (i : ℕ) (x : Node) (a : groups.Node) → NameStands v i x a → All NamesNamed a.list → CountsNames x
-counts_names v i x a h k n low = subst IsSet (sym (counted_whole v i n x a h low)) (counted_named a.list (n - 1) (slice_get a.list (n - 1)) k (λ e is. all_get NamesNamed a.list (n - 1) e k is))
+counts_names v i x a h k n low = subst IsSet (sym (counted_whole v i n x a h low))
+    (counted_named a.list (n - 1) (slice_get a.list (n - 1)) k (λ e is. all_get NamesNamed a.list (n - 1) e k is))
 
 pub rows_live : (v : World) (i : ℕ) (x : Node) (a : groups.Node) → NameStands v i x a → All NamesNamed a.list → RowsLive x
 rows_live v i x a h k name none =

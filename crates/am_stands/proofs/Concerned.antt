@@ -60,7 +60,8 @@ reporting_push node after_ list e base reports plain grow fresh r = record {
   within = λ name. (let low = r.within name in let more = length_push list e in omega arith);
   taken = r.taken;
   true_ = λ name few concerned above. ⊎_elim
-      (λ (z : IsConcerned list name). subst (λ l. Begins l (after_ name).list) (sym (taken_more (reports name).stored list (list ++ e ∷ []) (begins_more list (e ∷ [])) (r.within name)))
+      (λ (z : IsConcerned list name). subst (λ l. Begins l (after_ name).list)
+      (sym (taken_more (reports name).stored list (list ++ e ∷ []) (begins_more list (e ∷ [])) (r.within name)))
       (begins_trans (r.true_ name few z above) (grow name)))
       (λ (z : e ≡ Join name). absurd (let low = fresh name z in omega arith))
       (concerned_push list e name plain concerned);

@@ -1,5 +1,6 @@
 -- How many names of a set pass a test, counted by the set and among all names.
-use Rattle.std.proofs.Common.{◌≡◌, ◌≢◌, ℕ, zero, suc, ◌+◌, ◌<◌, ◌≤◌, ◌==◌, ◌&&◌, nat_lt, Bool, true, false, if◌then◌else◌, List, [], ◌∷◌, length, slice_index, count_by, refl, sym, ap, ◌∙◌, subst, arith}
+use Rattle.std.proofs.Common.{◌≡◌, ◌≢◌, ℕ, zero, suc, ◌+◌, ◌<◌, ◌≤◌, ◌==◌, ◌&&◌, nat_lt, Bool, true, false, if◌then◌else◌, List, [], ◌∷◌, length, slice_index}
+use Rattle.std.proofs.Common.{count_by, refl, sym, ap, ◌∙◌, subst, arith}
 use Rattle.std.proofs.lemmas.Bool.Decides.{nat_tests}
 use Rattle.am_base.specs.Names.{IsSet, place_of, life_of, name_at, has, size, names_from, names_of}
 use Rattle.am_fronts.proofs.ReportLaws.{count_cons}
@@ -77,7 +78,8 @@ counted_from p q from (suc b ∷ lives) long low h =
     let name = name_at from (suc b) in
     let first : from + zero ≡ from = omega arith in
     let life : suc b ≤ 16 = low zero (omega arith) in
-    let more : count_by p (name ∷ names_from (from + 1) lives) ≡ (if p name then 1 else 0) + count_by p (names_from (from + 1) lives) = count_cons p name (names_from (from + 1) lives) in
+    let more : count_by p (name ∷ names_from (from + 1) lives) ≡ (if p name then 1 else 0) + count_by p (names_from (from + 1) lives) = count_cons p name
+    (names_from (from + 1) lives) in
     let others : (k : ℕ) → k < length lives → 0 < slice_index lives k → p (name_at (from + 1 + k) (slice_index lives k)) ≡ true
     → q (name_at (from + 1 + k) (slice_index lives k)) ≡ true = λ k l some.
     (let at : from + 1 + k ≡ from + suc k = omega arith in
@@ -90,11 +92,13 @@ counted_from p q from (suc b ∷ lives) long low h =
     let high : slice_index lives k ≤ 16 = low (suc k) (omega arith) in
     but_other q name (name_at (from + 1 + k) (slice_index lives k)) (apart from k b (slice_index lives k) (omega arith)) ∙ u)) in
     let below = count_below (but q name) q 256 name (λ j s. (but_passes q name j s).1) (omega arith) (but_same q name) here in
-    let one : count_by p (name ∷ names_from (from + 1) lives) ≡ 1 + count_by p (names_from (from + 1) lives) = more ∙ ap (λ (x : Bool). (if x then 1 else 0) + count_by p (names_from (from + 1) lives)) t in
+    let one : count_by p (name ∷ names_from (from + 1) lives) ≡ 1 + count_by p (names_from (from + 1) lives) = more
+    ∙ ap (λ (x : Bool). (if x then 1 else 0) + count_by p (names_from (from + 1) lives)) t in
     omega arith)
     (λ f.
     let rest = counted_from p q (from + 1) lives (omega arith) (λ k l. low (suc k) (omega arith)) others in
-    let none : count_by p (name ∷ names_from (from + 1) lives) ≡ 0 + count_by p (names_from (from + 1) lives) = more ∙ ap (λ (x : Bool). (if x then 1 else 0) + count_by p (names_from (from + 1) lives)) f in
+    let none : count_by p (name ∷ names_from (from + 1) lives) ≡ 0 + count_by p (names_from (from + 1) lives) = more
+    ∙ ap (λ (x : Bool). (if x then 1 else 0) + count_by p (names_from (from + 1) lives)) f in
     omega arith)
   where
     apart : (from k b life : ℕ) → from + 1 + k < 16 → name_at (from + 1 + k) life ≢ name_at from (suc b)
@@ -110,7 +114,8 @@ names_pass p set is =
     let name = name_at (0 + k) life in
     let place : place_of name ≡ k = omega arith in
     let its : life_of name ≡ life = omega arith in
-    let there : (slice_index set (place_of name) == life_of name) ≡ true = (let at : slice_index set (place_of name) ≡ life = ap (slice_index set) place in grind (arith, nat_tests)) in
+    let there : (slice_index set (place_of name) == life_of name) ≡ true = (let at : slice_index set (place_of name) ≡ life = ap (slice_index set) place in
+    grind (arith, nat_tests)) in
     rw (there, t) refl)
 
 -- of places from one on: whoever passes is there
@@ -122,21 +127,26 @@ few_of q from n (life ∷ lives) h =
     let name = name_at from life in
     let rest = few_of (but q name) (from + 1) n lives (λ j t. let s = but_passes q name j t in next from j life lives s.0 (h j s.1)) in
     let one = count_one q name n in
-    let more : count_by (λ x. nat_lt 0 x) (life ∷ lives) ≡ (if nat_lt 0 life then 1 else 0) + count_by (λ x. nat_lt 0 x) lives = count_cons (λ x. nat_lt 0 x) life lives in
+    let more : count_by (λ x. nat_lt 0 x) (life ∷ lives) ≡ (if nat_lt 0 life then 1 else 0) + count_by (λ x. nat_lt 0 x) lives = count_cons
+    (λ x. nat_lt 0 x) life lives in
     by_cases (nat_lt 0 life)
-    (λ t. let is : count_by (λ x. nat_lt 0 x) (life ∷ lives) ≡ 1 + count_by (λ x. nat_lt 0 x) lives = more ∙ ap (λ (x : Bool). (if x then 1 else 0) + count_by (λ x. nat_lt 0 x) lives) t in omega arith)
+    (λ t. let is : count_by (λ x. nat_lt 0 x) (life ∷ lives) ≡ 1 + count_by (λ x. nat_lt 0 x) lives = more
+    ∙ ap (λ (x : Bool). (if x then 1 else 0) + count_by (λ x. nat_lt 0 x) lives) t in omega arith)
     (λ f.
     let zero_life : life ≡ 0 = grind (arith, nat_tests) in
     let same = few_of q (from + 1) n lives (λ j t. let r = h j t in later from j life lives zero_life r) in
-    let is : count_by (λ x. nat_lt 0 x) (life ∷ lives) ≡ 0 + count_by (λ x. nat_lt 0 x) lives = more ∙ ap (λ (x : Bool). (if x then 1 else 0) + count_by (λ x. nat_lt 0 x) lives) f in
+    let is : count_by (λ x. nat_lt 0 x) (life ∷ lives) ≡ 0 + count_by (λ x. nat_lt 0 x) lives = more
+    ∙ ap (λ (x : Bool). (if x then 1 else 0) + count_by (λ x. nat_lt 0 x) lives) f in
     omega arith)
   where
-    next : (from j life : ℕ) (lives : List ℕ) → j ≢ name_at from life → (k : ℕ) × (k < length (life ∷ lives)) × (place_of j ≡ from + k) × (slice_index (life ∷ lives) k ≡ life_of j)
+    next : (from j life : ℕ) (lives : List ℕ) → j ≢ name_at from life
+        → (k : ℕ) × (k < length (life ∷ lives)) × (place_of j ≡ from + k) × (slice_index (life ∷ lives) k ≡ life_of j)
         → (k : ℕ) × (k < length lives) × (place_of j ≡ from + 1 + k) × (slice_index lives k ≡ life_of j)
     next from j life lives other (zero, low, place, at) = absurd (other (let its : life ≡ life_of j = at in omega arith))
     next from j life lives other (suc k, low, place, at) = (k, omega arith, omega arith, at)
 
-    later : (from j life : ℕ) (lives : List ℕ) → life ≡ 0 → (k : ℕ) × (k < length (life ∷ lives)) × (place_of j ≡ from + k) × (slice_index (life ∷ lives) k ≡ life_of j)
+    later : (from j life : ℕ) (lives : List ℕ) → life ≡ 0
+        → (k : ℕ) × (k < length (life ∷ lives)) × (place_of j ≡ from + k) × (slice_index (life ∷ lives) k ≡ life_of j)
         → (k : ℕ) × (k < length lives) × (place_of j ≡ from + 1 + k) × (slice_index lives k ≡ life_of j)
     later from j life lives none (zero, low, place, at) = absurd (let its : life ≡ life_of j = at in omega arith)
     later from j life lives none (suc k, low, place, at) = (k, omega arith, omega arith, at)
@@ -145,7 +155,12 @@ few_of q from n (life ∷ lives) h =
 pub names_few : (set : List ℕ) → IsSet set → how_many (has set) ≤ size set
 names_few set is =
     let long = is.places in
-    few_of (has set) 0 256 set (λ j t. (place_of j, (let low = mod16 j in omega arith), omega arith, (let z : (slice_index set (place_of j) == life_of j) ≡ true = t in grind (arith, nat_tests))))
+    few_of (has set) 0 256 set (λ j t. (
+      place_of j,
+      (let low = mod16 j in omega arith),
+      omega arith,
+      (let z : (slice_index set (place_of j) == life_of j) ≡ true = t in grind (arith, nat_tests)),
+    ))
 
 -- and each is one of the 256
 pub name_small : (set : List ℕ) (name : ℕ) → IsSet set → has set name ≡ true → name < 256
@@ -153,5 +168,6 @@ name_small set name is t =
     let long = is.places in
     let place = mod16 name in
     let low : slice_index set (place_of name) ≤ 16 = is.lives (place_of name) (omega arith) in
-    let at : slice_index set (place_of name) ≡ life_of name = (let z : (slice_index set (place_of name) == life_of name) ≡ true = t in grind (arith, nat_tests)) in
+    let at : slice_index set (place_of name) ≡ life_of name = (let z : (slice_index set (place_of name) == life_of name) ≡ true = t in
+    grind (arith, nat_tests)) in
     omega arith

@@ -1,5 +1,6 @@
 -- The Gone that is sent is so: its name has stopped, or all who have to have stored its Leave.
-use Rattle.std.proofs.Common.{◌≡◌, ◌≢◌, ℕ, ◌+◌, ◌-◌, ◌<◌, ◌≤◌, ◌==◌, ◌&&◌, nat_lt, nat_le, true, false, List, [], ◌∷◌, ◌++◌, length, take, set, get_or, slice_index, Option, Some, None, refl, sym, ap, ◌∙◌, subst, arith}
+use Rattle.std.proofs.Common.{◌≡◌, ◌≢◌, ℕ, ◌+◌, ◌-◌, ◌<◌, ◌≤◌, ◌==◌, ◌&&◌, nat_lt, nat_le, true, false, List, [], ◌∷◌, ◌++◌, length, take, set, get_or}
+use Rattle.std.proofs.Common.{slice_index, Option, Some, None, refl, sym, ap, ◌∙◌, subst, arith}
 use Rattle.std.proofs.lemmas.Bool.Decides.{nat_tests}
 use Rattle.std.proofs.lemmas.List.{length-set, get_or-set_other}
 use Rattle.am_base.specs.declared.entry.Entry.{Entry}
@@ -74,7 +75,8 @@ without_long : (names : List ℕ) (who : ℕ) → length (without_name names who
 without_long names who = by_cases (has names who) (λ t. rw t (length-set names (place_of who) 0)) (λ f. rw f refl)
 
 -- each of a set has reported what all have
-stored_by : (n : Node) (names : List ℕ) (number j : ℕ) → length names ≡ 16 → has names j ≡ true → all_stored n names number ≡ true → number ≤ (n.reports j).stored
+stored_by : (n : Node) (names : List ℕ) (number j : ℕ) → length names ≡ 16 → has names j ≡ true → all_stored n names number ≡ true
+    → number ≤ (n.reports j).stored
 stored_by n names number j long in_ all =
     let f : ℕ → ℕ = λ name. (n.reports name).stored in
     let at : slice_index names (place_of j) ≡ life_of j = grind (arith, nat_tests) in
@@ -103,7 +105,8 @@ pub record MayLetGo (v : World) (i : ℕ) (n : Node) (s : Group) : Type 0 where
   pub left_out : LeftOut s
 
 module _ (v : World) (i : ℕ) (n : Node) (s : Group) (h : MayLetGo v i n s) (name : ℕ) (left : ℕ) (before : List Entry) (size : length before + 1 ≡ left)
-    (part : Begins (before ++ Leave name ∷ []) (s.node i).list) (low : left ≤ n.core.acc) (all : all_stored n (without_name (concerned n) name) left ≡ true) where
+    (part : Begins (before ++ Leave name ∷ []) (s.node i).list) (low : left ≤ n.core.acc)
+    (all : all_stored n (without_name (concerned n) name) left ≡ true) where
   abbrev list : List Entry
   list = (s.node i).list
 
@@ -132,7 +135,8 @@ module _ (v : World) (i : ℕ) (n : Node) (s : Group) (h : MayLetGo v i n s) (na
   no_leaver : (j : ℕ) → mem before j ≡ true → mem list j ≡ true → j ≢ name
   no_leaver j member last same =
       leaver_out before name (good_begins part good)
-      (mem_between name good (begins_more before (Leave name ∷ [])) part (subst (λ k. mem before k ≡ true) same member) (subst (λ k. mem list k ≡ true) same last))
+      (mem_between name good (begins_more before (Leave name ∷ [])) part (subst (λ k. mem before k ≡ true) same member)
+      (subst (λ k. mem list k ≡ true) same last))
 
   has_stored_it : (j : ℕ) → mem before j ≡ true → IsThere (s.node j) → (s.node j).leaving ≡ false → Begins (before ++ Leave name ∷ []) (s.node j).list
   has_stored_it j member there stays =
@@ -142,7 +146,8 @@ module _ (v : World) (i : ℕ) (n : Node) (s : Group) (h : MayLetGo v i n s) (na
       let base = h.base in
       let within = h.within in
       let more = length_push before (Leave name) in
-      let in_all = concerned_has v i n (s.node i) j h.speaks.stands (omega arith) h.within (λ k from to. member_between j member last k (omega arith) (omega arith)) in
+      let in_all = concerned_has v i n (s.node i) j h.speaks.stands (omega arith) h.within
+      (λ k from to. member_between j member last k (omega arith) (omega arith)) in
       let size_all = concerned_long v i n (s.node i) h.speaks.stands (omega arith) in
       let others = without_has (concerned n) name j size_all in_all (no_leaver j member last) in
       let stored = stored_by n (without_name (concerned n) name) left j (without_long (concerned n) name ∙ size_all) others all in
@@ -169,7 +174,8 @@ module _ (v : World) (i : ℕ) (n : Node) (s : Group) (h : MayLetGo v i n s) (na
 pub gone_said : (v : World) (i : ℕ) (n : Node) (s : Group) (name : ℕ) → MayLetGo v i n s → may_go n name ≡ true → GoneSays s (row_at n name).left name
 gone_said v i n s name h may =
     let list = (s.node i).list in
-    let some = and_both (nat_lt 0 (row_at n name).left) (nat_le (row_at n name).left n.core.acc && all_stored n (without_name (concerned n) name) (row_at n name).left) may in
+    let some = and_both (nat_lt 0 (row_at n name).left)
+    (nat_le (row_at n name).left n.core.acc && all_stored n (without_name (concerned n) name) (row_at n name).left) may in
     let rest = and_both (nat_le (row_at n name).left n.core.acc) (all_stored n (without_name (concerned n) name) (row_at n name).left) some.1 in
     let up : 0 < (row_at n name).left = (let z = some.0 in grind (arith, nat_tests)) in
     let low : (row_at n name).left ≤ n.core.acc = (let z = rest.0 in grind (arith, nat_tests)) in
@@ -189,7 +195,8 @@ gone_said v i n s name h may =
         (has_stored_it v i n s h name (row_at n name).left before size part low all)
     by_kind low all (by_view before stamp names resilience size member out part) =
         has_stopped (h.left_out before stamp names resilience name
-        (subst (Begins (before ++ View stamp names resilience ∷ [])) ((h.speaks.kept.each i).leads (leading v i n s h.speaks h.leads).leads).chain part) member out)
+        (subst (Begins (before ++ View stamp names resilience ∷ []))
+        ((h.speaks.kept.each i).leads (leading v i n s h.speaks h.leads).leads).chain part) member out)
 
 -- to the leaver alone
 pub gone_says : (v : World) (i : ℕ) (n : Node) (s : Group) (name : ℕ) → MayLetGo v i n s → may_go n name ≡ true → (j : ℕ) → has (only_name name) j ≡ true

@@ -51,7 +51,8 @@ entry_needs w name number x v e s k who old up promise other others decided at n
     let long = long_all (within w name x) name x a old in
     let told_is = told_whole w name name x a old in
     let left : (row_of (told a.list) name).left ≡ 0 =
-    (let row : (row_of (told a.list) name).left ≡ (nodes.own_row x).left = ap (λ (i : Image). (row_of i name).left) told_is ∙ ap (λ n. (row_of (nodes.told x) n).left) (sym who) in
+    (let row : (row_of (told a.list) name).left ≡ (nodes.own_row x).left = ap (λ (i : Image). (row_of i name).left) told_is
+    ∙ ap (λ n. (row_of (nodes.told x) n).left) (sym who) in
     let none : (nodes.own_row x).left ≡ 0 = grind (arith, nat_tests) in
     row ∙ none) in
     record {
@@ -102,7 +103,8 @@ pub order_needs : (w : World) (name from above base acc number sender req : ℕ)
     → OrderSays w s from v acc number sender req → NeedsEntry s name x (Data sender req body)
 order_needs w name from above base acc number sender req x v body s k who runs old heard there may asked once says =
     let same : says.body ≡ body = once sender req says.body body says.asked (asked sender req body there) in
-    bcast_needs w name from above base acc number x v (Data sender req body) s k who runs old heard may (subst (λ b. EntrySays s from v acc number (Data sender req b)) same says.entry)
+    bcast_needs w name from above base acc number x v (Data sender req body) s k who runs old heard may
+    (subst (λ b. EntrySays s from v acc number (Data sender req b)) same says.entry)
 
 -- and the View of the ballot that it promised
 pub result_needs : (w : World) (name from above base number : ℕ) (x : Node) (v : Stamp) (names : List ℕ) (resilience : ℕ) (s : Group) → Kept s
@@ -126,10 +128,12 @@ abbrev pub OwnFits : Node → Type 0
 OwnFits x = (q : OwnSend) → nodes.waiting x ≡ Some q → nat_lt (nodes.own_row x).last q.req ≡ true → fits (nodes.told x) (Data x.core.who q.req q.body) ≡ true
 
 number_fits : (c : Cause) (x : Node) (e : Entry) → length (nodes.told x).rows ≡ 16 → OwnFits x → Numbers c x e → fits (nodes.told x) e ≡ true
-number_fits c x e long own (asked_send from v report req body by known stays next) = fits_data (nodes.told x) from req body (known_member x from long known (let z = stays in grind (arith, nat_tests))) next
+number_fits c x e long own (asked_send from v report req body by known stays next) = fits_data (nodes.told x) from req body
+    (known_member x from long known (let z = stays in grind (arith, nat_tests))) next
 number_fits c x e long own (own_send q is last) = own q is last
 number_fits c x e long own (asked_join from v is other f) = f
-number_fits c x e long own (asked_leave from v report is other known stays) = leave_fits (nodes.told x) from (known_member x from long known (let z = stays in grind (arith, nat_tests)))
+number_fits c x e long own (asked_leave from v report is other known stays) = leave_fits (nodes.told x) from
+    (known_member x from long known (let z = stays in grind (arith, nat_tests)))
 
 leaves_of : (s : Group) (from : ℕ) (v : Stamp) (report : Report) → LeaverSays s from v report → (s.node from).leaving ≡ true
 leaves_of s from v report (of_view leaves h) = leaves
@@ -141,7 +145,10 @@ number_may : (name : ℕ) (c : Cause) (x : Node) (e : Entry) (s : Group) → x.c
 number_may name c x e s who asks (asked_send from v report req body by known stays next) = tt
 number_may name c x e s who asks (own_send q is last) = tt
 number_may name c x e s who asks (asked_join from v is other f) = tt
-number_may name c x e s who asks (asked_leave from v report is other known stays) = (leaves_of s from v report (asks from v report is), λ same. (let z : (from == x.core.who) ≡ true = grind (arith, nat_tests) in cc))
+number_may name c x e s who asks (asked_leave from v report is other known stays) = (
+  leaves_of s from v report (asks from v report is),
+  λ same. (let z : (from == x.core.who) ≡ true = grind (arith, nat_tests) in cc),
+)
 
 number_named : (c : Cause) (x : Node) (e : Entry) → ((from : ℕ) (v : Stamp) → c ≡ hears (packet.JoinAsk from v) → from < 256) → Numbers c x e → NamesNamed e
 number_named c x e small (asked_send from v report req body by known stays next) = tt

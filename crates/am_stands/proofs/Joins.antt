@@ -1,5 +1,6 @@
 -- Where a name became a member of a list: its row tells the number.
-use Rattle.std.proofs.Common.{◌≡◌, ◌≢◌, ◌⊎◌, inl, inr, ⊎_elim, ℕ, ◌+◌, ◌<◌, ◌≤◌, ◌==◌, ◌&&◌, not, nat_lt, true, false, List, [], ◌∷◌, ◌++◌, length, take, slice_index, refl, sym, ap, ◌∙◌, subst, arith}
+use Rattle.std.proofs.Common.{◌≡◌, ◌≢◌, ◌⊎◌, inl, inr, ⊎_elim, ℕ, ◌+◌, ◌<◌, ◌≤◌, ◌==◌, ◌&&◌, not, nat_lt, true, false, List, [], ◌∷◌, ◌++◌, length, take}
+use Rattle.std.proofs.Common.{slice_index, refl, sym, ap, ◌∙◌, subst, arith}
 use Rattle.std.proofs.lemmas.Bool.Decides.{nat_tests}
 use Rattle.std.proofs.lemmas.List.{append_assoc}
 use Rattle.am_base.specs.declared.entry.Entry.{Entry}
@@ -22,7 +23,8 @@ unfolding after
 joined_in a name =
     let r : Row = record { life = life_of name; joined = 1 + length a; left = 0; last = 0 } in
     in_mem (a ++ Join name ∷ []) name (subst (λ (i : Image). In (row_at i (place_of name)) (life_of name)) (sym (told_push a (Join name))) (⊎_elim
-    (λ (z : (place_of name ≡ place_of name) × (row_at (with_row (told a) name r) (place_of name) ≡ r)). subst (λ q. In q (life_of name)) (sym z.1) (record { joined = omega arith; left = refl; is = refl }))
+    (λ (z : (place_of name ≡ place_of name) × (row_at (with_row (told a) name r) (place_of name) ≡ r)). subst (λ q. In q (life_of name)) (sym z.1)
+    (record { joined = omega arith; left = refl; is = refl }))
     (λ (z : (place_of name ≢ place_of name) × (row_at (with_row (told a) name r) (place_of name) ≡ row_at (told a) (place_of name))). absurd (z.0 refl))
     (row_set (told a) name (place_of name) r (long_told a))))
 
@@ -36,7 +38,8 @@ joined_once a name good was =
     (λ (h : In (row_at (told a) (place_of name)) (life_of name)). (let j = h.joined in let l = h.left in let z : ⊥ = grind (arith, nat_tests) in z))
     (λ (h : Past (row_at (told a) (place_of name)) (life_of name)).
     (let gone = past_after (told a) (1 + length a) (Join name) (place_of name) (life_of name) (long_told a) (mod16 name) (omega arith) fit h in
-    not_both (row_at (told (a ++ Join name ∷ [])) (place_of name)) (life_of name) here (subst (λ (i : Image). Past (row_at i (place_of name)) (life_of name)) (sym (told_push a (Join name))) gone)))
+    not_both (row_at (told (a ++ Join name ∷ [])) (place_of name)) (life_of name) here
+    (subst (λ (i : Image). Past (row_at i (place_of name)) (life_of name)) (sym (told_push a (Join name))) gone)))
     was
 
 -- ---- what a row was before an entry
@@ -103,18 +106,25 @@ became image n (View stamp names resilience) name long some = λ h.
     (λ t. first t is (ap (λ b. viewed b n (slice_index names place) (row_at image place)) t) now)
     (λ f. later is (ap (λ b. viewed b n (slice_index names place) (row_at image place)) f) now)
   where
-    first : is_blank image ≡ true → row_at (after image n (View stamp names resilience)) (place_of name) ≡ viewed (is_blank image) n (slice_index names (place_of name)) (row_at image (place_of name))
-        → viewed (is_blank image) n (slice_index names (place_of name)) (row_at image (place_of name)) ≡ viewed true n (slice_index names (place_of name)) (row_at image (place_of name))
-        → In (viewed (is_blank image) n (slice_index names (place_of name)) (row_at image (place_of name))) (life_of name) → Becomes image n (View stamp names resilience) name
+    first : is_blank image ≡ true → row_at (after image n (View stamp names resilience)) (place_of name) ≡ viewed (is_blank image) n
+        (slice_index names (place_of name)) (row_at image (place_of name))
+        → viewed (is_blank image) n (slice_index names (place_of name)) (row_at image (place_of name)) ≡ viewed true n (slice_index names (place_of name))
+        (row_at image (place_of name))
+        → In (viewed (is_blank image) n (slice_index names (place_of name)) (row_at image (place_of name))) (life_of name)
+        → Becomes image n (View stamp names resilience) name
     first t is same now = by_cases (slice_index names (place_of name) == 0)
         (λ u. absurd (let old : In (row_at image (place_of name)) (life_of name) = rw u at (subst (λ q. In q (life_of name)) same now) in
         let none = blank_joined image (place_of name) t in let j = old.joined in omega arith))
         (λ f. founds refl t (ap (λ (q : Row). q.joined) (is ∙ same) ∙ rw f refl))
 
-    later : row_at (after image n (View stamp names resilience)) (place_of name) ≡ viewed (is_blank image) n (slice_index names (place_of name)) (row_at image (place_of name))
-        → viewed (is_blank image) n (slice_index names (place_of name)) (row_at image (place_of name)) ≡ viewed false n (slice_index names (place_of name)) (row_at image (place_of name))
-        → In (viewed (is_blank image) n (slice_index names (place_of name)) (row_at image (place_of name))) (life_of name) → Becomes image n (View stamp names resilience) name
-    later is same now = by_cases (nat_lt 0 (member_life (row_at image (place_of name))) && not (member_life (row_at image (place_of name)) == slice_index names (place_of name)))
+    later : row_at (after image n (View stamp names resilience)) (place_of name) ≡ viewed (is_blank image) n (slice_index names (place_of name))
+        (row_at image (place_of name))
+        → viewed (is_blank image) n (slice_index names (place_of name)) (row_at image (place_of name)) ≡ viewed false n (slice_index names (place_of name))
+        (row_at image (place_of name))
+        → In (viewed (is_blank image) n (slice_index names (place_of name)) (row_at image (place_of name))) (life_of name)
+        → Becomes image n (View stamp names resilience) name
+    later is same now = by_cases (nat_lt 0 (member_life (row_at image (place_of name))) && not
+        (member_life (row_at image (place_of name)) == slice_index names (place_of name)))
         (λ u. absurd (let k : In (record (row_at image (place_of name)) { left = n }) (life_of name) = rw u at (subst (λ q. In q (life_of name)) same now) in
         let none = k.left in omega arith))
         (λ f. stayed (rw f at (subst (λ q. In q (life_of name)) same now)) (ap (λ (q : Row). q.joined) (is ∙ same) ∙ rw f refl))
@@ -123,10 +133,15 @@ became image n (View stamp names resilience) name long some = λ h.
 
 some_was : (e : Entry) → IsGood ([] ++ e ∷ []) → (name : ℕ) × (mem ([] ++ e ∷ []) name ≡ true)
 unfolding fits mem
-some_was (Data from req body) good = absurd (mem_nil from (and_left (has (members_of (told [])) from) (req == (row_of (told []) from).last + 1) (last_fits [] (Data from req body) good)))
+some_was (Data from req body) good = absurd
+    (mem_nil from (and_left (has (members_of (told [])) from) (req == (row_of (told []) from).last + 1) (last_fits [] (Data from req body) good)))
 some_was (Join name) good = (name, joined_in [] name)
 some_was (Leave name) good = absurd (mem_nil name (last_fits [] (Leave name) good))
-some_was (View stamp names resilience) good = (stamp.by, viewed_mem [] stamp names resilience stamp.by good (view_parts (told []) stamp names resilience (last_fits [] (View stamp names resilience) good)).by)
+some_was (View stamp names resilience) good = (
+  stamp.by,
+  viewed_mem [] stamp names resilience stamp.by good
+      (view_parts (told []) stamp names resilience (last_fits [] (View stamp names resilience) good)).by,
+)
 
 pub blank_nil : (list : List Entry) → IsGood list → is_blank (told list) ≡ true → list ≡ []
 blank_nil [] good blank_ = refl
@@ -169,7 +184,8 @@ joins_now : (a : List Entry) (e : Entry) (name : ℕ) → mem (a ++ e ∷ []) na
     → JoinsAt (a ++ e ∷ []) name (1 + length a)
 joins_now a e name member none =
     let long = length_push a e in
-    let all : take (1 + length a) (a ++ e ∷ []) ≡ a ++ e ∷ [] = (let z : 1 + length a ≡ length (a ++ e ∷ []) = omega arith in ap (λ k. take k (a ++ e ∷ [])) z ∙ take_begins (begins_refl (a ++ e ∷ []))) in
+    let all : take (1 + length a) (a ++ e ∷ []) ≡ a ++ e ∷ [] = (let z : 1 + length a ≡ length (a ++ e ∷ []) = omega arith in ap (λ k. take k (a ++ e ∷ [])) z
+    ∙ take_begins (begins_refl (a ++ e ∷ []))) in
     record {
       some = omega arith;
       within = omega arith;
@@ -181,13 +197,15 @@ joins_push : (a : List Entry) (e : Entry) (name : ℕ) → IsGood (a ++ e ∷ []
 joins_push a e name good h = λ in_.
     let here = in_mem (a ++ e ∷ []) name in_ in
     let row = ap (λ (i : Image). (row_at i (place_of name)).joined) (told_push a e) in
-    by_kind here row (became (told a) (1 + length a) e name (long_told a) (omega arith) (subst (λ (i : Image). In (row_at i (place_of name)) (life_of name)) (told_push a e) in_))
+    by_kind here row (became (told a) (1 + length a) e name (long_told a) (omega arith)
+    (subst (λ (i : Image). In (row_at i (place_of name)) (life_of name)) (told_push a e) in_))
   where
     nothing : (b : List Entry) → Begins b [] → b ≡ []
     nothing [] low = refl
     nothing (x ∷ xs) low = absurd (let long = begins_length low in omega arith)
 
-    by_kind : mem (a ++ e ∷ []) name ≡ true → (row_at (told (a ++ e ∷ [])) (place_of name)).joined ≡ (row_at (after (told a) (1 + length a) e) (place_of name)).joined
+    by_kind : mem (a ++ e ∷ []) name ≡ true → (row_at (told (a ++ e ∷ [])) (place_of name)).joined ≡
+        (row_at (after (told a) (1 + length a) e) (place_of name)).joined
         → Becomes (told a) (1 + length a) e name → JoinsAt (a ++ e ∷ []) name (row_at (told (a ++ e ∷ [])) (place_of name)).joined
     by_kind here row (stayed old same) = subst (JoinsAt (a ++ e ∷ []) name) (sym (row ∙ same)) (joins_before a e name _ (h old))
     by_kind here row (joins is same) = subst (JoinsAt (a ++ e ∷ []) name) (sym (row ∙ same)) (joins_now a e name here (λ b begins member.
@@ -196,7 +214,8 @@ joins_push a e name good h = λ in_.
     by_kind here row (founds viewed_ blank_ same) =
         let nil = blank_nil a (good_begins (begins_more a (e ∷ [])) good) blank_ in
         let at : (row_at (told (a ++ e ∷ [])) (place_of name)).joined ≡ 1 + length a = (let z = ap length nil in omega (arith, row ∙ same)) in
-        subst (JoinsAt (a ++ e ∷ []) name) (sym at) (joins_now a e name here (λ b begins member. mem_nil name (subst (λ l. mem l name ≡ true) (nothing b (subst (Begins b) nil begins)) member)))
+        subst (JoinsAt (a ++ e ∷ []) name) (sym at)
+        (joins_now a e name here (λ b begins member. mem_nil name (subst (λ l. mem l name ≡ true) (nothing b (subst (Begins b) nil begins)) member)))
 
 joins_walk : (a es : List Entry) (name : ℕ) → IsGood (a ++ es) → JoinsBy a name → JoinsBy (a ++ es) name
 joins_walk a [] name good h = subst (λ l. JoinsBy l name) (sym (all_of a)) h
@@ -207,7 +226,8 @@ joins_walk a [] name good h = subst (λ l. JoinsBy l name) (sym (all_of a)) h
 joins_walk a (e ∷ es) name good h =
     let again : (a ++ e ∷ []) ++ es ≡ a ++ e ∷ es = append_assoc a (e ∷ []) es in
     let good_again = subst IsGood (sym again) good in
-    subst (λ l. JoinsBy l name) again (joins_walk (a ++ e ∷ []) es name good_again (joins_push a e name (good_begins (begins_more (a ++ e ∷ []) es) good_again) h))
+    subst (λ l. JoinsBy l name) again (joins_walk (a ++ e ∷ []) es name good_again
+    (joins_push a e name (good_begins (begins_more (a ++ e ∷ []) es) good_again) h))
 
 -- a member's row tells where it joined
 pub joins_at : (list : List Entry) (name : ℕ) → IsGood list → mem list name ≡ true → JoinsAt list name (row_at (told list) (place_of name)).joined

@@ -1,124 +1,67 @@
 -- What a node keeps besides what it shares with the group, and what is known of it within a step.
-use Rattle.std.proofs.Common.{◌≡◌, ◌≢◌, ◌⊎◌, inl, inr, ⊎_elim, ℕ, ◌+◌, ◌<◌, ◌≤◌, ◌==◌, ◌&&◌, ◌||◌, not, max, nat_lt, true, false, List, [], ◌∷◌, ◌++◌, length, Option, Some, None, slice_get, refl, sym, ap, ◌∙◌, subst, arith}
+use Rattle.std.proofs.Common.{◌≡◌, ℕ, ◌<◌, ◌==◌, ◌||◌, not, max, true, false, List}
+use Rattle.std.proofs.Common.{Some, refl, sym, ap, ◌∙◌, subst, arith}
 use Rattle.std.proofs.lemmas.Bool.Decides.{nat_tests}
 use Rattle.am_base.specs.declared.entry.Entry.{Entry}
-use Rattle.am_base.specs.declared.entry.Entry.TheVariants.{Data, View}
+use Rattle.am_base.specs.declared.entry.Entry.TheVariants.{View}
 use Rattle.am_base.specs.declared.image.Image.{Image}
-use Rattle.am_base.specs.declared.image.Report.{Report}
 use Rattle.am_base.specs.declared.image.Vote.{Vote}
 use Rattle.am_base.specs.declared.name.Stamp.{Stamp}
 use Rattle.am_base.specs.declared.outcome.Outcome.{Outcome}
-use Rattle.am_base.specs.declared.event.NodeEvent.TheVariants.{GiveUp}
 use Rattle.am_base.specs.Founding.{Rules}
 use Rattle.am_base.specs.Names.{IsSet, has}
-use Rattle.am_base.specs.Stamps.{stamp_lt, stamp_eq}
+use Rattle.am_base.specs.Stamps.{stamp_eq}
 use Rattle.am_base.specs.Lists.{members_of}
-use Rattle.am_packet.specs.declared.packet.Packet.{Packet}
 use Rattle.am_packet.specs.declared.packet.Packet.TheVariants as packet
-use Rattle.am_chain_lists.specs.Whole.{Begins, IsGood, told, mem, view_of, key}
+use Rattle.am_chain_lists.specs.Whole.{IsGood, mem, key}
 use Rattle.am_chain_lists.proofs.Members.{good_begins}
 use Rattle.am_chain_lists.proofs.Order.{view_small}
-use Rattle.am_chain_moves.specs.Group as groups
 use Rattle.am_chain_moves.specs.Group.{Group, IsUp, chain_of}
 use Rattle.am_chain_moves.specs.Kept.{Kept}
-use Rattle.am_group.specs.declared.event.Record.{Record}
 use Rattle.am_model.specs.declared.status.Status.{Status}
 use Rattle.am_model.specs.declared.status.Status.TheVariants as status
-use Rattle.am_model.specs.Node as nodes
 use Rattle.am_model.specs.Node.{Node, Ballot, view, members, is_member, is_asking, is_sequencer, acts, lowest_or_first}
 use Rattle.am_model.specs.Ballots.{Verdict}
 use Rattle.am_model.specs.Calls.{is_unfinished}
 use Rattle.am_model.specs.Hearing.{hears_member, hears_sequencer}
 use Rattle.am_model.specs.Group.{has_log}
-use Rattle.am_model.specs.Receiving.{body_of}
-use Rattle.am_model.specs.World.{Decided, World, is_stopped, has_departed}
+use Rattle.am_model.specs.World.{World, is_stopped, has_departed}
 use Rattle.am_model.proofs.Greatest.{split, and_both}
-use Rattle.am_effects.specs.Causes.{Cause, calls, hears, BringsFronts}
-use Rattle.am_effects.specs.Looks.{HasOpen, Balloting, Looks, finds_itself_out, waits, fetches_from_best, finds_too_few, finds_no_room, decides, with_more, without_one, as_it_is}
+use Rattle.am_effects.specs.Causes.{Cause, hears}
+use Rattle.am_effects.specs.Looks.{Balloting, Looks, finds_itself_out, waits, fetches_from_best, finds_too_few, finds_no_room, decides, with_more}
+use Rattle.am_effects.specs.Looks.{without_one, as_it_is}
 use Rattle.am_effects.specs.Changes.{Numbers, MayStore, MayBeWelcomed, Fetches}
-use Rattle.am_effects.specs.Changes.{Promises, invited, overtaken, told_result, Carries, whole_entry, by_number, Change, refreshes, settles, takes_report, admits, numbers, keeps_body, notes, stores, begins_list, departs}
+use Rattle.am_effects.specs.Changes.{Promises, invited, overtaken, told_result, Carries, whole_entry, by_number, Change, refreshes, settles, takes_report}
+use Rattle.am_effects.specs.Changes.{admits, numbers, keeps_body, notes, stores, begins_list, departs}
 use Rattle.am_effects.specs.Changes.{looks, promises, opens, fetches, stores_view, queues, collects, takes, asks_to_join, asks_to_leave, closes}
-use Rattle.am_effects.proofs.Statuses.{logged}
 use Rattle.am_effects.proofs.Tests.{not_true}
 use Rattle.am_laws.proofs.Stamps.{same_stamp}
-use Rattle.am_laws.proofs.Taken.{HeardUsed, looked_vote}
-use Rattle.am_laws.proofs.TakenRuns.{Along}
+use Rattle.am_laws.proofs.Taken.{looked_vote}
 use Rattle.am_laws.proofs.Trims.{told_used}
-use Rattle.am_laws.proofs.ViewChanges.{IsOpen, OpenBallot, looked_at}
-use Rattle.am_laws.proofs.ViewNames.{HeardNames}
-use Rattle.am_laws.specs.Packets.{sender_of, stamp_of}
+use Rattle.am_laws.proofs.ViewChanges.{OpenBallot, looked_at}
 use Rattle.am_sent.proofs.Kept as sent
 use Rattle.am_sent.proofs.Changes.{MaySend, body_of_sent}
-use Rattle.am_stands.specs.Standing.{NameStands, StandsBut, within}
+use Rattle.am_stands.specs.Standing.{NameStands, within}
 use Rattle.am_stands.specs.Letters as says
 use Rattle.am_stands.specs.Letters.{Trimmed, VoteTells, VoteSays, AllShown, WasAsked, PacketSays, IsDecided, line}
-use Rattle.am_stands.specs.States.{VotesStand, FetchesStand, ReportsStand, ReportsFresh, OpensStand, OwnDecided, BodiesAsked, SendsOnce}
+use Rattle.am_stands.specs.States.{BodiesAsked}
 use Rattle.am_stands.specs.Steps.{WasBegun, MayMove, NeedsNumber, NeedsEntry, NeedsWelcome, Needs, NeedsLook, NeedsPiece}
 use Rattle.am_stands.specs.Sending.{KeptWhole}
 use Rattle.am_stands.proofs.Changes.{looked_open, own_name, is_up, told_whole}
 use Rattle.am_stands.proofs.ChainNames.{front_named, members_named}
 use Rattle.am_stands.proofs.Entries.{is_leading, view_whole}
 use Rattle.am_stands.proofs.Heard.{bcast_needs, order_needs, result_needs, number_needs}
-use Rattle.am_stands.proofs.Onward.{GroupOk, group_kept, group_whole}
-use Rattle.am_stands.proofs.Pieces.{Fetcher, piece_needs}
-use Rattle.am_stands.proofs.Requests.{OwnTurn, own_fits}
+use Rattle.am_stands.proofs.Onward.{group_kept, group_whole}
+use Rattle.am_stands.proofs.Pieces.{piece_needs}
+use Rattle.am_stands.proofs.Requests.{own_fits}
 use Rattle.am_stands.proofs.Shown.{looked_votes}
 use Rattle.am_stands.proofs.Votes.{BallotKnown, decision_needs, undecided}
 use Rattle.am_stands.proofs.Welcomes.{welcome_needs}
+use Rattle.am_stands.specs.Keeping.{BallotStands, LastStands, Stepping}
 
 -- ---- a node
 
-abbrev pub GroupFor : Rules → Group → Type 0
-GroupFor rules s = GroupOk rules.founders (lowest_or_first rules.founders) rules.resilience s
-
--- only stopped names are given up, and views of votes are of names
-pub record BallotStands (w : World) (b : Ballot) : Type 0 where
-  pub given : (j : ℕ) → b.given_up j ≡ true → is_stopped w j ≡ true
-  pub names : (j : ℕ) (vote : Vote) → b.votes j ≡ Some vote → (j < 256) × (vote.view.by < 256)
-
-abbrev pub LastStands : World → Option Ballot → Type 0
-LastStands w None = Unit {0}
-LastStands w (Some b) = BallotStands w b
-
-pub record NodeKeeps (w : World) (s : Group) (i : ℕ) (x : Node) : Type 0 where
-  pub good : IsGood (s.node i).list
-  pub votes : VotesStand s x.ballot
-  pub fetches : FetchesStand s x.ballot
-  pub last : LastStands w x.ballot
-  pub opens : OpensStand x
-  pub reports : ReportsStand s i x
-  pub fresh : ReportsFresh x
-  pub trimmed : Trimmed s x.core.base
-  pub turn : OwnTurn x.core.who (s.node i).list x.sends
-  pub leaves : x.leaving ≡ true → has_log x.status ≡ true
-
 -- ---- within a step
-
--- a packet that is heard was sent to this name
-pub record HeardSo (w : World) (s : Group) (name : ℕ) (p : Packet) : Type 0 where
-  pub to : List ℕ
-  pub addressed : has to name ≡ true
-  pub says : PacketSays w s to p
-
--- the world has the step's record already
-pub record Stepping (rules : Rules) (w : World) (name : ℕ) (c : Cause) (x : Node) (s : Group) : Type 0 where
-  pub group : GroupFor rules s
-  pub stands : StandsBut name (within w name x) s
-  pub few : name < 256
-  pub who : x.core.who ≡ name
-  pub runs : is_stopped w name ≡ false
-  pub stopped : (j : ℕ) → is_stopped w j ≡ true → j < 256
-  pub noted : (k : ℕ) (d : Decided) → slice_get w.views k ≡ Some d → d.stamp.by < 256
-  pub along : Along rules x
-  pub names : HeardNames c
-  pub used : HeardUsed c
-  pub sent : sent.Keeps w.records name x
-  pub once : SendsOnce w
-  pub begun : (p : Packet) → c ≡ hears p → WasBegun s (stamp_of p)
-  pub heard : (p : Packet) → c ≡ hears p → HeardSo w s name p
-  pub given : (other : ℕ) → c ≡ calls (GiveUp other) → is_stopped w other ≡ true
-  pub keeps : NodeKeeps w s name x
-  pub accepted : x.core.acc ≤ length w.group
 
 module _ (rules : Rules) (w : World) (name : ℕ) (c : Cause) (x : Node) (s : Group) (h : Stepping rules w name c x s) where
   pub kept : Kept s
@@ -220,7 +163,8 @@ module _ (rules : Rules) (w : World) (name : ℕ) (c : Cause) (x : Node) (s : Gr
 
   pub list_member : is_sequencer x ≡ true → mem (s.node name).list name ≡ true
   unfolding mem
-  list_member t = ap (λ (i : Image). has (members_of i) name) (told_whole w name name x (s.node name) old) ∙ ap (has (members x)) (sym h.who) ∙ h.along.owned.leads t
+  list_member t = ap (λ (i : Image). has (members_of i) name) (told_whole w name name x (s.node name) old) ∙ ap (has (members x)) (sym h.who)
+      ∙ h.along.owned.leads t
 
   pub sequencer_member : is_sequencer x ≡ true → is_member x.status ≡ true
   sequencer_member t = (and_both (is_member x.status) (stamp_eq x.core.promise (view x)) (and_both (acts x) ((view x).by == x.core.who) t).0).0
@@ -230,8 +174,10 @@ module _ (rules : Rules) (w : World) (name : ℕ) (c : Cause) (x : Node) (s : Gr
       (members_named (s.node name).list (front_named (s.node name).list (chain_of s.views) ((kept.each name).list (up t)) h.group.named))
 
   pub number_ok : (e : Entry) → is_sequencer x ≡ true → Numbers c x e → NeedsNumber s name x e
-  number_ok e t why = number_needs w name c x e s kept h.who h.runs old (is_leading w name x (s.node name) h.who t old) (told_used x h.along.owned.fronts).places
-      (own_fits (within w name x) name x (s.node name) old (good (sequencer_member t)) (subst (λ k. mem (s.node name).list k ≡ true) (sym h.who) (list_member t)) h.keeps.turn)
+  number_ok e t why = number_needs w name c x e s kept h.who h.runs old (is_leading w name x (s.node name) h.who t old)
+      (told_used x h.along.owned.fronts).places
+      (own_fits (within w name x) name x (s.node name) old (good (sequencer_member t))
+      (subst (λ k. mem (s.node name).list k ≡ true) (sym h.who) (list_member t)) h.keeps.turn)
       (λ from v report is. (h.heard (packet.LeaveAsk from v report) is).says)
       (λ from v is. h.names.senders (packet.JoinAsk from v) is) why
 
@@ -323,7 +269,8 @@ module _ (rules : Rules) (w : World) (name : ℕ) (c : Cause) (x : Node) (s : Gr
   needs o y (opens least resilience by may) open_ = tt
   needs o y (looks b verdict over why look is) open_ = look_ok b verdict why look
   needs o y (fetches from v base number e is heard promise below why may) open_ = fetch_ok from v base number e is heard promise why may
-  needs o y (stores_view from v base number names resilience is heard own other promise below may) open_ = result_ok from v base number names resilience is heard own other promise may
+  needs o y (stores_view from v base number names resilience is heard own other promise below may) open_ =
+      result_ok from v base number names resilience is heard own other promise may
   needs o y (queues body is says_ member stays few) open_ = tt
   needs o y (collects req is) open_ = tt
   needs o y (takes e is says_ member some there) open_ = tt

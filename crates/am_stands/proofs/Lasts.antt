@@ -1,5 +1,6 @@
 -- The last member's own Leave is accepted as far as enough names hold it.
-use Rattle.std.proofs.Common.{◌≡◌, ◌≢◌, ℕ, zero, suc, ◌+◌, ◌<◌, ◌≤◌, ◌==◌, ◌&&◌, not, max, nat_lt, Bool, true, false, if◌then◌else◌, List, [], ◌∷◌, ◌++◌, length, take, set, get_or, slice_index, refl, sym, ap, ◌∙◌, subst, arith}
+use Rattle.std.proofs.Common.{◌≡◌, ◌≢◌, ℕ, zero, suc, ◌+◌, ◌<◌, ◌≤◌, ◌==◌, ◌&&◌, not, max, nat_lt, Bool, true, false, if◌then◌else◌, List, [], ◌∷◌, ◌++◌}
+use Rattle.std.proofs.Common.{length, take, set, get_or, slice_index, refl, sym, ap, ◌∙◌, subst, arith}
 use Rattle.std.proofs.lemmas.Bool.Decides.{nat_tests}
 use Rattle.std.proofs.lemmas.List.{length-append, length-map, length-set, get_or-set_other}
 use Rattle.am_base.specs.declared.entry.Entry.{Entry}
@@ -99,7 +100,8 @@ up_to_group node list from g to low some may =
 no_decision : (views : List Decided) (m n : Node) → view m ≡ view n → views_after views m n ≡ views
 no_decision views m n same =
     let t : stamp_eq (view m) (view n) ≡ true = subst (λ u. stamp_eq (view m) u ≡ true) same (itself (view m)) in
-    let f : (is_member m.status && (((view n).by == n.core.who) && not (stamp_eq (view m) (view n)))) ≡ false = rw t (both_false (is_member m.status) ((view n).by == n.core.who)) in
+    let f : (is_member m.status && (((view n).by == n.core.who) && not (stamp_eq (view m) (view n)))) ≡ false = rw t
+    (both_false (is_member m.status) ((view n).by == n.core.who)) in
     rw f refl
   where
     itself : (v : Stamp) → stamp_eq v v ≡ true
@@ -162,7 +164,8 @@ module _ (w : World) (s : Group) (name heard : ℕ) (x : Node) (k : Kept s) (h :
   among_ok =
       let r = (h.leads t).1 in
       let grow : (i : ℕ) → Begins (s.node i).list (among i).list =
-      put_at (λ i (m : groups.Node). Begins (s.node i).list m.list) s.node name (longer a (Leave name)) (begins_more a.list (Leave name ∷ [])) (λ j other. begins_refl (s.node j).list) in
+      put_at (λ i (m : groups.Node). Begins (s.node i).list m.list) s.node name (longer a (Leave name)) (begins_more a.list (Leave name ∷ []))
+      (λ j other. begins_refl (s.node j).list) in
       record {
         reports = reporting_push s.node among a.list (Leave name) x.core.base x.reports tt grow (λ i same. absurd (cc)) r;
         own = ap (λ j. (among j).list) h.who ∙ ap (λ (m : groups.Node). m.list) (put_same s.node name (longer a (Leave name)));
@@ -196,7 +199,8 @@ module _ (w : World) (s : Group) (name heard : ℕ) (x : Node) (k : Kept s) (h :
   needs none same_view =
       let l = leading (within w name x) name x s speaks t in
       let chain = ((k.each name).leads l.leads).chain in
-      let begins : Begins w.group list = begins_trans (subst (λ g. Begins g a.list) h.group (subst (Begins s.group) (sym chain) k.group)) (begins_more a.list (Leave name ∷ [])) in
+      let begins : Begins w.group list = begins_trans (subst (λ g. Begins g a.list) h.group (subst (Begins s.group) (sym chain) k.group))
+      (begins_more a.list (Leave name ∷ [])) in
       let g = length s.group in
       let acc = (refresh p).core.acc in
       let upto = max g acc in
@@ -207,8 +211,11 @@ module _ (w : World) (s : Group) (name heard : ℕ) (x : Node) (k : Kept s) (h :
       let high = held.within in
       let n = closed x in
       let r = rests_refresh p in
-      let by : ((view n).by == n.core.who) ≡ true = ap (λ (c : CoreState). (told_by c.log).view.by == c.who) closed_acc ∙ same_by (refresh p) (leads_rests r.rests ∙ leads_then) in
-      let is : group_after w.group n ≡ take upto list = rw by (ap (grown w.group) closed_acc ∙ grown_is (within w name (refresh p)) name (refresh p) (longer a (Leave name)) stands_gone begins ∙ ap (λ z. take (max z acc) list) (sym size_)) in
+      let by : ((view n).by == n.core.who) ≡ true = ap (λ (c : CoreState). (told_by c.log).view.by == c.who) closed_acc
+      ∙ same_by (refresh p) (leads_rests r.rests ∙ leads_then) in
+      let is : group_after w.group n ≡ take upto list = rw by
+      (ap (grown w.group) closed_acc ∙ grown_is (within w name (refresh p)) name (refresh p) (longer a (Leave name)) stands_gone begins
+      ∙ ap (λ z. take (max z acc) list) (sym size_)) in
       let long : length (take upto list) ≡ upto = length_take upto list (omega arith) in
       record {
         chain = leads_line s name k l.leads;
@@ -217,7 +224,8 @@ module _ (w : World) (s : Group) (name heard : ℕ) (x : Node) (k : Kept s) (h :
         accepts = up_to_group among list x.core.acc (length s.group) acc (omega arith) (omega arith) held;
         accepted = is;
         grows = subst (Begins w.group) (sym is) (begins_both begins (begins_take upto list) (omega arith));
-        no_view = no_decision w.views (w.nodes name) n (same_view ∙ sym (ap (λ (c : CoreState). (told_by c.log).view) closed_acc ∙ r.rests.view ∙ view_pushed x e refl));
+        no_view = no_decision w.views (w.nodes name) n
+            (same_view ∙ sym (ap (λ (c : CoreState). (told_by c.log).view) closed_acc ∙ r.rests.view ∙ view_pushed x e refl));
       }
 
 pub closing_accepts : ClosingAccepts

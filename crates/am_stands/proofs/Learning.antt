@@ -1,5 +1,6 @@
 -- What the group accepts at the end of a step, and what the name learns of it.
-use Rattle.std.proofs.Common.{◌≡◌, ℕ, ◌+◌, ◌-◌, ◌<◌, ◌≤◌, ◌==◌, max, min, nat_lt, true, false, List, ◌++◌, length, take, drop, refl, sym, ap, ◌∙◌, subst, arith, append-nil}
+use Rattle.std.proofs.Common.{◌≡◌, ℕ, ◌+◌, ◌-◌, ◌<◌, ◌≤◌, ◌==◌, max, min, nat_lt, true, false, List, ◌++◌, length, take, drop, refl, sym, ap, ◌∙◌, subst}
+use Rattle.std.proofs.Common.{arith, append-nil}
 use Rattle.std.proofs.Math.Seq.{take-append-add, drop-append-add, drop-append_seam}
 use Rattle.std.proofs.lemmas.Bool.Decides.{nat_tests}
 use Rattle.std.proofs.lemmas.List.{length-take}
@@ -44,7 +45,8 @@ grown_is v i n a h begins =
     let long : length front ≡ start_ = (let c = length-take start_ v.group in omega arith) in
     let at : length front + (g - start_) ≡ g = omega arith in
     let rest : drop (g - start_) entries ≡ begins.rest =
-    sym (drop-append-add front entries (g - start_)) ∙ (λ i. drop (at i) (sym h.list i)) ∙ ap (drop g) (sym begins.same) ∙ drop-append_seam v.group begins.rest in
+    sym (drop-append-add front entries (g - start_)) ∙ (λ i. drop (at i) (sym h.list i)) ∙ ap (drop g) (sym begins.same)
+    ∙ drop-append_seam v.group begins.rest in
     let high : g + (n.core.acc - g) ≡ max g n.core.acc = omega arith in
     ap (λ l. v.group ++ take (n.core.acc - g) l) rest ∙ sym (take-append-add v.group begins.rest (n.core.acc - g)) ∙ (λ i. take (high i) (begins.same i))
 
@@ -131,14 +133,16 @@ module _ (w : World) (s : Group) (name heard : ℕ) (x : Node) (k : Kept s) (h :
       let chain = ((k.each name).leads l.leads).chain in
       let begins : Begins w.group a.list = subst (λ g. Begins g a.list) h.group (subst (Begins s.group) (sym chain) k.group) in
       let own : (s.node x.core.who).list ≡ a.list = ap (λ j. (s.node j).list) h.who in
-      let held = refresh_accepts (within w name x) name x a s.node h.stands t counts.0 (record { reports = counts.1; own = own; blank = λ j. (k.each j).blank }) in
+      let held = refresh_accepts (within w name x) name x a s.node h.stands t counts.0
+      (record { reports = counts.1; own = own; blank = λ j. (k.each j).blank }) in
       let g = length w.group in
       let size = ap length h.group in
       let rises_ = held.rises in
       let high = held.within in
       let some = begins_length begins in
       let all = max g y.core.acc in
-      let is : group_after w.group y ≡ take all a.list = grown_after w.group (take all a.list) y (leads_rests (rests_refresh x).rests ∙ t) (grown_is (within w name y) name y a stands_after begins) in
+      let is : group_after w.group y ≡ take all a.list = grown_after w.group (take all a.list) y (leads_rests (rests_refresh x).rests ∙ t)
+      (grown_is (within w name y) name y a stands_after begins) in
       let long : length (take all a.list) ≡ all = length_take all a.list (omega arith) in
       let long_after = ap length is in
       let fronts = (k.each name).fronts in

@@ -1,5 +1,6 @@
 -- Where a name left a list: its row tells the number, and there stands its Leave, or a View that left it out.
-use Rattle.std.proofs.Common.{◌≡◌, ◌≢◌, ⊎_elim, ℕ, ◌+◌, ◌<◌, ◌==◌, ◌&&◌, not, nat_lt, true, false, if◌then◌else◌, List, [], ◌∷◌, ◌++◌, length, slice_index, refl, sym, ap, ◌∙◌, subst, arith}
+use Rattle.std.proofs.Common.{◌≡◌, ◌≢◌, ⊎_elim, ℕ, ◌+◌, ◌<◌, ◌==◌, ◌&&◌, not, nat_lt, true, false, if◌then◌else◌, List, [], ◌∷◌, ◌++◌, length, slice_index}
+use Rattle.std.proofs.Common.{refl, sym, ap, ◌∙◌, subst, arith}
 use Rattle.std.proofs.lemmas.Bool.Decides.{nat_tests}
 use Rattle.std.proofs.lemmas.List.{append_assoc, append-nil, get_or-replicate}
 use Rattle.am_base.specs.declared.entry.Entry.{Entry}
@@ -68,7 +69,8 @@ data_left image n from req body name long = by_cases ((at_place image from).life
     (let here : row_at image (place_of name) ≡ at_place image from = ap (row_at image) z.0 in
     same_left (row_at (with_row image from r) (place_of name)) (row_at image (place_of name)) (life_of name)
     (ap (λ (q : Row). q.life) z.1 ∙ ap (λ (q : Row). q.life) (sym here)) (ap (λ (q : Row). q.left) z.1 ∙ ap (λ (q : Row). q.left) (sym here))))
-    (λ (z : (place_of name ≢ place_of from) × (row_at (with_row image from r) (place_of name) ≡ row_at image (place_of name))). ap (λ q. left_of q (life_of name)) z.1)
+    (λ (z : (place_of name ≢ place_of from) × (row_at (with_row image from r) (place_of name) ≡ row_at image (place_of name))). ap (λ q. left_of q
+    (life_of name)) z.1)
     (row_set image from (place_of name) r long))))
     (λ f. rw f refl)
 
@@ -110,8 +112,10 @@ out_of : (r : Row) (given life : ℕ) → (nat_lt 0 (member_life r) && not (memb
 out_of r given life u same = by_cases (nat_lt 0 r.joined && (r.left == 0))
     (λ t.
     let is : member_life r ≡ r.life = rw t refl in
-    let here : (nat_lt 0 r.life && not (r.life == given)) ≡ true = subst (λ k. (nat_lt 0 k && not (k == given)) ≡ true) is u in
-    (record { joined = grind (arith, nat_tests); left = grind (arith, nat_tests); is = same }, (let z : (given == life) ≡ false = grind (arith, nat_tests) in z)))
+    let here : (nat_lt 0 r.life && not (r.life == given)) ≡ true = subst (λ k. (nat_lt 0 k && not (k == given)) ≡ true) is u in (
+      record { joined = grind (arith, nat_tests); left = grind (arith, nat_tests); is = same },
+      (let z : (given == life) ≡ false = grind (arith, nat_tests) in z),
+    ))
     (λ f. absurd (
     let is : member_life r ≡ 0 = rw f refl in
     let here : (nat_lt 0 0 && not (0 == given)) ≡ true = subst (λ k. (nat_lt 0 k && not (k == given)) ≡ true) is u in
@@ -128,7 +132,8 @@ view_left image n v names resilience name =
     by_cases (is_blank image)
     (λ t. by_cases (given == 0)
     (λ u. stayed (at ∙ ap (λ q. left_of q (life_of name)) (viewed_first given n r u t) ∙ sym (row_left image name)))
-    (λ f. none (at ∙ ap (λ q. left_of q (life_of name)) (viewed_new given n r f t) ∙ left_none (record { life = given; joined = 1; left = 0; last = 0 }) (life_of name) refl)))
+    (λ f. none (at ∙ ap (λ q. left_of q (life_of name)) (viewed_new given n r f t)
+    ∙ left_none (record { life = given; joined = 1; left = 0; last = 0 }) (life_of name) refl)))
     (λ f. by_cases (nat_lt 0 (member_life r) && not (member_life r == given))
     (λ u.
     let next : Row = record r { left = n } in
@@ -144,7 +149,8 @@ view_left image n v names resilience name =
     viewed_first : (given n : ℕ) (r : Row) → (given == 0) ≡ true → is_blank image ≡ true → viewed (is_blank image) n given r ≡ r
     viewed_first given n r u t = rw (t, u) refl
 
-    viewed_new : (given n : ℕ) (r : Row) → (given == 0) ≡ false → is_blank image ≡ true → viewed (is_blank image) n given r ≡ record { life = given; joined = 1; left = 0; last = 0 }
+    viewed_new : (given n : ℕ) (r : Row) → (given == 0) ≡ false → is_blank image ≡ true
+        → viewed (is_blank image) n given r ≡ record { life = given; joined = 1; left = 0; last = 0 }
     viewed_new given n r u t = rw (t, u) refl
 
     viewed_out : (given n : ℕ) (r : Row) → (nat_lt 0 (member_life r) && not (member_life r == given)) ≡ true → is_blank image ≡ false

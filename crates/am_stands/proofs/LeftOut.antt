@@ -120,7 +120,8 @@ choice_left s k lawful c members resilience d h a v names strong name part membe
 -- ---- each move
 
 pub moves_left : (s t : Group) → Move s t → Kept s → IsLawful s → LeftOut s → LeftOut t
-moves_left s t (numbers i e leads fit may) k law h = line_left s t e (put_stops s i (longer (s.node i) e) (λ z. z)) (numbers_plain s.node i e may) (longer_chain s i (longer (s.node i) e) e k leads refl) h
+moves_left s t (numbers i e leads fit may) k law h = line_left s t e (put_stops s i (longer (s.node i) e) (λ z. z)) (numbers_plain s.node i e may)
+    (longer_chain s i (longer (s.node i) e) e k leads refl) h
 moves_left s t (stores i e up decided other stays next) k law h = same_left s t (put_stops s i _ (λ z. z)) refl h
 moves_left s t (accepts i n leads may) k law h = same_left s t (λ j z. z) refl h
 moves_left s t (learns i told acc up rises within before up_to given low) k law h = same_left s t (put_stops s i _ (λ z. z)) refl h
@@ -158,4 +159,5 @@ runs_leave_out founders first resilience s (founded may) = start_left founders f
 runs_leave_out founders first resilience t (more {s = s} run step law) =
     let o = run_keeps founders first resilience s run in
     let moved = moves_left s step.moved step.move o.kept o.lawful (runs_leave_out founders first resilience s run) in
-    subst LeftOut (sym step.is) (same_left step.moved (record (step.moved) { views = record (step.moved.views) { complete = step.complete } }) (λ j z. z) refl moved)
+    subst LeftOut (sym step.is) (same_left step.moved (record (step.moved) { views = record (step.moved.views) { complete = step.complete } })
+    (λ j z. z) refl moved)

@@ -1,5 +1,6 @@
 -- What a letter says stays so as the group goes on.
-use Rattle.std.proofs.Common.{◌≡◌, inl, inr, ⊎_elim, ℕ, zero, suc, ◌≤◌, List, ◌++◌, length, take, Bool, true, false, Some, slice_get, refl, sym, ap, ◌∙◌, subst, arith}
+use Rattle.std.proofs.Common.{◌≡◌, inl, inr, ⊎_elim, ℕ, zero, suc, ◌≤◌, List, ◌++◌, length, take, Bool, true, false, Some, slice_get, refl, sym, ap, ◌∙◌}
+use Rattle.std.proofs.Common.{subst, arith}
 use Rattle.std.proofs.lemmas.Option.{slice_get_within}
 use Rattle.am_base.specs.declared.name.Stamp.{Stamp}
 use Rattle.am_base.specs.declared.image.Report.{Report}
@@ -8,7 +9,8 @@ use Rattle.am_base.specs.declared.image.Image.{Image}
 use Rattle.am_base.specs.declared.entry.Entry.{Entry}
 use Rattle.am_base.specs.declared.entry.Entry.TheVariants.{Data, View}
 use Rattle.am_base.specs.Names.{has}
-use Rattle.am_packet.specs.declared.packet.Packet.TheVariants.{Request, Spread, Bcast, Order, Accept, Ack, Nack, Hold, JoinAsk, Welcome, LeaveAsk, Gone, Invite, Vote as VoteOf, Fetch, Piece, Result, HandOver}
+use Rattle.am_packet.specs.declared.packet.Packet.TheVariants.{Request, Spread, Bcast, Order, Accept, Ack, Nack, Hold, JoinAsk, Welcome, LeaveAsk, Gone}
+use Rattle.am_packet.specs.declared.packet.Packet.TheVariants.{Invite, Vote as VoteOf, Fetch, Piece, Result, HandOver}
 use Rattle.am_group.specs.Journals.{item_at}
 use Rattle.am_group.specs.declared.event.Record.{Record}
 use Rattle.am_chain_lists.specs.Whole.{Begins, told, mem, key}
@@ -16,7 +18,9 @@ use Rattle.am_chain_lists.proofs.Prefixes.{begins_trans, begins_take, begins_bot
 use Rattle.am_chain_moves.specs.Group.{Group, Chosen, IsThere}
 use Rattle.am_model.specs.World.{World}
 use Rattle.am_effects.proofs.Items.{get_front}
-use Rattle.am_stands.specs.Letters.{line, AllShown, Trimmed, SequencerSays, EntrySays, WasAsked, ReportSays, LeaverSays, of_view, before_it, WelcomeSays, WelcomeTo, has_begun, has_gone, has_left, is_leaving, may_begin, GoneSays, has_stopped, may_go, VoteSays, own, tells, over as over_vote, FetchSays, for_ballot, of_promise, PieceSays, of_line, of_shown, over}
+use Rattle.am_stands.specs.Letters.{line, AllShown, Trimmed, SequencerSays, EntrySays, WasAsked, ReportSays, LeaverSays, of_view, before_it, WelcomeSays}
+use Rattle.am_stands.specs.Letters.{WelcomeTo, has_begun, has_gone, has_left, is_leaving, may_begin, GoneSays, has_stopped, may_go, VoteSays, own, tells}
+use Rattle.am_stands.specs.Letters.{over as over_vote, FetchSays, for_ballot, of_promise, PieceSays, of_line, of_shown, over}
 use Rattle.am_stands.specs.Growing.{NewView, Grows, LettersStay}
 use Rattle.am_stands.proofs.Ends.{taken_more}
 
@@ -54,7 +58,13 @@ module _ (w v : World) (s t : Group) (g : Grows s t) (more : (rest : List Record
       no_more false b f k = refl
 
   asked_stays : (name req : ℕ) (body : List ℕ) → WasAsked w name req body → WasAsked v name req body
-  asked_stays name req body h = record { index = h.index; done = h.done; there = ap (λ l. slice_get l h.index) more.1 ∙ get_front w.records more.0 h.index h.done h.there; is = h.is }
+  asked_stays name req body h = record {
+    index = h.index;
+    done = h.done;
+    there = ap (λ l. slice_get l h.index) more.1
+        ∙ get_front w.records more.0 h.index h.done h.there;
+    is = h.is;
+  }
 
   pub trimmed_stays : (base : ℕ) → Trimmed s base → Trimmed t base
   trimmed_stays base h =
@@ -99,7 +109,8 @@ module _ (w v : World) (s t : Group) (g : Grows s t) (more : (rest : List Record
       record {
         decided = decided_stays (key u) h.decided;
         within = omega arith;
-        begins = part_stays (s.node i).list (t.node i).list report.stored (line t u) (g.each i).list h.within (begins_trans h.begins (g.lines (key u) h.decided));
+        begins = part_stays (s.node i).list (t.node i).list report.stored (line t u) (g.each i).list h.within
+            (begins_trans h.begins (g.lines (key u) h.decided));
       }
 
   leaver_stays : (i : ℕ) (u : Stamp) (report : Report) → LeaverSays s i u report → LeaverSays t i u report
@@ -160,7 +171,8 @@ module _ (w v : World) (s t : Group) (g : Grows s t) (more : (rest : List Record
   gone_stays : (number name : ℕ) → GoneSays s number name → GoneSays t number name
   gone_stays number name (has_stopped h) = has_stopped ((g.each name).stopped h)
   gone_stays number name (may_go before is accepted stored) = may_go before is (begins_trans accepted g.group)
-      (λ j member there stays. begins_trans (stored j member (there_before j there) (not_yet (s.node j).leaving (t.node j).leaving (g.each j).leaving stays)) (g.each j).list)
+      (λ j member there stays. begins_trans (stored j member (there_before j there) (not_yet (s.node j).leaving (t.node j).leaving (g.each j).leaving stays))
+      (g.each j).list)
     where
       not_yet : (a b : Bool) → (a ≡ true → b ≡ true) → b ≡ false → a ≡ false
       not_yet true b f k = absurd (let z = f refl in cc)
@@ -168,7 +180,14 @@ module _ (w v : World) (s t : Group) (g : Grows s t) (more : (rest : List Record
 
   vote_stays : (i : ℕ) (u : Stamp) (shown : Vote) → VoteSays s i u shown → VoteSays t i u shown
   vote_stays i u shown (own h) = own h
-  vote_stays i u shown (tells h) = tells (record { list = h.list; shown = g.shown (key u) i h.list h.shown; view = h.view; top = h.top; members = h.members; taken = h.taken })
+  vote_stays i u shown (tells h) = tells (record {
+    list = h.list;
+    shown = g.shown (key u) i h.list h.shown;
+    view = h.view;
+    top = h.top;
+    members = h.members;
+    taken = h.taken;
+  })
   vote_stays i u shown (over_vote d) = over_vote (decided_stays (key u) d)
 
   pub all_stay : (u : Stamp) (h : ℕ) → AllShown s u h → AllShown t u h
@@ -187,26 +206,40 @@ module _ (w v : World) (s t : Group) (g : Grows s t) (more : (rest : List Record
 
   piece_stays : (i : ℕ) (u : Stamp) (number : ℕ) (e : Entry) → PieceSays s i u number e → PieceSays t i u number e
   piece_stays i u number e (of_line by d h) = of_line by (decided_stays (key u) d) (item_stays (line s u) (line t u) number e (g.lines (key u) d) h)
-  piece_stays i u number e (of_shown h) = of_shown (record { served = g.served (key u) i h.served; list = h.list; shown = g.shown (key u) i h.list h.shown; stands = h.stands })
+  piece_stays i u number e (of_shown h) = of_shown
+      (record { served = g.served (key u) i h.served; list = h.list; shown = g.shown (key u) i h.list h.shown; stands = h.stands })
   piece_stays i u number e (over by d) = over by (decided_stays (key u) d)
 
 -- ---- each kind
 
 pub letters_stay : LettersStay
-letters_stay w v s t to (Request i u report req body) more g h = record { reports = report_stays w v s t g more i u report h.reports; asked = asked_stays w v s t g more i req body h.asked }
-letters_stay w v s t to (Spread i u report req body) more g h = record { reports = report_stays w v s t g more i u report h.reports; asked = asked_stays w v s t g more i req body h.asked }
+letters_stay w v s t to (Request i u report req body) more g h = record {
+  reports = report_stays w v s t g more i u report h.reports;
+  asked = asked_stays w v s t g more i req body h.asked;
+}
+letters_stay w v s t to (Spread i u report req body) more g h = record {
+  reports = report_stays w v s t g more i u report h.reports;
+  asked = asked_stays w v s t g more i req body h.asked;
+}
 letters_stay w v s t to (Bcast i u base acc number e) more g h = (trimmed_stays w v s t g more base h.0, entry_stays w v s t g more i u acc number e h.1)
 letters_stay w v s t to (Order i u base acc number from req) more g h = (
   trimmed_stays w v s t g more base h.0,
   (let k = h.1 in
-      record { body = k.body; entry = entry_stays w v s t g more i u acc number (Data from req k.body) k.entry; asked = asked_stays w v s t g more from req k.body k.asked }),
+      record {
+        body = k.body;
+        entry = entry_stays w v s t g more i u acc number (Data from req k.body) k.entry;
+        asked = asked_stays w v s t g more from req k.body k.asked;
+      }),
 )
 letters_stay w v s t to (Accept i u base acc high poll) more g h = (trimmed_stays w v s t g more base h.0, sequencer_stays w v s t g more i u acc h.1)
 letters_stay w v s t to (Ack i u report) more g h = report_stays w v s t g more i u report h
 letters_stay w v s t to (Nack i u report) more g h = report_stays w v s t g more i u report h
 letters_stay w v s t to (Hold i u base high req) more g h = tt
 letters_stay w v s t to (JoinAsk i u) more g h = tt
-letters_stay w v s t to (Welcome i u base join image) more g h = (trimmed_stays w v s t g more base h.0, λ name in_. welcome_to_stays w v s t g more i u base join image name (h.1 name in_))
+letters_stay w v s t to (Welcome i u base join image) more g h = (
+  trimmed_stays w v s t g more base h.0,
+  λ name in_. welcome_to_stays w v s t g more i u base join image name (h.1 name in_),
+)
 letters_stay w v s t to (LeaveAsk i u report) more g h = leaver_stays w v s t g more i u report h
 letters_stay w v s t to (Gone i u number) more g h = λ name in_. gone_stays w v s t g more number name (h name in_)
 letters_stay w v s t to (Invite i u) more g h = tt

@@ -43,3 +43,4 @@ pub mod Onward
 pub mod Keeping
 pub mod Keeps
 pub mod Refreshing
+pub mod Stepped

@@ -57,7 +57,8 @@ views_noted w v views same lines h = record {
     line = n.line ∙ sym (lines k d there);
     opens = n.opens;
   });
-  decided = λ x t. (let n = h.decided x t in record { index = n.index; view = n.view; there = ap (λ (l : List Decided). slice_get l n.index) same ∙ n.there; is = n.is });
+  decided = λ x t. (let n = h.decided x t in
+      record { index = n.index; view = n.view; there = ap (λ (l : List Decided). slice_get l n.index) same ∙ n.there; is = n.is });
   current = λ d last. h.current d (record { before = last.before; is = sym same ∙ last.is });
 }
 

@@ -1,19 +1,16 @@
 -- Moves in turn, as a step makes them, keep what the group keeps.
-use Rattle.std.proofs.Common.{◌≡◌, ◌⊎◌, inl, inr, ⊎_elim, ℕ, ◌≤◌, List, true, Some, refl, sym, ap, ◌∙◌, subst, arith}
-use Rattle.am_base.specs.declared.entry.Entry.{Entry}
+use Rattle.std.proofs.Common.{◌≡◌, inl, inr, ⊎_elim, ℕ, List, true, refl, sym, ◌∙◌, subst, arith}
 use Rattle.am_base.specs.Names.{has}
-use Rattle.am_chain_lists.specs.Whole.{Begins, key}
+use Rattle.am_chain_lists.specs.Whole.{Begins}
 use Rattle.am_chain_lists.proofs.Prefixes.{begins_refl, begins_trans}
 use Rattle.am_chain_moves.specs.Group as groups
 use Rattle.am_chain_moves.specs.Group.{Group}
 use Rattle.am_chain_moves.specs.Moves as group
 use Rattle.am_chain_moves.specs.Moves.{Move}
 use Rattle.am_chain_moves.specs.Kept.{Kept}
-use Rattle.am_chain_moves.specs.Runs.{IsLawful, Run}
 use Rattle.am_chain.proofs.Runs.{run_keeps}
 use Rattle.am_stands.specs.Moving.{MoveOk, Moves, none, moves}
-use Rattle.am_stands.specs.Growing.{NameGrows, NewView, Grows}
-use Rattle.am_stands.specs.Branches.{BranchesOk, ChainNamed}
+use Rattle.am_stands.specs.Growing.{NewView, Grows}
 use Rattle.am_stands.specs.Lawful.{IsNoStop}
 use Rattle.am_stands.specs.Sending.{KeptWhole}
 use Rattle.am_stands.proofs.Branches.{moves_branch, decisions_are_new}
@@ -23,12 +20,7 @@ use Rattle.am_stands.proofs.Lawful.{runs_go_on}
 use Rattle.am_stands.proofs.LeftOut.{runs_leave_out}
 use Rattle.am_stands.proofs.Opens.{runs_open}
 use Rattle.am_stands.proofs.Rounds.{runs_have_rounds}
-
--- what is so of a group that stands for a run of the definitions
-pub record GroupOk (founders : List ℕ) (first resilience : ℕ) (s : Group) : Type 0 where
-  pub run : Run founders first resilience s
-  pub branches : BranchesOk s
-  pub named : ChainNamed s
+use Rattle.am_stands.specs.Keeping.{GroupOk}
 
 pub group_kept : (founders : List ℕ) (first resilience : ℕ) (s : Group) → GroupOk founders first resilience s → Kept s
 group_kept founders first resilience s h = (run_keeps founders first resilience s h.run).kept
@@ -59,7 +51,14 @@ grows_same s = record {
 pub grows_trans : (s t u : Group) → Grows s t → Grows t u → Grows s u
 grows_trans s t u g k = record {
   each = λ i. (let a = g.each i in let b = k.each i in let x = a.promise in let y = b.promise in
-      record { list = begins_trans a.list b.list; log = λ z. b.log (a.log z); promise = omega arith; stopped = λ z. b.stopped (a.stopped z); departed = λ z. b.departed (a.departed z); leaving = λ z. b.leaving (a.leaving z) });
+      record {
+        list = begins_trans a.list b.list;
+        log = λ z. b.log (a.log z);
+        promise = omega arith;
+        stopped = λ z. b.stopped (a.stopped z);
+        departed = λ z. b.departed (a.departed z);
+        leaving = λ z. b.leaving (a.leaving z);
+      });
   group = begins_trans g.group k.group;
   lines = λ x d. begins_trans (g.lines x d) (k.lines x (g.decided x d).0);
   decided = λ x d. ((k.decided x (g.decided x d).0).0, (k.decided x (g.decided x d).0).1 ∙ (g.decided x d).1);
@@ -68,7 +67,8 @@ grows_trans s t u g k = record {
       (λ (older : s.views.decided x ≡ true). inl older)
       (λ (new : NewView s t x). inr (record {
         accepted = subst (λ (c : groups.Chosen). Begins s.group c.before) (sym (k.decided x old).1) new.accepted;
-        leavers = λ i leaves in_. begins_trans (new.leavers i leaves (subst (λ (c : groups.Chosen). has c.members i ≡ true) (k.decided x old).1 in_)) (k.lines x old);
+        leavers = λ i leaves in_. begins_trans (new.leavers i leaves (subst (λ (c : groups.Chosen). has c.members i ≡ true) (k.decided x old).1 in_))
+            (k.lines x old);
       }))
       (g.new x old))
       (λ (new : NewView t u x). inr (record {

@@ -1,5 +1,6 @@
 -- What a node tells of its list by numbers is what the whole list tells.
-use Rattle.std.proofs.Common.{◌≡◌, ℕ, zero, suc, ◌+◌, ◌-◌, ◌<◌, ◌≤◌, true, false, List, [], ◌∷◌, ◌++◌, length, take, drop, Option, Some, None, slice_get, refl, sym, ap, ◌∙◌, subst, arith}
+use Rattle.std.proofs.Common.{◌≡◌, ℕ, zero, suc, ◌+◌, ◌-◌, ◌<◌, ◌≤◌, true, false, List, [], ◌∷◌, ◌++◌, length, take, drop, Option, Some, None, slice_get}
+use Rattle.std.proofs.Common.{refl, sym, ap, ◌∙◌, subst, arith}
 use Rattle.std.proofs.Math.Seq.{take-append-add, drop-append_seam}
 use Rattle.std.proofs.lemmas.List.{length-take, take-append-drop}
 use Rattle.am_base.specs.declared.entry.Entry.{Entry}
@@ -68,7 +69,8 @@ pub need_whole : (v : World) (i n : ℕ) (x : Node) (a : groups.Node) → NameSt
 unfolding resilience_of
 need_whole v i n x a h low set =
     let is = counted_whole v i n x a h low in
-    let strong : (image_at x.core.log n).resilience ≡ (told (take n a.list)).resilience = ap (λ (g : Image). g.resilience) (image_whole v i n x a h (omega arith)) in
+    let strong : (image_at x.core.log n).resilience ≡ (told (take n a.list)).resilience = ap (λ (g : Image). g.resilience)
+    (image_whole v i n x a h (omega arith)) in
     let few : how_many (has (counted a.list n)) ≤ size (counted_at x.core.log n) =
     subst (λ m. how_many (has m) ≤ size (counted_at x.core.log n)) is (names_few (counted_at x.core.log n) set) in
     omega arith
@@ -101,7 +103,8 @@ pub part_number : (list : List Entry) (n : ℕ) → n ≤ length list → (told 
 part_number list n low h =
     let long = length_take n list low in
     let all : told list ≡ fold (told (take n list)) (1 + n) (drop n list) =
-    ap told (sym (take-append-drop n list)) ∙ fold_append blank 1 (take n list) (drop n list) ∙ ap (λ k. fold (told (take n list)) (1 + k) (drop n list)) long in
+    ap told (sym (take-append-drop n list)) ∙ fold_append blank 1 (take n list) (drop n list)
+    ∙ ap (λ k. fold (told (take n list)) (1 + k) (drop n list)) long in
     let same = ap (λ (g : Image). g.view_number) all in
     sym (same ∙ number_kept (told (take n list)) (1 + n) (drop n list) (omega arith))
 

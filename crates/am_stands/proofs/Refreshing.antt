@@ -1,5 +1,5 @@
 -- What a node keeps, through a refresh: what it accepts then is accepted in the group before, and what it trims was taken by all who need it.
-use Rattle.std.proofs.Common.{◌≡◌, ◌≢◌, ◌⊎◌, ⊎_elim, ℕ, ◌+◌, ◌<◌, ◌≤◌, ◌==◌, max, nat_lt, Bool, true, false, List, length, refl, sym, ap, ◌∙◌, subst, arith}
+use Rattle.std.proofs.Common.{◌≡◌, ⊎_elim, ℕ, ◌+◌, ◌≤◌, ◌==◌, true, false, List, length, refl, sym, ap, ◌∙◌, subst, arith}
 use Rattle.std.proofs.lemmas.Bool.Decides.{nat_tests}
 use Rattle.am_base.specs.declared.entry.Entry.{Entry}
 use Rattle.am_base.specs.declared.image.Image.{Image}
@@ -11,15 +11,14 @@ use Rattle.am_fronts.specs.Reports.{reported}
 use Rattle.am_fronts.specs.Refresh.{own_report, tell, go_on, let_go}
 use Rattle.am_chain_lists.specs.Whole.{IsGood, told, mem}
 use Rattle.am_chain_lists.proofs.Members.{mem_in}
-use Rattle.am_chain_moves.specs.Group as groups
-use Rattle.am_chain_moves.specs.Group.{Group, IsUp}
+use Rattle.am_chain_moves.specs.Group.{Group}
 use Rattle.am_chain_moves.specs.Kept.{Kept}
 use Rattle.am_model.specs.Node as nodes
 use Rattle.am_model.specs.Node.{Node, view, acts, is_member, is_sequencer, lowest_or_first}
 use Rattle.am_model.specs.Calls.{is_unfinished}
 use Rattle.am_model.specs.Group.{has_log}
 use Rattle.am_model.specs.Refresh.{advance, lead, refresh}
-use Rattle.am_model.specs.World.{World, is_stopped}
+use Rattle.am_model.specs.World.{World}
 use Rattle.am_model.proofs.Greatest.{split}
 use Rattle.am_effects.specs.Causes.{Cause}
 use Rattle.am_effects.proofs.Rests.{rests_refresh, refresh_is, leads_rests}
@@ -31,13 +30,12 @@ use Rattle.am_stands.specs.States.{OpensStand, ReportsFresh, ReportsStand, IsNew
 use Rattle.am_stands.proofs.Accepting.{own_reporting}
 use Rattle.am_stands.proofs.Changes.{told_whole, long_all, is_up}
 use Rattle.am_stands.proofs.ChainNames.{concerned_small, front_named}
-use Rattle.am_stands.proofs.Keeping.{GroupFor, NodeKeeps, Stepping, old, list_member, sequencer_member}
+use Rattle.am_stands.proofs.Keeping.{old, list_member, sequencer_member}
 use Rattle.am_stands.proofs.Keeps.{Ballots, ballots, ballots_grow, trimmed_grow}
 use Rattle.am_stands.proofs.Onward.{group_kept}
 use Rattle.am_stands.proofs.Reporting.{reporting_grow, reporting_base}
-use Rattle.am_stands.proofs.Requests.{OwnTurn, turn_grows}
-use Rattle.am_stands.proofs.Sent.{Speaks}
 use Rattle.am_stands.proofs.Trimming.{Refreshed, refresh_trims}
+use Rattle.am_stands.specs.Keeping.{GroupFor, NodeKeeps, OwnTurn, RefreshesKeep, Refreshing, Stepping}
 
 -- ---- what a refresh does to reports and base
 
@@ -70,12 +68,6 @@ member_old list name member new =
     ⊎_elim (λ z. omega arith) (λ z. omega arith) new
 
 -- ---- a refresh, where the group has accepted what it accepts
-
-pub record Refreshing (v : World) (name : ℕ) (x : Node) (s t : Group) : Type 0 where
-  pub runs : is_stopped v name ≡ false
-  pub stands : NameStands (within v name (refresh x)) name (refresh x) (t.node name)
-  pub list : (t.node name).list ≡ (s.node name).list
-  pub accepted : (refresh x).core.acc ≤ length t.group
 
 module _ (rules : Rules) (w v : World) (name : ℕ) (c : Cause) (x : Node) (s t : Group) (h : Stepping rules w name c x s) (g : Grows s t)
     (gt : GroupFor rules t) (now : Refreshing v name x s t) (later : Along rules (refresh x)) where
@@ -121,7 +113,8 @@ module _ (rules : Rules) (w v : World) (name : ℕ) (c : Cause) (x : Node) (s t 
   -- with its own report, of what its application has taken
   own_more : (taken : ℕ) (reports : ℕ → Report) → taken ≤ nodes.top x → Reporting t.node (t.node name).list x.core.base reports
       → Reporting t.node (t.node name).list x.core.base (reported reports x.core.who (record { stored = nodes.top x; taken = taken }))
-  own_more taken reports low r = subst (λ z. Reporting t.node (t.node name).list x.core.base (reported reports x.core.who (record { stored = z; taken = taken })))
+  own_more taken reports low r = subst (λ z. Reporting t.node (t.node name).list x.core.base
+      (reported reports x.core.who (record { stored = z; taken = taken })))
       long (own_reporting t.node (t.node name).list x.core.base x.core.who taken reports (let size_ = long in omega arith) (ap (λ j. (t.node j).list) h.who) r)
 
   -- ---- a sequencer's
@@ -171,7 +164,8 @@ module _ (rules : Rules) (w v : World) (name : ℕ) (c : Cause) (x : Node) (s t 
           base = omega arith;
           within = f.accepted;
           accepted = now.accepted;
-          names = concerned_small (within v name y) name y (t.node name) now.stands (front_named (t.node name).list _ ((kept_t.each name).list up) gt.named) (omega arith);
+          names = concerned_small (within v name y) name y (t.node name) now.stands (front_named (t.node name).list _ ((kept_t.each name).list up) gt.named)
+              (omega arith);
           reports = reports_led;
           trimmed = trimmed_grow w s t x.core.base g k.trimmed;
         }
@@ -190,12 +184,14 @@ module _ (rules : Rules) (w v : World) (name : ℕ) (c : Cause) (x : Node) (s t 
 
   reports_y : ReportsStand t name y
   reports_y = reporting_base t.node (t.node name).list x.core.base y.core.base y.reports base_up (split (is_sequencer x) reports_led
-      (λ f. subst (Reporting t.node (t.node name).list x.core.base) (sym (ap (λ (n : Node). n.reports) (follow_follows x f) ∙ (advance_same x).0)) reports_grow))
+      (λ f. subst (Reporting t.node (t.node name).list x.core.base)
+      (sym (ap (λ (n : Node). n.reports) (follow_follows x f) ∙ (advance_same x).0)) reports_grow))
 
   fresh_y : ReportsFresh y
   fresh_y = split (is_sequencer x) fresh_led
       (λ f. λ j new_. (let old_ = k.fresh j (subst (λ (i : Image). IsNew i j) (ap told_by log) new_) in
-      let same : (y.reports j).stored ≡ (x.reports j).stored = ap (λ (n : Node). (n.reports j).stored) (follow_follows x f) ∙ ap (λ r. (r j).stored) (advance_same x).0 in
+      let same : (y.reports j).stored ≡ (x.reports j).stored = ap (λ (n : Node). (n.reports j).stored) (follow_follows x f)
+      ∙ ap (λ r. (r j).stored) (advance_same x).0 in
       let up = base_up in
       omega arith))
 
@@ -218,3 +214,6 @@ module _ (rules : Rules) (w v : World) (name : ℕ) (c : Cause) (x : Node) (s t 
         (subst (OwnTurn x.core.who (s.node name).list) (sym sends_y) k.turn));
     leaves = λ u. (ap has_log (rests_refresh x).rests.status ∙ k.leaves (sym (rests_refresh x).rests.leaving ∙ u));
   }
+
+pub refreshes_keep : RefreshesKeep
+refreshes_keep = keeps_refresh

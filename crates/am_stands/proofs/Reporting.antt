@@ -1,5 +1,6 @@
 -- What is reported to a node stays true through each of its changes.
-use Rattle.std.proofs.Common.{◌≡◌, ◌≢◌, ◌⊎◌, inl, inr, ⊎_elim, ℕ, ◌+◌, ◌<◌, ◌≤◌, ◌==◌, ◌&&◌, ◌||◌, max, not, nat_lt, nat_le, Bool, true, false, if◌then◌else◌, List, [], ◌∷◌, ◌++◌, length, take, slice_index, refl, sym, ap, ◌∙◌, subst, arith}
+use Rattle.std.proofs.Common.{◌≡◌, ◌≢◌, ◌⊎◌, inl, inr, ⊎_elim, ℕ, ◌+◌, ◌<◌, ◌≤◌, ◌==◌, ◌&&◌, max, not, nat_lt, Bool, true, false}
+use Rattle.std.proofs.Common.{List, [], ◌∷◌, ◌++◌, length, take, slice_index, refl, sym, ap, ◌∙◌, subst, arith}
 use Rattle.std.proofs.lemmas.Bool.Decides.{nat_tests}
 use Rattle.am_base.specs.declared.entry.Entry.{Entry}
 use Rattle.am_base.specs.declared.entry.Entry.TheVariants.{Data, Join, Leave, View}
@@ -7,22 +8,21 @@ use Rattle.am_base.specs.declared.image.Report.{Report}
 use Rattle.am_base.specs.declared.image.Row.{Row}
 use Rattle.am_base.specs.declared.image.Image.{Image}
 use Rattle.am_base.specs.declared.name.Stamp.{Stamp}
-use Rattle.am_base.specs.Names.{place_of, life_of, has}
+use Rattle.am_base.specs.Names.{place_of, life_of}
 use Rattle.am_base.specs.Lists.{is_blank, at_place, row_of, member_life, with_row, viewed, fits, after}
 use Rattle.am_fronts.specs.Reports.{reported, admitted, restarted}
 use Rattle.am_chain_lists.specs.Whole.{Begins, IsGood, told, mem, view_of, key}
-use Rattle.am_chain_lists.proofs.Prefixes.{begins_refl, begins_more, begins_trans, begins_both, begins_length, begins_take, begins_pushed, length_push, length_take, take_begins}
-use Rattle.am_chain_lists.proofs.Rows.{by_cases, row_at, In, mod16, row_set, row_view, blank_joined}
+use Rattle.am_chain_lists.proofs.Prefixes.{begins_refl, begins_more, begins_trans, begins_both, begins_length, begins_take, begins_pushed, length_push}
+use Rattle.am_chain_lists.proofs.Prefixes.{length_take, take_begins}
+use Rattle.am_chain_lists.proofs.Rows.{row_at, In, mod16, row_set, row_view, blank_joined}
 use Rattle.am_chain_lists.proofs.Members.{good_begins, told_push, long_told, mem_in, in_mem, mem_between, mem_viewed}
 use Rattle.am_chain_moves.specs.Group as groups
 use Rattle.am_chain_moves.specs.Group.{Group, opening}
-use Rattle.am_chain_moves.specs.Kept.{Kept}
 use Rattle.am_model.specs.Receiving.{is_view}
 use Rattle.am_model.proofs.Greatest.{split}
 use Rattle.am_laws.proofs.ViewSteps.{after_same}
 use Rattle.am_stands.specs.Letters.{line, IsDecided, ReportSays, LeaverSays, of_view, before_it}
 use Rattle.am_stands.specs.States.{IsConcerned, Reporting, IsNew}
-use Rattle.am_stands.proofs.Concerned.{no_view}
 use Rattle.am_stands.proofs.Ends.{taken_more}
 use Rattle.am_stands.proofs.Joins.{Becomes, stayed, joins, founds, became, blank_nil}
 use Rattle.am_stands.proofs.Parts.{number_low, view_its}
@@ -41,7 +41,12 @@ reporting_grow node after_ list base reports grow r = record {
 -- a greater base
 pub reporting_base : (node : ℕ → groups.Node) (list : List Entry) (base more : ℕ) (reports : ℕ → Report) → base ≤ more → Reporting node list base reports
     → Reporting node list more reports
-reporting_base node list base more reports up r = record { within = r.within; taken = r.taken; true_ = λ name few concerned above. r.true_ name few concerned (omega arith) }
+reporting_base node list base more reports up r = record {
+  within = r.within;
+  taken = r.taken;
+  true_ = λ name few concerned above. r.true_ name few concerned
+      (omega arith);
+}
 
 -- all begin anew
 pub reporting_anew : (node : ℕ → groups.Node) (list : List Entry) (base : ℕ) → base ≤ length list → Reporting node list base (restarted base)
@@ -65,7 +70,8 @@ pub reporting_more : (node : ℕ → groups.Node) (list : List Entry) (base who 
     → report.taken ≤ report.stored → (IsConcerned list who → Begins (take report.stored list) (node who).list) → Reporting node list base reports
     → Reporting node list base (reported reports who report)
 reporting_more node list base who report reports low took its r = record {
-  within = λ name. split (name == who) (λ t. (let old = r.within who in let same : name ≡ who = grind (arith, nat_tests) in rw t (let z = r.within name in omega arith))) (λ f. rw f (r.within name));
+  within = λ name. split (name == who) (λ t. (let old = r.within who in let same : name ≡ who = grind (arith, nat_tests) in
+      rw t (let z = r.within name in omega arith))) (λ f. rw f (r.within name));
   taken = λ name. split (name == who) (λ t. (let old = r.taken who in rw t (omega arith))) (λ f. rw f (r.taken name));
   true_ = λ name few concerned. split (name == who)
       (λ t. (let same : name ≡ who = grind (arith, nat_tests) in
@@ -73,7 +79,9 @@ reporting_more node list base who report reports low took its r = record {
       let old = (reports who).stored in
       let both : max old report.stored ≤ old → base < max old report.stored → Begins (take (max old report.stored) list) (node name).list = λ low above.
       (let is : max old report.stored ≡ old = omega arith in
-      subst (λ k. Begins (take k list) (node name).list) (sym is) (subst (λ k. Begins (take (reports k).stored list) (node name).list) same (r.true_ name few concerned (let z = ap (λ k. (reports k).stored) same in omega arith)))) in
+      subst (λ k. Begins (take k list) (node name).list) (sym is)
+      (subst (λ k. Begins (take (reports k).stored list) (node name).list) same
+      (r.true_ name few concerned (let z = ap (λ k. (reports k).stored) same in omega arith)))) in
       rw t (λ above. ⊎_elim
       (λ (z : max old report.stored ≤ old). both z above)
       (λ (z : old < max old report.stored). (let is : max old report.stored ≡ report.stored = omega arith in
@@ -137,17 +145,20 @@ pub fits_new : (image : Image) (name : ℕ) → fits image (Join name) ≡ true 
 unfolding fits
 fits_new image name fit = split ((at_place image name).joined == 0)
     (λ t. inl (grind (arith, nat_tests)))
-    (λ f. inr (let rest : (nat_lt 0 (at_place image name).left && nat_lt (at_place image name).life (life_of name)) ≡ true = rw f at fit in grind (arith, nat_tests)))
+    (λ f. inr (let rest : (nat_lt 0 (at_place image name).left && nat_lt (at_place image name).life (life_of name)) ≡ true = rw f at fit in
+    grind (arith, nat_tests)))
 
 -- by the row of its place
 abbrev NewRow : Row → ℕ → Type 0
 NewRow r life = (r.joined ≡ 0) ⊎ (r.life < life)
 
-row_before : (image : Image) (who name : ℕ) (r : Row) → length image.rows ≡ 16 → (place_of name ≡ place_of who → NewRow r (life_of name) → NewRow (row_at image (place_of name)) (life_of name))
+row_before : (image : Image) (who name : ℕ) (r : Row) → length image.rows ≡ 16
+    → (place_of name ≡ place_of who → NewRow r (life_of name) → NewRow (row_at image (place_of name)) (life_of name))
     → NewRow (row_at (with_row image who r) (place_of name)) (life_of name) → NewRow (row_at image (place_of name)) (life_of name)
 row_before image who name r long here h = ⊎_elim
     (λ (z : (place_of name ≡ place_of who) × (row_at (with_row image who r) (place_of name) ≡ r)). here z.0 (subst (λ q. NewRow q (life_of name)) z.1 h))
-    (λ (z : (place_of name ≢ place_of who) × (row_at (with_row image who r) (place_of name) ≡ row_at image (place_of name))). subst (λ q. NewRow q (life_of name)) z.1 h)
+    (λ (z : (place_of name ≢ place_of who) × (row_at (with_row image who r) (place_of name) ≡ row_at image (place_of name))). subst (λ q. NewRow q
+    (life_of name)) z.1 h)
     (row_set image who (place_of name) r long)
 
 join_row : (image : Image) (joiner name n : ℕ) → 0 < n → IsNew image joiner → place_of name ≡ place_of joiner
@@ -156,7 +167,8 @@ join_row image joiner name n some new place h =
     let at = ap (λ p. row_at image p) place in
     subst (λ r. NewRow r (life_of name)) (sym at) (⊎_elim
     (λ (z : n ≡ 0). absurd (omega arith))
-    (λ (z : life_of joiner < life_of name). ⊎_elim (λ (y : (at_place image joiner).joined ≡ 0). inl y) (λ (y : (at_place image joiner).life < life_of joiner). inr (omega arith)) new)
+    (λ (z : life_of joiner < life_of name). ⊎_elim (λ (y : (at_place image joiner).joined ≡ 0). inl y)
+    (λ (y : (at_place image joiner).life < life_of joiner). inr (omega arith)) new)
     h)
 
 viewed_row : (first : Bool) (n given life : ℕ) (r : Row) → (first ≡ true → r.joined ≡ 0) → NewRow (viewed first n given r) life → NewRow r life
@@ -170,22 +182,27 @@ pub new_before : (image : Image) (n : ℕ) (e : Entry) (name : ℕ) → length i
     → IsNew image name
 unfolding after
 new_before image n (Data from req body) name long some fit = split ((at_place image from).life == life_of from)
-    (λ t. rw t (row_before image from name (record (at_place image from) { last = req }) long (λ place h. (let at = ap (λ p. row_at image p) place in subst (λ r. NewRow r (life_of name)) (sym at) h))))
+    (λ t. rw t (row_before image from name (record (at_place image from) { last = req }) long
+    (λ place h. (let at = ap (λ p. row_at image p) place in subst (λ r. NewRow r (life_of name)) (sym at) h))))
     (λ f. rw f (λ h. h))
 new_before image n (Join joiner) name long some fit =
-    row_before image joiner name (record { life = life_of joiner; joined = n; left = 0; last = 0 }) long (join_row image joiner name n some (fits_new image joiner fit))
+    row_before image joiner name (record { life = life_of joiner; joined = n; left = 0; last = 0 }) long
+    (join_row image joiner name n some (fits_new image joiner fit))
 new_before image n (Leave leaver) name long some fit = split ((at_place image leaver).life == life_of leaver)
-    (λ t. rw t (row_before image leaver name (record (at_place image leaver) { left = n }) long (λ place h. (let at = ap (λ p. row_at image p) place in subst (λ r. NewRow r (life_of name)) (sym at) h))))
+    (λ t. rw t (row_before image leaver name (record (at_place image leaver) { left = n }) long
+    (λ place h. (let at = ap (λ p. row_at image p) place in subst (λ r. NewRow r (life_of name)) (sym at) h))))
     (λ f. rw f (λ h. h))
 new_before image n (View stamp names resilience) name long some fit = λ h.
     let is = row_view image n stamp names resilience (place_of name) (mod16 name) in
-    viewed_row (is_blank image) n (slice_index names (place_of name)) (life_of name) (row_at image (place_of name)) (blank_joined image (place_of name)) (subst (λ r. NewRow r (life_of name)) is h)
+    viewed_row (is_blank image) n (slice_index names (place_of name)) (life_of name) (row_at image (place_of name)) (blank_joined image (place_of name))
+    (subst (λ r. NewRow r (life_of name)) is h)
 
 -- who is known to a sequencer isn't new
 pub known_old : (image : Image) (name : ℕ) → ((row_of image name).joined == 0) ≡ false → IsNew image name → ⊥
 known_old image name known new = split ((at_place image name).life == life_of name)
     (λ t. (let z : ((at_place image name).joined == 0) ≡ false = rw t at known in
-    ⊎_elim (λ (y : (at_place image name).joined ≡ 0). (let x : ⊥ = grind (arith, nat_tests) in x)) (λ (y : (at_place image name).life < life_of name). (let x : ⊥ = grind (arith, nat_tests) in x)) new))
+    ⊎_elim (λ (y : (at_place image name).joined ≡ 0). (let x : ⊥ = grind (arith, nat_tests) in x))
+    (λ (y : (at_place image name).life < life_of name). (let x : ⊥ = grind (arith, nat_tests) in x)) new))
     (λ f. (let z : (0 == 0) ≡ false = rw f at known in cc))
 
 -- ---- a letter's report
@@ -197,9 +214,11 @@ part_true list own n within begins low =
     subst (λ l. Begins l own) (sym same) (begins_take n own)
 
 -- what is reported in the view of a sequencer's list is true of it
-pub report_true : (s : Group) (from : ℕ) (v : Stamp) (list : List Entry) (report : Report) → line s v ≡ list → report.stored ≤ length list → ReportSays s from v report
+pub report_true : (s : Group) (from : ℕ) (v : Stamp) (list : List Entry) (report : Report) → line s v ≡ list → report.stored ≤ length list
+    → ReportSays s from v report
     → Begins (take report.stored list) (s.node from).list
-report_true s from v list report is low h = part_true list (s.node from).list report.stored h.within (subst (Begins (take report.stored (s.node from).list)) is h.begins) low
+report_true s from v list report is low h = part_true list (s.node from).list report.stored h.within
+    (subst (Begins (take report.stored (s.node from).list)) is h.begins) low
 
 -- a leaver that is concerned by the list of its view's sequencer is one of the names that it chose, as its Join was accepted before
 pub leaver_true : (s : Group) (from : ℕ) (v : Stamp) (list : List Entry) (report : Report) → IsDecided s v → line s v ≡ list → IsGood list
@@ -208,7 +227,8 @@ pub leaver_true : (s : Group) (from : ℕ) (v : Stamp) (list : List Entry) (repo
 leaver_true s from v list report d is good stamp viewed opens low (of_view leaves h) concerned = report_true s from v list report is low h
 leaver_true s from v list report d is good stamp viewed opens low (before_it leaves h) concerned =
     let c = s.views.chosen (key v) in
-    let all : Begins (c.before ++ View v c.members c.resilience ∷ []) list = subst (λ (u : Stamp). Begins (c.before ++ View u c.members c.resilience ∷ []) list) stamp opens in
+    let all : Begins (c.before ++ View v c.members c.resilience ∷ []) list = subst (λ (u : Stamp). Begins
+    (c.before ++ View u c.members c.resilience ∷ []) list) stamp opens in
     let last = last_view_at c.before v c.members c.resilience list good all viewed in
     let number = last.0 in
     let from_ = concerned.from in

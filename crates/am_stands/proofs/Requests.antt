@@ -1,24 +1,23 @@
 -- The requests of a name's own sends come in turn, whoever numbers them.
-use Rattle.std.proofs.Common.{◌≡◌, ℕ, ◌+◌, ◌-◌, ◌<◌, ◌≤◌, ◌==◌, ◌&&◌, nat_lt, true, false, List, [], ◌∷◌, ◌++◌, length, map, take, Option, Some, None, slice_get, refl, sym, ap, ◌∙◌, subst, arith}
-use Rattle.std.specs.List.{flat_map}
+use Rattle.std.proofs.Common.{◌≡◌, ℕ, ◌+◌, ◌-◌, ◌<◌, true, List, ◌++◌, length, map, take, Option, Some, None}
+use Rattle.std.proofs.Common.{slice_get, refl, sym, ap, ◌∙◌, subst, arith}
 use Rattle.std.proofs.lemmas.Grind.{flat_map-append}
 use Rattle.std.proofs.lemmas.Bool.Decides.{nat_tests}
-use Rattle.std.proofs.lemmas.List.{length-append, length-take}
+use Rattle.std.proofs.lemmas.List.{length-append}
 use Rattle.am_base.specs.declared.entry.Entry.{Entry}
 use Rattle.am_base.specs.declared.entry.Entry.TheVariants.{Data}
 use Rattle.am_base.specs.declared.image.Image.{Image}
 use Rattle.am_base.specs.declared.image.Row.{Row}
-use Rattle.am_base.specs.Names.{place_of, life_of, has}
-use Rattle.am_base.specs.Lists.{members_of, row_of, fits}
+use Rattle.am_base.specs.Names.{place_of, has}
+use Rattle.am_base.specs.Lists.{members_of, row_of}
 use Rattle.am_chain_lists.specs.Whole.{Begins, IsGood, told, mem}
-use Rattle.am_chain_lists.proofs.Rows.{In, row_at}
+use Rattle.am_chain_lists.proofs.Rows.{row_at}
 use Rattle.am_chain_lists.proofs.Members.{mem_in}
 use Rattle.am_chain_moves.specs.Group as groups
 use Rattle.am_sender.specs.declared.OwnSend.{OwnSend}
 use Rattle.am_sender.specs.Sends as own
 use Rattle.am_model.specs.Node as nodes
 use Rattle.am_model.specs.Node.{Node, waiting}
-use Rattle.am_model.specs.Calls.{queued}
 use Rattle.am_model.specs.Claims.{requests_of, request_in}
 use Rattle.am_model.specs.Refresh.{accepted_at, settled_at, settled, settle}
 use Rattle.am_model.specs.World.{World}
@@ -31,12 +30,7 @@ use Rattle.am_stands.proofs.Changes.{told_all}
 use Rattle.am_stands.proofs.Heard.{OwnFits, fits_data}
 use Rattle.am_stands.proofs.Parts.{part_get}
 use Rattle.am_stands.proofs.Welcoming.{member_row}
-
--- what isn't settled are the next requests up to the last, and the first of them is at most the one after those that the name's list has
-pub record OwnTurn (who : ℕ) (list : List Entry) (sends : own.Sends) : Type 0 where
-  pub next : ℕ
-  pub turn : Turn next next sends.queue sends.last
-  pub low : next ≤ 1 + length (requests_of who list)
+use Rattle.am_stands.specs.Keeping.{OwnTurn}
 
 -- a longer list has no fewer
 pub turn_grows : (who : ℕ) (a b : List Entry) (sends : own.Sends) → Begins a b → OwnTurn who a sends → OwnTurn who b sends

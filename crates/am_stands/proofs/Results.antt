@@ -53,7 +53,8 @@ last_view_at before v names resilience list good h viewed =
     let all : told list ≡ fold (told a) (1 + length a) h.rest = ap told (sym h.same) ∙ fold_append _ 1 a h.rest in
     let last = told_push before e in
     let its = after_view (told before) (1 + length before) v names resilience in
-    let number : (told list).view_number ≡ 1 + length before = ap (λ (g : Image). g.view_number) all ∙ rest.0 ∙ ap (λ (g : Image). g.view_number) last ∙ its.1 in
+    let number : (told list).view_number ≡ 1 + length before = ap (λ (g : Image). g.view_number) all ∙ rest.0 ∙ ap (λ (g : Image). g.view_number) last
+    ∙ its.1 in
     (omega arith, ap (λ (g : Image). g.resilience) all ∙ rest.1 ∙ ap (λ (g : Image). g.resilience) last ∙ its.2)
 
 -- ---- who tells a View
@@ -84,16 +85,20 @@ result_said v i number n names s h t stamp opens low is viewed =
     let told_is = told_all v i n a h.stands in
     let chain = ((h.kept.each i).leads l.leads).chain in
     let good : IsGood a.list = subst IsGood (sym chain) h.kept.views.good in
-    let here : Begins (c.before ++ View n.core.promise c.members c.resilience ∷ []) a.list = subst (λ (u : Stamp). Begins (c.before ++ View u c.members c.resilience ∷ []) a.list) stamp (subst (Begins (opening c)) l.line_ opens) in
+    let here : Begins (c.before ++ View n.core.promise c.members c.resilience ∷ []) a.list = subst (λ (u : Stamp). Begins
+    (c.before ++ View u c.members c.resilience ∷ []) a.list) stamp (subst (Begins (opening c)) l.line_ opens) in
     let last = last_view_at c.before n.core.promise c.members c.resilience a.list good here l.viewed in
-    let at : slice_get a.list (length c.before) ≡ Some (View n.core.promise c.members c.resilience) = next_of c.before (View n.core.promise c.members c.resilience) here in
+    let at : slice_get a.list (length c.before) ≡ Some (View n.core.promise c.members c.resilience) = next_of c.before
+    (View n.core.promise c.members c.resilience) here in
     let where_ : number ≡ length c.before + 1 = is ∙ ap (λ (g : Image). g.view_number) (sym told_is) ∙ last.0 in
     let strong : c.resilience ≡ (nodes.told n).resilience = sym last.1 ∙ ap (λ (g : Image). g.resilience) told_is in
     let index : number - 1 ≡ length c.before = omega arith in
-    let entry : entry_at n.core.log number ≡ Some (View n.core.promise c.members c.resilience) = entry_whole v i number n a h.stands (omega arith) ∙ ap (slice_get a.list) index ∙ at in
+    let entry : entry_at n.core.log number ≡ Some (View n.core.promise c.members c.resilience) = entry_whole v i number n a h.stands (omega arith)
+    ∙ ap (slice_get a.list) index ∙ at in
     let named : c.members ≡ names = ap viewed_by (sym entry) ∙ viewed in
     record {
       by = ap (λ (u : Stamp). u.by) (sym l.viewed) ∙ l.leads.by;
       decided = l.decided;
-      stands = ap (λ g. item_at g number) l.line_ ∙ (let z : number ≡ suc (length c.before) = omega arith in ap (item_at a.list) z) ∙ at ∙ (λ j. Some (View n.core.promise (named j) (strong j)));
+      stands = ap (λ g. item_at g number) l.line_ ∙ (let z : number ≡ suc (length c.before) = omega arith in ap (item_at a.list) z) ∙ at
+          ∙ (λ j. Some (View n.core.promise (named j) (strong j)));
     }

@@ -55,7 +55,8 @@ moves_rounds s t (accepts i n leads may) h = same_rounds s t refl refl h
 moves_rounds s t (learns i told acc up rises within before up_to given low) h = put_rounds s t i _ refl refl (h.promised i) h
 moves_rounds s t (begins i few up stays member) h = put_rounds s t i _ refl refl (λ log. own_round i (s.node i)) h
 moves_rounds s t (raises i stamp there above) h =
-    put_rounds s t i (record (s.node i) { promise = stamp; ballot = false }) refl refl (λ log. (let old = h.promised i log in let up = above.greater in omega arith)) h
+    put_rounds s t i (record (s.node i) { promise = stamp; ballot = false }) refl refl
+    (λ log. (let old = h.promised i log in let up = above.greater in omega arith)) h
 moves_rounds s t (shows i there small other begun none) h = same_rounds s t refl refl h
 moves_rounds s t (serves i list up shown others) h = same_rounds s t refl refl h
 moves_rounds s t (fetches i f list e up ballot served shown next) h = put_rounds s t i _ refl refl (h.promised i) h

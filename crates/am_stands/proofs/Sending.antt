@@ -28,7 +28,8 @@ use Rattle.am_model.specs.World.{World, has_departed}
 use Rattle.am_model.proofs.Greatest.{split, and_both}
 use Rattle.am_effects.specs.Causes.{Cause, hears}
 use Rattle.am_effects.specs.Letters as letters
-use Rattle.am_effects.specs.Letters.{MayFetch, for_ballot, of_promise, MayTell, leads, decided, Says, request, spread, bcast, order, accept, ack, nack, hold, join_ask, welcome}
+use Rattle.am_effects.specs.Letters.{MayFetch, for_ballot, of_promise, MayTell, leads, decided, Says, request, spread, bcast, order, accept, ack, nack, hold}
+use Rattle.am_effects.specs.Letters.{join_ask, welcome}
 use Rattle.am_effects.specs.Letters.{leave_ask, gone, invite, vote, fetch, piece, result, hand_over}
 use Rattle.am_effects.proofs.Statuses.{logged}
 use Rattle.am_laws.proofs.Stamps.{same_stamp}
@@ -178,7 +179,11 @@ module _ (v : World) (i : ℕ) (c : Cause) (m n : Node) (s : Group) (h : Sender 
       record {
         to = s;
         path = none;
-        is = record { same = record { node = refl; views = refl; group_ = refl }; says = piece_said v i n s m.core.base number e (speaks member) leads_ h.numbers.start at };
+        is = record {
+          same = record { node = refl; views = refl; group_ = refl };
+          says = piece_said v i n s m.core.base number e
+              (speaks member) leads_ h.numbers.start at;
+        };
       })
     where
       itself : (x : Stamp) → stamp_eq x x ≡ true
@@ -213,22 +218,28 @@ view_named v i c m n s h =
 trimmed_same : (s t : Group) (base : ℕ) → ShowsMore s t → says.Trimmed s base → says.Trimmed t base
 trimmed_same s t base same h = record {
   accepted = subst (λ l. base ≤ length l) (sym same.group_) h.accepted;
-  stored = λ j. subst (λ (f : ℕ → groups.Node). IsThere (f j) → (f j).leaving ≡ false → mem (take base t.group) j ≡ true → Begins (take base t.group) (f j).list) (sym same.node)
-      (subst (λ l. IsThere (s.node j) → (s.node j).leaving ≡ false → mem (take base l) j ≡ true → Begins (take base l) (s.node j).list) (sym same.group_) (h.stored j));
+  stored = λ j. subst (λ (f : ℕ → groups.Node). IsThere (f j) → (f j).leaving ≡ false → mem (take base t.group) j ≡ true
+      → Begins (take base t.group) (f j).list) (sym same.node)
+      (subst (λ l. IsThere (s.node j) → (s.node j).leaving ≡ false → mem (take base l) j ≡ true → Begins (take base l) (s.node j).list) (sym same.group_)
+      (h.stored j));
 }
 
 pub sent_says : SentSays
 sent_says v i c m n s to p h (request _ req body a f has_it) = so v i c m n s h to _ (sends_own v i c m n s h to req body a has_it)
 sent_says v i c m n s to p h (spread _ req body a f has_it) = so v i c m n s h to _ (sends_own v i c m n s h to req body a has_it)
-sent_says v i c m n s to p h (bcast _ number e t at) = so v i c m n s h to _ (h.trimmed, subst (λ j. says.EntrySays s j n.core.promise n.core.acc number e) (sym h.who) (numbered v i c m n s h number e t at))
+sent_says v i c m n s to p h (bcast _ number e t at) = so v i c m n s h to _
+    (h.trimmed, subst (λ j. says.EntrySays s j n.core.promise n.core.acc number e) (sym h.who) (numbered v i c m n s h number e t at))
 sent_says v i c m n s to p h (order _ number from req u report body is t at) = so v i c m n s h to _ (
   h.trimmed,
   subst (λ j. says.OrderSays v s j n.core.promise n.core.acc number from req) (sym h.who)
       (record { body = body; entry = numbered v i c m n s h number (Data from req body) t at; asked = h.sends.numbered at.index from req body at.there }),
 )
-sent_says v i c m n s to p h (accept _ poll t) = so v i c m n s h to _ (h.trimmed, subst (λ j. says.SequencerSays s j n.core.promise n.core.acc) (sym h.who) (sequencer v i c m n s h t))
-sent_says v i c m n s to p h (ack _ a) = so v i c m n s h to _ (subst (λ j. says.ReportSays s j n.core.promise (nodes.report_of n)) (sym h.who) (reports v i c m n s h a))
-sent_says v i c m n s to p h (nack _ a) = so v i c m n s h to _ (subst (λ j. says.ReportSays s j n.core.promise (nodes.report_of n)) (sym h.who) (reports v i c m n s h a))
+sent_says v i c m n s to p h (accept _ poll t) = so v i c m n s h to _
+    (h.trimmed, subst (λ j. says.SequencerSays s j n.core.promise n.core.acc) (sym h.who) (sequencer v i c m n s h t))
+sent_says v i c m n s to p h (ack _ a) = so v i c m n s h to _
+    (subst (λ j. says.ReportSays s j n.core.promise (nodes.report_of n)) (sym h.who) (reports v i c m n s h a))
+sent_says v i c m n s to p h (nack _ a) = so v i c m n s h to _
+    (subst (λ j. says.ReportSays s j n.core.promise (nodes.report_of n)) (sym h.who) (reports v i c m n s h a))
 sent_says v i c m n s to p h (hold _ from u report req body by t) = so v i c m n s h to _ tt
 sent_says v i c m n s to p h (join_ask _ a) = so v i c m n s h to _ tt
 sent_says v i c m n s to p h (welcome name t may) =
@@ -276,8 +287,18 @@ sent_says v i c m n s to p h (piece from u stored number e is may at) =
     record {
       to = r.to;
       path = r.path;
-      is = record { same = r.is.same; says = (trimmed_same s r.to n.core.base r.is.same h.trimmed, subst (λ j. says.PieceSays r.to j n.core.promise number e) (sym h.who) r.is.says) };
+      is = record {
+        same = r.is.same;
+        says = (
+          trimmed_same s r.to n.core.base r.is.same h.trimmed,
+          subst (λ j. says.PieceSays r.to j n.core.promise number e)
+              (sym h.who) r.is.says,
+        );
+      };
     }
-sent_says v i c m n s to p h (result _ number names is viewed may) = so v i c m n s h to _
-    (h.trimmed, λ mine. subst (λ j. ResultSays s j n.core.promise number names (nodes.told n).resilience) (sym h.who) (told_result v i c m n s h number names is viewed may (mine ∙ h.who)))
+sent_says v i c m n s to p h (result _ number names is viewed may) = so v i c m n s h to _ (
+  h.trimmed,
+  λ mine. subst (λ j. ResultSays s j n.core.promise number names (nodes.told n).resilience) (sym h.who)
+      (told_result v i c m n s h number names is viewed may (mine ∙ h.who)),
+)
 sent_says v i c m n s to p h (hand_over _ t leaves) = so v i c m n s h to _ tt

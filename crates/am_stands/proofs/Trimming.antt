@@ -1,12 +1,10 @@
 -- What a node trims was stored by all who have to have it: by what was reported to it, or by the votes for its ballot.
-use Rattle.std.proofs.Common.{◌≡◌, ◌≢◌, ⊎_elim, ℕ, ◌+◌, ◌<◌, ◌≤◌, ◌==◌, not, max, nat_lt, true, false, List, [], length, take, slice_index, Option, Some, None, unwrap_or, option_map, refl, sym, ap, ◌∙◌, subst, arith, append-nil}
+use Rattle.std.proofs.Common.{◌≡◌, ℕ, ◌+◌, ◌<◌, ◌≤◌, ◌==◌, not, max, nat_lt, true, false, List, [], length, take, slice_index, Option, Some}
+use Rattle.std.proofs.Common.{None, unwrap_or, option_map, refl, sym, ap, ◌∙◌, subst, arith, append-nil}
 use Rattle.std.proofs.lemmas.Bool.Decides.{nat_tests}
 use Rattle.am_base.specs.declared.entry.Entry.{Entry}
-use Rattle.am_base.specs.declared.image.Image.{Image}
-use Rattle.am_base.specs.declared.image.Report.{Report}
 use Rattle.am_base.specs.declared.image.Vote.{Vote}
-use Rattle.am_base.specs.declared.name.Stamp.{Stamp}
-use Rattle.am_base.specs.Names.{place_of, life_of, name_at, has, size, names_of}
+use Rattle.am_base.specs.Names.{place_of, life_of, name_at, has, names_of}
 use Rattle.am_base.specs.Lists.{members_of}
 use Rattle.am_core.specs.Cores.{accept, pass_over}
 use Rattle.am_fronts.specs.Reports.{least_of, least_taken}
@@ -16,8 +14,7 @@ use Rattle.am_chain_lists.specs.Whole.{Begins, IsGood, told, mem, key}
 use Rattle.am_chain_lists.proofs.Prefixes.{begins_nil, begins_trans, begins_both, begins_length, begins_take, length_take}
 use Rattle.am_chain_lists.proofs.Rows.{mod16}
 use Rattle.am_chain_lists.proofs.Members.{mem_between}
-use Rattle.am_chain_moves.specs.Group as groups
-use Rattle.am_chain_moves.specs.Group.{Group, IsThere, IsUp, chain_of}
+use Rattle.am_chain_moves.specs.Group.{Group, IsThere, chain_of}
 use Rattle.am_chain_moves.specs.Kept.{Kept}
 use Rattle.am_model.specs.Node as nodes
 use Rattle.am_model.specs.Node.{Node, Ballot, those, is_sequencer}
@@ -30,7 +27,7 @@ use Rattle.am_laws.proofs.Taken.{own_need, those_at}
 use Rattle.am_laws.proofs.ViewMembers.{those_long}
 use Rattle.am_stands.specs.Standing.{within}
 use Rattle.am_stands.specs.Letters.{Trimmed}
-use Rattle.am_stands.specs.States.{IsConcerned, Reporting}
+use Rattle.am_stands.specs.States.{Reporting}
 use Rattle.am_stands.proofs.Changes.{told_whole, long_all}
 use Rattle.am_stands.proofs.Going.{concerned_has, concerned_long}
 use Rattle.am_stands.proofs.Parts.{number_low}
@@ -103,7 +100,8 @@ module _ (v : World) (i : ℕ) (x y : Node) (s : Group) (h : Refreshed v i x y s
             (let last : mem list j ≡ true = subst (λ l. mem l j ≡ true) (sym chain)
             ((h.speaks.kept.each j).stays there stays (take to s.group) (subst (Begins (take to s.group)) chain cut) member) in
             let between : (k : ℕ) → y.core.acc ≤ k → k ≤ nodes.top y → mem (take k list) j ≡ true = λ k from upto.
-            (let part = length_take k list (omega arith) in mem_between j good (begins_both cut (begins_take k list) (omega arith)) (begins_take k list) member last) in
+            (let part = length_take k list (omega arith) in
+            mem_between j good (begins_both cut (begins_take k list) (omega arith)) (begins_take k list) member last) in
             let in_ = concerned_has v i y (s.node i) j h.speaks.stands h.start h.within between in
             let at : slice_index (concerned y) (place_of j) ≡ life_of j = grind (arith, nat_tests) in
             let found = least_low (λ name. (y.reports name).taken) (concerned y) j (concerned_long v i y (s.node i) h.speaks.stands h.start) at in
@@ -112,7 +110,8 @@ module _ (v : World) (i : ℕ) (x y : Node) (s : Group) (h : Refreshed v i x y s
             let low_ = found.2 in
             let took = h.reports.taken j in
             let no_more = h.reports.within j in
-            let has_it = h.reports.true_ j (h.names j in_) (record { upto = list; begins = begins_take_all list; from = number_low list; member = last }) (omega arith) in
+            let has_it = h.reports.true_ j (h.names j in_) (record { upto = list; begins = begins_take_all list; from = number_low list; member = last })
+            (omega arith) in
             let part = length_take (y.reports j).stored list no_more in
             begins_trans (begins_both cut (begins_take (y.reports j).stored list) (omega arith)) has_it);
       }
@@ -155,7 +154,8 @@ votes_trim w name x b s k h learned known =
     let members_is : members_of (told a.list) ≡ nodes.members x = ap members_of (told_whole w name name x a h.stands) in
     let long_names = those_long (λ j. not (b.given_up j)) (need_of x b) in
     let long = long_all (within w name x) name x a h.stands in
-    let spared : (j : ℕ) → IsThere (s.node j) → b.given_up j ≡ false = λ j there. split (b.given_up j) (λ t. absurd (let z = h.given j t in let y = there.goes in cc)) (λ z. z) in
+    let spared : (j : ℕ) → IsThere (s.node j)
+    → b.given_up j ≡ false = λ j there. split (b.given_up j) (λ t. absurd (let z = h.given j t in let y = there.goes in cc)) (λ z. z) in
     let itself_there : b.given_up x.core.who ≡ false = spared x.core.who (subst (λ j. IsThere (s.node j)) (sym h.who) h.up.there) in
     let own_at = those_at (λ j. not (b.given_up j)) (need_of x b) x.core.who learned.needed (ap not itself_there) in
     let own_low = least_low f names x.core.who long_names own_at in

@@ -1,5 +1,6 @@
 -- A ballot that its coordinator decides may be decided by the group's own test.
-use Rattle.std.proofs.Common.{◌≡◌, ◌≢◌, ◌⊎◌, inl, inr, ⊎_elim, ℕ, zero, suc, ◌+◌, ◌<◌, ◌≤◌, ◌==◌, ◌&&◌, ◌||◌, not, max, nat_lt, is_some, get_or, set, List, [], ◌∷◌, ◌++◌, length, Bool, true, false, Option, Some, None, slice_index, refl, sym, ap, ◌∙◌, subst, arith}
+use Rattle.std.proofs.Common.{◌≡◌, ◌≢◌, ◌⊎◌, inl, inr, ⊎_elim, ℕ, zero, suc, ◌+◌, ◌<◌, ◌≤◌, ◌==◌, ◌&&◌, ◌||◌, not, max, nat_lt, is_some, get_or, set, List}
+use Rattle.std.proofs.Common.{[], ◌∷◌, ◌++◌, length, Bool, true, false, Option, Some, None, slice_index, refl, sym, ap, ◌∙◌, subst, arith}
 use Rattle.std.specs.List.{list_all, list_any, range_with_len}
 use Rattle.std.proofs.lemmas.Bool.Decides.{nat_tests}
 use Rattle.am_base.specs.declared.entry.Entry.{Entry}
@@ -108,7 +109,8 @@ voted who j b waits stays other = split (is_some (b.votes j))
 pub not_waited : (x : Node) (b : Ballot) (j : ℕ) → nat_lt 0 (size (those (is_waited_for x.core.who b) (need_of x b))) ≡ false → has (need_of x b) j ≡ true
     → is_waited_for x.core.who b j ≡ false
 not_waited x b j none needed = split (is_waited_for x.core.who b j)
-    (λ t. absurd (let some = some_left (is_waited_for x.core.who b) (need_of x b) j needed t in let z : nat_lt 0 (size (those (is_waited_for x.core.who b) (need_of x b))) ≡ true = grind (arith, nat_tests) in cc))
+    (λ t. absurd (let some = some_left (is_waited_for x.core.who b) (need_of x b) j needed t in
+    let z : nat_lt 0 (size (those (is_waited_for x.core.who b) (need_of x b))) ≡ true = grind (arith, nat_tests) in cc))
     (λ f. f)
 
 all_places : (p : ℕ → Bool) (from n : ℕ) → ((place : ℕ) → place < from + n → p place ≡ true) → list_all p (range_with_len from n) ≡ true
@@ -123,7 +125,8 @@ is_some_of test names place low =
     let all = slice_index names place in
     ⊎_elim
     (λ (z : slice_index (those test names) place ≡ 0). (let t : (life == 0) ≡ true = grind (arith, nat_tests) in rw t refl))
-    (λ (z : slice_index (those test names) place ≡ slice_index names place). (let t : (life == all) ≡ true = grind (arith, nat_tests) in or_true (life == 0) (life == all) t))
+    (λ (z : slice_index (those test names) place ≡ slice_index names place). (let t : (life == all) ≡ true = grind (arith, nat_tests) in
+    or_true (life == 0) (life == all) t))
     (those_some test names place low)
   where
     or_true : (a b : Bool) → b ≡ true → (a || b) ≡ true
@@ -144,7 +147,8 @@ those_in : (test : ℕ → Bool) (names : List ℕ) (j : ℕ) → has (those tes
 unfolding those
 those_in test names j in_ =
     let is = slice_index-by_place (λ place. name_where test place (slice_index names place)) (place_of j) (mod16 j) in
-    let at : name_where test (place_of j) (slice_index names (place_of j)) ≡ life_of j = sym is ∙ is_the_same (slice_index (by_place (λ place. name_where test place (slice_index names place))) (place_of j)) (life_of j) in_ in
+    let at : name_where test (place_of j) (slice_index names (place_of j)) ≡ life_of j = sym is
+    ∙ is_the_same (slice_index (by_place (λ place. name_where test place (slice_index names place))) (place_of j)) (life_of j) in_ in
     split (slice_index names (place_of j) == 0)
     (λ t. absurd (let z : 0 ≡ life_of j = rw t at at in omega arith))
     (λ f. split (test (name_at (place_of j) (slice_index names (place_of j))))
@@ -169,7 +173,8 @@ may_decide w name x b s h may =
     let members_is : members_of (told a.list) ≡ members x = ap members_of told_is in
     let in_need : (j : ℕ) → mem a.list j ≡ true → has (need_of x b) j ≡ true = λ j m. ap (λ set. has set j) (need ∙ sym members_is) ∙ m in
     let stamp : b.stamp ≡ a.promise = h.stamp ∙ sym h.stands.promise in
-    let spared : (j : ℕ) → IsThere (s.node j) → b.given_up j ≡ false = λ j there. split (b.given_up j) (λ t. absurd (let z = h.given j t in let y = there.goes in cc)) (λ f. f) in
+    let spared : (j : ℕ) → IsThere (s.node j)
+    → b.given_up j ≡ false = λ j there. split (b.given_up j) (λ t. absurd (let z = h.given j t in let y = there.goes in cc)) (λ f. f) in
     record {
       small = h.few;
       up = h.up;
@@ -192,7 +197,8 @@ may_decide w name x b s h may =
                 (λ (z : (key vote.0.view ≡ key (view x)) × (vote.0.top ≤ nodes.top x)). (let y = z.0 in let u = z.1 in inr (omega arith, omega arith)))
                 order;
           })));
-      within = subst (λ set. is_within (left_in b (need_of x b)) set ≡ true) (need ∙ sym members_is) (all_places _ 0 16 (λ place low. is_some_of test (need_of x b) place (omega arith)));
+      within = subst (λ set. is_within (left_in b (need_of x b)) set ≡ true) (need ∙ sym members_is)
+          (all_places _ 0 16 (λ place low. is_some_of test (need_of x b) place (omega arith)));
       all = λ j m there. (let at = those_at test (need_of x b) j (in_need j m) (ap not (spared j there)) in grind (arith, nat_tests));
       strong = (let same : (told a.list).resilience ≡ (nodes.told x).resilience = ap (λ (i : Image). i.resilience) told_is in omega arith);
     }
@@ -204,7 +210,12 @@ prefix_view : (v : Stamp) (a b : List Entry) → HasViewOf v b → (p : List Ent
 unfolding view_of
 prefix_view v a [] h = absurd (cc)
 prefix_view v a (e ∷ b) h = split (is_view_of v e)
-    (λ t. (a ++ e ∷ [], record { rest = b; same = append_assoc a (e ∷ []) b }, ap (λ (i : Image). i.view) (told_push a e) ∙ viewed_as v (told a) (1 + length a) e t))
+    (λ t. (
+      a ++ e ∷ [],
+      record { rest = b; same = append_assoc a (e ∷ []) b },
+      ap (λ (i : Image). i.view) (told_push a e)
+          ∙ viewed_as v (told a) (1 + length a) e t,
+    ))
     (λ f. (let r = prefix_view v (a ++ e ∷ []) b (rw f at h) in (r.0, subst (Begins r.0) (append_assoc a (e ∷ []) b) r.1, r.2)))
 
 unseen : (s : Group) (i : ℕ) → Kept s → IsUp (s.node i) → (s.node i).ballot ≡ true → list_any (is_view_of (s.node i).promise) (s.node i).list ≡ false
@@ -232,8 +243,11 @@ view_members x b long need =
     let before = trimmed_for x b names in
     let r = max b.resilience (nodes.told x).resilience in
     let some : (place : ℕ) → place < 16 → (slice_index names place ≡ 0) ⊎ (slice_index names place ≡ slice_index (members x) place) =
-    λ place low. ⊎_elim (λ (z : slice_index names place ≡ 0). inl z) (λ (z : slice_index names place ≡ slice_index (need_of x b) place). inr (z ∙ ap (λ set. slice_index set place) need)) (those_some test (need_of x b) place low) in
-    ap members_of (told_pushed before (View b.stamp names r)) ∙ viewed_members (nodes.told x) (nodes.top x + 1) b.stamp names r long (omega arith) (those_long test (need_of x b)) some
+    λ place low. ⊎_elim (λ (z : slice_index names place ≡ 0). inl z)
+    (λ (z : slice_index names place ≡ slice_index (need_of x b) place). inr (z ∙ ap (λ set. slice_index set place) need))
+    (those_some test (need_of x b) place low) in
+    ap members_of (told_pushed before (View b.stamp names r))
+    ∙ viewed_members (nodes.told x) (nodes.top x + 1) b.stamp names r long (omega arith) (those_long test (need_of x b)) some
 
 -- each other name of the View has voted for no better list, whether it stopped or not
 all_voted : (w : World) (name : ℕ) (x : Node) (b : Ballot) (s : Group) → BallotKnown w name x b s → looks.MayDecide x b
@@ -289,7 +303,8 @@ pub best_shown : (w : World) (name : ℕ) (x : Node) (b : Ballot) (s : Group) �
     → nat_lt 0 (size (those (is_waited_for x.core.who b) (need_of x b))) ≡ false → AllShown s b.stamp (best_of x b).by
 unfolding best_of mem
 best_shown w name x b s k h other none = ⊎_elim
-    (λ (z : ((best_of x b).by ≡ x.core.who) × ((best_of x b).vote ≡ own_vote x)). absurd (let t : ((best_of x b).by == x.core.who) ≡ true = is_equal (best_of x b).by x.core.who z.0 in cc))
+    (λ (z : ((best_of x b).by ≡ x.core.who) × ((best_of x b).vote ≡ own_vote x)). absurd
+    (let t : ((best_of x b).by == x.core.who) ≡ true = is_equal (best_of x b).by x.core.who z.0 in cc))
     (λ (z : b.votes (best_of x b).by ≡ Some (best_of x b).vote).
     (let best = h.votes (best_of x b).by (best_of x b).vote z in
     let by : b.stamp.by ≡ name = ap (λ (u : Stamp). u.by) (h.stamp ∙ sym h.stands.promise) ∙ ((k.each name).ballot h.up h.ballot).by in
@@ -312,12 +327,14 @@ pub only_one : (a h : ℕ) → has (only_name a) h ≡ true → h ≡ a
 only_one a h t = split (place_of h == place_of a)
     (λ p.
     let same = is_the_same (place_of h) (place_of a) p in
-    let at : get_or (set nobody (place_of a) (life_of a)) (place_of h) 0 ≡ life_of a = ap (λ k. get_or (set nobody (place_of a) (life_of a)) k 0) same ∙ get_or-set_same nobody (place_of a) (life_of a) 0 (mod16 a) in
+    let at : get_or (set nobody (place_of a) (life_of a)) (place_of h) 0 ≡ life_of a = ap (λ k. get_or (set nobody (place_of a) (life_of a)) k 0) same
+    ∙ get_or-set_same nobody (place_of a) (life_of a) 0 (mod16 a) in
     let life = sym at ∙ is_the_same (slice_index (only_name a) (place_of h)) (life_of h) t in
     omega arith)
     (λ f. absurd (
     let other : place_of h ≢ place_of a = not_equal (place_of h) (place_of a) f in
-    let at : get_or (set nobody (place_of a) (life_of a)) (place_of h) 0 ≡ 0 = get_or-set_other nobody (place_of a) (place_of h) (life_of a) 0 other ∙ get_or-replicate 16 (place_of h) 0 0 (mod16 h) in
+    let at : get_or (set nobody (place_of a) (life_of a)) (place_of h) 0 ≡ 0 = get_or-set_other nobody (place_of a) (place_of h) (life_of a) 0 other
+    ∙ get_or-replicate 16 (place_of h) 0 0 (mod16 h) in
     let life = sym at ∙ is_the_same (slice_index (only_name a) (place_of h)) (life_of h) t in
     omega arith))
 
@@ -327,4 +344,5 @@ pub fetch_said : (w : World) (name : ℕ) (x : Node) (b : Ballot) (s : Group) (t
     → to ≡ only_name (best_of x b).by → FetchSays s name x.core.promise to
 fetch_said w name x b s to k h other none is = for_ballot
     (ap (λ (u : Stamp). u.by) (sym h.stands.promise) ∙ ((k.each name).ballot h.up h.ballot).by)
-    (λ j at. subst (AllShown s x.core.promise) (sym (only_one (best_of x b).by j (ap (λ set. has set j) (sym is) ∙ at))) (subst (λ (u : Stamp). AllShown s u (best_of x b).by) h.stamp (best_shown w name x b s k h other none)))
+    (λ j at. subst (AllShown s x.core.promise) (sym (only_one (best_of x b).by j (ap (λ set. has set j) (sym is) ∙ at)))
+    (subst (λ (u : Stamp). AllShown s u (best_of x b).by) h.stamp (best_shown w name x b s k h other none)))

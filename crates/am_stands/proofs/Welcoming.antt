@@ -58,7 +58,8 @@ pub is_welcomed : (v : World) (i : ℕ) (m n : Node) (a : groups.Node) (name : �
     → n.core.log.start ≤ m.core.base → m.core.acc ≤ n.core.acc → MayWelcome m n name → IsWelcomed n a.list name
 is_welcomed v i m n a name h good lives low up (just_joined number next high accepted stands) =
     let long = long_all v i n a h in
-    let at : item_at a.list (length a.list) ≡ Some (Join name) = (let z : length a.list ≡ number = long ∙ high in ap (item_at a.list) z ∙ list_item v i n a m.core.base number (Join name) h low stands) in
+    let at : item_at a.list (length a.list) ≡ Some
+    (Join name) = (let z : length a.list ≡ number = long ∙ high in ap (item_at a.list) z ∙ list_item v i n a m.core.base number (Join name) h low stands) in
     let member = last_joined a.list name at in
     let joins = joins_at a.list name good member in
     let within = joins.within in
@@ -71,11 +72,13 @@ is_welcomed v i m n a name h good lives low up (asks_again same life some stays 
     let same_q : q ≡ at_place (nodes.told m) name = ap (λ (g : Image). at_place g name) told_ in
     let joined : q.joined ≡ (at_place (nodes.told m) name).joined = ap (λ (r : Row). r.joined) same_q in
     let left : q.left ≡ 0 = ap (λ (r : Row). r.left) same_q ∙ stays in
-    let its : q.life ≡ life_of name = ap (λ (r : Row). r.life) same_q ∙ life (λ none. (let z = lives name (ap (λ (r : Row). r.life) same_q ∙ none) in let y : ⊥ = omega arith in y)) in
+    let its : q.life ≡ life_of name = ap (λ (r : Row). r.life) same_q
+    ∙ life (λ none. (let z = lives name (ap (λ (r : Row). r.life) same_q ∙ none) in let y : ⊥ = omega arith in y)) in
     let here : row_at (told a.list) (place_of name) ≡ q = ap (λ (g : Image). at_place g name) told_is in
     let in_ : In q (life_of name) = record { joined = omega arith; left = left; is = its } in
     let member = in_mem a.list name (subst (λ r. In r (life_of name)) (sym here) in_) in
-    let row : (row_of (nodes.told n) name).joined ≡ q.joined = ap (λ (r : Row). r.joined) (ap (λ (g : Image). row_of g name) (sym told_is) ∙ member_row a.list name member ∙ here) in
+    let row : (row_of (nodes.told n) name).joined ≡ q.joined = ap (λ (r : Row). r.joined)
+    (ap (λ (g : Image). row_of g name) (sym told_is) ∙ member_row a.list name member ∙ here) in
     record { member = member; accepted = omega arith }
 
 -- ---- the letter
@@ -141,7 +144,8 @@ welcome_to v i n s name h t f low kept is trimmed =
     let long = length_take n.core.base s.group trimmed.accepted in
     let front = length_take join a.list joins.within in
     let cut : Begins (take n.core.base s.group) a.list = begins_trans (begins_take n.core.base s.group) begins in
-    let there : mem (take n.core.base s.group) name ≡ true = mem_between name good (begins_both (begins_take join a.list) cut (omega arith)) cut joins.member is.member in
+    let there : mem (take n.core.base s.group) name ≡ true = mem_between name good
+    (begins_both (begins_take join a.list) cut (omega arith)) cut joins.member is.member in
     let stored = begins_length (trimmed.stored name (record { goes = runs; stays = never }) stays there) in
     let nothing = ap length ((h.kept.each name).blank none) in
     omega arith))))))

@@ -20,7 +20,8 @@ use Rattle.am_stands.specs.Steps.{MayMove}
 -- what the group accepted after a name's step: nothing more, or the sequencer's list up to what it accepted
 pub data Accepts (w : World) (s : Group) (name : ℕ) (n : Node) : Type 0 where
   no_more : group_after w.group n ≡ w.group → Accepts w s name n
-  rises : groups.Leads name (s.node name) → MayAccept s.node (s.node name).list (length s.group) n.core.acc → group_after w.group n ≡ take n.core.acc (s.node name).list → Accepts w s name n
+  rises : groups.Leads name (s.node name) → MayAccept s.node (s.node name).list (length s.group) n.core.acc
+      → group_after w.group n ≡ take n.core.acc (s.node name).list → Accepts w s name n
 
 -- how far the name's own list is accepted then: it has departed; it had no list and nothing changed; or it has one, and is told of
 -- nothing that the group hasn't accepted, nor that a later ballot hadn't chosen
@@ -72,5 +73,6 @@ closed x = record (refresh_at_end (pushed x (Leave x.core.who))) { status = Depa
 
 -- this ends its step
 abbrev pub CloseStands : Type 0
-CloseStands = (w : World) (e : Event) (name : ℕ) (c : Cause) (x : Node) (step : Step) (s : Group) → MayMove w name c x s → is_sequencer x ≡ true → x.leaving ≡ true → step.node ≡ closed x
+CloseStands = (w : World) (e : Event) (name : ℕ) (c : Cause) (x : Node) (step : Step) (s : Group) → MayMove w name c x s → is_sequencer x ≡ true
+    → x.leaving ≡ true → step.node ≡ closed x
     → NeedsClose w s name step.node → StandsBut name (within w name x) s → Leads (Stands (stepped w e name step)) s

@@ -37,7 +37,8 @@ pub record Grows (s t : Group) : Type 0 where
 
 -- what a letter says stays so, while records are added
 abbrev pub LettersStay : Type 0
-LettersStay = (w v : World) (s t : Group) (to : List ℕ) (p : Packet) → (rest : List Record) × (v.records ≡ w.records ++ rest) → Grows s t → PacketSays w s to p → PacketSays v t to p
+LettersStay = (w v : World) (s t : Group) (to : List ℕ) (p : Packet) → (rest : List Record) × (v.records ≡ w.records ++ rest) → Grows s t → PacketSays w s to p
+    → PacketSays v t to p
 
 -- ---- moves
 

@@ -9,3 +9,4 @@ pub mod Lawful
 pub mod Accepting
 pub mod Sending
 pub mod Branches
+pub mod Keeping

@@ -4,7 +4,7 @@ use Rattle.am_base.specs.declared.name.Stamp.{Stamp}
 use Rattle.am_base.specs.declared.entry.Entry.TheVariants.{Data}
 use Rattle.am_base.specs.declared.outcome.Outcome.TheVariants as said
 use Rattle.am_base.specs.Names.{has}
-use Rattle.am_base.specs.Lists.{at_place, row_of}
+use Rattle.am_base.specs.Lists.{at_place}
 use Rattle.am_packet.specs.declared.packet.Packet.{Packet}
 use Rattle.am_packet.specs.declared.packet.Packet.TheVariants as packet
 use Rattle.am_chain_lists.specs.Whole.{key}
@@ -16,7 +16,7 @@ use Rattle.am_model.specs.Group.{has_log}
 use Rattle.am_model.specs.World.{Decided, World}
 use Rattle.am_effects.specs.Causes.{Cause, hears}
 use Rattle.am_effects.specs.Looks.{HasOpen}
-use Rattle.am_effects.specs.Letters.{HasSend, MayWelcome, Says}
+use Rattle.am_effects.specs.Letters.{HasSend, Says}
 use Rattle.am_stands.specs.Standing.{NameStands, FrontsStand, ViewsStand}
 use Rattle.am_stands.specs.Letters.{Trimmed, AllShown, WasAsked, FetchSays, PacketSays}
 use Rattle.am_stands.specs.Moving.{Leads}
@@ -92,4 +92,5 @@ pub record SaysSo (v : World) (to : List ℕ) (p : Packet) (s t : Group) : Type 
 
 -- each letter that it sends is so, once a voter has shown what it tells, and served what it sends of
 abbrev pub SentSays : Type 0
-SentSays = (v : World) (i : ℕ) (c : Cause) (m n : Node) (s : Group) (to : List ℕ) (p : Packet) → Sender v i c m n s → Says m c n to p → Leads (SaysSo v to p s) s
+SentSays = (v : World) (i : ℕ) (c : Cause) (m n : Node) (s : Group) (to : List ℕ) (p : Packet) → Sender v i c m n s → Says m c n to p
+    → Leads (SaysSo v to p s) s

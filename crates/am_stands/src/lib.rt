@@ -3,9 +3,10 @@
 #![tactic(auto)]
 
 ghost use Rattle.am_stands.specs.Accepting.{RefreshAccepts, RefreshLearns, ClosingAccepts};
-ghost use Rattle.am_stands.specs.Branches.{MovesBranch, DecisionsAreNew, BranchesBegin};
+ghost use Rattle.am_stands.specs.Branches.{MovesBranch, MovesNamed, DecisionsAreNew, BranchesBegin};
 ghost use Rattle.am_stands.specs.Ends.{EndsStand, CloseStands};
 ghost use Rattle.am_stands.specs.Growing.{LettersStay, MovesGrow};
+ghost use Rattle.am_stands.specs.Keeping.{ChangesGoOn, RefreshesKeep};
 ghost use Rattle.am_stands.specs.Lawful.{RunsGoOn};
 ghost use Rattle.am_stands.specs.Standing.{StartStands};
 ghost use Rattle.am_stands.specs.Sending.{SentSays};
@@ -73,9 +74,18 @@ pub fn views_leave_out()
 {}
 
 /// What a name has that hasn't departed is on the chain, or was left out of it by a View; so a decision finds what each of its members has,
-/// also one that leaves or has stopped, where each of them has voted.
+/// also one that leaves or has stopped, where each of them has voted. And who joins on the chain is one of the 256 names.
 pub fn decisions_find_leavers()
     ensures begin { BranchesBegin }
     ensures moves { MovesBranch }
     ensures new { DecisionsAreNew }
+    ensures names { MovesNamed }
+{}
+
+/// What is known within a step of its node, of the letter that it heard and of the group, gives each change what it needs, and is known again
+/// after it, but after a refresh and after the last member's end. A refresh keeps what the node keeps, once the group has accepted what it
+/// accepts.
+pub fn steps_go_on()
+    ensures change { ChangesGoOn }
+    ensures refresh { RefreshesKeep }
 {}
