@@ -42,7 +42,8 @@ use Rattle.am_repair.proofs.Leading.{least_low, base_low, looked_open}
 
 -- ---- who is a member after an entry was one before, but for a joiner
 
-set_back : (image : Image) (name i : ℕ) (r : Row) → length image.rows ≡ 16 → (In r (life_of i) → In (row_at image (place_of name)) (life_of i)) → In (row_at (with_row image name r) (place_of i)) (life_of i)
+set_back : (image : Image) (name i : ℕ) (r : Row) → length image.rows ≡ 16 → (In r (life_of i) → In (row_at image (place_of name)) (life_of i))
+    → In (row_at (with_row image name r) (place_of i)) (life_of i)
     → In (row_at image (place_of i)) (life_of i)
 set_back image name i r long back h = ⊎_elim
     (λ (x : (place_of i ≡ place_of name) × (row_at (with_row image name r) (place_of i) ≡ r)).
@@ -50,32 +51,39 @@ set_back image name i r long back h = ⊎_elim
     (λ (x : (place_of i ≢ place_of name) × (row_at (with_row image name r) (place_of i) ≡ row_at image (place_of i))). subst (λ y. In y (life_of i)) x.1 h)
     (row_set image name (place_of i) r long)
 
-data_back : (image : Image) (n from req i : ℕ) (body : List ℕ) → length image.rows ≡ 16 → In (row_at (after image n (Data from req body)) (place_of i)) (life_of i) → In (row_at image (place_of i)) (life_of i)
+data_back : (image : Image) (n from req i : ℕ) (body : List ℕ) → length image.rows ≡ 16
+    → In (row_at (after image n (Data from req body)) (place_of i)) (life_of i) → In (row_at image (place_of i)) (life_of i)
 unfolding after
 data_back image n from req i body long h = split ((at_place image from).life == life_of from)
-    (λ t. set_back image from i (record (at_place image from) { last = req }) long (λ x. record { joined = x.joined; left = x.left; is = x.is }) (rw t at h))
+    (λ t. set_back image from i (record (at_place image from) { last = req }) long (λ x. record { joined = x.joined; left = x.left; is = x.is })
+    (rw t at h))
     (λ f. rw f at h)
 
-leave_back : (image : Image) (n name i : ℕ) → length image.rows ≡ 16 → 0 < n → In (row_at (after image n (Leave name)) (place_of i)) (life_of i) → In (row_at image (place_of i)) (life_of i)
+leave_back : (image : Image) (n name i : ℕ) → length image.rows ≡ 16 → 0 < n → In (row_at (after image n (Leave name)) (place_of i)) (life_of i)
+    → In (row_at image (place_of i)) (life_of i)
 unfolding after
 leave_back image n name i long up h = split ((at_place image name).life == life_of name)
     (λ t. set_back image name i (record (at_place image name) { left = n }) long (λ x. absurd (let none = x.left in omega arith)) (rw t at h))
     (λ f. rw f at h)
 
-join_back : (image : Image) (n name i : ℕ) → length image.rows ≡ 16 → (i == name) ≡ false → In (row_at (after image n (Join name)) (place_of i)) (life_of i) → In (row_at image (place_of i)) (life_of i)
+join_back : (image : Image) (n name i : ℕ) → length image.rows ≡ 16 → (i == name) ≡ false
+    → In (row_at (after image n (Join name)) (place_of i)) (life_of i) → In (row_at image (place_of i)) (life_of i)
 unfolding after
 join_back image n name i long other h = ⊎_elim
-    (λ (x : (place_of i ≡ place_of name) × (row_at (after image n (Join name)) (place_of i) ≡ record { life = life_of name; joined = n; left = 0; last = 0 })).
+    (λ (x : (place_of i ≡ place_of name) × (row_at (after image n (Join name))
+    (place_of i) ≡ record { life = life_of name; joined = n; left = 0; last = 0 })).
     absurd (
     let is = (subst (λ y. In y (life_of i)) x.1 h).is in
     let place = x.0 in
     let same : i ≡ name = omega arith in
     let z : ⊥ = grind (arith, nat_tests) in z))
-    (λ (x : (place_of i ≢ place_of name) × (row_at (after image n (Join name)) (place_of i) ≡ row_at image (place_of i))). subst (λ y. In y (life_of i)) x.1 h)
+    (λ (x : (place_of i ≢ place_of name) × (row_at (after image n (Join name)) (place_of i) ≡ row_at image (place_of i))). subst
+    (λ y. In y (life_of i)) x.1 h)
     (row_set image name (place_of i) (record { life = life_of name; joined = n; left = 0; last = 0 }) long)
 
 -- a member of a longer list
-member_back : (m : Node) (e : Entry) (i : ℕ) → Fronts m → (length (told m).rows ≡ 16 → In (row_at (after (told m) (top m + 1) e) (place_of i)) (life_of i) → In (row_at (told m) (place_of i)) (life_of i))
+member_back : (m : Node) (e : Entry) (i : ℕ) → Fronts m → (length (told m).rows ≡ 16 → In (row_at (after (told m) (top m + 1) e) (place_of i)) (life_of i)
+    → In (row_at (told m) (place_of i)) (life_of i))
     → has (members (pushed m e)) i ≡ true → has (members m) i ≡ true
 member_back m e i f back there =
     let used = told_used m f in
@@ -104,7 +112,8 @@ lead_trims m i f there low =
     let c = (lead m).core in
     let kept = f.kept in let base = f.base in let given = f.given in let accepted = f.accepted in
     let up = lead_raises m i in
-    base_low ((lead m).reports i).taken m.core.base _ (omega arith) (λ to is. least_low m (lead m).reports (record c { base = m.core.base }) i to f refl (omega arith) (omega arith) there is)
+    base_low ((lead m).reports i).taken m.core.base _ (omega arith) (λ to is. least_low m (lead m).reports (record c { base = m.core.base }) i to f refl
+    (omega arith) (omega arith) there is)
 
 known_refresh : (m : Node) → Fronts m → TrimsKnown m → TrimsKnown (refresh m)
 unfolding refresh lead let_go own_report go_on pass_over accept tell
@@ -125,27 +134,32 @@ known_report : (m : Node) (s : ℕ) (report : Report) → TrimsKnown m → Trims
 known_report m s report h t i few there = let a = h t i few there in let b = raise_taken m.reports s report i in omega arith
 
 -- no more members than before
-known_pushed : (m : Node) (e : Entry) → is_sequencer (pushed m e) ≡ is_sequencer m → ((i : ℕ) → has (members (pushed m e)) i ≡ true → has (members m) i ≡ true) → TrimsKnown m → TrimsKnown (pushed m e)
+known_pushed : (m : Node) (e : Entry) → is_sequencer (pushed m e) ≡ is_sequencer m
+    → ((i : ℕ) → has (members (pushed m e)) i ≡ true → has (members m) i ≡ true) → TrimsKnown m → TrimsKnown (pushed m e)
 known_pushed m e same back h t i few there = h (sym same ∙ t) i few (back i there)
 
 -- a joiner begins at the base
 pub known_joined : (m : Node) (s : ℕ) → Fronts m → TrimsKnown m → TrimsKnown (pushed (admitted m s) (Join s))
 known_joined m s f h t i few there = split (i == s)
     (λ same. rw same (omega arith))
-    (λ other. rw other (h (sym (leads_pushed m (Join s) refl) ∙ t) i few (member_back m (Join s) i f (λ long x. join_back (told m) (top m + 1) s i long other x) there)))
+    (λ other. rw other (h (sym (leads_pushed m (Join s) refl) ∙ t) i few
+    (member_back m (Join s) i f (λ long x. join_back (told m) (top m + 1) s i long other x) there)))
 
 abbrev pub NoJoin : Cause → Type 0
 NoJoin c = (s : ℕ) (v : Stamp) → c ≡ hears (packet.JoinAsk s v) → ⊥
 
 known_numbered : (c : Cause) (m : Node) (e : Entry) → NoJoin c → Numbers c m e → Fronts m → TrimsKnown m → TrimsKnown (pushed m e)
 known_numbered c m e none (asked_send s v report req body by known left next) f h =
-    known_pushed m (Data s req body) (leads_pushed m (Data s req body) refl) (λ i there. member_back m (Data s req body) i f (λ long x. data_back (told m) (top m + 1) s req i body long x) there) h
+    known_pushed m (Data s req body) (leads_pushed m (Data s req body) refl)
+    (λ i there. member_back m (Data s req body) i f (λ long x. data_back (told m) (top m + 1) s req i body long x) there) h
 known_numbered c m e none (own_send s is last) f h =
     let d = Data m.core.who s.req s.body in
-    known_pushed m d (leads_pushed m d refl) (λ i there. member_back m d i f (λ long x. data_back (told m) (top m + 1) m.core.who s.req i s.body long x) there) h
+    known_pushed m d (leads_pushed m d refl) (λ i there. member_back m d i f
+    (λ long x. data_back (told m) (top m + 1) m.core.who s.req i s.body long x) there) h
 known_numbered c m e none (asked_join s v is other fit) f h = absurd (none s v is)
 known_numbered c m e none (asked_leave s v report is other known stays) f h =
-    known_pushed m (Leave s) (leads_pushed m (Leave s) refl) (λ i there. member_back m (Leave s) i f (λ long x. leave_back (told m) (top m + 1) s i long (omega arith) x) there) h
+    known_pushed m (Leave s) (leads_pushed m (Leave s) refl) (λ i there. member_back m (Leave s) i f
+    (λ long x. leave_back (told m) (top m + 1) s i long (omega arith) x) there) h
 
 -- ---- who doesn't lead
 
@@ -195,7 +209,8 @@ known_look m b v (finds_no_room learned) none = λ t i few there. absurd (none t
 known_look m b v (decides may) none = λ t i few there. (let low : nat_lt i 256 ≡ true = grind (arith, nat_tests) in rw low (omega arith))
 
 -- what is fetched is no View of its own
-fetch_leads : (m : Node) (s : ℕ) (v : Stamp) (base : ℕ) (e : Entry) → Fetches m s v e → (s == m.core.who) ≡ false → stamp_eq v m.core.promise ≡ true → stamp_eq (view m) v ≡ false
+fetch_leads : (m : Node) (s : ℕ) (v : Stamp) (base : ℕ) (e : Entry) → Fetches m s v e → (s == m.core.who) ≡ false → stamp_eq v m.core.promise ≡ true
+    → stamp_eq (view m) v ≡ false
     → is_sequencer (pushed (trimmed m base) e) ≡ true → ⊥
 fetch_leads m s v base e why other same below t = split (is_view e) (λ is. viewed e why is t) (λ plain. unviewed e plain t)
   where
@@ -208,7 +223,8 @@ fetch_leads m s v base e why other same below t = split (is_view e) (λ is. view
         let z : stamp_eq (view m) v ≡ true = ap (λ x. stamp_eq x v) (sym p ∙ sym promise) ∙ same_is_equal v in
         cc
 
-    by_name : (stamp : Stamp) (names : List ℕ) (resilience : ℕ) → Fetches m s v (View stamp names resilience) → stamp ≡ v → ((stamp.by == m.core.who) ≡ false → is_sequencer (pushed (trimmed m base) (View stamp names resilience)) ≡ true → ⊥)
+    by_name : (stamp : Stamp) (names : List ℕ) (resilience : ℕ) → Fetches m s v (View stamp names resilience) → stamp ≡ v
+        → ((stamp.by == m.core.who) ≡ false → is_sequencer (pushed (trimmed m base) (View stamp names resilience)) ≡ true → ⊥)
         → is_sequencer (pushed (trimmed m base) (View stamp names resilience)) ≡ true → ⊥
     by_name stamp names resilience (without_ballot none own past) at f t =
         let a = by_sender v s own in
@@ -239,7 +255,8 @@ known_change c o m n none k f (admits s v is leads fit) h = absurd (none s v is)
 known_change c o m n none k f (numbers e leads room why) h = known_numbered c m e none why f h
 known_change c o m n none k f (keeps_body s v report req body is heard) h = h
 known_change c o m n none k f (notes s v base acc brings heard) h = λ t i few there. absurd (let g = follows m s v heard in cc)
-known_change c o m n none k f (stores s v base acc number e carries heard plain may) h = λ t i few there. absurd (let g = follows m s v heard in let same = leads_pushed m e plain in cc)
+known_change c o m n none k f (stores s v base acc number e carries heard plain may) h = λ t i few there. absurd
+    (let g = follows m s v heard in let same = leads_pushed m e plain in cc)
 known_change c o m n none k f (begins_list s v base join image is says may) h = λ t i few there. absurd (
     let own = by_sender v s may.own in
     let p = leader_promise n t in
@@ -249,8 +266,10 @@ known_change c o m n none k f (promises v low why) h = λ t i few there. absurd 
 known_change c o m n none k f (opens least resilience begins may) h = λ t i few there. absurd (
     let above = at_most_below (view m) m.core.promise (next_stamp m) k.high (next_above m.core.promise m.core.who) in
     above_view n above t)
-known_change c o m n none k f (looks b verdict over why look is) h = (let old = looked_open c m b why in known_look m b verdict look (open_leads m old.0 old.1 k))
-known_change c o m n none k f (fetches s v base number e is heard promise below why may) h = λ t i few there. absurd (fetch_leads m s v base e why (other_member m s heard) promise below t)
+known_change c o m n none k f (looks b verdict over why look is) h = (let old = looked_open c m b why in known_look m b verdict look
+    (open_leads m old.0 old.1 k))
+known_change c o m n none k f (fetches s v base number e is heard promise below why may) h = λ t i few there. absurd
+    (fetch_leads m s v base e why (other_member m s heard) promise below t)
 known_change c o m n none k f (stores_view s v base number names resilience is heard own other promise below may) h = λ t i few there. absurd (
     other_view n v.by (ap (λ (x : Stamp). x.by) (view_last (trimmed m base) v names resilience)) other t)
 known_change c o m n none k f (queues body is says member stays few_) h = h

@@ -41,10 +41,12 @@ use Rattle.am_repair.proofs.Knowing.{NoJoin, known_change, known_end, known_join
 
 -- ---- a step of another cause than a request to join
 
-known_changes : (rules : Rules) {c : Cause} {o : Outcome} (m n : Node) → NoJoin c → HeardNames c → HeardUsed c → Changes c o m n → Along rules m → TrimsKnown m → TrimsKnown n
+known_changes : (rules : Rules) {c : Cause} {o : Outcome} (m n : Node) → NoJoin c → HeardNames c → HeardUsed c → Changes c o m n → Along rules m
+    → TrimsKnown m → TrimsKnown n
 known_changes rules m n none names used no_change a h = h
 known_changes rules m n none names used (changed {n = x} one more) a h =
-    known_changes rules x n none names used more (along_changes rules m x names used (changed one no_change) a) (known_change _ _ m x none a.balloted a.owned.fronts one h)
+    known_changes rules x n none names used more (along_changes rules m x names used (changed one no_change) a)
+    (known_change _ _ m x none a.balloted a.owned.fronts one h)
 
 -- ---- a request to join
 
@@ -77,14 +79,17 @@ asked_known : (m : Node) (s : ℕ) (q : Row) → Fronts m → TrimsKnown m → P
 asked_known m s q f h =
     plan_if (nat_lt (life_of s) q.life) _ _ (λ t. record { stays = refl; fronts = f; known = h })
     (λ a. plan_if ((q.life == life_of s) && nat_lt 0 q.left) _ _ (λ t. record { stays = refl; fronts = f; known = h })
-    (λ b. plan_if (nat_lt q.life (life_of s) && (nat_lt 0 q.life && ((q.left == 0) || nat_lt m.core.acc q.left))) _ _ (λ t. record { stays = refl; fronts = f; known = h })
+    (λ b. plan_if (nat_lt q.life (life_of s) && (nat_lt 0 q.life && ((q.left == 0) || nat_lt m.core.acc q.left))) _ _
+    (λ t. record { stays = refl; fronts = f; known = h })
     (λ c. plan_if (fits (told m) (Join s) && not (has_room m)) _ _ (λ t. record { stays = refl; fronts = f; known = h })
     (λ d. plan_if (fits (told m) (Join s)) _ _ (λ fit. record { stays = refl; fronts = joined_fronts m s f fit; known = known_joined m s f h })
-    (λ e. plan_if (nat_le q.joined (m.reports s).stored || nat_lt m.core.acc q.joined) _ _ (λ t. record { stays = refl; fronts = f; known = h }) (λ t. record { stays = refl; fronts = f; known = h }))))))
+    (λ e. plan_if (nat_le q.joined (m.reports s).stored || nat_lt m.core.acc q.joined) _ _ (λ t. record { stays = refl; fronts = f; known = h })
+    (λ t. record { stays = refl; fronts = f; known = h }))))))
 
 join_ends : (m : Node) (s : ℕ) (v : Stamp) → Fronts m → TrimsKnown m → TrimsKnown (hear m (packet.JoinAsk s v)).node
 unfolding hear hear_row join_ask_row
-join_ends m s v f h = plan_known m _ (plan_if (hears_member m s && is_sequencer m) _ _ (λ t. asked_known m s (at_place (told m) s) f h) (λ t. record { stays = refl; fronts = f; known = h }))
+join_ends m s v f h = plan_known m _ (plan_if (hears_member m s && is_sequencer m) _ _ (λ t. asked_known m s (at_place (told m) s) f h)
+    (λ t. record { stays = refl; fronts = f; known = h }))
 
 refused_known : (m : Node) (cause : ℕ) → Fronts m → TrimsKnown m → TrimsKnown (refused m cause).node
 unfolding refused finish
@@ -141,25 +146,30 @@ is_join None = false
 is_join (Some l) = kind_of l.packet == 9
 
 -- a request to join is heard, whole or in part
-trim_letter : (w : World) (e : Event) (name : ℕ) (hearing : Packet → Step) (o : Option Letter) → ((p : Packet) → (kind_of p == 9) ≡ true → TrimsKnown (hearing p).node) → is_join o ≡ true → AllTrim w → AllTrim (heard w e name hearing o)
+trim_letter : (w : World) (e : Event) (name : ℕ) (hearing : Packet → Step) (o : Option Letter)
+    → ((p : Packet) → (kind_of p == 9) ≡ true → TrimsKnown (hearing p).node) → is_join o ≡ true → AllTrim w → AllTrim (heard w e name hearing o)
 trim_letter w e name hearing None k t h = absurd (cc)
 trim_letter w e name hearing (Some l) k t h =
     trim_if (not (is_for l name)) _ _ (trim_unchanged w e said.NotAddressed h)
     (trim_if (is_stopped w name) _ _ (trim_unchanged w e said.IsStopped h) (trim_step w e name (hearing l.packet) h (k l.packet t)))
 
-trim_join : (rules : Rules) (w : World) (e : Event) (a : Act) → AllOwned rules w → AllTrim w → is_join (letter_at w.letters (heard_by a)) ≡ true → AllTrim (acts_as w e (actor w e) a)
+trim_join : (rules : Rules) (w : World) (e : Event) (a : Act) → AllOwned rules w → AllTrim w → is_join (letter_at w.letters (heard_by a)) ≡ true
+    → AllTrim (acts_as w e (actor w e) a)
 trim_join rules w e (act.Hear number) laws h t =
     let name = actor w e in
     let few = few_names rules w e laws.blanks.views.named in
-    trim_letter w e name (hear (w.nodes name)) (letter_at w.letters number) (λ p u. asks_known (w.nodes name) p u (laws.each name few).fronts (h name few)) t h
+    trim_letter w e name (hear (w.nodes name)) (letter_at w.letters number)
+    (λ p u. asks_known (w.nodes name) p u (laws.each name few).fronts (h name few)) t h
 trim_join rules w e (act.Cut number keep) laws h t =
     let name = actor w e in
     let few = few_names rules w e laws.blanks.views.named in
-    trim_letter w e name (hear_cut (w.nodes name) keep) (letter_at w.letters number) (λ p u. cut_known (w.nodes name) keep p u (laws.each name few).fronts (h name few)) t h
+    trim_letter w e name (hear_cut (w.nodes name) keep) (letter_at w.letters number)
+    (λ p u. cut_known (w.nodes name) keep p u (laws.each name few).fronts (h name few)) t h
 trim_join rules w e _ laws h t = absurd (cc)
 
 -- anything else
-trim_happens : (rules : Rules) (w : World) (e : Event) (v : World) → AllOwned rules w → AllTrim w → is_join (letter_at w.letters (heard_by e.act)) ≡ false → Happens w e v → AllTrim v
+trim_happens : (rules : Rules) (w : World) (e : Event) (v : World) → AllOwned rules w → AllTrim w → is_join (letter_at w.letters (heard_by e.act)) ≡ false
+    → Happens w e v → AllTrim v
 unfolding unchanged stepped
 trim_happens rules w e v laws h none (idles o idle) = h
 trim_happens rules w e v laws h none (stops runs) = h
@@ -168,19 +178,22 @@ trim_happens rules w e v laws h none (steps c s runs cause effect) =
     let name = actor w e in
     let few = few_names rules w e laws.blanks.views.named in
     let no_join : NoJoin c = λ sender stamp is. (let was = subst (IsCause w name e.act) is cause in
-        let kind : (kind_of was.letter.packet == 9) ≡ true = ap (λ p. kind_of p == 9) was.is in
-        let there = ap is_join was.there in
-        cc) in
-    trim_step w e name s h (known_changes rules (w.nodes name) s.node no_join (heard_names rules w e c laws.blanks.views cause) (heard_used rules w e c laws cause) effect.changes (each_along rules w name few laws) (h name few))
+    let kind : (kind_of was.letter.packet == 9) ≡ true = ap (λ p. kind_of p == 9) was.is in
+    let there = ap is_join was.there in
+    cc) in
+    trim_step w e name s h (known_changes rules (w.nodes name) s.node no_join (heard_names rules w e c laws.blanks.views cause)
+    (heard_used rules w e c laws cause) effect.changes (each_along rules w name few laws) (h name few))
 
 trim_event : (rules : Rules) (w : World) (e : Event) → AllOwned rules w → AllTrim w → AllTrim (happens w e)
 unfolding happens
-trim_event rules w e laws h = split (is_join (letter_at w.letters (heard_by e.act))) (λ t. trim_join rules w e e.act laws h t) (λ f. trim_happens rules w e (happens w e) laws h f (events_have_effects w e))
+trim_event rules w e laws h = split (is_join (letter_at w.letters (heard_by e.act))) (λ t. trim_join rules w e e.act laws h t)
+    (λ f. trim_happens rules w e (happens w e) laws h f (events_have_effects w e))
 
 trim_along : (rules : Rules) (w : World) (es : List Event) → AllOwned rules w → AllTrim w → AllTrim (happen w es)
 unfolding happen
 trim_along rules w [] laws h = h
-trim_along rules w (e ∷ es) laws h = trim_along rules (happens w e) es (each_owned rules w e (happens w e) (events_have_effects w e) laws) (trim_event rules w e laws h)
+trim_along rules w (e ∷ es) laws h = trim_along rules (happens w e) es (each_owned rules w e (happens w e) (events_have_effects w e) laws)
+    (trim_event rules w e laws h)
 
 trim_start : (rules : Rules) → AllTrim (start rules)
 trim_start rules name few = split (has rules.founders name) (λ t. rw t (λ u i low there. omega arith)) (λ f. rw f (λ u i low there. omega arith))

@@ -214,7 +214,8 @@ one_list_agrees rules events place may low repair one settled_ =
           let who = laws.blanks.views.named.who name in
           let known = sequencers_trim_known rules events by may few repair.leads name low_ there in
           agrees w q m one.good own (one.each name (acting m act.0).0) act.1 leads (laws.each name low_).fronts
-          (subst (λ i. q.core.base ≤ (q.reports i).taken) (sym who) known) (subst (λ i. (q.reports i).taken ≤ m.core.taken) (sym who) (settled_.taken name there)));
+          (subst (λ i. q.core.base ≤ (q.reports i).taken) (sym who) known)
+          (subst (λ i. (q.reports i).taken ≤ m.core.taken) (sym who) (settled_.taken name there)));
       alone = λ name member. listed_is w q name own (one.listed name member);
       fit = λ number e there. fits_there w q number e one.good own there;
       counted = settled_.counted;
