@@ -102,7 +102,7 @@ is_member_now r m name h there = ap (λ (i : Image). has (members_of i) name) (s
 -- ---- a refresh
 
 -- what a member has reported to have taken bounds what is let go
-least_low : (m : Node) (kept : ℕ → Report) (c : CoreState) (name to : ℕ) → Fronts m → c.log ≡ m.core.log → c.log.start ≤ c.acc → c.acc ≤ top_of c.log
+pub least_low : (m : Node) (kept : ℕ → Report) (c : CoreState) (name to : ℕ) → Fronts m → c.log ≡ m.core.log → c.log.start ≤ c.acc → c.acc ≤ top_of c.log
     → has (members m) name ≡ true
     → least_taken kept (since_accepted c) ≡ Some to → to ≤ (kept name).taken
 least_low m kept c name to f log low high member least =
@@ -114,7 +114,7 @@ least_low m kept c name to f log low high member least =
     let told_is = used_fold c.log.image (c.log.start + 1) c.log.entries (omega arith) used in
     least_within kept d (top_of c.log) to used joins low high (omega arith) at (member_row (told_by c.log) name told_is here) (omega arith) least
 
-base_low : (taken base : ℕ) (least : Option ℕ) → base ≤ taken → ((to : ℕ) → least ≡ Some to → to ≤ taken) → base_after least base ≤ taken
+pub base_low : (taken base : ℕ) (least : Option ℕ) → base ≤ taken → ((to : ℕ) → least ≡ Some to → to ≤ taken) → base_after least base ≤ taken
 base_low taken base None low h = low
 base_low taken base (Some to) low h = let t = h to refl in omega arith
 

@@ -26,6 +26,8 @@ pub mod Beginning
 pub mod Lawfully
 pub mod OneLists
 pub mod Claims
+pub mod Knowing
+pub mod KnownRuns
 pub mod Ticks
 pub mod Members
 pub mod Sequencers

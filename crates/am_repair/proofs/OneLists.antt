@@ -1,5 +1,5 @@
 -- What one list of a group gives: each member's list tells what the sequencer's tells up to there.
-use Rattle.std.proofs.Common.{◌≡◌, ◌⊎◌, inl, inr, ⊎_elim, ℕ, zero, suc, ◌+◌, ◌-◌, ◌<◌, ◌≤◌, nat_le, true, List, [], ◌∷◌, length, take, Some, slice_get, refl, sym, ap, ◌∙◌, arith, length-append}
+use Rattle.std.proofs.Common.{◌≡◌, ◌⊎◌, inl, inr, ⊎_elim, ℕ, zero, suc, ◌+◌, ◌-◌, ◌<◌, ◌≤◌, nat_le, true, List, [], ◌∷◌, length, take, Some, slice_get, refl, sym, ap, ◌∙◌, arith, length-append, subst}
 use Rattle.std.proofs.lemmas.Bool.{cases_lt}
 use Rattle.std.proofs.lemmas.Bool.Decides.{nat_tests}
 use Rattle.std.proofs.Math.Seq.{take-append-add}
@@ -20,13 +20,13 @@ use Rattle.am_model.specs.Lawful as lists
 use Rattle.am_model.specs.World.{World}
 use Rattle.am_model.proofs.Greatest.{split}
 use Rattle.am_model.specs.World.{current, run}
-use Rattle.am_base.specs.Founding.{Rules}
 use Rattle.std.proofs.lemmas.Option.{slice_get_within}
 use Rattle.am_laws.proofs.Trims.{Fronts}
 use Rattle.am_laws.proofs.TakenRuns.{run_owned}
 use Rattle.am_laws.proofs.ViewSteps.{after_same}
-use Rattle.am_repair.specs.Standing.{IsBeginning, IsTaken, Agrees, OneListAgrees}
+use Rattle.am_repair.specs.Standing.{IsBeginning, Agrees, OneListAgrees}
 use Rattle.am_repair.proofs.Nodes.{acting, leading}
+use Rattle.am_repair.proofs.KnownRuns.{sequencers_trim_known}
 use Rattle.am_repair.proofs.Beginning.{few_acting}
 use Rattle.am_repair.proofs.Lists.{entry_within}
 
@@ -180,20 +180,20 @@ listed_is : (w : World) (q : Node) (name : ℕ) → IsBeginning w q q → mem (l
 unfolding mem
 listed_is w q name own there = ap (λ (i : Image). has (members_of i) name) (sym (whole_told w q q own)) ∙ there
 
-agrees : (rules : Rules) (w : World) (q m : Node) → IsGood (lists.whole w q) → IsBeginning w q q → IsBeginning w q m → view m ≡ view q → Fronts q
-    → Fronts m → IsTaken q m → Agrees q m
-agrees rules w q m good own h same fq fm t =
+agrees : (w : World) (q m : Node) → IsGood (lists.whole w q) → IsBeginning w q q → IsBeginning w q m → view m ≡ view q → Fronts q → Fronts m
+    → q.core.base ≤ (q.reports m.core.who).taken → (q.reports m.core.who).taken ≤ m.core.taken → Agrees q m
+agrees w q m good own h same fq fm known taken =
     let kept = fq.kept in
-    let base = t.base in
-    let given = fm.given in let accepted = fm.accepted in
+    let given = fm.given in
+    let accepted = fm.accepted in
     let low : q.core.log.start ≤ top m = omega arith in
     record {
       reached = has_last_view w q m good own h same;
       low = low;
       within = goes_no_further w q m own h;
       told_ = tells_same w q m own h low;
-      base = t.base;
-      reported = t.reported;
+      base = omega arith;
+      reported = taken;
     }
 
 pub one_list_agrees : OneListAgrees
@@ -204,13 +204,18 @@ one_list_agrees rules events place may low repair one settled_ =
     let laws = run_owned rules events may in
     let acts_ = (leading q repair.leads).0 in
     let own = one.each by (acting q acts_).0 in
-    let leads = (laws.each by (few_acting rules w by laws acts_)).fronts in
+    let few = few_acting rules w by laws acts_ in
+    let leads = (laws.each by few).fronts in
     record {
       each = λ name there.
           (let act = repair.all_act name there in
           let m = w.nodes name in
-          agrees rules w q m one.good own (one.each name (acting m act.0).0) act.1 leads (laws.each name (few_acting rules w name laws act.0)).fronts
-          (settled_.taken name there));
+          let low_ = few_acting rules w name laws act.0 in
+          let who = laws.blanks.views.named.who name in
+          let known = sequencers_trim_known rules events by may few repair.leads name low_ there in
+          agrees w q m one.good own (one.each name (acting m act.0).0) act.1 leads (laws.each name low_).fronts
+          (subst (λ i. q.core.base ≤ (q.reports i).taken) (sym who) known)
+          (subst (λ i. (q.reports i).taken ≤ m.core.taken) (sym who) (settled_.taken name there)));
       alone = λ name member. listed_is w q name own (one.listed name member);
       fit = λ number e there. fits_there w q number e one.good own there;
       counted = settled_.counted;

@@ -57,13 +57,9 @@ pub record IsOneList (w : World) (q : Node) : Type 0 where
   pub each : (name : ℕ) → is_member (w.nodes name).status ≡ true → IsBeginning w q (w.nodes name)
   pub listed : (name : ℕ) → is_member (w.nodes name).status ≡ true → whole.mem (lists.whole w q) name ≡ true
 
--- what is left: what the sequencer trims and knows was taken, and who has left is accepted to have left
-pub record IsTaken (q m : Node) : Type 0 where
-  pub base : q.core.base ≤ m.core.taken
-  pub reported : (q.reports m.core.who).taken ≤ m.core.taken
-
+-- what is left: what the sequencer knows to be taken was taken, and who has left is accepted to have left
 pub record IsSettled (w : World) (q : Node) : Type 0 where
-  pub taken : (name : ℕ) → has (members q) name ≡ true → IsTaken q (w.nodes name)
+  pub taken : (name : ℕ) → has (members q) name ≡ true → (q.reports name).taken ≤ (w.nodes name).core.taken
   pub counted : (number : ℕ) → q.core.acc < number → number ≤ top q → (told q).view_number ≤ number
       → All (λ name. has (members q) name ≡ true) (names_of (counted_at q.core.log number))
 

@@ -2,6 +2,7 @@
 #![tactic(auto)]
 
 ghost use Rattle.am_repair.specs.Standing.{OneListAgrees, RepairableIsLawful, RepairsWhereListsAgree};
+ghost use Rattle.am_repair.specs.Known.{SequencersTrimKnown};
 ghost use Rattle.am_repair.specs.Rounds.{CalmStays, RoundsStore};
 ghost use Rattle.am_repair.specs.Rows.{
   EntriesAreStored,
@@ -53,8 +54,13 @@ pub fn repairable_runs_are_lawful()
     ensures { RepairableIsLawful }
 {}
 
-/// Lists agree where the sequencer's whole list fits and each Member's begins it, where what it trims and knows was taken, and where who has
-/// left is accepted to have left.
+/// A sequencer trims no more than it knows each member of its list to have taken.
+pub fn sequencers_trim_known()
+    ensures { SequencersTrimKnown }
+{}
+
+/// Lists agree where the sequencer's whole list fits and each Member's begins it, where what it knows to be taken was taken, and where who
+/// has left is accepted to have left.
 pub fn one_list_agrees()
     ensures { OneListAgrees }
 {}

@@ -1,0 +1,280 @@
+-- A sequencer trims no more than it knows each member of its list to have taken: each change keeps it.
+use Rattle.std.proofs.Common.{◌≡◌, ◌≢◌, ⊎_elim, ℕ, ◌+◌, ◌<◌, ◌≤◌, ◌==◌, ◌||◌, not, nat_lt, true, false, List, length, refl, sym, ap, ◌∙◌, subst, arith}
+use Rattle.std.proofs.lemmas.Bool.Decides.{nat_tests}
+use Rattle.am_base.specs.declared.name.Stamp.{Stamp}
+use Rattle.am_base.specs.declared.image.Image.{Image}
+use Rattle.am_base.specs.declared.image.Report.{Report}
+use Rattle.am_base.specs.declared.image.Row.{Row}
+use Rattle.am_base.specs.declared.entry.Entry.{Entry}
+use Rattle.am_base.specs.declared.entry.Entry.TheVariants.{Data, Join, Leave, View}
+use Rattle.am_base.specs.declared.outcome.Outcome.{Outcome}
+use Rattle.am_base.specs.Names.{place_of, life_of, has}
+use Rattle.am_base.specs.Stamps.{stamp_lt, stamp_eq}
+use Rattle.am_base.specs.Lists.{at_place, members_of, with_row, after}
+use Rattle.am_packet.specs.declared.packet.Packet.TheVariants as packet
+use Rattle.am_chain_lists.proofs.Rows.{row_at, In, row_set, long_after}
+use Rattle.am_core.specs.Cores.{accept, pass_over}
+use Rattle.am_fronts.specs.Reports as reports
+use Rattle.am_fronts.specs.Refresh.{own_report, tell, go_on, let_go}
+use Rattle.am_model.specs.Node.{Node, Ballot, top, told, view, members, is_member, is_asking, is_sequencer, pushed, trimmed, with_report, report_of}
+use Rattle.am_model.specs.Refresh.{lead, refresh, settle, refresh_at_end}
+use Rattle.am_model.specs.Ballots.{Verdict, promised, next_stamp}
+use Rattle.am_model.specs.Joining.{admitted}
+use Rattle.am_model.specs.Hearing.{hears_member, hears_asking}
+use Rattle.am_model.specs.Receiving.{is_view}
+use Rattle.am_model.proofs.Greatest.{split, and_both}
+use Rattle.am_effects.specs.Causes.{Cause, hears}
+use Rattle.am_effects.specs.Looks.{HasOpen, Looks, finds_itself_out, waits, fetches_from_best, finds_too_few, finds_no_room, decides}
+use Rattle.am_effects.specs.Changes.{Promises, invited, overtaken, told_result, Numbers, asked_send, own_send, asked_join, asked_leave, Fetches, without_ballot, for_ballot, Change, refreshes, settles, takes_report, admits, numbers, keeps_body, notes, stores, begins_list, departs, promises, opens, looks, fetches, stores_view, queues, collects, takes, asks_to_join, asks_to_leave, closes}
+use Rattle.am_effects.proofs.Tests.{not_true}
+use Rattle.am_effects.proofs.Rests.{settle_is}
+use Rattle.am_effects.proofs.Says.{told_pushed, view_pushed, leads_pushed}
+use Rattle.am_laws.proofs.LeaderRows.{is_in, in_is}
+use Rattle.am_laws.proofs.Stamps.{same_stamp, not_above_itself, at_most_below}
+use Rattle.am_laws.proofs.Views.{same_is_equal}
+use Rattle.am_laws.proofs.ViewSteps.{view_last}
+use Rattle.am_laws.proofs.ViewChanges.{Balloted, next_above}
+use Rattle.am_laws.proofs.Trims.{Fronts, told_used}
+use Rattle.am_repair.specs.Known.{TrimsKnown}
+use Rattle.am_repair.proofs.Ends.{follows}
+use Rattle.am_repair.proofs.Nodes.{acting, leading, no_open, not_open, alike_refresh, leads_alike}
+use Rattle.am_repair.proofs.Leading.{least_low, base_low, looked_open}
+
+-- ---- who is a member after an entry was one before, but for a joiner
+
+set_back : (image : Image) (name i : ℕ) (r : Row) → length image.rows ≡ 16 → (In r (life_of i) → In (row_at image (place_of name)) (life_of i))
+    → In (row_at (with_row image name r) (place_of i)) (life_of i)
+    → In (row_at image (place_of i)) (life_of i)
+set_back image name i r long back h = ⊎_elim
+    (λ (x : (place_of i ≡ place_of name) × (row_at (with_row image name r) (place_of i) ≡ r)).
+    subst (λ p. In (row_at image p) (life_of i)) (sym x.0) (back (subst (λ y. In y (life_of i)) x.1 h)))
+    (λ (x : (place_of i ≢ place_of name) × (row_at (with_row image name r) (place_of i) ≡ row_at image (place_of i))). subst (λ y. In y (life_of i)) x.1 h)
+    (row_set image name (place_of i) r long)
+
+data_back : (image : Image) (n from req i : ℕ) (body : List ℕ) → length image.rows ≡ 16
+    → In (row_at (after image n (Data from req body)) (place_of i)) (life_of i) → In (row_at image (place_of i)) (life_of i)
+unfolding after
+data_back image n from req i body long h = split ((at_place image from).life == life_of from)
+    (λ t. set_back image from i (record (at_place image from) { last = req }) long (λ x. record { joined = x.joined; left = x.left; is = x.is })
+    (rw t at h))
+    (λ f. rw f at h)
+
+leave_back : (image : Image) (n name i : ℕ) → length image.rows ≡ 16 → 0 < n → In (row_at (after image n (Leave name)) (place_of i)) (life_of i)
+    → In (row_at image (place_of i)) (life_of i)
+unfolding after
+leave_back image n name i long up h = split ((at_place image name).life == life_of name)
+    (λ t. set_back image name i (record (at_place image name) { left = n }) long (λ x. absurd (let none = x.left in omega arith)) (rw t at h))
+    (λ f. rw f at h)
+
+join_back : (image : Image) (n name i : ℕ) → length image.rows ≡ 16 → (i == name) ≡ false
+    → In (row_at (after image n (Join name)) (place_of i)) (life_of i) → In (row_at image (place_of i)) (life_of i)
+unfolding after
+join_back image n name i long other h = ⊎_elim
+    (λ (x : (place_of i ≡ place_of name) × (row_at (after image n (Join name))
+    (place_of i) ≡ record { life = life_of name; joined = n; left = 0; last = 0 })).
+    absurd (
+    let is = (subst (λ y. In y (life_of i)) x.1 h).is in
+    let place = x.0 in
+    let same : i ≡ name = omega arith in
+    let z : ⊥ = grind (arith, nat_tests) in z))
+    (λ (x : (place_of i ≢ place_of name) × (row_at (after image n (Join name)) (place_of i) ≡ row_at image (place_of i))). subst
+    (λ y. In y (life_of i)) x.1 h)
+    (row_set image name (place_of i) (record { life = life_of name; joined = n; left = 0; last = 0 }) long)
+
+-- a member of a longer list
+member_back : (m : Node) (e : Entry) (i : ℕ) → Fronts m → (length (told m).rows ≡ 16 → In (row_at (after (told m) (top m + 1) e) (place_of i)) (life_of i)
+    → In (row_at (told m) (place_of i)) (life_of i))
+    → has (members (pushed m e)) i ≡ true → has (members m) i ≡ true
+member_back m e i f back there =
+    let used = told_used m f in
+    let longer = long_after (told m) (top m + 1) e used.places in
+    let here = ap (λ (x : Image). has (members_of x) i) (sym (told_pushed m e)) ∙ there in
+    in_is (told m) i used.places (back used.places (is_in (after (told m) (top m + 1) e) i longer here))
+
+-- ---- a refresh
+
+raise_taken : (kept : ℕ → Report) (who : ℕ) (r : Report) (name : ℕ) → (kept name).taken ≤ (reports.reported kept who r name).taken
+raise_taken kept who r name = split (name == who)
+    (λ t. let e : name ≡ who = grind (arith, nat_tests) in rw (t, e) (omega arith))
+    (λ f. rw f (omega arith))
+
+lead_raises : (m : Node) (name : ℕ) → (m.reports name).taken ≤ ((lead m).reports name).taken
+unfolding lead own_report tell go_on let_go accept pass_over
+lead_raises m name =
+    let first = reports.reported m.reports m.core.who (report_of m) in
+    let a = raise_taken m.reports m.core.who (report_of m) name in
+    let b = raise_taken first m.core.who (record { stored = top m; taken = (lead m).core.taken }) name in
+    omega arith
+
+lead_trims : (m : Node) (i : ℕ) → Fronts m → has (members m) i ≡ true → m.core.base ≤ (m.reports i).taken → (lead m).core.base ≤ ((lead m).reports i).taken
+unfolding lead own_report tell go_on let_go accept pass_over
+lead_trims m i f there low =
+    let c = (lead m).core in
+    let kept = f.kept in let base = f.base in let given = f.given in let accepted = f.accepted in
+    let up = lead_raises m i in
+    base_low ((lead m).reports i).taken m.core.base _ (omega arith) (λ to is. least_low m (lead m).reports (record c { base = m.core.base }) i to f refl
+    (omega arith) (omega arith) there is)
+
+known_refresh : (m : Node) → Fronts m → TrimsKnown m → TrimsKnown (refresh m)
+unfolding refresh lead let_go own_report go_on pass_over accept tell
+known_refresh m f h = split (is_sequencer m)
+    (λ t. rw t (λ u i few there. lead_trims m i f there (h t i few there)))
+    (λ g. λ u i few there. absurd (let same = leads_alike (alike_refresh m) in cc))
+
+known_settle : (m : Node) → TrimsKnown m → TrimsKnown (settle m)
+known_settle m h = subst TrimsKnown (sym (settle_is m)) h
+
+pub known_end : (m : Node) → Fronts m → TrimsKnown m → TrimsKnown (refresh_at_end m)
+unfolding refresh_at_end
+known_end m f h = known_settle (refresh m) (known_refresh m f h)
+
+-- ---- reports, and entries that the sequencer numbers
+
+known_report : (m : Node) (s : ℕ) (report : Report) → TrimsKnown m → TrimsKnown (with_report m s report)
+known_report m s report h t i few there = let a = h t i few there in let b = raise_taken m.reports s report i in omega arith
+
+-- no more members than before
+known_pushed : (m : Node) (e : Entry) → is_sequencer (pushed m e) ≡ is_sequencer m
+    → ((i : ℕ) → has (members (pushed m e)) i ≡ true → has (members m) i ≡ true) → TrimsKnown m → TrimsKnown (pushed m e)
+known_pushed m e same back h t i few there = h (sym same ∙ t) i few (back i there)
+
+-- a joiner begins at the base
+pub known_joined : (m : Node) (s : ℕ) → Fronts m → TrimsKnown m → TrimsKnown (pushed (admitted m s) (Join s))
+known_joined m s f h t i few there = split (i == s)
+    (λ same. rw same (omega arith))
+    (λ other. rw other (h (sym (leads_pushed m (Join s) refl) ∙ t) i few
+    (member_back m (Join s) i f (λ long x. join_back (told m) (top m + 1) s i long other x) there)))
+
+abbrev pub NoJoin : Cause → Type 0
+NoJoin c = (s : ℕ) (v : Stamp) → c ≡ hears (packet.JoinAsk s v) → ⊥
+
+known_numbered : (c : Cause) (m : Node) (e : Entry) → NoJoin c → Numbers c m e → Fronts m → TrimsKnown m → TrimsKnown (pushed m e)
+known_numbered c m e none (asked_send s v report req body by known left next) f h =
+    known_pushed m (Data s req body) (leads_pushed m (Data s req body) refl)
+    (λ i there. member_back m (Data s req body) i f (λ long x. data_back (told m) (top m + 1) s req i body long x) there) h
+known_numbered c m e none (own_send s is last) f h =
+    let d = Data m.core.who s.req s.body in
+    known_pushed m d (leads_pushed m d refl) (λ i there. member_back m d i f
+    (λ long x. data_back (told m) (top m + 1) m.core.who s.req i s.body long x) there) h
+known_numbered c m e none (asked_join s v is other fit) f h = absurd (none s v is)
+known_numbered c m e none (asked_leave s v report is other known stays) f h =
+    known_pushed m (Leave s) (leads_pushed m (Leave s) refl) (λ i there. member_back m (Leave s) i f
+    (λ long x. leave_back (told m) (top m + 1) s i long (omega arith) x) there) h
+
+-- ---- who doesn't lead
+
+no_leader : (m : Node) → (is_sequencer m ≡ true → ⊥) → TrimsKnown m
+no_leader m none t i few there = absurd (none t)
+
+-- a view of another name
+other_view : (m : Node) (by : ℕ) → (view m).by ≡ by → (by == m.core.who) ≡ false → is_sequencer m ≡ true → ⊥
+other_view m by is other t = let own = (leading m t).1 in let z : ⊥ = grind (arith, nat_tests) in z
+
+leader_promise : (m : Node) → is_sequencer m ≡ true → m.core.promise ≡ view m
+leader_promise m t = (acting m (leading m t).0).1
+
+-- a promise above the view
+above_view : (m : Node) → stamp_lt (view m) m.core.promise ≡ true → is_sequencer m ≡ true → ⊥
+above_view m above t =
+    let z : stamp_lt (view m) (view m) ≡ true = subst (λ s. stamp_lt (view m) s ≡ true) (leader_promise m t) above in
+    let y = not_above_itself (view m) in
+    cc
+
+other_asking : (m : Node) (s : ℕ) → hears_asking m s ≡ true → (s == m.core.who) ≡ false
+other_asking m s h = not_true (s == m.core.who) (and_both (not (s == m.core.who)) (is_member m.status || is_asking m.status) h).0
+
+other_member : (m : Node) (s : ℕ) → hears_member m s ≡ true → (s == m.core.who) ≡ false
+other_member m s h = not_true (s == m.core.who) (and_both (not (s == m.core.who)) (is_member m.status) h).0
+
+by_sender : (v : Stamp) (s : ℕ) → (v.by == s) ≡ true → v.by ≡ s
+by_sender v s h = grind (arith, nat_tests)
+
+promised_leads : (c : Cause) (m : Node) (v : Stamp) → Promises c m v → Balloted m → is_sequencer (promised m v) ≡ true → ⊥
+promised_leads c m v (invited s _ is heard own) k t =
+    other_view (promised m v) s (ap (λ (x : Stamp). x.by) (sym (leader_promise (promised m v) t)) ∙ by_sender v s own) (other_asking m s heard) t
+promised_leads c m v (told_result s _ base number names resilience is heard own other) k t =
+    other_view (promised m v) v.by (ap (λ (x : Stamp). x.by) (sym (leader_promise (promised m v) t))) other t
+promised_leads c m v (overtaken s _ vote is heard above) k t = above_view (promised m v) (at_most_below (view m) m.core.promise v k.high above) t
+
+-- an open ballot's node doesn't act
+open_leads : (m : Node) (b : Ballot) → HasOpen m b → Balloted m → is_sequencer m ≡ true → ⊥
+open_leads m b o k t = not_open m b o (no_open m k (leading m t).0)
+
+known_look : (m : Node) (b : Ballot) (v : Verdict) → Looks m b v → (is_sequencer m ≡ true → ⊥) → TrimsKnown v.node
+known_look m b v (finds_itself_out x) none = λ t i few there. absurd (none t)
+known_look m b v (waits x y) none = λ t i few there. absurd (none t)
+known_look m b v (fetches_from_best x y z) none = λ t i few there. absurd (none t)
+known_look m b v (finds_too_few x y) none = λ t i few there. absurd (none t)
+known_look m b v (finds_no_room learned) none = λ t i few there. absurd (none t)
+known_look m b v (decides may) none = λ t i few there. (let low : nat_lt i 256 ≡ true = grind (arith, nat_tests) in rw low (omega arith))
+
+-- what is fetched is no View of its own
+fetch_leads : (m : Node) (s : ℕ) (v : Stamp) (base : ℕ) (e : Entry) → Fetches m s v e → (s == m.core.who) ≡ false → stamp_eq v m.core.promise ≡ true
+    → stamp_eq (view m) v ≡ false
+    → is_sequencer (pushed (trimmed m base) e) ≡ true → ⊥
+fetch_leads m s v base e why other same below t = split (is_view e) (λ is. viewed e why is t) (λ plain. unviewed e plain t)
+  where
+    promise : v ≡ m.core.promise
+    promise = same_stamp v m.core.promise same
+
+    unviewed : (e : Entry) → is_view e ≡ false → is_sequencer (pushed (trimmed m base) e) ≡ true → ⊥
+    unviewed e plain t =
+        let p = leader_promise (pushed (trimmed m base) e) t ∙ view_pushed (trimmed m base) e plain in
+        let z : stamp_eq (view m) v ≡ true = ap (λ x. stamp_eq x v) (sym p ∙ sym promise) ∙ same_is_equal v in
+        cc
+
+    by_name : (stamp : Stamp) (names : List ℕ) (resilience : ℕ) → Fetches m s v (View stamp names resilience) → stamp ≡ v
+        → ((stamp.by == m.core.who) ≡ false → is_sequencer (pushed (trimmed m base) (View stamp names resilience)) ≡ true → ⊥)
+        → is_sequencer (pushed (trimmed m base) (View stamp names resilience)) ≡ true → ⊥
+    by_name stamp names resilience (without_ballot none own past) at f t =
+        let a = by_sender v s own in
+        let b = ap (λ (x : Stamp). x.by) at in
+        let z : (stamp.by == m.core.who) ≡ false = ap (λ x. x == m.core.who) (b ∙ a) ∙ other in
+        f z t
+    by_name stamp names resilience (for_ballot b open_ from past) at f t =
+        let u : stamp_eq stamp v ≡ true = ap (stamp_eq stamp) (sym at) ∙ same_is_equal stamp in
+        absurd (split (stamp_lt v stamp) (λ x. let p = rw x at past in cc) (λ x. let p = rw (x, u) at past in cc))
+
+    viewed : (e : Entry) → Fetches m s v e → is_view e ≡ true → is_sequencer (pushed (trimmed m base) e) ≡ true → ⊥
+    viewed (Data from req body) why is t = absurd (cc)
+    viewed (Join name) why is t = absurd (cc)
+    viewed (Leave name) why is t = absurd (cc)
+    viewed (View stamp names resilience) why is t =
+        let n = pushed (trimmed m base) (View stamp names resilience) in
+        let last = view_last (trimmed m base) stamp names resilience in
+        let at : stamp ≡ v = sym (leader_promise n t ∙ last) ∙ sym promise in
+        by_name stamp names resilience why at (other_view n stamp.by (ap (λ (x : Stamp). x.by) last)) t
+
+-- ---- each change
+
+pub known_change : (c : Cause) (o : Outcome) (m n : Node) → NoJoin c → Balloted m → Fronts m → Change c o m n → TrimsKnown m → TrimsKnown n
+known_change c o m n none k f refreshes h = known_refresh m f h
+known_change c o m n none k f settles h = known_settle m h
+known_change c o m n none k f (takes_report s v report brings may) h = known_report m s report h
+known_change c o m n none k f (admits s v is leads fit) h = absurd (none s v is)
+known_change c o m n none k f (numbers e leads room why) h = known_numbered c m e none why f h
+known_change c o m n none k f (keeps_body s v report req body is heard) h = h
+known_change c o m n none k f (notes s v base acc brings heard) h = λ t i few there. absurd (let g = follows m s v heard in cc)
+known_change c o m n none k f (stores s v base acc number e carries heard plain may) h = λ t i few there. absurd
+    (let g = follows m s v heard in let same = leads_pushed m e plain in cc)
+known_change c o m n none k f (begins_list s v base join image is says may) h = λ t i few there. absurd (
+    let own = by_sender v s may.own in
+    let p = leader_promise n t in
+    other_view n s (ap (λ (x : Stamp). x.by) (sym p) ∙ own) (other_asking m s may.asks) t)
+known_change c o m n none k f (departs s v number is heard leaves) h = λ t i few there. absurd (cc)
+known_change c o m n none k f (promises v low why) h = λ t i few there. absurd (promised_leads c m v why k t)
+known_change c o m n none k f (opens least resilience begins may) h = λ t i few there. absurd (
+    let above = at_most_below (view m) m.core.promise (next_stamp m) k.high (next_above m.core.promise m.core.who) in
+    above_view n above t)
+known_change c o m n none k f (looks b verdict over why look is) h = (let old = looked_open c m b why in known_look m b verdict look
+    (open_leads m old.0 old.1 k))
+known_change c o m n none k f (fetches s v base number e is heard promise below why may) h = λ t i few there. absurd
+    (fetch_leads m s v base e why (other_member m s heard) promise below t)
+known_change c o m n none k f (stores_view s v base number names resilience is heard own other promise below may) h = λ t i few there. absurd (
+    other_view n v.by (ap (λ (x : Stamp). x.by) (view_last (trimmed m base) v names resilience)) other t)
+known_change c o m n none k f (queues body is says member stays few_) h = h
+known_change c o m n none k f (collects req is) h = h
+known_change c o m n none k f (takes e is says member some there_) h = h
+known_change c o m n none k f (asks_to_join is was) h = λ t i few there. absurd (cc)
+known_change c o m n none k f (asks_to_leave is was stays done) h = h
+known_change c o m n none k f (closes leads leaves alone room) h = λ t i few there. absurd (cc)
