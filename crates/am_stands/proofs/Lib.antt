@@ -44,3 +44,5 @@ pub mod Keeping
 pub mod Keeps
 pub mod Refreshing
 pub mod Stepped
+pub mod Silent
+pub mod Others
