@@ -46,3 +46,4 @@ pub mod Refreshing
 pub mod Stepped
 pub mod Silent
 pub mod Others
+pub mod Begun

@@ -8,7 +8,8 @@ use Rattle.am_packet.specs.declared.packet.Packet.TheVariants as packet
 use Rattle.am_codec.specs.Reading.{Read, reading}
 use Rattle.am_model.specs.declared.status.Status.TheVariants.{Departed}
 use Rattle.am_model.specs.Node.{Node, Ballot, is_member, is_sequencer}
-use Rattle.am_model.specs.Calls.{is_unfinished, join_by, state_by, leave_by, send_row, take_row, join_row, state_row, leave_row, reset_row, ask_row, ask_of, give_up_row, give_up_of, done_row}
+use Rattle.am_model.specs.Calls.{is_unfinished, join_by, state_by, leave_by, send_row, take_row, join_row, state_row, leave_row, reset_row, ask_row, ask_of}
+use Rattle.am_model.specs.Calls.{give_up_row, give_up_of, done_row}
 use Rattle.am_model.specs.Ticks.{tick_row, tick_by}
 use Rattle.am_model.specs.Hearing.{hear_row, hears_member, hears_asking}
 use Rattle.am_model.specs.Refresh.{refresh_at_end}

@@ -6,7 +6,7 @@ ghost use Rattle.am_stands.specs.Accepting.{RefreshAccepts, RefreshLearns, Closi
 ghost use Rattle.am_stands.specs.Branches.{MovesBranch, MovesNamed, DecisionsAreNew, BranchesBegin};
 ghost use Rattle.am_stands.specs.Ends.{EndsStand, CloseStands};
 ghost use Rattle.am_stands.specs.Growing.{LettersStay, MovesGrow};
-ghost use Rattle.am_stands.specs.Keeping.{ChangesGoOn, RefreshesKeep, OthersKeep};
+ghost use Rattle.am_stands.specs.Keeping.{StartKeeps, ChangesGoOn, RefreshesKeep, OthersKeep};
 ghost use Rattle.am_stands.specs.Lawful.{RunsGoOn};
 ghost use Rattle.am_stands.specs.Standing.{StartStands};
 ghost use Rattle.am_stands.specs.Sending.{SentSays, DepartedSilent};
@@ -85,8 +85,9 @@ pub fn decisions_find_leavers()
 
 /// What is known within a step of its node, of the letter that it heard and of the group, gives each change what it needs, and is known again
 /// after it, but after a refresh and after the last member's end. A refresh keeps what the node keeps, once the group has accepted what it
-/// accepts; and so does each node that does nothing, while the group goes on.
+/// accepts; and so does each node that does nothing, while the group goes on. At the start each node keeps it.
 pub fn steps_go_on()
+    ensures start { StartKeeps }
     ensures change { ChangesGoOn }
     ensures refresh { RefreshesKeep }
     ensures others { OthersKeep }
