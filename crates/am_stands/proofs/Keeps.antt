@@ -67,7 +67,7 @@ use Rattle.am_stands.specs.Keeping.{BallotStands, GroupFor, HeardSo, IsPlain, La
 
 -- ---- what stays, as the group goes on
 
-fetches_grow : (w : World) (s t : Group) (ballot : Option Ballot) → Grows s t → FetchesStand s ballot → FetchesStand t ballot
+pub fetches_grow : (w : World) (s t : Group) (ballot : Option Ballot) → Grows s t → FetchesStand s ballot → FetchesStand t ballot
 fetches_grow w s t None g h = tt
 fetches_grow w s t (Some b) g h = λ open_ from want is. all_stay w w s t g ([], sym (append-nil w.records)) b.stamp from (h open_ from want is)
 

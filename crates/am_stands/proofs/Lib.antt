@@ -44,3 +44,6 @@ pub mod Keeping
 pub mod Keeps
 pub mod Refreshing
 pub mod Stepped
+pub mod Silent
+pub mod Others
+pub mod Begun

@@ -60,7 +60,7 @@ unfolding refresh
 follow_follows x f = rw f refl
 
 -- a member could not join anew
-member_old : (list : List Entry) (name : ℕ) → mem list name ≡ true → IsNew (told list) name → ⊥
+pub member_old : (list : List Entry) (name : ℕ) → mem list name ≡ true → IsNew (told list) name → ⊥
 member_old list name member new =
     let k = mem_in list name member in
     let j = k.joined in

@@ -9,13 +9,13 @@ use Rattle.am_base.specs.Names.{has}
 use Rattle.am_packet.specs.declared.packet.Packet.{Packet}
 use Rattle.am_model.specs.Claims.{requests_of}
 use Rattle.am_sender.specs.Sends as own
-use Rattle.am_chain_lists.specs.Whole.{IsGood}
+use Rattle.am_chain_lists.specs.Whole.{Begins, IsGood}
 use Rattle.am_chain_moves.specs.Group.{Group}
 use Rattle.am_chain_moves.specs.Runs.{Run}
 use Rattle.am_model.specs.Node.{Node, Ballot, lowest_or_first}
 use Rattle.am_model.specs.Group.{has_log}
 use Rattle.am_model.specs.Refresh.{refresh}
-use Rattle.am_model.specs.World.{Decided, World, is_stopped}
+use Rattle.am_model.specs.World.{Decided, World, start, first_node, is_stopped}
 use Rattle.am_effects.specs.Causes.{Cause, calls, hears}
 use Rattle.am_effects.specs.Changes.{Change, refreshes, closes}
 use Rattle.am_laws.proofs.Taken.{HeardUsed}
@@ -25,7 +25,7 @@ use Rattle.am_laws.specs.Packets.{stamp_of}
 use Rattle.am_sent.proofs.Kept as sent
 use Rattle.am_sent.proofs.Changes.{CauseSent}
 use Rattle.am_unballoted.proofs.Turns.{Turn}
-use Rattle.am_stands.specs.Standing.{NameStands, StandsBut, within}
+use Rattle.am_stands.specs.Standing.{NameStands, StandsBut, Stands, within}
 use Rattle.am_stands.specs.Letters.{Trimmed, PacketSays}
 use Rattle.am_stands.specs.Growing.{Grows}
 use Rattle.am_stands.specs.Moving.{Moves}
@@ -133,3 +133,16 @@ pub record Refreshing (v : World) (name : ℕ) (x : Node) (s t : Group) : Type 0
 abbrev pub RefreshesKeep : Type 0
 RefreshesKeep = (rules : Rules) (w v : World) (name : ℕ) (c : Cause) (x : Node) (s t : Group) → Stepping rules w name c x s → Grows s t
     → GroupFor rules t → Refreshing v name x s t → Along rules (refresh x) → NodeKeeps w t name (refresh x)
+
+-- ---- the others
+
+-- a node that does nothing keeps it, while the group goes on and more names stop
+abbrev pub OthersKeep : Type 0
+OthersKeep = (w v : World) (s t : Group) (i : ℕ) (x : Node) → ((j : ℕ) → is_stopped w j ≡ true → is_stopped v j ≡ true) → Grows s t
+    → NameStands w i x (s.node i) → NameStands v i x (t.node i) → Begins w.group v.group → NodeKeeps w s i x → NodeKeeps v t i x
+
+-- ---- the start
+
+abbrev pub StartKeeps : Type 0
+StartKeeps = (rules : Rules) (s : Group) → GroupFor rules s → Stands (start rules) s → (i : ℕ) → i < 256
+    → NodeKeeps (start rules) s i (first_node rules i)

@@ -1,8 +1,9 @@
 -- What is known of who sends, and that what it sends is so.
-use Rattle.std.specs.Prelude.{◌≡◌, ℕ, ◌<◌, ◌≤◌, List, Some, true, slice_get}
+use Rattle.std.specs.Prelude.{◌≡◌, ℕ, ◌<◌, ◌≤◌, List, [], Some, true, false, slice_get}
 use Rattle.am_base.specs.declared.name.Stamp.{Stamp}
 use Rattle.am_base.specs.declared.entry.Entry.TheVariants.{Data}
 use Rattle.am_base.specs.declared.outcome.Outcome.TheVariants as said
+use Rattle.am_base.specs.declared.event.NodeEvent.{NodeEvent}
 use Rattle.am_base.specs.Names.{has}
 use Rattle.am_base.specs.Lists.{at_place}
 use Rattle.am_packet.specs.declared.packet.Packet.{Packet}
@@ -11,6 +12,9 @@ use Rattle.am_chain_lists.specs.Whole.{key}
 use Rattle.am_chain_moves.specs.Group.{Group, IsThere}
 use Rattle.am_chain_moves.specs.Kept.{Kept}
 use Rattle.am_model.specs.Node.{Node, Ballot, top, told, is_sequencer}
+use Rattle.am_model.specs.declared.status.Status.TheVariants.{Departed}
+use Rattle.am_model.specs.Calls.{is_unfinished}
+use Rattle.am_model.specs.Step.{step, hear, refused}
 use Rattle.am_model.specs.Refresh.{concerned}
 use Rattle.am_model.specs.Group.{has_log}
 use Rattle.am_model.specs.World.{Decided, World}
@@ -94,3 +98,15 @@ pub record SaysSo (v : World) (to : List ℕ) (p : Packet) (s t : Group) : Type 
 abbrev pub SentSays : Type 0
 SentSays = (v : World) (i : ℕ) (c : Cause) (m n : Node) (s : Group) (to : List ℕ) (p : Packet) → Sender v i c m n s → Says m c n to p
     → Leads (SaysSo v to p s) s
+
+-- ---- who has departed
+
+-- no call, no packet and no bytes make it send
+pub record SendsNothing (m : Node) : Type 0 where
+  pub calls_ : (event : NodeEvent) → (step m event).letters ≡ []
+  pub hears_ : (p : Packet) → (hear m p).letters ≡ []
+  pub refuses_ : (cause : ℕ) → (refused m cause).letters ≡ []
+
+-- where no ballot is left open
+abbrev pub DepartedSilent : Type 0
+DepartedSilent = (m : Node) → m.status ≡ Departed → is_unfinished m.ballot ≡ false → SendsNothing m

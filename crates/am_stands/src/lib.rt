@@ -6,10 +6,10 @@ ghost use Rattle.am_stands.specs.Accepting.{RefreshAccepts, RefreshLearns, Closi
 ghost use Rattle.am_stands.specs.Branches.{MovesBranch, MovesNamed, DecisionsAreNew, BranchesBegin};
 ghost use Rattle.am_stands.specs.Ends.{EndsStand, CloseStands};
 ghost use Rattle.am_stands.specs.Growing.{LettersStay, MovesGrow};
-ghost use Rattle.am_stands.specs.Keeping.{ChangesGoOn, RefreshesKeep};
+ghost use Rattle.am_stands.specs.Keeping.{StartKeeps, ChangesGoOn, RefreshesKeep, OthersKeep};
 ghost use Rattle.am_stands.specs.Lawful.{RunsGoOn};
 ghost use Rattle.am_stands.specs.Standing.{StartStands};
-ghost use Rattle.am_stands.specs.Sending.{SentSays};
+ghost use Rattle.am_stands.specs.Sending.{SentSays, DepartedSilent};
 ghost use Rattle.am_stands.specs.States.{RunsHaveRounds, RunsLeaveOut, RunsOpen};
 ghost use Rattle.am_stands.specs.Steps.{ChangesStand, EventsStand};
 
@@ -45,9 +45,10 @@ pub fn reports_accept()
 {}
 
 /// Each letter that a name sends at the end of its step is so, once a voter has shown the list that its vote tells, and served what it sends
-/// of it.
+/// of it. Who has departed sends nothing.
 pub fn letters_are_so()
-    ensures { SentSays }
+    ensures sent { SentSays }
+    ensures departed { DepartedSilent }
 {}
 
 /// With each move the group goes on so that what a letter says of it stays so, where a decided view is a new one that found all that was
@@ -84,8 +85,10 @@ pub fn decisions_find_leavers()
 
 /// What is known within a step of its node, of the letter that it heard and of the group, gives each change what it needs, and is known again
 /// after it, but after a refresh and after the last member's end. A refresh keeps what the node keeps, once the group has accepted what it
-/// accepts.
+/// accepts; and so does each node that does nothing, while the group goes on. At the start each node keeps it.
 pub fn steps_go_on()
+    ensures start { StartKeeps }
     ensures change { ChangesGoOn }
     ensures refresh { RefreshesKeep }
+    ensures others { OthersKeep }
 {}

@@ -1,5 +1,9 @@
 use Rattle.am_stands.proofs.Sending.{sent_says}
+use Rattle.am_stands.proofs.Silent.{departed_silent}
 use Rattle.am_stands.proofs.letters_are_so.Goals as goal
 
-pub returns : goal.returns
-returns c = sent_says
+pub returns-clause-sent : goal.returns-clause-sent
+returns-clause-sent c = sent_says
+
+pub returns-clause-departed : goal.returns-clause-departed
+returns-clause-departed c = departed_silent

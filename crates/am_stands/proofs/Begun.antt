@@ -1,0 +1,98 @@
+-- What a node keeps, at the start.
+use Rattle.std.proofs.Common.{◌≡◌, ℕ, ◌<◌, true, false, [], ◌∷◌, length, take, slice_index, refl, sym, ap, ◌∙◌, subst, arith}
+use Rattle.std.proofs.lemmas.Bool.Decides.{nat_tests}
+use Rattle.am_base.specs.Founding.{Rules}
+use Rattle.am_base.specs.Names.{has, place_of, life_of}
+use Rattle.am_base.specs.Lists.{fold, after}
+use Rattle.am_chain_lists.specs.Whole.{Begins, IsGood, mem}
+use Rattle.am_chain_lists.proofs.Members.{good_begins}
+use Rattle.am_chain_lists.proofs.Prefixes.{begins_refl, begins_nil}
+use Rattle.am_chain_moves.specs.Group.{Group, IsUp, chain_of}
+use Rattle.am_chain_moves.specs.Kept.{Kept}
+use Rattle.am_model.specs.Node.{Node, founder, stranger, founding_stamp, founders_view, lowest_or_first}
+use Rattle.am_model.specs.World.{start, first_node}
+use Rattle.am_model.proofs.Greatest.{split}
+use Rattle.am_laws.proofs.LeaderRows.{first_member}
+use Rattle.am_unballoted.proofs.Turns.{Turn}
+use Rattle.am_stands.specs.Standing.{NameStands, Stands}
+use Rattle.am_stands.specs.Keeping.{GroupFor, NodeKeeps, StartKeeps}
+use Rattle.am_stands.proofs.Onward.{group_kept}
+use Rattle.am_stands.proofs.Refreshing.{member_old}
+use Rattle.am_stands.proofs.Trimming.{trimmed_none}
+
+module _ (rules : Rules) (s : Group) (gs : GroupFor rules s) (h : Stands (start rules) s) where
+  kept : Kept s
+  kept = group_kept rules.founders (lowest_or_first rules.founders) rules.resilience s gs
+
+  -- a founder has the founders' View
+  module _ (i : ℕ) (few : i < 256) (there : has rules.founders i ≡ true) where
+    x : Node
+    x = founder rules i
+
+    stands : NameStands (start rules) i (founder rules i) (s.node i)
+    stands = subst (λ n. NameStands (start rules) i n (s.node i)) (rw there refl) (h.each i few)
+
+    list_is : (s.node i).list ≡ founders_view rules ∷ []
+    list_is = stands.list
+
+    founder_up : IsUp (s.node i)
+    founder_up = record { log = stands.log_; there = record { goes = stands.stopped; stays = stands.departed } }
+
+    founder_good : IsGood (s.node i).list
+    founder_good = good_begins ((kept.each i).list founder_up) kept.views.good
+
+  founder_keeps : (i : ℕ) → i < 256 → has rules.founders i ≡ true → NodeKeeps (start rules) s i (founder rules i)
+  unfolding Turn mem fold after
+  founder_keeps i few there =
+      let is = list_is i few there in
+      let size_ = ap length is in
+      record {
+        good = founder_good i few there;
+        votes = tt;
+        fetches = tt;
+        last = tt;
+        opens = λ open_. absurd (cc);
+        reports = record {
+          within = λ j. split (has rules.founders j) (λ t. rw t (omega arith)) (λ f. rw f (omega arith));
+          taken = λ j. split (has rules.founders j) (λ t. rw t (omega arith)) (λ f. rw f (omega arith));
+          true_ = λ j low concerned. split (has rules.founders j)
+              (λ t. rw t (λ above. (let its = list_is j low t in
+              subst (λ l. Begins l (s.node j).list) (its ∙ sym (ap (take 1) is)) (begins_refl (s.node j).list))))
+              (λ f. rw f (λ above. absurd (omega arith)));
+        };
+        fresh = λ j new. split (has rules.founders j)
+            (λ t. absurd (let given : slice_index rules.founders (place_of j) ≡ life_of j = grind (arith, nat_tests) in
+            member_old (founders_view rules ∷ []) j (first_member (founding_stamp rules) rules.founders rules.resilience j given) new))
+            (λ f. rw f (omega arith));
+        trimmed = trimmed_none s;
+        turn = record { next = 1; turn = refl; low = omega arith };
+        leaves = λ u. absurd (cc);
+      }
+
+  stranger_keeps : (i : ℕ) → i < 256 → has rules.founders i ≡ false → NodeKeeps (start rules) s i (stranger rules i)
+  unfolding Turn
+  stranger_keeps i few none =
+      let first : first_node rules i ≡ stranger rules i = rw none refl in
+      let stands : NameStands (start rules) i (stranger rules i) (s.node i) = subst (λ n. NameStands (start rules) i n (s.node i)) first (h.each i few) in
+      let is : (s.node i).list ≡ [] = stands.list in
+      record {
+        good = subst IsGood (sym is) (good_begins (begins_nil (chain_of s.views)) kept.views.good);
+        votes = tt;
+        fetches = tt;
+        last = tt;
+        opens = λ open_. absurd (cc);
+        reports = record {
+          within = λ j. omega arith;
+          taken = λ j. omega arith;
+          true_ = λ j low concerned above. absurd (omega arith);
+        };
+        fresh = λ j new. omega arith;
+        trimmed = trimmed_none s;
+        turn = record { next = 1; turn = refl; low = omega arith };
+        leaves = λ u. absurd (cc);
+      }
+
+pub start_keeps : StartKeeps
+start_keeps rules s gs h i few = split (has rules.founders i)
+    (λ t. rw t (founder_keeps rules s gs h i few t))
+    (λ f. rw f (stranger_keeps rules s gs h i few f))

@@ -1,0 +1,113 @@
+-- A name that has departed sends nothing.
+use Rattle.std.proofs.Common.{◌≡◌, ℕ, nat_lt, ◌&&◌, ◌==◌, not, Bool, true, false, [], Option, Some, None, Ok, Err, refl, sym, ap, ◌∙◌, subst}
+use Rattle.am_base.specs.declared.outcome.Outcome.TheVariants as said
+use Rattle.am_base.specs.declared.event.NodeEvent.{NodeEvent}
+use Rattle.am_base.specs.declared.event.NodeEvent.TheVariants.{Send, Done, Take, Join, State, Leave, Reset, Ask, GiveUp, Tick, Hear}
+use Rattle.am_packet.specs.declared.packet.Packet.{Packet}
+use Rattle.am_packet.specs.declared.packet.Packet.TheVariants as packet
+use Rattle.am_codec.specs.Reading.{Read, reading}
+use Rattle.am_model.specs.declared.status.Status.TheVariants.{Departed}
+use Rattle.am_model.specs.Node.{Node, Ballot, is_member, is_sequencer}
+use Rattle.am_model.specs.Calls.{is_unfinished, join_by, state_by, leave_by, send_row, take_row, join_row, state_row, leave_row, reset_row, ask_row, ask_of}
+use Rattle.am_model.specs.Calls.{give_up_row, give_up_of, done_row}
+use Rattle.am_model.specs.Ticks.{tick_row, tick_by}
+use Rattle.am_model.specs.Hearing.{hear_row, hears_member, hears_asking}
+use Rattle.am_model.specs.Refresh.{refresh_at_end}
+use Rattle.am_model.specs.Emit.{Plan, quiet, finish}
+use Rattle.am_model.specs.Step.{row, read_row, step, hear, refused}
+use Rattle.am_model.proofs.Greatest.{split}
+use Rattle.am_effects.proofs.Rests.{rests_at_end}
+use Rattle.am_stands.specs.Sending.{DepartedSilent}
+
+-- a plan of who has departed, with no letter
+record Quiet (p : Plan) : Type 0 where
+  status : p.node.status ≡ Departed
+  letters : (n : Node) → p.letters n ≡ []
+
+quiet_is : (m : Node) (o : _) → m.status ≡ Departed → Quiet (quiet m o)
+quiet_is m o h = record { status = h; letters = λ n. refl }
+
+-- nobody departed leads
+no_leader : (n : Node) → n.status ≡ Departed → is_sequencer n ≡ false
+no_leader n h = rw h refl
+
+finish_silent : (m : Node) (p : Plan) → Quiet p → (finish m p).letters ≡ []
+unfolding finish
+finish_silent m p h =
+    let n = refresh_at_end p.node in
+    let leads = no_leader n ((rests_at_end p.node).rests.status ∙ h.status) in
+    rw leads (h.letters n)
+
+-- ---- rows
+
+no_member : (m : Node) → m.status ≡ Departed → is_member m.status ≡ false
+no_member m h = ap is_member h
+
+both_no : (a : Bool) → (a && false) ≡ false
+both_no true = refl
+both_no false = refl
+
+no_hearing : (m : Node) (s : ℕ) → m.status ≡ Departed → hears_member m s ≡ false
+no_hearing m s h = rw h (both_no (not (s == m.core.who)))
+
+no_asking : (m : Node) (s : ℕ) → m.status ≡ Departed → hears_asking m s ≡ false
+no_asking m s h = rw h (both_no (not (s == m.core.who)))
+
+hear_quiet : (m : Node) (p : Packet) → m.status ≡ Departed → Quiet (hear_row m p)
+unfolding hear_row
+hear_quiet m (packet.Request s v report req body) h = rw (no_hearing m s h) (quiet_is m _ h)
+hear_quiet m (packet.Spread s v report req body) h = rw (no_hearing m s h) (quiet_is m _ h)
+hear_quiet m (packet.Bcast s v base acc number e) h = rw (no_hearing m s h) (quiet_is m _ h)
+hear_quiet m (packet.Order s v base acc number from req) h = rw (no_hearing m s h) (quiet_is m _ h)
+hear_quiet m (packet.Accept s v base acc high poll) h = rw (no_hearing m s h) (quiet_is m _ h)
+hear_quiet m (packet.Ack s v report) h = rw (no_hearing m s h) (quiet_is m _ h)
+hear_quiet m (packet.Nack s v report) h = rw (no_hearing m s h) (quiet_is m _ h)
+hear_quiet m (packet.Hold s v base high req) h = rw (no_hearing m s h) (quiet_is m _ h)
+hear_quiet m (packet.JoinAsk s v) h = rw (no_hearing m s h) (quiet_is m _ h)
+hear_quiet m (packet.Welcome s v base join image) h = rw (no_asking m s h) (quiet_is m _ h)
+hear_quiet m (packet.LeaveAsk s v report) h = rw (no_hearing m s h) (quiet_is m _ h)
+hear_quiet m (packet.Gone s v number) h = rw (no_hearing m s h) (quiet_is m _ h)
+hear_quiet m (packet.Invite s v) h = rw (no_asking m s h) (quiet_is m _ h)
+hear_quiet m (packet.Vote s v vote) h = rw (no_hearing m s h) (quiet_is m _ h)
+hear_quiet m (packet.Fetch s v stored) h = rw (no_hearing m s h) (quiet_is m _ h)
+hear_quiet m (packet.Piece s v base number e) h = rw (no_hearing m s h) (quiet_is m _ h)
+hear_quiet m (packet.Result s v base number names resilience) h = rw (no_hearing m s h) (quiet_is m _ h)
+hear_quiet m (packet.HandOver s v) h = rw (no_hearing m s h) (quiet_is m _ h)
+
+read_quiet : (m : Node) (r : Read Packet) → m.status ≡ Departed → Quiet (read_row m r)
+read_quiet m (Ok p) h = hear_quiet m p h
+read_quiet m (Err refusal) h = quiet_is m _ h
+
+ask_quiet : (m : Node) (round : ℕ) (ballot : Option Ballot) → m.status ≡ Departed → Quiet (ask_of m round ballot)
+ask_quiet m round None h = quiet_is m _ h
+ask_quiet m round (Some b) h = split (nat_lt b.stamp.round round)
+    (λ t. rw t (quiet_is m said.Unknown h))
+    (λ f. rw f (split (nat_lt round b.stamp.round) (λ t. rw t (quiet_is m (said.Overtaken b.stamp) h)) (λ g. rw g (quiet_is m b.answer h))))
+
+give_up_quiet : (m : Node) (name : ℕ) (ballot : Option Ballot) → m.status ≡ Departed → is_unfinished ballot ≡ false → Quiet (give_up_of m name ballot)
+give_up_quiet m name None h over = quiet_is m _ h
+give_up_quiet m name (Some b) h over = split b.is_over (λ t. rw t (quiet_is m _ h)) (λ f. absurd (let z = rw f at over in cc))
+
+row_quiet : (m : Node) (event : NodeEvent) → m.status ≡ Departed → is_unfinished m.ballot ≡ false → Quiet (row m event)
+unfolding row send_row done_row take_row join_row state_row leave_row reset_row ask_row give_up_row tick_row
+row_quiet m (Send body) h over = rw (no_member m h) (quiet_is m said.NotMember h)
+row_quiet m (Done req) h over = record { status = h; letters = λ n. refl }
+row_quiet m Take h over = rw (no_member m h) (quiet_is m said.NotMember h)
+row_quiet m Join h over = subst (λ u. Quiet (join_by m u)) (sym h) (quiet_is m said.NotMember h)
+row_quiet m State h over = subst (λ u. Quiet (state_by m u)) (sym h) (quiet_is m said.Departed h)
+row_quiet m Leave h over = subst (λ u. Quiet (leave_by m u)) (sym h) (quiet_is m said.Departed h)
+row_quiet m (Reset least resilience) h over = rw (no_member m h) (quiet_is m said.NotMember h)
+row_quiet m (Ask round) h over = ask_quiet m round m.ballot h
+row_quiet m (GiveUp name) h over = give_up_quiet m name m.ballot h over
+row_quiet m Tick h over = subst (λ u. Quiet (tick_by m u)) (sym h) (quiet_is m said.Idle h)
+row_quiet m (Hear bytes) h over = read_quiet m (reading bytes) h
+
+-- ---- steps
+
+pub departed_silent : DepartedSilent
+unfolding step hear refused
+departed_silent m h over = record {
+  calls_ = λ event. finish_silent m (row m event) (row_quiet m event h over);
+  hears_ = λ p. finish_silent m (hear_row m p) (hear_quiet m p h);
+  refuses_ = λ cause. finish_silent m (quiet m (said.Refused cause)) (quiet_is m _ h);
+}
