@@ -2,6 +2,7 @@
 #![tactic(auto)]
 
 pub mod body;
+pub mod boxed;
 pub mod entry;
 pub mod event;
 pub mod founding;

@@ -24,7 +24,7 @@ pub fn given_to(item: &Record, node: Name) -> Option<(u32, &Entry)>
         return None;
     }
     match &item.outcome {
-        Outcome::Took { number, entry } => Some((*number, entry)),
+        Outcome::Took { number, entry } => Some((*number, entry.get())),
         _ => None,
     }
 }

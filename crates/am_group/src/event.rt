@@ -1,16 +1,20 @@
-ghost use Rattle.std.specs.Prelude.{◌≡◌};
+ghost use Rattle.std.specs.Prelude.{◌≡◌, IfOk};
+ghost use Rattle.am_group.specs.declared.event.Act.TheVariants as act;
 
+use am_base::NoMemory;
 use am_base::body::Body;
+use am_base::boxed::Boxed;
 use am_base::items::Items;
 use am_base::name::Name;
 use am_base::outcome::Outcome;
 use am_letter::letter::Letter;
+use std::alloc::Global;
 
 /// What is done at a node (docs/PROTOCOL.md, "Events").
 #[derive(Drop, Clone, Debug)]
 pub enum Act {
     /// Sends a body to the group.
-    Send(Body),
+    Send(Boxed<Body>),
     /// Asks what came of a send.
     Done(u32),
     /// Takes the next accepted entry.
@@ -40,11 +44,18 @@ pub enum Act {
 }
 
 impl Act {
-    /// The same act. It takes no memory.
-    pub fn copied(&self) -> Act
-        ensures { result ≡ self.now }
+    /// The sending of a body.
+    pub fn send(alloc: Global, body: Body) -> Result<Act, NoMemory>
+        ensures { IfOk result (λ a. a ≡ act.Send body) }
     {
-        self.clone().unwrap()
+        Ok(Act::Send(Boxed::of(alloc, body)?))
+    }
+
+    /// The same act.
+    pub fn copied(&self) -> Result<Act, NoMemory>
+        ensures { IfOk result (λ a. a ≡ self.now) }
+    {
+        self.clone()
     }
 }
 
@@ -56,11 +67,11 @@ pub struct Event {
 }
 
 impl Event {
-    /// The same event. It takes no memory.
-    pub fn copied(&self) -> Event
-        ensures { result ≡ self.now }
+    /// The same event.
+    pub fn copied(&self) -> Result<Event, NoMemory>
+        ensures { IfOk result (λ e. e ≡ self.now) }
     {
-        self.clone().unwrap()
+        self.clone()
     }
 }
 

@@ -4,6 +4,7 @@ use crate::event::{Act, By, Event, Part, Record};
 use crate::group::Group;
 use crate::journal::Journal;
 use am_base::body::Body;
+use am_base::boxed::Boxed;
 use am_base::entry::Entry;
 use am_base::founding::Founding;
 use am_base::items::Items;
@@ -151,7 +152,7 @@ fn a_name_has_its_deliveries(rt: HostRuntime) -> Result<(), Fail> {
     for (node, number) in [(1, 1), (0, 1), (1, 2)] {
         let outcome = Outcome::Took {
             number,
-            entry: sent.copied(),
+            entry: Boxed::of(alloc, sent.copied())?,
         };
         records.push(record_of(alloc, node, outcome, &[])?)?;
     }

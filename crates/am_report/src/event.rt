@@ -38,7 +38,7 @@ fn push_parts(out: &mut String, founding: &Founding, act: &Act) -> Result<(), No
     match act {
         Act::Send(body) => {
             out.push_str(" ")?;
-            push_body(out, body)
+            push_body(out, body.get())
         }
         Act::Done(req) => write!(out, " {req}"),
         Act::Reset { least, resilience } => {

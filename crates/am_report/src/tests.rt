@@ -4,6 +4,7 @@ use crate::lines::{push_empty_log, push_group_line, push_log_line, push_mark, pu
 use crate::play::play_text;
 use crate::summary::summary_text;
 use am_base::body::Body;
+use am_base::boxed::Boxed;
 use am_base::entry::Entry;
 use am_base::founding::Founding;
 use am_base::items::Items;
@@ -76,11 +77,14 @@ fn events_without_letters(rt: HostRuntime) -> Result<(), Fail> {
             Act::Take,
             Outcome::Took {
                 number: 2,
-                entry: Entry::View {
-                    stamp: stamp(2, 0),
-                    members: set(&[0, 1, 2]),
-                    resilience: 1,
-                },
+                entry: Boxed::of(
+                    rt.alloc(),
+                    Entry::View {
+                        stamp: stamp(2, 0),
+                        members: set(&[0, 1, 2]),
+                        resilience: 1,
+                    },
+                )?,
             },
             "9 take 0 : took 2 view 2.0 0,1,2 r1\n",
         ),
@@ -111,7 +115,7 @@ fn events_without_letters(rt: HostRuntime) -> Result<(), Fail> {
         (
             9,
             2,
-            Act::Send(Body::default()),
+            Act::send(rt.alloc(), Body::default())?,
             Outcome::Queued { req: 1 },
             "9 send 2 - : queued 1\n",
         ),
@@ -230,7 +234,7 @@ fn whole_text(rt: HostRuntime) -> Result<(), Fail> {
     };
     let took = Outcome::Took {
         number: 1,
-        entry: view.copied(),
+        entry: Boxed::of(rt.alloc(), view.copied())?,
     };
     let mut packets = Items::new(rt.alloc());
     packets.push(invite_to(set(&[1, 2])))?;

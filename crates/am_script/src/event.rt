@@ -1,6 +1,8 @@
 ghost use Rattle.std.specs.Prelude.{◌≡◌, ◌≤◌, ◌%◌, length};
 ghost use Rattle.std.specs.List.{list_all};
+ghost use Rattle.am_base.specs.Most.{most_number};
 ghost use Rattle.serde_json.specs.View.{view};
+ghost use Rattle.am_script.specs.Refusals.{Answers};
 ghost use Rattle.am_script.specs.Values.{is_digit, are_pairs, body_from, number_in};
 ghost use Rattle.am_script.specs.Events.{kind_in, send_in, reset_in, give_up_in, cut_in, act_in, event_as, event_from};
 
@@ -9,22 +11,15 @@ use crate::key::Key;
 use crate::kind::Kind;
 use crate::refusal::ScriptRefusal;
 use am_base::body::Body;
+use am_base::limits::{MOST_BODY, MOST_NUMBER, MOST_PACKET};
 use am_base::name::Name;
 use am_group::event::{Act, Event};
 use serde_json::Value;
+use std::alloc::Global;
 
-/// The greatest number of a request, a round or a packet.
-const MOST_COUNT: u64 = 2_000_000_000;
-
-/// The most bytes of a body.
-const MOST_BYTES: usize = 1024;
-
-/// The most bytes of a packet.
-const MOST_PACKET: u64 = 1152;
-
-/// The kind of an event.
+/// The kind of an event or a call.
 #[tactic(auto, unfolding(crate::specs::Events::kind_in))]
-fn kind(event: &Value, place: u64) -> Result<Kind, ScriptRefusal>
+pub fn kind(event: &Value, place: u64) -> Result<Kind, ScriptRefusal>
     ensures { result ≡ kind_in place (view event.now) }
 {
     let word = text_in(event, Key::Do, place)?;
@@ -65,16 +60,16 @@ fn body(text: &str, place: u64) -> Result<Body, ScriptRefusal>
         return Err(refusal);
     }
     let pairs = text.len() / 2;
-    if MOST_BYTES < pairs {
+    if MOST_BODY < pairs {
         return Err(ScriptRefusal::OutOfRange {
             key: Key::Body,
             place,
             found: pairs as u64,
             least: 0,
-            most: MOST_BYTES as u64,
+            most: MOST_BODY as u64,
         });
     }
-    let mut bytes = [0u8; MOST_BYTES];
+    let mut bytes = [0u8; MOST_BODY];
     match hex::decode_to_slice(text, &mut bytes[..pairs]) {
         Ok(()) => Ok(Body::of(&bytes[..pairs]).unwrap()),
         Err(_) => Err(refusal),
@@ -83,18 +78,18 @@ fn body(text: &str, place: u64) -> Result<Body, ScriptRefusal>
 
 /// The number of a request, a round or a packet at a key of an event.
 fn count(event: &Value, key: Key, place: u64) -> Result<u32, ScriptRefusal>
-    ensures { result ≡ number_in key place 1 2000000000 (view event.now) }
+    ensures { result ≡ number_in key place 1 most_number (view event.now) }
 {
-    Ok(number_in(event, key, place, 1, MOST_COUNT)? as u32)
+    Ok(number_in(event, key, place, 1, u64::from(MOST_NUMBER))? as u32)
 }
 
 /// A send.
 #[tactic(auto, unfolding(crate::specs::Events::send_in))]
-fn send(event: &Value, place: u64) -> Result<Act, ScriptRefusal>
-    ensures { result ≡ send_in place (view event.now) }
+fn send(alloc: Global, event: &Value, place: u64) -> Result<Act, ScriptRefusal>
+    ensures { Answers (send_in place (view event.now)) result }
 {
     let text = text_in(event, Key::Body, place)?;
-    Ok(Act::Send(body(text, place)?))
+    Ok(Act::send(alloc, body(text, place)?)?)
 }
 
 /// A reset, which keeps the founding's resilience where none is said.
@@ -127,21 +122,27 @@ fn cut(event: &Value, place: u64) -> Result<Act, ScriptRefusal>
     ensures { result ≡ cut_in place (view event.now) }
 {
     let packet = count(event, Key::Packet, place)?;
-    let keep = number_in(event, Key::Keep, place, 0, MOST_PACKET)?;
+    let keep = number_in(event, Key::Keep, place, 0, MOST_PACKET as u64)?;
     Ok(Act::Cut {
         packet,
         keep: keep as u32,
     })
 }
 
-/// The act of an event of a kind.
+/// The act of an event or a call of a kind.
 #[tactic(auto, unfolding(crate::specs::Events::act_in))]
-fn act(kind: Kind, event: &Value, place: u64, founding: u8) -> Result<Act, ScriptRefusal>
+pub fn act(
+    alloc: Global,
+    kind: Kind,
+    event: &Value,
+    place: u64,
+    founding: u8,
+) -> Result<Act, ScriptRefusal>
     requires { founding ≤ 15 }
-    ensures { result ≡ act_in kind founding place (view event.now) }
+    ensures { Answers (act_in kind founding place (view event.now)) result }
 {
     match kind {
-        Kind::Send => send(event, place),
+        Kind::Send => send(alloc, event, place),
         Kind::Done => Ok(Act::Done(count(event, Key::Req, place)?)),
         Kind::Take => Ok(Act::Take),
         Kind::Join => Ok(Act::Join),
@@ -161,31 +162,32 @@ fn act(kind: Kind, event: &Value, place: u64, founding: u8) -> Result<Act, Scrip
 /// An event of a kind.
 #[tactic(auto, unfolding(crate::specs::Events::event_as))]
 fn event_of_kind(
+    alloc: Global,
     kind: Kind,
     event: &Value,
     place: u64,
     founding: u8,
 ) -> Result<Event, ScriptRefusal>
     requires { founding ≤ 15 }
-    ensures { result ≡ event_as kind founding place (view event.now) }
+    ensures { Answers (event_as kind founding place (view event.now)) result }
 {
     if !only(kind.keys(), event) {
         return Err(ScriptRefusal::Unknown { place });
     }
     let node = number_in(event, Key::Node, place, 0, 15)?;
-    let act = act(kind, event, place, founding)?;
+    let act = act(alloc, kind, event, place, founding)?;
     Ok(Event {
         node: Name::of_byte(node as u8),
         act,
     })
 }
 
-/// The event that a value tells, or the first cause that it tells none. `place` is its number, `founding` the founding's
-/// resilience.
+/// The event that a value tells. A refusal but NoMemory is the first cause that it tells none. `place` is its number,
+/// `founding` the founding's resilience.
 #[tactic(auto, unfolding(crate::specs::Events::event_from))]
-pub fn event(value: &Value, place: u64, founding: u8) -> Result<Event, ScriptRefusal>
+pub fn event(alloc: Global, value: &Value, place: u64, founding: u8) -> Result<Event, ScriptRefusal>
     requires { founding ≤ 15 }
-    ensures { result ≡ event_from founding place (view value.now) }
+    ensures { Answers (event_from founding place (view value.now)) result }
 {
     if !value.is_object() {
         return Err(ScriptRefusal::BadValue {
@@ -194,5 +196,5 @@ pub fn event(value: &Value, place: u64, founding: u8) -> Result<Event, ScriptRef
         });
     }
     let kind = kind(value, place)?;
-    event_of_kind(kind, value, place, founding)
+    event_of_kind(alloc, kind, value, place, founding)
 }

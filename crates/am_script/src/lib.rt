@@ -3,9 +3,13 @@
 
 mod event;
 mod fields;
+mod founding;
 pub mod key;
 mod kind;
 mod play;
+mod race;
+#[cfg(test)]
+mod race_tests;
 pub mod read;
 pub mod refusal;
 pub mod script;

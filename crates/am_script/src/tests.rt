@@ -177,7 +177,7 @@ const ACTS: &str =
 /// Whether the event at an index is the one of `ACTS` there.
 fn is_wanted(at: usize, event: &Event) -> bool {
     match (at, &event.act) {
-        (0, Act::Send(body)) => body.bytes() == b"ao".as_slice() && event.node.get() == 1,
+        (0, Act::Send(body)) => body.get().bytes() == b"ao".as_slice() && event.node.get() == 1,
         (1, Act::Done(2_000_000_000)) => event.node.get() == 1,
         (2, Act::Take) => event.node.get() == 15,
         (3, Act::Join) | (4, Act::State) => event.node.get() == 4,
@@ -213,14 +213,18 @@ fn is_wanted(at: usize, event: &Event) -> bool {
 #[test]
 fn reads_acts(rt: HostRuntime) -> Result<(), Fail> {
     let text = play_of(rt.alloc(), ACTS)?;
+    let script = read_script(rt.alloc(), Key::Play, text.as_bytes())
+        .ok()
+        .ok_or("a script")?;
     let Script::Play {
         founding,
         events,
         settle,
-    } = read_script(rt.alloc(), Key::Play, text.as_bytes())
-        .ok()
-        .ok_or("a script")?;
-    assert!(rt; settle && founding.founders().mask() == 10 && founding.resilience() == 2);
+    } = &script
+    else {
+        return Err(Fail::from("it is a play"));
+    };
+    assert!(rt; *settle && founding.founders().mask() == 10 && founding.resilience() == 2);
     assert!(rt; founding.window() == 1008 && founding.pb_up_to() == 0);
     assert!(rt; events.as_slice().len() == 16);
     for (at, event) in events.as_slice().iter().enumerate() {
@@ -232,14 +236,18 @@ fn reads_acts(rt: HostRuntime) -> Result<(), Fail> {
 #[test]
 fn reads_defaults(rt: HostRuntime) -> Result<(), Fail> {
     let text = r#"{"play": {"founders": [0], "events": []}}"#;
+    let script = read_script(rt.alloc(), Key::Play, text.as_bytes())
+        .ok()
+        .ok_or("a script")?;
     let Script::Play {
         founding,
         events,
         settle,
-    } = read_script(rt.alloc(), Key::Play, text.as_bytes())
-        .ok()
-        .ok_or("a script")?;
-    assert!(rt; !settle && events.as_slice().is_empty() && founding.resilience() == 0);
+    } = &script
+    else {
+        return Err(Fail::from("it is a play"));
+    };
+    assert!(rt; !*settle && events.as_slice().is_empty() && founding.resilience() == 0);
     assert!(rt; founding.window() == 64 && founding.pb_up_to() == 256);
     Ok(())
 }

@@ -11,7 +11,8 @@ use Rattle.am_model.specs.Hearing.{hears_member, hears_in_view, hears_sequencer}
 use Rattle.am_model.specs.Group.{has_log}
 use Rattle.am_model.specs.World.{World, has_departed}
 use Rattle.am_model.proofs.Greatest.{and_both}
-use Rattle.am_effects.specs.Changes.{refreshes, settles, takes_report, admits, numbers, keeps_body, notes, stores, begins_list, departs, promises, opens, looks, fetches, stores_view, queues, collects, takes, asks_to_join, asks_to_leave, closes}
+use Rattle.am_effects.specs.Changes.{refreshes, settles, takes_report, admits, numbers, keeps_body, notes, stores, begins_list, departs, promises, opens}
+use Rattle.am_effects.specs.Changes.{looks, fetches, stores_view, queues, collects, takes, asks_to_join, asks_to_leave, closes}
 use Rattle.am_effects.proofs.Rests.{rests_refresh, settle_is}
 use Rattle.am_stands.specs.Standing.{StandsBut, within}
 use Rattle.am_stands.specs.Moving.{Leads}
@@ -28,14 +29,24 @@ hears_member_member : (x : Node) (from : ℕ) → hears_member x from ≡ true �
 hears_member_member x from h = (and_both (not (from == x.core.who)) (is_member x.status) h).1
 
 hears_in_view_member : (x : Node) (from : ℕ) (v : Stamp) → hears_sequencer x from v ≡ true → is_member x.status ≡ true
-hears_in_view_member x from v h = hears_member_member x from (and_both (hears_member x from) (acts x && stamp_eq v (view x)) (and_both (hears_in_view x from v) (v.by == from) h).0).0
+hears_in_view_member x from v h = hears_member_member x from
+    (and_both (hears_member x from) (acts x && stamp_eq v (view x)) (and_both (hears_in_view x from v) (v.by == from) h).0).0
 
 -- ---- each change
 
 same_to_it : (w : World) (name : ℕ) (x y : Node) (s : Group) → y.core.log ≡ x.core.log → y.status ≡ x.status → y.leaving ≡ x.leaving
     → y.core.promise ≡ x.core.promise → y.ballot ≡ x.ballot → y.core.start ≡ x.core.start → StandsBut name (within w name x) s
     → Leads (StandsBut name (within w name y)) s
-same_to_it w name x y s log stays leaving promise ballot start_ h = unmoved w name x y s (record { log = log; log_ = ap has_log stays; departed = ap has_departed stays; leaving = leaving; promise = promise; ballot = ap is_unfinished ballot; start = start_ }) h
+same_to_it w name x y s log stays leaving promise ballot start_ h = unmoved w name x y s
+    (record {
+      log = log;
+      log_ = ap has_log stays;
+      departed = ap has_departed stays;
+      leaving = leaving;
+      promise = promise;
+      ballot = ap is_unfinished ballot;
+      start = start_;
+    }) h
 
 looked : (w : World) (name : ℕ) (c : Cause) (x : Node) (b : Ballot) (v : Verdict) (s : Group) → MayMove w name c x s → Balloting c x b
     → (look : Looks x b v) → NeedsLook s name look → StandsBut name (within w name x) s → Leads (StandsBut name (within (after_look look w) name v.node)) s
@@ -47,24 +58,41 @@ looked w name c x b v s may why (finds_no_room y) is h = look_stands w name c x 
 looked w name c x b v s may why (decides y) is h = decision_stands w name c x b s may why is h
 
 pub changes_stand : ChangesStand
-changes_stand w name c o x y s refreshes may is h = let r = rests_refresh x in same_to_it w name x (refresh x) s r.log r.rests.status r.rests.leaving r.rests.promise r.rests.ballot r.begins h
-changes_stand w name c o x y s settles may is h = subst (λ n. Leads (StandsBut name (within w name n)) s) (sym (settle_is x)) (same_to_it w name x _ s refl refl refl refl refl refl h)
+changes_stand w name c o x y s refreshes may is h = let r = rests_refresh x in
+    same_to_it w name x (refresh x) s r.log r.rests.status r.rests.leaving r.rests.promise r.rests.ballot r.begins h
+changes_stand w name c o x y s settles may is h = subst (λ n. Leads (StandsBut name (within w name n)) s) (sym (settle_is x))
+    (same_to_it w name x _ s refl refl refl refl refl refl h)
 changes_stand w name c o x y s (takes_report from v report by may_) may is h = same_to_it w name x y s refl refl refl refl refl refl h
 changes_stand w name c o x y s (admits from v was leads fit) may is h = same_to_it w name x y s refl refl refl refl refl refl h
 changes_stand w name c o x y s (numbers e leads room why) may is h = number_stands w name c x e s may leads why is h
 changes_stand w name c o x y s (keeps_body from v report req body was by) may is h = same_to_it w name x y s refl refl refl refl refl refl h
 changes_stand w name c o x y s (notes from v base acc by heard) may is h = same_to_it w name x y s refl refl refl refl refl refl h
-changes_stand w name c o x y s (stores from v base acc number e by heard plain may_) may is h = piece_stands w name x y e s may.few may.runs (hears_in_view_member x from v heard) (record { log = refl; stays = refl; leaving = refl; promise = refl; ballot = refl; start = refl }) (of_line is) h
+changes_stand w name c o x y s (stores from v base acc number e by heard plain may_) may is h = piece_stands w name x y e s may.few may.runs
+    (hears_in_view_member x from v heard) (record { log = refl; stays = refl; leaving = refl; promise = refl; ballot = refl; start = refl }) (of_line is) h
 changes_stand w name c o x y s (begins_list from v base join image was says may_) may is h = welcome_stands w name c x v base join image s may is h
 changes_stand w name c o x y s (departs from v number was by leaves) may is h = depart_stands w name from number v c x s may was by leaves h
 changes_stand w name c o x y s (promises v low why) may is h = promise_stands w name c x v s may low why h
-changes_stand w name c o x y s (opens least resilience by may_) may is h = open_stands w name c x y s may may_.member may_.listed may_.stays refl refl refl refl refl refl h
+changes_stand w name c o x y s (opens least resilience by may_) may is h =
+    open_stands w name c x y s may may_.member may_.listed may_.stays refl refl refl refl refl refl h
 changes_stand w name c o x y s (looks b verdict over_ why look was) may is h = looked w name c x b verdict s may why look is h
-changes_stand w name c o x y s (fetches from v base number e was by promise below why may_) may is h = piece_stands w name x y e s may.few may.runs (hears_member_member x from by) (record { log = refl; stays = refl; leaving = refl; promise = refl; ballot = refl; start = refl }) is h
-changes_stand w name c o x y s (stores_view from v base number names resilience was by own other promise below may_) may is h = piece_stands w name x y (View v names resilience) s may.few may.runs (hears_member_member x from by) (record { log = refl; stays = refl; leaving = refl; promise = refl; ballot = refl; start = refl }) (of_line is) h
+changes_stand w name c o x y s (fetches from v base number e was by promise below why may_) may is h = piece_stands w name x y e s may.few may.runs
+    (hears_member_member x from by) (record { log = refl; stays = refl; leaving = refl; promise = refl; ballot = refl; start = refl }) is h
+changes_stand w name c o x y s (stores_view from v base number names resilience was by own other promise below may_) may is h = piece_stands w name x y
+    (View v names resilience) s may.few may.runs (hears_member_member x from by)
+    (record { log = refl; stays = refl; leaving = refl; promise = refl; ballot = refl; start = refl }) (of_line is) h
 changes_stand w name c o x y s (queues body was says member stays few) may is h = same_to_it w name x y s refl refl refl refl refl refl h
 changes_stand w name c o x y s (collects req was) may is h = same_to_it w name x y s refl refl refl refl refl refl h
 changes_stand w name c o x y s (takes e was says member some there) may is h = same_to_it w name x y s refl refl refl refl refl refl h
-changes_stand w name c o x y s (asks_to_join was asked) may is h = unmoved w name x y s (record { log = refl; log_ = sym (ap has_log asked); departed = sym (ap has_departed asked); leaving = refl; promise = refl; ballot = refl; start = refl }) h
-changes_stand w name c o x y s (asks_to_leave was member stays done) may is h = ask_stands w name c x s may member (or_last (nat_lt 0 (unsettled x)) (is_unfinished x.ballot) done) h
+changes_stand w name c o x y s (asks_to_join was asked) may is h = unmoved w name x y s
+    (record {
+      log = refl;
+      log_ = sym (ap has_log asked);
+      departed = sym (ap has_departed asked);
+      leaving = refl;
+      promise = refl;
+      ballot = refl;
+      start = refl;
+    }) h
+changes_stand w name c o x y s (asks_to_leave was member stays done) may is h = ask_stands w name c x s may member
+    (or_last (nat_lt 0 (unsettled x)) (is_unfinished x.ballot) done) h
 changes_stand w name c o x y s (closes leads leaves alone room) may is h = absurd is

@@ -1,5 +1,6 @@
 -- The changes of a node that make no list longer, as moves of the group.
-use Rattle.std.proofs.Common.{◌≡◌, ◌≢◌, ℕ, ◌+◌, ◌<◌, ◌≤◌, ◌==◌, ◌||◌, not, Bool, true, false, List, ◌++◌, length, take, Option, Some, None, refl, sym, ap, ◌∙◌, subst, arith}
+use Rattle.std.proofs.Common.{◌≡◌, ◌≢◌, ℕ, ◌+◌, ◌<◌, ◌≤◌, ◌==◌, ◌||◌, not, Bool, true, false, List, ◌++◌, length, take, Option, Some, None, refl, sym, ap}
+use Rattle.std.proofs.Common.{◌∙◌, subst, arith}
 use Rattle.std.proofs.lemmas.Bool.Decides.{nat_tests}
 use Rattle.std.proofs.lemmas.List.{length-append, length-take}
 use Rattle.am_base.specs.declared.name.Stamp.{Stamp}
@@ -26,14 +27,15 @@ use Rattle.am_model.specs.World.{World, is_stopped, has_departed}
 use Rattle.am_model.proofs.Folds.{fold_append}
 use Rattle.am_model.proofs.Greatest.{split, and_both}
 use Rattle.am_effects.specs.Causes.{Cause, hears}
-use Rattle.am_effects.specs.Looks.{Balloting, with_more, without_one, as_it_is, Looks, finds_itself_out, waits, fetches_from_best, finds_too_few, finds_no_room, decides}
+use Rattle.am_effects.specs.Looks.{Balloting, with_more, without_one, as_it_is, Looks, finds_itself_out, waits, fetches_from_best, finds_too_few}
+use Rattle.am_effects.specs.Looks.{finds_no_room, decides}
 use Rattle.am_effects.specs.Changes.{Promises, invited, overtaken as overtaken_by, told_result}
 use Rattle.am_effects.proofs.Statuses.{logged}
 use Rattle.am_laws.proofs.Stamps.{equal_stamps}
 use Rattle.am_packet.specs.declared.packet.Packet.TheVariants as packet
 use Rattle.am_stands.specs.Standing.{NameStands, FrontsStand, StandsBut, within}
 use Rattle.am_stands.specs.Letters.{GoneSays, has_stopped, may_go}
-use Rattle.am_stands.specs.Moving.{Leads}
+use Rattle.am_stands.specs.Moving.{MoveOk, Leads}
 use Rattle.am_stands.specs.Steps.{MayMove}
 use Rattle.am_stands.proofs.Names.{one_move, no_move, name_in, views_in, lines_within, each_within, fronts_within}
 
@@ -49,7 +51,7 @@ pub record Unmoved (x y : Node) : Type 0 where
   pub start : y.core.start ≡ x.core.start
 
 -- the same to what stands for it
-same_name : (w : World) (name i : ℕ) (x y : Node) (a : groups.Node) → Unmoved x y → NameStands (within w name x) i x a → NameStands (within w name y) i y a
+pub same_name : (w : World) (name i : ℕ) (x y : Node) (a : groups.Node) → Unmoved x y → NameStands (within w name x) i x a → NameStands (within w name y) i y a
 same_name w name i x y a u h = record {
   begins = record {
     within = subst (λ (l : Log). l.start ≤ length w.group) (sym u.log) h.begins.within;
@@ -71,7 +73,8 @@ pub others_same : (w : World) (name : ℕ) (x y : Node) (s : Group) → Unmoved 
     → (i : ℕ) → i < 256 → NameStands (within w name y) i ((within w name y).nodes i) (s.node i)
 others_same w name x y s u h i few = split (i == name)
     (λ t. let old : NameStands (within w name x) i x (s.node i) = rw t at (h i few) in rw t (same_name w name i x y (s.node i) u old))
-    (λ f. let old : NameStands (within w name x) i (w.nodes i) (s.node i) = rw f at (h i few) in rw f (name_in (within w name x) (within w name y) i (w.nodes i) (s.node i) refl refl old))
+    (λ f. let old : NameStands (within w name x) i (w.nodes i) (s.node i) = rw f at (h i few) in
+    rw f (name_in (within w name x) (within w name y) i (w.nodes i) (s.node i) refl refl old))
 
 others_fronts : (w : World) (name : ℕ) (x y : Node) (s : Group)
     → ((i : ℕ) → i < 256 → i ≢ name → has_departed ((within w name x).nodes i).status ≡ false → FrontsStand ((within w name x).nodes i) (s.node i))
@@ -90,10 +93,10 @@ unmoved w name x y s u h = no_move (StandsBut name (within w name y)) s (record 
 
 -- ---- a move of one node, whose list stays
 
-moved : (w : World) (name : ℕ) (x y : Node) (s : Group) (b : groups.Node) → y.core.log ≡ x.core.log → Move s (with_node s name b)
+moved : (w : World) (name : ℕ) (x y : Node) (s : Group) (b : groups.Node) → y.core.log ≡ x.core.log → (move : Move s (with_node s name b)) → MoveOk move
     → (NameStands (within w name x) name x (s.node name) → NameStands (within w name y) name y b)
     → StandsBut name (within w name x) s → Leads (StandsBut name (within w name y)) s
-moved w name x y s b log move f h = one_move (StandsBut name (within w name y)) s (with_node s name b) move (record {
+moved w name x y s b log move ok f h = one_move (StandsBut name (within w name y)) s (with_node s name b) move ok (record {
   each = each_within w name x y s b f h.each;
   fronts = fronts_within w name x y s b h.fronts;
   views = views_in (within w name x) (within w name y) s.views refl (lines_within w name x y log) h.views;
@@ -137,7 +140,8 @@ told_all v i x a h =
     let front = take start_ v.group in
     let long : length front ≡ start_ = (let b = h.begins.within in let c = length-take start_ v.group in omega arith) in
     let one : 1 + length front ≡ start_ + 1 = omega arith in
-    ap told h.list ∙ fold_append blank 1 front x.core.log.entries ∙ ap (λ (i : Image). fold i (1 + length front) x.core.log.entries) (sym h.begins.image) ∙ ap (λ n. fold x.core.log.image n x.core.log.entries) one
+    ap told h.list ∙ fold_append blank 1 front x.core.log.entries ∙ ap (λ (i : Image). fold i (1 + length front) x.core.log.entries) (sym h.begins.image)
+    ∙ ap (λ n. fold x.core.log.image n x.core.log.entries) one
 
 pub told_whole : (w : World) (name i : ℕ) (x : Node) (a : groups.Node) → NameStands (within w name x) i x a → told a.list ≡ nodes.told x
 told_whole w name i x a h = told_all (within w name x) i x a h
@@ -172,7 +176,8 @@ kept v (Some b) f = split b.is_over
 promiser_stays : (c : Cause) (x : Node) (v : Stamp) → Promises c x v → has_departed x.status ≡ false
 promiser_stays c x v (invited s _ is heard own) = asking_stays x.status (and_both (not (s == x.core.who)) (is_member x.status || is_asking x.status) heard).1
 promiser_stays c x v (overtaken_by s _ shown is heard above) = member_stays x.status (and_both (not (s == x.core.who)) (is_member x.status) heard).1
-promiser_stays c x v (told_result s _ base number names resilience is heard own other) = member_stays x.status (and_both (not (s == x.core.who)) (is_member x.status) heard).1
+promiser_stays c x v (told_result s _ base number names resilience is heard own other) = member_stays x.status
+    (and_both (not (s == x.core.who)) (is_member x.status) heard).1
 
 pub promise_stands : (w : World) (name : ℕ) (c : Cause) (x : Node) (v : Stamp) (s : Group) → MayMove w name c x s → stamp_lt v x.core.promise ≡ false
     → Promises c x v → StandsBut name (within w name x) s → Leads (StandsBut name (within w name (promised x v))) s
@@ -184,15 +189,28 @@ promise_stands w name c x v s may low why h =
     (λ t.
     let up : key x.core.promise < key v = key_lt x.core.promise v small begun.small t in
     let same : key (s.node name).promise ≡ key x.core.promise = ap key old.promise in
-    let other : v.by ≢ name = λ e. (let b : key v ≤ key (s.node name).promise = subst (λ k. key v ≤ key (s.node k).promise) e begun.begun in let z : ⊥ = omega arith in z) in
+    let other : v.by ≢ name = λ e. (let b : key v ≤ key (s.node name).promise = subst (λ k. key v ≤ key (s.node k).promise) e begun.begun in
+    let z : ⊥ = omega arith in z) in
     let above : IsAbove s.node name v = record { greater = omega arith; small = begun.small; other = other; begun = begun.begun } in
-    let ends : is_unfinished (overtaken v x.ballot) ≡ false = over v x.ballot (λ b is open_. subst (λ u. stamp_lt u v ≡ true) (sym (may.ballot b is open_)) t) in
+    let ends : is_unfinished (overtaken v x.ballot) ≡ false = over v x.ballot
+    (λ b is open_. subst (λ u. stamp_lt u v ≡ true) (sym (may.ballot b is open_)) t) in
     moved w name x (promised x v) s (record (s.node name) { promise = v; ballot = false }) refl
-    (group.raises name v (is_there w name x (s.node name) may.runs (promiser_stays c x v why) old) above)
-    (λ k. record { begins = record { within = k.begins.within; image = k.begins.image }; list = k.list; log_ = k.log_; stopped = k.stopped; departed = k.departed; leaving = k.leaving; promise = refl; ballot = sym ends; start = k.start }) h)
+    (group.raises name v (is_there w name x (s.node name) may.runs (promiser_stays c x v why) old) above) tt
+    (λ k. record {
+      begins = record { within = k.begins.within; image = k.begins.image };
+      list = k.list;
+      log_ = k.log_;
+      stopped = k.stopped;
+      departed = k.departed;
+      leaving = k.leaving;
+      promise = refl;
+      ballot = sym ends;
+      start = k.start;
+    }) h)
     (λ f.
     let same : v ≡ x.core.promise = equal_stamps v x.core.promise begun.small small low f in
-    let stays : is_unfinished (overtaken v x.ballot) ≡ is_unfinished x.ballot = kept v x.ballot (λ b is open_. subst (λ u. stamp_lt u v ≡ false) (sym (may.ballot b is open_)) f) in
+    let stays : is_unfinished (overtaken v x.ballot) ≡ is_unfinished x.ballot = kept v x.ballot
+    (λ b is open_. subst (λ u. stamp_lt u v ≡ false) (sym (may.ballot b is open_)) f) in
     unmoved w name x (promised x v) s (record { log = refl; log_ = refl; departed = refl; leaving = refl; promise = same; ballot = stays; start = refl }) h)
 
 -- ---- ballots
@@ -202,9 +220,12 @@ pub given_over : (w : World) (name : ℕ) (x y : Node) (s : Group) → y.core.lo
     → y.core.promise ≡ x.core.promise → is_unfinished y.ballot ≡ false → y.core.start ≡ x.core.start → StandsBut name (within w name x) s
     → Leads (StandsBut name (within w name y)) s
 given_over w name x y s log stays leaving promise ends start_ h =
-    moved w name x y s (record (s.node name) { ballot = false }) log (group.gives_over name)
+    moved w name x y s (record (s.node name) { ballot = false }) log (group.gives_over name) tt
     (λ k. record {
-      begins = record { within = subst (λ (l : Log). l.start ≤ length w.group) (sym log) k.begins.within; image = subst (λ (l : Log). l.image ≡ told (take l.start w.group)) (sym log) k.begins.image };
+      begins = record {
+        within = subst (λ (l : Log). l.start ≤ length w.group) (sym log) k.begins.within;
+        image = subst (λ (l : Log). l.image ≡ told (take l.start w.group)) (sym log) k.begins.image;
+      };
       list = k.list ∙ ap (λ (l : Log). take l.start w.group ++ l.entries) (sym log);
       log_ = k.log_ ∙ ap has_log (sym stays);
       stopped = k.stopped;
@@ -224,12 +245,16 @@ open_stands w name c x y s may member listed stays log same_status same_leaving 
     let old = own_name w name x s may.few h in
     let up = is_up w name x (s.node name) may.runs member old in
     let who = may.who in
-    let in_list : mem (s.node name).list name ≡ true = ap (λ (i : Image). has (members_of i) name) (told_whole w name name x (s.node name) old) ∙ ap (has (members x)) (sym who) ∙ listed in
+    let in_list : mem (s.node name).list name ≡ true = ap (λ (i : Image). has (members_of i) name) (told_whole w name name x (s.node name) old)
+    ∙ ap (has (members x)) (sym who) ∙ listed in
     let own : own_stamp name (s.node name) ≡ y.core.promise = (λ i. record { round = (old.promise i).round + 1; by = sym who i }) ∙ sym promise in
     moved w name x y s (record (s.node name) { promise = own_stamp name (s.node name); ballot = true }) log
-    (group.begins name may.few up (old.leaving ∙ stays) in_list)
+    (group.begins name may.few up (old.leaving ∙ stays) in_list) tt
     (λ k. record {
-      begins = record { within = subst (λ (l : Log). l.start ≤ length w.group) (sym log) k.begins.within; image = subst (λ (l : Log). l.image ≡ told (take l.start w.group)) (sym log) k.begins.image };
+      begins = record {
+        within = subst (λ (l : Log). l.start ≤ length w.group) (sym log) k.begins.within;
+        image = subst (λ (l : Log). l.image ≡ told (take l.start w.group)) (sym log) k.begins.image;
+      };
       list = k.list ∙ ap (λ (l : Log). take l.start w.group ++ l.entries) (sym log);
       log_ = k.log_ ∙ ap has_log (sym same_status);
       stopped = k.stopped;
@@ -248,8 +273,10 @@ IsDecision _ = ⊥
 pub look_stands : (w : World) (name : ℕ) (c : Cause) (x : Node) (b : Ballot) (v : Verdict) (s : Group) → MayMove w name c x s
     → is_unfinished x.ballot ≡ true → (look : Looks x b v) → (IsDecision look → ⊥) → StandsBut name (within w name x) s
     → Leads (StandsBut name (within w name v.node)) s
-look_stands w name c x b v s may open_ (waits y z) nothing h = unmoved w name x v.node s (record { log = refl; log_ = refl; departed = refl; leaving = refl; promise = refl; ballot = sym open_; start = refl }) h
-look_stands w name c x b v s may open_ (fetches_from_best y z u) nothing h = unmoved w name x v.node s (record { log = refl; log_ = refl; departed = refl; leaving = refl; promise = refl; ballot = sym open_; start = refl }) h
+look_stands w name c x b v s may open_ (waits y z) nothing h = unmoved w name x v.node s
+    (record { log = refl; log_ = refl; departed = refl; leaving = refl; promise = refl; ballot = sym open_; start = refl }) h
+look_stands w name c x b v s may open_ (fetches_from_best y z u) nothing h = unmoved w name x v.node s
+    (record { log = refl; log_ = refl; departed = refl; leaving = refl; promise = refl; ballot = sym open_; start = refl }) h
 look_stands w name c x b v s may open_ (finds_itself_out y) nothing h = given_over w name x v.node s refl refl refl refl refl refl h
 look_stands w name c x b v s may open_ (finds_too_few y z) nothing h = given_over w name x v.node s refl refl refl refl refl refl h
 look_stands w name c x b v s may open_ (finds_no_room y) nothing h = given_over w name x v.node s refl refl refl refl refl refl h
@@ -271,14 +298,25 @@ pub ask_stands : (w : World) (name : ℕ) (c : Cause) (x : Node) (s : Group) →
 ask_stands w name c x s may was none h =
     let old = own_name w name x s may.few h in
     moved w name x (record x { leaving = true }) s (record (s.node name) { leaving = true }) refl
-    (group.asks name (is_up w name x (s.node name) may.runs (ap is_member was) old) (old.ballot ∙ none))
-    (λ k. record { begins = record { within = k.begins.within; image = k.begins.image }; list = k.list; log_ = k.log_; stopped = k.stopped; departed = k.departed; leaving = refl; promise = k.promise; ballot = k.ballot; start = k.start }) h
+    (group.asks name (is_up w name x (s.node name) may.runs (ap is_member was) old) (old.ballot ∙ none)) tt
+    (λ k. record {
+      begins = record { within = k.begins.within; image = k.begins.image };
+      list = k.list;
+      log_ = k.log_;
+      stopped = k.stopped;
+      departed = k.departed;
+      leaving = refl;
+      promise = k.promise;
+      ballot = k.ballot;
+      start = k.start;
+    }) h
 
 -- it is told to go only once it may
 may_depart : (w : World) (name number : ℕ) (x : Node) (s : Group) → is_stopped w name ≡ false → IsUp (s.node name) → (s.node name).leaving ≡ true
     → NameStands (within w name x) name x (s.node name) → GoneSays s number name → (before : List Entry) × MayDepart s name before
 may_depart w name number x s runs up leaves old (has_stopped t) = absurd (let f : (s.node name).stopped ≡ false = old.stopped ∙ runs in cc)
-may_depart w name number x s runs up leaves old (may_go before is accepted stored) = (before, record { up = up; leaving = leaves; accepted = accepted; stored = stored })
+may_depart w name number x s runs up leaves old
+    (may_go before is accepted stored) = (before, record { up = up; leaving = leaves; accepted = accepted; stored = stored })
 
 pub depart_stands : (w : World) (name from number : ℕ) (v : Stamp) (c : Cause) (x : Node) (s : Group) → MayMove w name c x s
     → c ≡ hears (packet.Gone from v number) → hears_member x from ≡ true → x.leaving ≡ true → StandsBut name (within w name x) s
@@ -289,5 +327,15 @@ depart_stands w name from number v c x s may is heard leaves h =
     let up = is_up w name x (s.node name) may.runs member old in
     let go = may_depart w name number x s may.runs up (old.leaving ∙ leaves) old (may.gone from v number is) in
     moved w name x (record x { status = status.Departed }) s (record (s.node name) { departed = true }) refl
-    (group.departs name go.0 go.1)
-    (λ k. record { begins = record { within = k.begins.within; image = k.begins.image }; list = k.list; log_ = up.log; stopped = k.stopped; departed = refl; leaving = k.leaving; promise = k.promise; ballot = k.ballot; start = λ t. k.start (logged x.status member) }) h
+    (group.departs name go.0 go.1) tt
+    (λ k. record {
+      begins = record { within = k.begins.within; image = k.begins.image };
+      list = k.list;
+      log_ = up.log;
+      stopped = k.stopped;
+      departed = refl;
+      leaving = k.leaving;
+      promise = k.promise;
+      ballot = k.ballot;
+      start = λ t. k.start (logged x.status member);
+    }) h

@@ -19,6 +19,7 @@ use Rattle.am_model.proofs.Greatest.{split}
 use Rattle.am_effects.proofs.Rests.{rests_at_end}
 use Rattle.am_stands.specs.Standing.{NameStands, FrontsStand, StandsBut, Stands, within}
 use Rattle.am_stands.specs.Ends.{NeedsClose, closed, CloseStands}
+use Rattle.am_stands.specs.Moving.{MoveOk}
 use Rattle.am_stands.proofs.Names.{one_move, views_noted}
 use Rattle.am_stands.proofs.Changes.{own_name, is_up}
 use Rattle.am_stands.proofs.Entries.{is_leading, numbered_stands}
@@ -50,27 +51,38 @@ gone_name w name x b log h =
 
 module _ (w : World) (e : Event) (name : ℕ) (x : Node) (step : Step) (s : Group) (is : step.node ≡ closed x) (who : x.core.who ≡ name) (few : name < 256)
     (small : (k : ℕ) (v : Decided) → slice_get w.views k ≡ Some v → v.stamp.by < 256) (log : (s.node name).has_log ≡ true)
-    (needs : NeedsClose w s name step.node) (h : StandsBut name (within w name (pushed x (Leave x.core.who))) (with_line s name (longer (s.node name) (Leave x.core.who)))) where
+    (needs : NeedsClose w s name step.node) (h : StandsBut name (within w name (pushed x (Leave x.core.who)))
+    (with_line s name (longer (s.node name) (Leave x.core.who)))) where
   t : Group
-  t = record (with_line s name (record (longer (s.node name) (Leave x.core.who)) { departed = true })) { group = take step.node.core.acc ((s.node name).list ++ Leave x.core.who ∷ []) }
+  t = record (with_line s name (record (longer (s.node name) (Leave x.core.who)) { departed = true })) {
+    group = take needs.upto
+        ((s.node name).list ++ Leave x.core.who ∷ []);
+  }
 
   -- the node is this one's
   same_log : step.node.core.log ≡ (pushed x (Leave x.core.who)).core.log
   same_log = ap (λ (n : Node). n.core.log) is ∙ (rests_at_end (pushed x (Leave x.core.who))).log
 
-  grown : group_after w.group step.node ≡ take step.node.core.acc ((s.node name).list ++ Leave x.core.who ∷ [])
-  grown = needs.accepted ∙ ap (λ k. take step.node.core.acc ((s.node name).list ++ Leave k ∷ [])) (sym who)
+  grown : group_after w.group step.node ≡ take needs.upto ((s.node name).list ++ Leave x.core.who ∷ [])
+  grown = needs.accepted ∙ ap (λ k. take needs.upto ((s.node name).list ++ Leave k ∷ [])) (sym who)
 
-  each : (i : ℕ) → i < 256 → NameStands (stepped w e name step) i (set_at w.nodes name step.node i) (put s.node name (record (longer (s.node name) (Leave x.core.who)) { departed = true }) i)
+  each : (i : ℕ) → i < 256 → NameStands (stepped w e name step) i (set_at w.nodes name step.node i)
+      (put s.node name (record (longer (s.node name) (Leave x.core.who)) { departed = true }) i)
   unfolding put stepped
   each i small_ = split (i == name)
       (λ u.
       let same : i ≡ name = grind (arith, nat_tests) in
-      let mine : NameStands (within w name (pushed x (Leave x.core.who))) name (pushed x (Leave x.core.who)) (longer (s.node name) (Leave x.core.who)) = rw (is_itself name) at (h.each name few) in
+      let mine : NameStands (within w name (pushed x (Leave x.core.who))) name (pushed x (Leave x.core.who))
+      (longer (s.node name) (Leave x.core.who)) = rw (is_itself name) at (h.each name few) in
       let gone = gone_name w name x (longer (s.node name) (Leave x.core.who)) log mine in
-      let here : NameStands (within w name (closed x)) name step.node (record (longer (s.node name) (Leave x.core.who)) { departed = true }) = subst (λ (n : Node). NameStands (within w name (closed x)) name n (record (longer (s.node name) (Leave x.core.who)) { departed = true })) (sym is) gone in
-      let k = name_grows (within w name (closed x)) (stepped w e name step) name step.node (record (longer (s.node name) (Leave x.core.who)) { departed = true }) needs.grows refl here in
-      let at : NameStands (stepped w e name step) i step.node (record (longer (s.node name) (Leave x.core.who)) { departed = true }) = subst (λ j. NameStands (stepped w e name step) j step.node (record (longer (s.node name) (Leave x.core.who)) { departed = true })) (sym same) k in
+      let here : NameStands (within w name (closed x)) name step.node
+      (record (longer (s.node name) (Leave x.core.who)) { departed = true }) = subst (λ (n : Node). NameStands (within w name (closed x)) name n
+      (record (longer (s.node name) (Leave x.core.who)) { departed = true })) (sym is) gone in
+      let k = name_grows (within w name (closed x)) (stepped w e name step) name step.node
+      (record (longer (s.node name) (Leave x.core.who)) { departed = true }) needs.grows refl here in
+      let at : NameStands (stepped w e name step) i step.node
+      (record (longer (s.node name) (Leave x.core.who)) { departed = true }) = subst (λ j. NameStands (stepped w e name step) j step.node
+      (record (longer (s.node name) (Leave x.core.who)) { departed = true })) (sym same) k in
       rw u at)
       (λ f.
       let old : NameStands (within w name (pushed x (Leave x.core.who))) i (w.nodes i) (s.node i) = rw f at (h.each i small_) in
@@ -83,11 +95,13 @@ module _ (w : World) (e : Event) (name : ℕ) (x : Node) (step : Step) (s : Grou
       let p = pushed x (Leave x.core.who) in
       let mine : NameStands (within w name p) name p (longer (s.node name) (Leave x.core.who)) = rw (is_itself name) at (h.each name few) in
       let front = taken_more p.core.log.start w.group (group_after w.group step.node) needs.grows mine.begins.within in
-      rw u (ap (λ (g : Log). up_to_next v (take g.start (group_after w.group step.node) ++ g.entries)) same_log ∙ ap (λ l. up_to_next v (l ++ p.core.log.entries)) front))
+      rw u (ap (λ (g : Log). up_to_next v (take g.start (group_after w.group step.node) ++ g.entries)) same_log
+      ∙ ap (λ l. up_to_next v (l ++ p.core.log.entries)) front))
       (λ f.
       let old : NameStands (within w name (pushed x (Leave x.core.who))) v.by (w.nodes v.by) (s.node v.by) = rw f at (h.each v.by low) in
       let m = w.nodes v.by in
-      rw f (ap (λ l. up_to_next v (l ++ m.core.log.entries)) (taken_more m.core.log.start w.group (group_after w.group step.node) needs.grows old.begins.within)))
+      rw f (ap (λ l. up_to_next v (l ++ m.core.log.entries))
+      (taken_more m.core.log.start w.group (group_after w.group step.node) needs.grows old.begins.within)))
 
   stands : Stands (stepped w e name step) t
   unfolding put stepped t
@@ -99,7 +113,8 @@ module _ (w : World) (e : Event) (name : ℕ) (x : Node) (step : Step) (s : Grou
         let old : has_departed (w.nodes i).status ≡ false → FrontsStand (w.nodes i) (s.node i) = rw f at (h.fronts i small_ other) in
         let z : has_departed (w.nodes i).status ≡ false = rw f at d in
         rw f (old z)));
-    views = views_noted (within w name (pushed x (Leave x.core.who))) (stepped w e name step) (with_line s name (longer (s.node name) (Leave x.core.who))).views needs.no_view (λ k d at. lines d.stamp (small k d at)) h.views;
+    views = views_noted (within w name (pushed x (Leave x.core.who))) (stepped w e name step)
+        (with_line s name (longer (s.node name) (Leave x.core.who))).views needs.no_view (λ k d at. lines d.stamp (small k d at)) h.views;
     group = sym grown;
   }
 
@@ -111,7 +126,15 @@ close_stands w e name c x step s may leads leaves is needs h =
     let leading = is_leading w name x a may.who leads old in
     let up = is_up w name x a may.runs leading.member old in
     let plain = numbered_stands w name x (Leave x.core.who) s may.few leading may.noted refl needs.chain h in
-    one_move (Stands (stepped w e name step)) s (t w e name x step s is may.who may.few may.noted up.log needs plain)
-    (let who = may.who in subst (λ k. Move s (record (with_line s name (record (longer (s.node name) (Leave k)) { departed = true })) { group = take step.node.core.acc ((s.node name).list ++ Leave k ∷ []) })) (sym who)
-    (group.closes name step.node.core.acc (record { up = up; acts = leading.acts_; by = leading.by }) (old.leaving ∙ leaves) needs.alone needs.accepts))
+    let who = may.who in
+    let move : (m : Move s (record (with_line s name (record (longer (s.node name) (Leave x.core.who)) { departed = true })) {
+      group = take needs.upto
+          ((s.node name).list ++ Leave x.core.who ∷ []);
+    })) × MoveOk m =
+    subst (λ k. (m : Move s (record (with_line s name (record (longer (s.node name) (Leave k)) { departed = true })) {
+      group = take needs.upto
+          ((s.node name).list ++ Leave k ∷ []);
+    })) × MoveOk m) (sym who)
+    (group.closes name needs.upto (record { up = up; acts = leading.acts_; by = leading.by }) (old.leaving ∙ leaves) needs.alone needs.accepts, tt) in
+    one_move (Stands (stepped w e name step)) s (t w e name x step s is may.who may.few may.noted up.log needs plain) move.0 move.1
     (stands w e name x step s is may.who may.few may.noted up.log needs plain)

@@ -89,7 +89,8 @@ module _ (w : World) (name : ℕ) (x y : Node) (a : groups.Node) (views : Views)
 
   is_whole : whole (within next name y) y ≡ a.list ++ View v names r ∷ []
   unfolding next
-  is_whole = ap (λ (g : Log). take g.start w.group ++ g.entries) log ∙ sym (append_assoc (take x.core.log.start w.group) x.core.log.entries (View v names r ∷ [])) ∙ ap (λ l. l ++ View v names r ∷ []) (sym old.list)
+  is_whole = ap (λ (g : Log). take g.start w.group ++ g.entries) log
+      ∙ sym (append_assoc (take x.core.log.start w.group) x.core.log.entries (View v names r ∷ [])) ∙ ap (λ l. l ++ View v names r ∷ []) (sym old.list)
 
   told_is : nodes.told y ≡ nodes.told (pushed x (View v names r))
   told_is = ap (λ (g : Log). nodes.told (record y { core = record (y.core) { log = g } })) log
@@ -113,14 +114,16 @@ module _ (w : World) (name : ℕ) (x y : Node) (a : groups.Node) (views : Views)
       let n = h.noted k d at in
       let list = whole (within w name x) x in
       let other : (key d.stamp == key a.promise) ≡ false = split (key d.stamp == key a.promise)
-      (λ t. absurd (let keys : key d.stamp ≡ key v = (let z : key d.stamp ≡ key a.promise = grind (arith, nat_tests) in z ∙ ap key promised) in let z : views.decided (key v) ≡ true = ap views.decided (sym keys) ∙ n.decided in cc))
+      (λ t. absurd (let keys : key d.stamp ≡ key v = (let z : key d.stamp ≡ key a.promise = grind (arith, nat_tests) in z ∙ ap key promised) in
+      let z : views.decided (key v) ≡ true = ap views.decided (sym keys) ∙ n.decided in cc))
       (λ f. f) in
       let stays : line_of (within next name y) d.stamp ≡ line_of (within w name x) d.stamp = split (d.stamp.by == name)
       (λ u.
       let own : d.stamp.by ≡ name = grind (arith, nat_tests) in
       let here = line_here w name x d.stamp own in
       let stands = noted_stands (within w name x) views d list n here in
-      line_here next name y d.stamp own ∙ ap (up_to_next d.stamp) (is_whole ∙ ap (λ l. l ++ View v names r ∷ []) old.list) ∙ line_ends d.stamp list (View v names r) stands refl ∙ sym here)
+      line_here next name y d.stamp own ∙ ap (up_to_next d.stamp) (is_whole ∙ ap (λ l. l ++ View v names r ∷ []) old.list)
+      ∙ line_ends d.stamp list (View v names r) stands refl ∙ sym here)
       (λ g. rw g refl) in
       record {
         decided = rw other n.decided;
@@ -141,7 +144,8 @@ module _ (w : World) (name : ℕ) (x y : Node) (a : groups.Node) (views : Views)
       let own : (view y).by ≡ name = ap (λ (z : Stamp). z.by) is_stamp ∙ mine in
       let opened_ : opening (choice_of a names r) ≡ a.list ++ View v names r ∷ [] = λ i. a.list ++ View (promised i) names r ∷ [] in
       let line_ : line_of (within next name y) (view y) ≡ a.list ++ View v names r ∷ [] =
-      line_here next name y (view y) own ∙ ap (up_to_next (view y)) is_whole ∙ ap (λ (z : Stamp). up_to_next z (a.list ++ View v names r ∷ [])) is_stamp ∙ line_opens v a.list names r unseen in
+      line_here next name y (view y) own ∙ ap (up_to_next (view y)) is_whole ∙ ap (λ (z : Stamp). up_to_next z (a.list ++ View v names r ∷ [])) is_stamp
+      ∙ line_opens v a.list names r unseen in
       record {
         decided = rw t refl;
         stamp = rw t (promised ∙ sym is_stamp);
@@ -162,7 +166,8 @@ module _ (w : World) (name : ℕ) (x y : Node) (a : groups.Node) (views : Views)
     decided = λ i t. split (i == key a.promise)
         (λ u. (let is : i ≡ key a.promise = grind (arith, nat_tests) in
         record { index = length w.views; view = last_view y; there = get_last w.views (last_view y); is = ap key (is_stamp ∙ sym promised) ∙ sym is }))
-        (λ f. (let n = h.decided i (rw f at t) in record { index = n.index; view = n.view; there = get_front w.views (last_view y ∷ []) n.index n.view n.there; is = n.is }));
+        (λ f. (let n = h.decided i (rw f at t) in
+        record { index = n.index; view = n.view; there = get_front w.views (last_view y ∷ []) n.index n.view n.there; is = n.is }));
     current = λ d last. promised ∙ sym is_stamp ∙ ap (λ (z : Decided). z.stamp) (last_same w.views last.before (last_view y) d last.is);
   }
 
@@ -170,7 +175,8 @@ module _ (w : World) (name : ℕ) (x y : Node) (a : groups.Node) (views : Views)
 
 pub decision_stands : (w : World) (name : ℕ) (c : Cause) (x : Node) (b : Ballot) (s : Group) → MayMove w name c x s → Balloting c x b
     → NeedsDecision s name x b → StandsBut name (within w name x) s
-    → Leads (StandsBut name (within (noting w (last_view (restarted (looks.view_of x b)))) name (record (restarted (looks.view_of x b)) { ballot = Some (finished b (said.Decided (nodes.top x + 1) (left_in b (need_of x b)))) }))) s
+    → Leads (StandsBut name (within (noting w (last_view (restarted (looks.view_of x b)))) name
+    (record (restarted (looks.view_of x b)) { ballot = Some (finished b (said.Decided (nodes.top x + 1) (left_in b (need_of x b)))) }))) s
 unfolding next made
 decision_stands w name c x b s may why needs h =
     let names = left_in b (need_of x b) in
@@ -185,7 +191,8 @@ decision_stands w name c x b s may why needs h =
     let fresh : s.views.decided (key b.stamp) ≡ false = ap (λ (z : Stamp). s.views.decided (key z)) same ∙ needs.fresh in
     let unseen : list_any (is_view_of b.stamp) a.list ≡ false = ap (λ (z : Stamp). list_any (is_view_of z) a.list) same ∙ needs.unseen in
     let chosen = record a { list = opening (choice_of a names r); ballot = false } in
-    let list_ : opening (choice_of a names r) ≡ whole (within w name y) y = (λ i. a.list ++ View (promised i) names r ∷ []) ∙ sym (is_whole w name x y a s.views b.stamp names r promised mine old refl needs.members_ fresh unseen h.views) in
+    let list_ : opening (choice_of a names r) ≡ whole (within w name y) y = (λ i. a.list ++ View (promised i) names r ∷ [])
+    ∙ sym (is_whole w name x y a s.views b.stamp names r promised mine old refl needs.members_ fresh unseen h.views) in
     let name_ : NameStands (within w name x) name x a → NameStands (within w name y) name y chosen = λ k. record {
       begins = record { within = k.begins.within; image = k.begins.image };
       list = list_;
@@ -197,7 +204,7 @@ decision_stands w name c x b s may why needs h =
       ballot = refl;
       start = k.start;
     } in
-    one_move (StandsBut name (within w2 name y)) s (with_choice s name names r) (group.decides name names r needs.may)
+    one_move (StandsBut name (within w2 name y)) s (with_choice s name names r) (group.decides name names r needs.may) (needs.set, needs.voted)
     (record {
       each = λ i few. name_in (within w name y) (within w2 name y) i _ _ refl refl (each_within w name x y s chosen name_ h.each i few);
       fronts = fronts_within w name x y s chosen h.fronts;

@@ -1,5 +1,6 @@
 -- At the end of a step the group accepts what its sequencer does, and the name learns how far that is.
-use Rattle.std.proofs.Common.{◌≡◌, ◌≢◌, ℕ, zero, suc, ◌<◌, ◌≤◌, ◌==◌, max, true, false, if◌then◌else◌, List, [], ◌∷◌, ◌++◌, length, take, Some, slice_get, refl, sym, ap, ◌∙◌, subst, arith}
+use Rattle.std.proofs.Common.{◌≡◌, ◌≢◌, ℕ, zero, suc, ◌<◌, ◌≤◌, ◌==◌, max, true, false, if◌then◌else◌, List, [], ◌∷◌, ◌++◌, length, take, Some, slice_get}
+use Rattle.std.proofs.Common.{refl, sym, ap, ◌∙◌, subst, arith}
 use Rattle.std.proofs.lemmas.Bool.Decides.{nat_tests}
 use Rattle.am_base.specs.declared.entry.Entry.{Entry}
 use Rattle.am_base.specs.declared.name.Stamp.{Stamp}
@@ -57,33 +58,39 @@ module _ (w : World) (e : Event) (name : ℕ) (step : Step) where
   after_ : World
   after_ = stepped w e name step
 
-  each_grows : (s : Group) → Begins w.group (group_after w.group step.node) → ((i : ℕ) → i < 256 → NameStands (before_end w name step.node) i ((before_end w name step.node).nodes i) (s.node i))
+  each_grows : (s : Group) → Begins w.group (group_after w.group step.node)
+      → ((i : ℕ) → i < 256 → NameStands (before_end w name step.node) i ((before_end w name step.node).nodes i) (s.node i))
       → (i : ℕ) → i < 256 → NameStands (stepped w e name step) i ((stepped w e name step).nodes i) (s.node i)
   unfolding stepped
-  each_grows s grows h i few = name_grows (before_end w name step.node) (stepped w e name step) i (set_at w.nodes name step.node i) (s.node i) grows refl (h i few)
+  each_grows s grows h i few = name_grows (before_end w name step.node) (stepped w e name step) i (set_at w.nodes name step.node i) (s.node i) grows refl
+      (h i few)
 
-  lines_grow : (s : Group) → Begins w.group (group_after w.group step.node) → ((i : ℕ) → i < 256 → NameStands (before_end w name step.node) i ((before_end w name step.node).nodes i) (s.node i))
+  lines_grow : (s : Group) → Begins w.group (group_after w.group step.node)
+      → ((i : ℕ) → i < 256 → NameStands (before_end w name step.node) i ((before_end w name step.node).nodes i) (s.node i))
       → (v : Stamp) → v.by < 256 → line_of (stepped w e name step) v ≡ line_of (before_end w name step.node) v
   unfolding stepped
   lines_grow s grows h v few =
       let m = set_at w.nodes name step.node v.by in
       ap (λ l. up_to_next v (l ++ m.core.log.entries)) (taken_more m.core.log.start w.group (group_after w.group step.node) grows (h v.by few).begins.within)
 
-  views_grow : (s : Group) → Begins w.group (group_after w.group step.node) → ((k : ℕ) (v : Decided) → slice_get (views_after w.views (w.nodes name) step.node) k ≡ Some v → v.stamp.by < 256)
+  views_grow : (s : Group) → Begins w.group (group_after w.group step.node)
+      → ((k : ℕ) (v : Decided) → slice_get (views_after w.views (w.nodes name) step.node) k ≡ Some v → v.stamp.by < 256)
       → ((i : ℕ) → i < 256 → NameStands (before_end w name step.node) i ((before_end w name step.node).nodes i) (s.node i))
       → ViewsStand (before_end w name step.node) s.views → ViewsStand (stepped w e name step) s.views
   unfolding stepped
-  views_grow s grows small each h = views_noted (before_end w name step.node) (stepped w e name step) s.views refl (λ k d at. lines_grow s grows each d.stamp (small k d at)) h
+  views_grow s grows small each h = views_noted (before_end w name step.node) (stepped w e name step) s.views refl
+      (λ k d at. lines_grow s grows each d.stamp (small k d at)) h
 
 -- ---- what is accepted
 
 accept_moves : (w : World) (s : Group) (name : ℕ) (n : Node) → s.group ≡ w.group → Accepts w s name n → Moves s (record s { group = group_after w.group n })
 accept_moves w s name n same (no_more is) = subst (λ (g : List Entry). Moves s (record s { group = g })) (same ∙ sym is) none
-accept_moves w s name n same (rises lead may is) = subst (λ (g : List Entry). Moves s (record s { group = g })) (sym is) (moves (group.accepts name n.core.acc lead may) none)
+accept_moves w s name n same (rises lead may is) = subst (λ (g : List Entry). Moves s (record s { group = g })) (sym is)
+    (moves (group.accepts name n.core.acc lead may) tt none)
 
 pub then_moves : {s t u : Group} → Moves s t → Moves t u → Moves s u
 then_moves none m = m
-then_moves (moves x xs) m = moves x (then_moves xs m)
+then_moves (moves x ok xs) m = moves x ok (then_moves xs m)
 
 -- ---- what is learned
 
@@ -93,7 +100,8 @@ is_itself name = grind (arith, nat_tests)
 -- all stands, but for the name's own fronts
 record Ended (w : World) (e : Event) (name : ℕ) (step : Step) (s : Group) : Type 0 where
   each : (i : ℕ) → i < 256 → NameStands (stepped w e name step) i (set_at w.nodes name step.node i) (s.node i)
-  fronts : (i : ℕ) → i < 256 → i ≢ name → has_departed (set_at w.nodes name step.node i).status ≡ false → FrontsStand (set_at w.nodes name step.node i) (s.node i)
+  fronts : (i : ℕ) → i < 256 → i ≢ name → has_departed (set_at w.nodes name step.node i).status ≡ false
+      → FrontsStand (set_at w.nodes name step.node i) (s.node i)
   views : ViewsStand (stepped w e name step) s.views
   group_ : s.group ≡ group_after w.group step.node
 
@@ -105,7 +113,8 @@ all_stands w e name step s h own = record {
   each = h.each;
   fronts = λ i few. split (i == name)
       (λ t. (let same : i ≡ name = grind (arith, nat_tests) in
-      let mine : has_departed step.node.status ≡ false → FrontsStand step.node (s.node i) = subst (λ k. has_departed step.node.status ≡ false → FrontsStand step.node (s.node k)) (sym same) own in
+      let mine : has_departed step.node.status ≡ false
+      → FrontsStand step.node (s.node i) = subst (λ k. has_departed step.node.status ≡ false → FrontsStand step.node (s.node k)) (sym same) own in
       rw t mine))
       (λ f. h.fronts i few (λ same. (let t : (i == name) ≡ true = grind (arith, nat_tests) in cc)));
   views = h.views;
@@ -118,13 +127,28 @@ unfolding put
 learned w e name step s told_ acc_ h = record {
   each = λ i few. split (i == name)
       (λ t. (let same : i ≡ name = grind (arith, nat_tests) in
-      let old : NameStands (stepped w e name step) i (set_at w.nodes name step.node i) (s.node name) = subst (λ k. NameStands (stepped w e name step) i (set_at w.nodes name step.node i) (s.node k)) same (h.each i few) in
-      let new : NameStands (stepped w e name step) i (set_at w.nodes name step.node i) (record (s.node name) { told = told_; acc = acc_ }) = record { begins = old.begins; list = old.list; log_ = old.log_; stopped = old.stopped; departed = old.departed; leaving = old.leaving; promise = old.promise; ballot = old.ballot; start = old.start } in
-      subst (λ (a : groups.Node). NameStands (stepped w e name step) i (set_at w.nodes name step.node i) a) (λ j. if sym t j then record (s.node name) { told = told_; acc = acc_ } else s.node i) new))
-      (λ f. subst (λ (a : groups.Node). NameStands (stepped w e name step) i (set_at w.nodes name step.node i) a) (λ j. if sym f j then record (s.node name) { told = told_; acc = acc_ } else s.node i) (h.each i few));
+      let old : NameStands (stepped w e name step) i (set_at w.nodes name step.node i)
+      (s.node name) = subst (λ k. NameStands (stepped w e name step) i (set_at w.nodes name step.node i) (s.node k)) same (h.each i few) in
+      let new : NameStands (stepped w e name step) i (set_at w.nodes name step.node i)
+      (record (s.node name) { told = told_; acc = acc_ }) = record {
+        begins = old.begins;
+        list = old.list;
+        log_ = old.log_;
+        stopped = old.stopped;
+        departed = old.departed;
+        leaving = old.leaving;
+        promise = old.promise;
+        ballot = old.ballot;
+        start = old.start;
+      } in
+      subst (λ (a : groups.Node). NameStands (stepped w e name step) i (set_at w.nodes name step.node i) a)
+      (λ j. if sym t j then record (s.node name) { told = told_; acc = acc_ } else s.node i) new))
+      (λ f. subst (λ (a : groups.Node). NameStands (stepped w e name step) i (set_at w.nodes name step.node i) a)
+      (λ j. if sym f j then record (s.node name) { told = told_; acc = acc_ } else s.node i) (h.each i few));
   fronts = λ i few other. split (i == name)
       (λ t. absurd (let same : i ≡ name = grind (arith, nat_tests) in other same))
-      (λ f. λ d. subst (λ (a : groups.Node). FrontsStand (set_at w.nodes name step.node i) a) (λ j. if sym f j then record (s.node name) { told = told_; acc = acc_ } else s.node i) (h.fronts i few other d));
+      (λ f. λ d. subst (λ (a : groups.Node). FrontsStand (set_at w.nodes name step.node i) a)
+      (λ j. if sym f j then record (s.node name) { told = told_; acc = acc_ } else s.node i) (h.fronts i few other d));
   views = h.views;
   group_ = h.group_;
 }
@@ -143,7 +167,7 @@ learn_stands w e name step s same h few (learns m) =
     let told_ = max (s.node name).told n.core.told in
     let long : told_ ≤ length s.group = subst (λ (g : List Entry). told_ ≤ length g) (sym same) m.told in
     let t = with_node s name (record (s.node name) { told = told_; acc = n.core.acc }) in
-    one_move (Stands (stepped w e name step)) s t (group.learns name told_ n.core.acc m.up (omega arith) long m.before m.up_to m.given m.within)
+    one_move (Stands (stepped w e name step)) s t (group.learns name told_ n.core.acc m.up (omega arith) long m.before m.up_to m.given m.within) tt
     (all_stands w e name step t (learned w e name step s told_ n.core.acc h) (λ d. own_fronts n name s told_ (omega arith)))
 
 -- ---- the end

@@ -29,7 +29,7 @@ use Rattle.am_effects.specs.Causes.{Cause}
 use Rattle.am_effects.specs.Changes.{Numbers, asked_send, own_send, asked_join, asked_leave}
 use Rattle.am_laws.proofs.Stamps.{same_stamp}
 use Rattle.am_stands.specs.Standing.{NameStands, NotedStands, ViewsStand, StandsBut, within}
-use Rattle.am_stands.specs.Moving.{Leads}
+use Rattle.am_stands.specs.Moving.{MoveOk, Leads}
 use Rattle.am_stands.specs.Steps.{MayMove, NeedsNumber, IsOthers, NeedsEntry, NeedsPiece, of_line, of_shown, NeedsWelcome}
 use Rattle.am_stands.proofs.Names.{one_move, views_noted, each_within, fronts_within}
 use Rattle.am_stands.proofs.Changes.{own_name, is_up, told_whole}
@@ -46,7 +46,8 @@ pub record Longer (x y : Node) (e : Entry) : Type 0 where
   pub start : y.core.start ≡ x.core.start
 
 whole_longer : (w : World) (name : ℕ) (x y : Node) (e : Entry) → Longer x y e → whole (within w name y) y ≡ whole (within w name x) x ++ e ∷ []
-whole_longer w name x y e l = ap (λ (g : Log). take g.start w.group ++ g.entries) l.log ∙ sym (append_assoc (take x.core.log.start w.group) x.core.log.entries (e ∷ []))
+whole_longer w name x y e l = ap (λ (g : Log). take g.start w.group ++ g.entries) l.log
+    ∙ sym (append_assoc (take x.core.log.start w.group) x.core.log.entries (e ∷ []))
 
 pub name_longer : (w : World) (name : ℕ) (x y : Node) (e : Entry) (a : groups.Node) → Longer x y e → NameStands (within w name x) name x a
     → NameStands (within w name y) name y (longer a e)
@@ -72,7 +73,8 @@ pub noted_stands : (w : World) (views : Views) (v : Decided) (list : List Entry)
     → HasViewOf v.stamp list
 noted_stands w views v list h is =
     let ch = views.chosen (key v.stamp) in
-    opened v.stamp ch.before ch.members ch.resilience list (subst (λ (s : Stamp). Begins (ch.before ++ View s ch.members ch.resilience ∷ []) (up_to_next v.stamp list)) h.stamp
+    opened v.stamp ch.before ch.members ch.resilience list
+    (subst (λ (s : Stamp). Begins (ch.before ++ View s ch.members ch.resilience ∷ []) (up_to_next v.stamp list)) h.stamp
     (subst (λ l. Begins (opening ch) l) (h.line ∙ is) h.opens))
 
 pub line_here : (w : World) (name : ℕ) (x : Node) (v : Stamp) → v.by ≡ name → line_of (within w name x) v ≡ up_to_next v (whole (within w name x) x)
@@ -97,17 +99,19 @@ lines_longer w name x y e a views l old others h k d at = split (d.stamp.by == n
     let viewed : view_of list ≡ view x = ap view_of (sym old.list) ∙ view_whole w name x a old in
     let stays : up_to_next v (list ++ e ∷ []) ≡ up_to_next v list = split (is_view e)
     (λ u. line_ends v list e stands u)
-    (λ f. line_stays v list e (next_of_list v list stands (λ is. (let own : (view x).by ≡ name = ap (λ (s : Stamp). s.by) (sym viewed ∙ is) ∙ same in let z = others own in cc)))) in
+    (λ f. line_stays v list e (next_of_list v list stands
+    (λ is. (let own : (view x).by ≡ name = ap (λ (s : Stamp). s.by) (sym viewed ∙ is) ∙ same in let z = others own in cc)))) in
     line_here w name y v same ∙ ap (up_to_next v) (whole_longer w name x y e l) ∙ stays ∙ sym here)
     (λ f. rw f refl)
 
 -- a move that makes one list longer, and no line of its own
 grows : (w : World) (name : ℕ) (x y : Node) (e : Entry) (s : Group) → name < 256 → Longer x y e → IsOthers name x e
-    → Move s (with_node s name (longer (s.node name) e)) → StandsBut name (within w name x) s → Leads (StandsBut name (within w name y)) s
-grows w name x y e s few l others move h =
+    → (move : Move s (with_node s name (longer (s.node name) e))) → MoveOk move → StandsBut name (within w name x) s
+    → Leads (StandsBut name (within w name y)) s
+grows w name x y e s few l others move ok h =
     let old = own_name w name x s few h in
     let b = longer (s.node name) e in
-    one_move (StandsBut name (within w name y)) s (with_node s name b) move (record {
+    one_move (StandsBut name (within w name y)) s (with_node s name b) move ok (record {
       each = each_within w name x y s b (name_longer w name x y e (s.node name) l) h.each;
       fronts = fronts_within w name x y s b h.fronts;
       views = views_noted (within w name x) (within w name y) s.views refl (lines_longer w name x y e (s.node name) s.views l old others h.views) h.views;
@@ -120,14 +124,16 @@ entry_stands : (w : World) (name : ℕ) (x y : Node) (e : Entry) (s : Group) →
     → Longer x y e → NeedsEntry s name x e → StandsBut name (within w name x) s → Leads (StandsBut name (within w name y)) s
 entry_stands w name x y e s few runs member l needs h =
     let old = own_name w name x s few h in
-    grows w name x y e s few l needs.others (group.stores name e (is_up w name x (s.node name) runs member old) needs.decided needs.other needs.stays needs.next) h
+    grows w name x y e s few l needs.others (group.stores name e
+    (is_up w name x (s.node name) runs member old) needs.decided needs.other needs.stays needs.next) tt h
 
 pub piece_stands : (w : World) (name : ℕ) (x y : Node) (e : Entry) (s : Group) → name < 256 → is_stopped w name ≡ false → is_member x.status ≡ true
     → Longer x y e → NeedsPiece s name x e → StandsBut name (within w name x) s → Leads (StandsBut name (within w name y)) s
 piece_stands w name x y e s few runs member l (of_line needs) h = entry_stands w name x y e s few runs member l needs h
 piece_stands w name x y e s few runs member l (of_shown open_ needs) h =
     let old = own_name w name x s few h in
-    grows w name x y e s few l needs.others (group.fetches name needs.from needs.list e (is_up w name x (s.node name) runs member old) (old.ballot ∙ open_) needs.served needs.shown needs.next) h
+    grows w name x y e s few l needs.others (group.fetches name needs.from needs.list e (is_up w name x (s.node name) runs member old)
+    (old.ballot ∙ open_) needs.served needs.shown needs.next) tt h
 
 -- ---- a sequencer's own entry
 
@@ -182,7 +188,8 @@ views_numbered w name x y e a views l old plain by few small chain h = record {
       let mine : v.by ≡ name = grind (arith, nat_tests) in
       let here = line_here w name x v mine in
       let stands = noted_stands (within w name x) views d list n here in
-      let other : view_of list ≢ v = λ is. (let k2 : key v ≡ key (view_of a.list) = ap key (sym is ∙ ap view_of (sym is_list)) in let z : ⊥ = grind (arith, nat_tests) in z) in
+      let other : view_of list ≢ v = λ is. (let k2 : key v ≡ key (view_of a.list) = ap key (sym is ∙ ap view_of (sym is_list)) in
+      let z : ⊥ = grind (arith, nat_tests) in z) in
       line_here w name y v mine ∙ ap (up_to_next v) (whole_longer w name x y e l) ∙ line_stays v list e (next_of_list v list stands other) ∙ sym here)
       (λ g. rw g refl) in
       record {
@@ -244,7 +251,7 @@ number_stands w name c x e s may leads why needs h =
     let leading = is_leading w name x a may.who leads old in
     let fit : fits (told a.list) e ≡ true = ap (λ (i : Image). fits i e) (told_whole w name name x a old) ∙ needs.fit in
     one_move (StandsBut name (within w name y)) s (with_line s name (longer a e))
-    (group.numbers name e (record { up = is_up w name x a may.runs leading.member old; acts = leading.acts_; by = leading.by }) fit needs.may)
+    (group.numbers name e (record { up = is_up w name x a may.runs leading.member old; acts = leading.acts_; by = leading.by }) fit needs.may) needs.named
     (numbered_stands w name x e s may.few leading may.noted (numbers_plain c x e why) needs.chain h)
 
 -- ---- a joiner's list begins
@@ -263,7 +270,8 @@ welcome_stands w name c x v base join image s may needs h =
     let b = record a { list = take base s.group; has_log = true; start = join; promise = v; told = base; acc = base } in
     let bare : whole (within w name x) x ≡ [] = sym old.list ∙ needs.blank in
     let all_of : take base s.group ≡ take base w.group = ap (take base) h.group in
-    let lines : (k : ℕ) (d : Decided) → slice_get w.views k ≡ Some d → line_of (within w name y) d.stamp ≡ line_of (within w name x) d.stamp = λ k d at. split (d.stamp.by == name)
+    let lines : (k : ℕ) (d : Decided) → slice_get w.views k ≡ Some d
+    → line_of (within w name y) d.stamp ≡ line_of (within w name x) d.stamp = λ k d at. split (d.stamp.by == name)
     (λ t.
     let mine : d.stamp.by ≡ name = grind (arith, nat_tests) in
     let n = h.views.noted k d at in
@@ -271,7 +279,7 @@ welcome_stands w name c x v base join image s may needs h =
     let ch = s.views.chosen (key d.stamp) in
     absurd (none_opens ch.before (View ch.stamp ch.members ch.resilience) (subst (Begins (opening ch)) (n.line ∙ none) n.opens)))
     (λ f. rw f refl) in
-    one_move (StandsBut name (within w name y)) s (with_node s name b) (group.welcomes name v base join needs.may)
+    one_move (StandsBut name (within w name y)) s (with_node s name b) (group.welcomes name v base join needs.may) tt
     (record {
       each = each_within w name x y s b (λ k. record {
         begins = record { within = subst (λ (g : List Entry). base ≤ length g) h.group needs.within; image = needs.image_ ∙ ap told all_of };

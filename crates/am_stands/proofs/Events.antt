@@ -1,5 +1,6 @@
 -- What stands for a world goes on standing through an event that no node does.
-use Rattle.std.proofs.Common.{◌≡◌, ℕ, ◌+◌, ◌≤◌, ◌==◌, ◌||◌, Bool, true, false, if◌then◌else◌, List, [], ◌∷◌, ◌++◌, refl, sym, ap, ◌∙◌, subst, arith, length, take}
+use Rattle.std.proofs.Common.{◌≡◌, ℕ, ◌+◌, ◌≤◌, ◌==◌, ◌||◌, Bool, true, false, if◌then◌else◌, List, [], ◌∷◌, ◌++◌, refl, sym, ap, ◌∙◌, subst, arith, length}
+use Rattle.std.proofs.Common.{take}
 use Rattle.std.specs.List.{list_any}
 use Rattle.std.proofs.lemmas.Bool.Decides.{nat_tests}
 use Rattle.std.proofs.lemmas.List.Folds.{list_any-append}
@@ -10,17 +11,15 @@ use Rattle.am_group.specs.declared.event.Event.{Event}
 use Rattle.am_chain_lists.specs.Whole.{told}
 use Rattle.am_chain_moves.specs.Group as groups
 use Rattle.am_chain_moves.specs.Group.{Group, put}
-use Rattle.am_chain_moves.specs.Moves.{Move, with_node}
-use Rattle.am_chain_moves.specs.Moves as group
+use Rattle.am_chain_moves.specs.Moves.{with_node}
 use Rattle.am_model.specs.Node.{Node, set_at}
 use Rattle.am_model.specs.Claims.{up_to_next}
 use Rattle.am_model.specs.World.{World, current, is_stopped, has_departed, unchanged, lives_on}
 use Rattle.am_model.proofs.Greatest.{split}
 use Rattle.am_effects.specs.Events.{actor, idles, stops, returns, steps}
 use Rattle.am_stands.specs.Standing.{NameStands, FrontsStand, Stands}
-use Rattle.am_stands.specs.Moving.{Leads}
-use Rattle.am_stands.specs.Steps.{EventsStand}
-use Rattle.am_stands.proofs.Names.{one_move, no_move, name_in, views_in}
+use Rattle.am_stands.specs.Steps.{EventsStand, EventStands, no_move, stop}
+use Rattle.am_stands.proofs.Names.{name_in, views_in}
 
 -- ---- a record more
 
@@ -68,9 +67,11 @@ stopped_more : (w v : World) (name : ℕ) (s : Group) → v.nodes ≡ w.nodes �
     → Stands w s → Stands v (with_node s name (record (s.node name) { stopped = true }))
 unfolding put
 stopped_more w v name s nodes group_ views stopped h =
-    let at : (i : ℕ) → is_stopped v i ≡ (is_stopped w i || ((name == i) || false)) = λ i. ap (λ (l : List ℕ). list_any (λ x. x == i) l) stopped ∙ one_more w.stopped name i in
+    let at : (i : ℕ) → is_stopped v i ≡ (is_stopped w i || ((name == i) || false)) = λ i. ap (λ (l : List ℕ). list_any (λ x. x == i) l) stopped
+    ∙ one_more w.stopped name i in
     record {
-      each = λ i few. subst (λ (m : Node). NameStands v i m (if i == name then record (s.node name) { stopped = true } else s.node i)) (ap (λ f. f i) (sym nodes)) (split (i == name)
+      each = λ i few. subst (λ (m : Node). NameStands v i m (if i == name then record (s.node name) { stopped = true } else s.node i))
+          (ap (λ f. f i) (sym nodes)) (split (i == name)
           (λ t.
           let same : i ≡ name = grind (arith, nat_tests) in
           let flipped : (name == i) ≡ true = grind (arith, nat_tests) in
@@ -82,47 +83,55 @@ stopped_more w v name s nodes group_ views stopped h =
           let flipped : (name == i) ≡ false = grind (arith, nat_tests) in
           let now : is_stopped v i ≡ is_stopped w i = at i ∙ ap (λ b. is_stopped w i || (b || false)) flipped ∙ or_none (is_stopped w i) in
           rw f (name_in w v i (w.nodes i) (s.node i) group_ now (h.each i few))));
-      fronts = λ i few d. subst (λ (m : Node). FrontsStand m (if i == name then record (s.node name) { stopped = true } else s.node i)) (ap (λ f. f i) (sym nodes))
+      fronts = λ i few d. subst (λ (m : Node). FrontsStand m (if i == name then record (s.node name) { stopped = true } else s.node i))
+          (ap (λ f. f i) (sym nodes))
           (let old : FrontsStand (w.nodes i) (s.node i) = h.fronts i few (ap (λ f. has_departed (f i).status) (sym nodes) ∙ d) in split (i == name)
           (λ t. let same : i ≡ name = grind (arith, nat_tests) in
           let mine : FrontsStand (w.nodes i) (s.node name) = subst (λ k. FrontsStand (w.nodes i) (s.node k)) same old in
           rw t (record { told = mine.told; acc = mine.acc }))
           (λ f. rw f old));
-      views = views_in w v s.views views (λ stamp. (λ i. up_to_next stamp (take (nodes i stamp.by).core.log.start (group_ i) ++ (nodes i stamp.by).core.log.entries))) h.views;
+      views = views_in w v s.views views (λ stamp. (λ i. up_to_next stamp
+          (take (nodes i stamp.by).core.log.start (group_ i) ++ (nodes i stamp.by).core.log.entries))) h.views;
       group = h.group ∙ sym group_;
     }
 
 -- ---- each event that no node does
 
-pub idle_stands : (w : World) (e : Event) (o : Outcome) (s : Group) → Stands w s → Leads (Stands (unchanged w e o)) s
-idle_stands w e o s h = no_move (Stands (unchanged w e o)) s (recorded w e o s h)
+pub idle_stands : (w : World) (e : Event) (o : Outcome) (s : Group) → Stands w s → EventStands (unchanged w e o) s
+idle_stands w e o s h = no_move (recorded w e o s h)
 
 pub stop_stands : (w : World) (e : Event) (o : Outcome) (name : ℕ) (s : Group) → Stands w s
-    → Leads (Stands (unchanged (record w { stopped = w.stopped ++ name ∷ [] }) e o)) s
+    → EventStands (unchanged (record w { stopped = w.stopped ++ name ∷ [] }) e o) s
 unfolding unchanged
 stop_stands w e o name s h =
     let v = record w { stopped = w.stopped ++ name ∷ [] } in
     let next = with_node s name (record (s.node name) { stopped = true }) in
-    one_move (Stands (unchanged v e o)) s next (group.stops name) (recorded v e o next (stopped_more w v name s refl refl refl refl h))
+    stop name (recorded v e o next (stopped_more w v name s refl refl refl refl h))
 
 -- the name of a place that returns stops, if it hadn't
 same_lives : (w v : World) (s : Group) → v.nodes ≡ w.nodes → v.group ≡ w.group → v.views ≡ w.views → v.stopped ≡ w.stopped → Stands w s → Stands v s
 same_lives w v s nodes group_ views stopped h = record {
-  each = λ i few. subst (λ (m : Node). NameStands v i m (s.node i)) (ap (λ f. f i) (sym nodes)) (name_in w v i (w.nodes i) (s.node i) group_ (ap (λ (l : List ℕ). list_any (λ x. x == i) l) stopped) (h.each i few));
-  fronts = λ i few d. subst (λ (m : Node). FrontsStand m (s.node i)) (ap (λ f. f i) (sym nodes)) (h.fronts i few (ap (λ f. has_departed (f i).status) (sym nodes) ∙ d));
-  views = views_in w v s.views views (λ stamp. (λ i. up_to_next stamp (take (nodes i stamp.by).core.log.start (group_ i) ++ (nodes i stamp.by).core.log.entries))) h.views;
+  each = λ i few. subst (λ (m : Node). NameStands v i m (s.node i)) (ap (λ f. f i) (sym nodes))
+      (name_in w v i (w.nodes i) (s.node i) group_ (ap (λ (l : List ℕ). list_any (λ x. x == i) l) stopped) (h.each i few));
+  fronts = λ i few d. subst (λ (m : Node). FrontsStand m (s.node i)) (ap (λ f. f i) (sym nodes))
+      (h.fronts i few (ap (λ f. has_departed (f i).status) (sym nodes) ∙ d));
+  views = views_in w v s.views views (λ stamp. (λ i. up_to_next stamp
+      (take (nodes i stamp.by).core.log.start (group_ i) ++ (nodes i stamp.by).core.log.entries))) h.views;
   group = h.group ∙ sym group_;
 }
 
-pub return_stands : (w : World) (e : Event) (o : Outcome) (place : ℕ) (s : Group) → Stands w s → Leads (Stands (lives_on (unchanged w e o) place)) s
+pub return_stands : (w : World) (e : Event) (o : Outcome) (place : ℕ) (s : Group) → Stands w s → EventStands (lives_on (unchanged w e o) place) s
 unfolding unchanged
 return_stands w e o place s h =
     by_stop (is_stopped w (current w place))
   where
-    by_stop : (b : Bool) → Leads (Stands (record (unchanged w e o) { lives = set_at w.lives place (w.lives place + 1); stopped = if b then w.stopped else w.stopped ++ current w place ∷ [] })) s
-    by_stop true = no_move (Stands (record (unchanged w e o) { lives = set_at w.lives place (w.lives place + 1); stopped = w.stopped })) s (same_lives w (record (unchanged w e o) { lives = set_at w.lives place (w.lives place + 1); stopped = w.stopped }) s refl refl refl refl h)
-    by_stop false = one_move (Stands (record (unchanged w e o) { lives = set_at w.lives place (w.lives place + 1); stopped = w.stopped ++ current w place ∷ [] })) s (with_node s (current w place) (record (s.node (current w place)) { stopped = true })) (group.stops (current w place))
-        (stopped_more w (record (unchanged w e o) { lives = set_at w.lives place (w.lives place + 1); stopped = w.stopped ++ current w place ∷ [] }) (current w place) s refl refl refl refl h)
+    after_ : List ℕ → World
+    after_ names = record (unchanged w e o) { lives = set_at w.lives place (w.lives place + 1); stopped = names }
+
+    by_stop : (b : Bool) → EventStands (after_ (if b then w.stopped else w.stopped ++ current w place ∷ [])) s
+    by_stop true = no_move (same_lives w (after_ w.stopped) s refl refl refl refl h)
+    by_stop false = stop (current w place)
+        (stopped_more w (after_ (w.stopped ++ current w place ∷ [])) (current w place) s refl refl refl refl h)
 
 pub events_stand : EventsStand
 events_stand w e v s (idles o idle) is h = idle_stands w e o s h

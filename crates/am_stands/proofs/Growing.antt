@@ -7,18 +7,20 @@ use Rattle.am_chain_lists.specs.Whole.{Begins, view_of, key}
 use Rattle.am_chain_lists.proofs.Prefixes.{begins_refl, begins_nil, begins_more, begins_trans, begins_both, begins_take, length_take}
 use Rattle.am_chain_moves.specs.Group as groups
 use Rattle.am_chain_moves.specs.Group.{Group, Views, put, put2, chain_of, opening, Leads, MayAccept}
-use Rattle.am_chain_moves.specs.Moves.{with_node, with_line, with_choice, choice_of, longer, numbers, stores, accepts, learns, begins, raises, shows, serves, fetches, decides, gives_over, welcomes, asks, departs, closes, stops}
+use Rattle.am_chain_moves.specs.Moves.{with_node, with_line, with_choice, choice_of, longer, numbers, stores, accepts, learns, begins, raises, shows, serves}
+use Rattle.am_chain_moves.specs.Moves.{fetches, decides, gives_over, welcomes, asks, departs, closes, stops}
 use Rattle.am_chain_moves.specs.Kept.{Kept}
+use Rattle.am_chain_moves.proofs.Nodes.{own_above}
 use Rattle.am_chain_moves.proofs.Puts.{by_cases, put_at, put2_cases}
 use Rattle.am_stands.specs.Growing.{NameGrows, NewView, Grows, MovesGrow}
 
 -- ---- one name
 
 same_name : (a : groups.Node) → NameGrows a a
-same_name a = record { list = begins_refl a.list; stopped = λ t. t; departed = λ t. t; leaving = λ t. t }
+same_name a = record { list = begins_refl a.list; log = λ z. z; promise = omega arith; stopped = λ t. t; departed = λ t. t; leaving = λ t. t }
 
 longer_name : (a : groups.Node) (e : Entry) → NameGrows a (longer a e)
-longer_name a e = record { list = begins_more a.list (e ∷ []); stopped = λ t. t; departed = λ t. t; leaving = λ t. t }
+longer_name a e = record { list = begins_more a.list (e ∷ []); log = λ z. z; promise = omega arith; stopped = λ t. t; departed = λ t. t; leaving = λ t. t }
 
 put_grows : (s : Group) (i : ℕ) (b : groups.Node) → NameGrows (s.node i) b → (j : ℕ) → NameGrows (s.node j) (put s.node i b j)
 put_grows s i b h j = put_at (λ k n. NameGrows (s.node k) n) s.node i b h (λ k other. same_name (s.node k)) j
@@ -76,7 +78,8 @@ decision_grows : (s : Group) (i : ℕ) (members : List ℕ) (resilience : ℕ) �
     → NewView s (with_choice s i members resilience) (key (s.node i).promise) → Grows s (with_choice s i members resilience)
 unfolding put
 decision_grows s i members resilience fresh new = record {
-  each = λ j. put_grows s i (record (s.node i) { list = opening (choice_of (s.node i) members resilience); ballot = false }) (record { list = begins_more (s.node i).list _; stopped = λ t. t; departed = λ t. t; leaving = λ t. t }) j;
+  each = λ j. put_grows s i (record (s.node i) { list = opening (choice_of (s.node i) members resilience); ballot = false })
+      (record { list = begins_more (s.node i).list _; log = λ z. z; promise = omega arith; stopped = λ t. t; departed = λ t. t; leaving = λ t. t }) j;
   group = begins_refl s.group;
   lines = λ x d. (let f = other x d in rw f (begins_refl (s.views.line x)));
   decided = λ x d. (let f = other x d in (rw f d, rw f refl));
@@ -106,9 +109,26 @@ moves_grow s t (accepts i n leads may) k new = record {
   shown = λ x j list is. is;
   served = λ x j is. is;
 }
-moves_grow s t (learns i told acc up rises within before up_to given low) k new = node_grows s i (record (s.node i) { told = told; acc = acc }) (record { list = begins_refl (s.node i).list; stopped = λ z. z; departed = λ z. z; leaving = λ z. z })
-moves_grow s t (begins i few up stays member) k new = node_grows s i _ (record { list = begins_refl (s.node i).list; stopped = λ z. z; departed = λ z. z; leaving = λ z. z })
-moves_grow s t (raises i stamp there above) k new = node_grows s i _ (record { list = begins_refl (s.node i).list; stopped = λ z. z; departed = λ z. z; leaving = λ z. z })
+moves_grow s t (learns i told acc up rises within before up_to given low) k new = node_grows s i (record (s.node i) { told = told; acc = acc })
+    (record { list = begins_refl (s.node i).list; log = λ z. z; promise = omega arith; stopped = λ z. z; departed = λ z. z; leaving = λ z. z })
+moves_grow s t (begins i few up stays member) k new = node_grows s i _
+    (record {
+      list = begins_refl (s.node i).list;
+      log = λ z. z;
+      promise = (let up_ = own_above i (s.node i) (k.each i).small in omega arith);
+      stopped = λ z. z;
+      departed = λ z. z;
+      leaving = λ z. z;
+    })
+moves_grow s t (raises i stamp there above) k new = node_grows s i _
+    (record {
+      list = begins_refl (s.node i).list;
+      log = λ z. z;
+      promise = (let up_ = above.greater in omega arith);
+      stopped = λ z. z;
+      departed = λ z. z;
+      leaving = λ z. z;
+    })
 moves_grow s t (shows i there small other begun none) k new = record {
   each = λ j. same_name (s.node j);
   group = begins_refl s.group;
@@ -136,18 +156,40 @@ moves_grow s t (serves i list up shown others) k new = record {
 }
 moves_grow s t (fetches i h list e up ballot served shown next) k new = node_grows s i (longer (s.node i) e) (longer_name (s.node i) e)
 moves_grow s t (decides i members resilience may) k new = decision_grows s i members resilience new.0 new.1
-moves_grow s t (gives_over i) k new = node_grows s i _ (record { list = begins_refl (s.node i).list; stopped = λ z. z; departed = λ z. z; leaving = λ z. z })
-moves_grow s t (welcomes j stamp base join may) k new = node_grows s j (record (s.node j) { list = take base s.group; has_log = true; start = join; promise = stamp; told = base; acc = base })
-    (record { list = subst (λ l. Begins l (take base s.group)) (sym ((k.each j).blank may.no_log)) (begins_nil (take base s.group)); stopped = λ z. z; departed = λ z. z; leaving = λ z. z })
-moves_grow s t (asks i up none) k new = node_grows s i _ (record { list = begins_refl (s.node i).list; stopped = λ z. z; departed = λ z. z; leaving = λ z. refl })
-moves_grow s t (departs i before may) k new = node_grows s i _ (record { list = begins_refl (s.node i).list; stopped = λ z. z; departed = λ z. refl; leaving = λ z. z })
+moves_grow s t (gives_over i) k new = node_grows s i _
+    (record { list = begins_refl (s.node i).list; log = λ z. z; promise = omega arith; stopped = λ z. z; departed = λ z. z; leaving = λ z. z })
+moves_grow s t (welcomes j stamp base join may) k new = node_grows s j
+    (record (s.node j) { list = take base s.group; has_log = true; start = join; promise = stamp; told = base; acc = base })
+    (record {
+      list = subst (λ l. Begins l (take base s.group)) (sym ((k.each j).blank may.no_log)) (begins_nil (take base s.group));
+      log = λ z. refl;
+      promise = may.promise;
+      stopped = λ z. z;
+      departed = λ z. z;
+      leaving = λ z. z;
+    })
+moves_grow s t (asks i up none) k new = node_grows s i _
+    (record { list = begins_refl (s.node i).list; log = λ z. z; promise = omega arith; stopped = λ z. z; departed = λ z. z; leaving = λ z. refl })
+moves_grow s t (departs i before may) k new = node_grows s i _
+    (record { list = begins_refl (s.node i).list; log = λ z. z; promise = omega arith; stopped = λ z. z; departed = λ z. refl; leaving = λ z. z })
 moves_grow s t (closes i n leads leaving alone may) k new = record {
-  each = put_grows s i (record (longer (s.node i) (Leave i)) { departed = true }) (record { list = begins_more (s.node i).list (Leave i ∷ []); stopped = λ z. z; departed = λ z. refl; leaving = λ z. z });
-  group = accepted_grows s (put s.node i (longer (s.node i) (Leave i))) ((s.node i).list ++ Leave i ∷ []) n (begins_trans (group_in s i k leads) (begins_more (s.node i).list (Leave i ∷ []))) may;
-  lines = λ x d. line_grows s i (longer (s.node i) (Leave i)) ((s.node i).list ++ Leave i ∷ []) (leads_line s i k leads) (begins_more (s.node i).list (Leave i ∷ [])) x;
+  each = put_grows s i (record (longer (s.node i) (Leave i)) { departed = true })
+      (record {
+        list = begins_more (s.node i).list (Leave i ∷ []);
+        log = λ z. z;
+        promise = omega arith;
+        stopped = λ z. z;
+        departed = λ z. refl;
+        leaving = λ z. z;
+      });
+  group = accepted_grows s (put s.node i (longer (s.node i) (Leave i))) ((s.node i).list ++ Leave i ∷ []) n
+      (begins_trans (group_in s i k leads) (begins_more (s.node i).list (Leave i ∷ []))) may;
+  lines = λ x d. line_grows s i (longer (s.node i) (Leave i)) ((s.node i).list ++ Leave i ∷ []) (leads_line s i k leads)
+      (begins_more (s.node i).list (Leave i ∷ [])) x;
   decided = λ x d. (d, refl);
   new = λ x d. inl d;
   shown = λ x j list is. is;
   served = λ x j is. is;
 }
-moves_grow s t (stops i) k new = node_grows s i _ (record { list = begins_refl (s.node i).list; stopped = λ z. refl; departed = λ z. z; leaving = λ z. z })
+moves_grow s t (stops i) k new = node_grows s i _
+    (record { list = begins_refl (s.node i).list; log = λ z. z; promise = omega arith; stopped = λ z. refl; departed = λ z. z; leaving = λ z. z })

@@ -1,5 +1,5 @@
 -- What a change needs of the group, from what a letter says and what every run of the group keeps.
-use Rattle.std.proofs.Common.{◌≡◌, ◌≢◌, ℕ, suc, ◌+◌, ◌==◌, ◌&&◌, not, nat_lt, List, length, true, false, Some, slice_get, refl, sym, ap, ◌∙◌, subst, arith}
+use Rattle.std.proofs.Common.{◌≡◌, ◌≢◌, ℕ, suc, ◌+◌, ◌<◌, ◌==◌, ◌&&◌, not, nat_lt, List, length, true, false, Some, slice_get, refl, sym, ap, ◌∙◌, subst, arith}
 use Rattle.std.proofs.lemmas.Bool.Decides.{nat_tests}
 use Rattle.am_base.specs.declared.entry.Entry.{Entry}
 use Rattle.am_base.specs.declared.entry.Entry.TheVariants.{Data, View}
@@ -27,8 +27,9 @@ use Rattle.am_effects.specs.Changes.{MayStore, Numbers, asked_send, own_send, as
 use Rattle.am_laws.proofs.Stamps.{same_stamp}
 use Rattle.am_laws.proofs.Taken.{known_member, leave_fits}
 use Rattle.am_stands.specs.Standing.{NameStands, within}
-use Rattle.am_stands.specs.Letters.{line, IsDecided, EntrySays, OrderSays, LeaverSays, ResultSays}
+use Rattle.am_stands.specs.Letters.{line, IsDecided, EntrySays, OrderSays, LeaverSays, of_view, before_it, ResultSays}
 use Rattle.am_stands.specs.States.{BodiesAsked, SendsOnce}
+use Rattle.am_stands.specs.Moving.{NamesNamed}
 use Rattle.am_stands.specs.Steps.{NeedsNumber, IsOthers, NeedsEntry}
 use Rattle.am_stands.proofs.Changes.{told_whole, long_all, is_up}
 use Rattle.am_stands.proofs.Entries.{IsLeading}
@@ -50,7 +51,8 @@ entry_needs w name number x v e s k who old up promise other others decided at n
     let long = long_all (within w name x) name x a old in
     let told_is = told_whole w name name x a old in
     let left : (row_of (told a.list) name).left ≡ 0 =
-    (let row : (row_of (told a.list) name).left ≡ (nodes.own_row x).left = ap (λ (i : Image). (row_of i name).left) told_is ∙ ap (λ n. (row_of (nodes.told x) n).left) (sym who) in
+    (let row : (row_of (told a.list) name).left ≡ (nodes.own_row x).left = ap (λ (i : Image). (row_of i name).left) told_is
+    ∙ ap (λ n. (row_of (nodes.told x) n).left) (sym who) in
     let none : (nodes.own_row x).left ≡ 0 = grind (arith, nat_tests) in
     row ∙ none) in
     record {
@@ -101,7 +103,8 @@ pub order_needs : (w : World) (name from above base acc number sender req : ℕ)
     → OrderSays w s from v acc number sender req → NeedsEntry s name x (Data sender req body)
 order_needs w name from above base acc number sender req x v body s k who runs old heard there may asked once says =
     let same : says.body ≡ body = once sender req says.body body says.asked (asked sender req body there) in
-    bcast_needs w name from above base acc number x v (Data sender req body) s k who runs old heard may (subst (λ b. EntrySays s from v acc number (Data sender req b)) same says.entry)
+    bcast_needs w name from above base acc number x v (Data sender req body) s k who runs old heard may
+    (subst (λ b. EntrySays s from v acc number (Data sender req b)) same says.entry)
 
 -- and the View of the ballot that it promised
 pub result_needs : (w : World) (name from above base number : ℕ) (x : Node) (v : Stamp) (names : List ℕ) (resilience : ℕ) (s : Group) → Kept s
@@ -115,7 +118,7 @@ result_needs w name from above base number x v names resilience s k who runs old
 
 -- ---- what a sequencer numbers
 
-fits_data : (image : Image) (name req : ℕ) (body : List ℕ) → has (members_of image) name ≡ true → req ≡ (row_of image name).last + 1
+pub fits_data : (image : Image) (name req : ℕ) (body : List ℕ) → has (members_of image) name ≡ true → req ≡ (row_of image name).last + 1
     → fits image (Data name req body) ≡ true
 unfolding fits
 fits_data image name req body member next = let t : (req == (row_of image name).last + 1) ≡ true = grind (arith, nat_tests) in rw (member, t) refl
@@ -125,10 +128,16 @@ abbrev pub OwnFits : Node → Type 0
 OwnFits x = (q : OwnSend) → nodes.waiting x ≡ Some q → nat_lt (nodes.own_row x).last q.req ≡ true → fits (nodes.told x) (Data x.core.who q.req q.body) ≡ true
 
 number_fits : (c : Cause) (x : Node) (e : Entry) → length (nodes.told x).rows ≡ 16 → OwnFits x → Numbers c x e → fits (nodes.told x) e ≡ true
-number_fits c x e long own (asked_send from v report req body by known stays next) = fits_data (nodes.told x) from req body (known_member x from long known (let z = stays in grind (arith, nat_tests))) next
+number_fits c x e long own (asked_send from v report req body by known stays next) = fits_data (nodes.told x) from req body
+    (known_member x from long known (let z = stays in grind (arith, nat_tests))) next
 number_fits c x e long own (own_send q is last) = own q is last
 number_fits c x e long own (asked_join from v is other f) = f
-number_fits c x e long own (asked_leave from v report is other known stays) = leave_fits (nodes.told x) from (known_member x from long known (let z = stays in grind (arith, nat_tests)))
+number_fits c x e long own (asked_leave from v report is other known stays) = leave_fits (nodes.told x) from
+    (known_member x from long known (let z = stays in grind (arith, nat_tests)))
+
+leaves_of : (s : Group) (from : ℕ) (v : Stamp) (report : Report) → LeaverSays s from v report → (s.node from).leaving ≡ true
+leaves_of s from v report (of_view leaves h) = leaves
+leaves_of s from v report (before_it leaves h) = leaves
 
 number_may : (name : ℕ) (c : Cause) (x : Node) (e : Entry) (s : Group) → x.core.who ≡ name
     → ((from : ℕ) (v : Stamp) (report : Report) → c ≡ hears (packet.LeaveAsk from v report) → LeaverSays s from v report) → Numbers c x e
@@ -136,14 +145,24 @@ number_may : (name : ℕ) (c : Cause) (x : Node) (e : Entry) (s : Group) → x.c
 number_may name c x e s who asks (asked_send from v report req body by known stays next) = tt
 number_may name c x e s who asks (own_send q is last) = tt
 number_may name c x e s who asks (asked_join from v is other f) = tt
-number_may name c x e s who asks (asked_leave from v report is other known stays) = ((asks from v report is).leaves, λ same. (let z : (from == x.core.who) ≡ true = grind (arith, nat_tests) in cc))
+number_may name c x e s who asks (asked_leave from v report is other known stays) = (
+  leaves_of s from v report (asks from v report is),
+  λ same. (let z : (from == x.core.who) ≡ true = grind (arith, nat_tests) in cc),
+)
+
+number_named : (c : Cause) (x : Node) (e : Entry) → ((from : ℕ) (v : Stamp) → c ≡ hears (packet.JoinAsk from v) → from < 256) → Numbers c x e → NamesNamed e
+number_named c x e small (asked_send from v report req body by known stays next) = tt
+number_named c x e small (own_send q is last) = tt
+number_named c x e small (asked_join from v is other f) = small from v is
+number_named c x e small (asked_leave from v report is other known stays) = tt
 
 pub number_needs : (w : World) (name : ℕ) (c : Cause) (x : Node) (e : Entry) (s : Group) → Kept s → x.core.who ≡ name → is_stopped w name ≡ false
     → NameStands (within w name x) name x (s.node name) → IsLeading name x (s.node name) → length (nodes.told x).rows ≡ 16
-    → OwnFits x → ((from : ℕ) (v : Stamp) (report : Report) → c ≡ hears (packet.LeaveAsk from v report) → LeaverSays s from v report) → Numbers c x e
-    → NeedsNumber s name x e
-number_needs w name c x e s k who runs old leading long own asks why = record {
+    → OwnFits x → ((from : ℕ) (v : Stamp) (report : Report) → c ≡ hears (packet.LeaveAsk from v report) → LeaverSays s from v report)
+    → ((from : ℕ) (v : Stamp) → c ≡ hears (packet.JoinAsk from v) → from < 256) → Numbers c x e → NeedsNumber s name x e
+number_needs w name c x e s k who runs old leading long own asks small why = record {
   chain = leads_line s name k (record { up = is_up w name x (s.node name) runs leading.member old; acts = leading.acts_; by = leading.by });
   fit = number_fits c x e long own why;
+  named = number_named c x e small why;
   may = number_may name c x e s who asks why;
 }

@@ -5,7 +5,8 @@ use Rattle.am_base.specs.Names.{has}
 use Rattle.am_chain_lists.specs.Whole.{Begins, key}
 use Rattle.am_chain_moves.specs.Group as groups
 use Rattle.am_chain_moves.specs.Group.{Group, Chosen, put, count, how_many, opening}
-use Rattle.am_chain_moves.specs.Moves.{Move, MayDecide, with_choice, choice_of, longer, numbers, stores, accepts, learns, begins, raises, shows, serves, fetches, decides, gives_over, welcomes, asks, departs, closes, stops}
+use Rattle.am_chain_moves.specs.Moves.{Move, MayDecide, with_choice, choice_of, longer, numbers, stores, accepts, learns, begins, raises, shows, serves}
+use Rattle.am_chain_moves.specs.Moves.{fetches, decides, gives_over, welcomes, asks, departs, closes, stops}
 use Rattle.am_chain_moves.specs.Runs.{Run, more, counts_for, IsLawful}
 use Rattle.am_chain_moves.specs.Kept.{Kept}
 use Rattle.am_chain_moves.proofs.Puts.{by_cases, put_at, put_same, count_within}
@@ -28,11 +29,17 @@ same_lost : (members : Bool) (a b : groups.Node) (n : ℕ) → NoMore a b
     → ((members || (b.has_log && nat_lt n b.start)) && (b.stopped && not b.departed)) ≡ true
     → ((members || (a.has_log && nat_lt n a.start)) && (a.stopped && not a.departed)) ≡ true
 same_lost members a b n (as_before log start_ stopped departed) h =
-    let now : ((members || (a.has_log && nat_lt n a.start)) && (a.stopped && not b.departed)) ≡ true = (λ i. (members || (sym log i && nat_lt n (sym start_ i))) && (sym stopped i && not b.departed)) ∙ h in
+    let now : ((members || (a.has_log && nat_lt n a.start)) &&
+    (a.stopped && not b.departed)) ≡ true = (λ i. (members || (sym log i && nat_lt n (sym start_ i))) && (sym stopped i && not b.departed)) ∙ h in
     by_cases a.departed
-    (λ t. absurd (let gone = departed t in let z : ((members || (a.has_log && nat_lt n a.start)) && (a.stopped && false)) ≡ true = subst (λ d. ((members || (a.has_log && nat_lt n a.start)) && (a.stopped && not d)) ≡ true) gone now in never (members || (a.has_log && nat_lt n a.start)) a.stopped z))
+    (λ t. absurd (let gone = departed t in let z :
+    ((members || (a.has_log && nat_lt n a.start)) &&
+    (a.stopped && false)) ≡ true = subst (λ d. ((members || (a.has_log && nat_lt n a.start)) && (a.stopped && not d)) ≡ true) gone now in
+    never (members || (a.has_log && nat_lt n a.start)) a.stopped z))
     (λ f. rw f (by_cases b.departed
-    (λ t. absurd (let z : ((members || (a.has_log && nat_lt n a.start)) && (a.stopped && false)) ≡ true = subst (λ d. ((members || (a.has_log && nat_lt n a.start)) && (a.stopped && not d)) ≡ true) t now in never (members || (a.has_log && nat_lt n a.start)) a.stopped z))
+    (λ t. absurd (let z : ((members || (a.has_log && nat_lt n a.start)) &&
+    (a.stopped && false)) ≡ true = subst (λ d. ((members || (a.has_log && nat_lt n a.start)) && (a.stopped && not d)) ≡ true) t now in
+    never (members || (a.has_log && nat_lt n a.start)) a.stopped z))
     (λ g. subst (λ d. ((members || (a.has_log && nat_lt n a.start)) && (a.stopped && not d)) ≡ true) g now)))
   where
     never : (x y : Bool) → (x && (y && false)) ≡ true → ⊥
@@ -40,7 +47,8 @@ same_lost members a b n (as_before log start_ stopped departed) h =
     never true false z = cc
     never false y z = cc
 same_lost members a b n (runs f) h = absurd (
-    let z : ((members || (b.has_log && nat_lt n b.start)) && (false && not b.departed)) ≡ true = subst (λ d. ((members || (b.has_log && nat_lt n b.start)) && (d && not b.departed)) ≡ true) f h in
+    let z : ((members || (b.has_log && nat_lt n b.start)) &&
+    (false && not b.departed)) ≡ true = subst (λ d. ((members || (b.has_log && nat_lt n b.start)) && (d && not b.departed)) ≡ true) f h in
     none (members || (b.has_log && nat_lt n b.start)) z)
   where
     none : (x : Bool) → (x && false) ≡ true → ⊥
@@ -56,9 +64,11 @@ lawful_where s t old new each h = λ view complete greatest.
     (let o = old view complete in
     let before = h view o.0 (λ x c. greatest x (new x c)) in
     let fewer = count_within (lost t view) (lost s view) 256 (λ j passes.
-    (let same : counts_for t view j ≡ (has (s.views.chosen view).members j || ((t.node j).has_log && nat_lt (length (opening (s.views.chosen view))) (t.node j).start)) =
+    (let same : counts_for t view j ≡ (has (s.views.chosen view).members j ||
+    ((t.node j).has_log && nat_lt (length (opening (s.views.chosen view))) (t.node j).start)) =
     ap (λ (c : Chosen). has c.members j || ((t.node j).has_log && nat_lt (length (opening c)) (t.node j).start)) o.1 in
-    same_lost (has (s.views.chosen view).members j) (s.node j) (t.node j) (length (opening (s.views.chosen view))) (each j) (ap (λ b. b && ((t.node j).stopped && not (t.node j).departed)) (sym same) ∙ passes))) in
+    same_lost (has (s.views.chosen view).members j) (s.node j) (t.node j) (length (opening (s.views.chosen view))) (each j)
+    (ap (λ b. b && ((t.node j).stopped && not (t.node j).departed)) (sym same) ∙ passes))) in
     let bound = ap (λ (c : Chosen). c.resilience) o.1 in
     omega arith)
 
@@ -71,7 +81,8 @@ put_more s i b h j = put_at (λ k n. NoMore (s.node k) n) s.node i b h (λ k oth
 -- of a move that chooses nothing
 lawful_same : (s t : Group) → t.views.complete ≡ s.views.complete → t.views.chosen ≡ s.views.chosen → ((i : ℕ) → NoMore (s.node i) (t.node i)) → IsLawful s
     → IsLawful t
-lawful_same s t complete chosen each h = lawful_where s t (λ view c. (ap (λ f. f view) (sym complete) ∙ c, ap (λ f. f view) chosen)) (λ x c. ap (λ f. f x) complete ∙ c) each h
+lawful_same s t complete chosen each h = lawful_where s t (λ view c. (ap (λ f. f view) (sym complete) ∙ c, ap (λ f. f view) chosen))
+    (λ x c. ap (λ f. f x) complete ∙ c) each h
 
 -- a ballot that may be decided isn't
 undecided : (s : Group) (i x : ℕ) → Kept s → groups.IsUp (s.node i) → (s.node i).ballot ≡ true → s.views.decided x ≡ true
@@ -92,14 +103,17 @@ decided_lawful s i members resilience k up ballot h = lawful_where s (with_choic
 
 lawful_move : (s t : Group) (move : Move s t) → Kept s → IsNoStop move → IsLawful s → IsLawful t
 lawful_move s t (numbers i e leads fit may) k goes h = lawful_same s t refl refl (put_more s i (longer (s.node i) e) (as_before refl refl refl (λ z. z))) h
-lawful_move s t (stores i e up decided other stays next) k goes h = lawful_same s t refl refl (put_more s i (longer (s.node i) e) (as_before refl refl refl (λ z. z))) h
+lawful_move s t (stores i e up decided other stays next) k goes h = lawful_same s t refl refl
+    (put_more s i (longer (s.node i) e) (as_before refl refl refl (λ z. z))) h
 lawful_move s t (accepts i n leads may) k goes h = lawful_same s t refl refl (λ j. same_more (s.node j)) h
-lawful_move s t (learns i told acc up rises within before up_to given low) k goes h = lawful_same s t refl refl (put_more s i (record (s.node i) { told = told; acc = acc }) (as_before refl refl refl (λ z. z))) h
+lawful_move s t (learns i told acc up rises within before up_to given low) k goes h = lawful_same s t refl refl
+    (put_more s i (record (s.node i) { told = told; acc = acc }) (as_before refl refl refl (λ z. z))) h
 lawful_move s t (begins i few up stays member) k goes h = lawful_same s t refl refl (put_more s i _ (as_before refl refl refl (λ z. z))) h
 lawful_move s t (raises i stamp there above) k goes h = lawful_same s t refl refl (put_more s i _ (as_before refl refl refl (λ z. z))) h
 lawful_move s t (shows i there small other begun none) k goes h = lawful_same s t refl refl (λ j. same_more (s.node j)) h
 lawful_move s t (serves i list up shown others) k goes h = lawful_same s t refl refl (λ j. same_more (s.node j)) h
-lawful_move s t (fetches i g list e up ballot served shown next) k goes h = lawful_same s t refl refl (put_more s i (longer (s.node i) e) (as_before refl refl refl (λ z. z))) h
+lawful_move s t (fetches i g list e up ballot served shown next) k goes h = lawful_same s t refl refl
+    (put_more s i (longer (s.node i) e) (as_before refl refl refl (λ z. z))) h
 lawful_move s t (decides i members resilience may) k goes h = decided_lawful s i members resilience k may.up may.ballot h
 lawful_move s t (gives_over i) k goes h = lawful_same s t refl refl (put_more s i _ (as_before refl refl refl (λ z. z))) h
 lawful_move s t (welcomes j stamp base join may) k goes h = lawful_same s t refl refl (put_more s j _ (runs may.there.goes)) h
@@ -113,7 +127,8 @@ lawful_move s t (stops i) k goes h = absurd goes
 pub runs_go_on : RunsGoOn
 runs_go_on founders first resilience s t run move goes =
     let o = run_keeps founders first resilience s run in
-    more run (record { moved = t; move = move; complete = t.views.complete; stay = λ view c. c; marks = λ view c. inl c; is = refl }) (lawful_move s t move o.kept goes o.lawful)
+    more run (record { moved = t; move = move; complete = t.views.complete; stay = λ view c. c; marks = λ view c. inl c; is = refl })
+    (lawful_move s t move o.kept goes o.lawful)
 
 -- ---- a decision in a lawful run
 

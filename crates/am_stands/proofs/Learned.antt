@@ -1,6 +1,5 @@
 -- How far a name that follows learns that its list is accepted.
 use Rattle.std.proofs.Common.{◌≡◌, ℕ, ◌<◌, ◌≤◌, max, List, length, true, arith}
-use Rattle.am_base.specs.declared.name.Stamp.{Stamp}
 use Rattle.am_base.specs.declared.entry.Entry.{Entry}
 use Rattle.am_chain_lists.specs.Whole.{Begins, key}
 use Rattle.am_chain_lists.proofs.Prefixes.{begins_length}
@@ -10,8 +9,8 @@ use Rattle.am_model.specs.Node as nodes
 use Rattle.am_model.specs.Node.{Node}
 use Rattle.am_model.specs.World.{World}
 use Rattle.am_stands.specs.Standing.{NameStands}
-use Rattle.am_stands.specs.Letters.{SequencerSays}
 use Rattle.am_stands.specs.Ends.{MayLearn}
+use Rattle.am_stands.specs.Accepting.{Word, nothing, of_sequencer}
 use Rattle.am_stands.proofs.Changes.{long_all}
 
 -- what a step of who doesn't lead does to its fronts: it is told of no more than before, or than its sequencer says, and accepts what it
@@ -19,15 +18,10 @@ use Rattle.am_stands.proofs.Changes.{long_all}
 pub record Follows (s : Group) (name : ℕ) (n : Node) (heard : ℕ) : Type 0 where
   pub told : n.core.told ≤ max (s.node name).told heard
   pub up_to : (s.node name).acc ≤ n.core.acc
-  pub given : n.core.acc ≤ max (s.node name).acc n.core.told
+  pub given : n.core.acc ≤ max (s.node name).told n.core.told
   pub within : n.core.acc ≤ nodes.top n
 
--- nothing was heard of, or a sequencer's word: of a stamp that isn't above the promise
-pub data Word (s : Group) (name heard : ℕ) : Type 0 where
-  nothing : heard ≡ 0 → Word s name heard
-  of_sequencer : (from : ℕ) (v : Stamp) → key v ≤ key (s.node name).promise → SequencerSays s from v heard → Word s name heard
-
-word_group : (s : Group) (name heard : ℕ) → Word s name heard → heard ≤ length s.group
+pub word_group : (s : Group) (name heard : ℕ) → Word s name heard → heard ≤ length s.group
 word_group s name heard (nothing z) = omega arith
 word_group s name heard (of_sequencer from v low says) = says.accepted
 

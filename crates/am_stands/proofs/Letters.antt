@@ -1,22 +1,26 @@
 -- What a letter says stays so as the group goes on.
-use Rattle.std.proofs.Common.{◌≡◌, inl, inr, ⊎_elim, ℕ, zero, suc, ◌≤◌, List, ◌++◌, length, take, Bool, true, false, Some, slice_get, refl, sym, ap, ◌∙◌, subst, arith}
+use Rattle.std.proofs.Common.{◌≡◌, inl, inr, ⊎_elim, ℕ, zero, suc, ◌≤◌, List, ◌++◌, length, take, Bool, true, false, Some, slice_get, refl, sym, ap, ◌∙◌}
+use Rattle.std.proofs.Common.{subst, arith}
 use Rattle.std.proofs.lemmas.Option.{slice_get_within}
 use Rattle.am_base.specs.declared.name.Stamp.{Stamp}
 use Rattle.am_base.specs.declared.image.Report.{Report}
 use Rattle.am_base.specs.declared.image.Vote.{Vote}
 use Rattle.am_base.specs.declared.image.Image.{Image}
 use Rattle.am_base.specs.declared.entry.Entry.{Entry}
-use Rattle.am_base.specs.declared.entry.Entry.TheVariants.{Data, Join, View}
+use Rattle.am_base.specs.declared.entry.Entry.TheVariants.{Data, View}
 use Rattle.am_base.specs.Names.{has}
-use Rattle.am_packet.specs.declared.packet.Packet.TheVariants.{Request, Spread, Bcast, Order, Accept, Ack, Nack, Hold, JoinAsk, Welcome, LeaveAsk, Gone, Invite, Vote as VoteOf, Fetch, Piece, Result, HandOver}
+use Rattle.am_packet.specs.declared.packet.Packet.TheVariants.{Request, Spread, Bcast, Order, Accept, Ack, Nack, Hold, JoinAsk, Welcome, LeaveAsk, Gone}
+use Rattle.am_packet.specs.declared.packet.Packet.TheVariants.{Invite, Vote as VoteOf, Fetch, Piece, Result, HandOver}
 use Rattle.am_group.specs.Journals.{item_at}
 use Rattle.am_group.specs.declared.event.Record.{Record}
-use Rattle.am_chain_lists.specs.Whole.{Begins, told, key}
-use Rattle.am_chain_lists.proofs.Prefixes.{begins_trans, begins_take, begins_length}
+use Rattle.am_chain_lists.specs.Whole.{Begins, told, mem, key}
+use Rattle.am_chain_lists.proofs.Prefixes.{begins_trans, begins_take, begins_both, begins_length}
 use Rattle.am_chain_moves.specs.Group.{Group, Chosen, IsThere}
 use Rattle.am_model.specs.World.{World}
 use Rattle.am_effects.proofs.Items.{get_front}
-use Rattle.am_stands.specs.Letters.{line, AllShown, SequencerSays, EntrySays, WasAsked, ReportSays, LeaverSays, WelcomeSays, GoneSays, has_stopped, may_go, VoteSays, own, tells, over as over_vote, FetchSays, for_ballot, of_promise, PieceSays, of_line, of_shown, over}
+use Rattle.am_stands.specs.Letters.{line, AllShown, Trimmed, SequencerSays, EntrySays, WasAsked, ReportSays, LeaverSays, of_view, before_it, WelcomeSays}
+use Rattle.am_stands.specs.Letters.{WelcomeTo, has_begun, has_gone, has_left, is_leaving, may_begin, GoneSays, has_stopped, may_go, VoteSays, own, tells}
+use Rattle.am_stands.specs.Letters.{over as over_vote, FetchSays, for_ballot, of_promise, PieceSays, of_line, of_shown, over}
 use Rattle.am_stands.specs.Growing.{NewView, Grows, LettersStay}
 use Rattle.am_stands.proofs.Ends.{taken_more}
 
@@ -54,7 +58,29 @@ module _ (w v : World) (s t : Group) (g : Grows s t) (more : (rest : List Record
       no_more false b f k = refl
 
   asked_stays : (name req : ℕ) (body : List ℕ) → WasAsked w name req body → WasAsked v name req body
-  asked_stays name req body h = record { index = h.index; done = h.done; there = ap (λ l. slice_get l h.index) more.1 ∙ get_front w.records more.0 h.index h.done h.there; is = h.is }
+  asked_stays name req body h = record {
+    index = h.index;
+    done = h.done;
+    there = ap (λ l. slice_get l h.index) more.1
+        ∙ get_front w.records more.0 h.index h.done h.there;
+    is = h.is;
+  }
+
+  pub trimmed_stays : (base : ℕ) → Trimmed s base → Trimmed t base
+  trimmed_stays base h =
+      let low = h.accepted in
+      let up = begins_length g.group in
+      let same = taken_more base s.group t.group g.group h.accepted in
+      record {
+        accepted = omega arith;
+        stored = λ j there stays member. subst (λ l. Begins l (t.node j).list) (sym same)
+            (begins_trans (h.stored j (there_before j there) (not_before (s.node j).leaving (t.node j).leaving (g.each j).leaving stays)
+            (subst (λ l. mem l j ≡ true) same member)) (g.each j).list);
+      }
+    where
+      not_before : (a b : Bool) → (a ≡ true → b ≡ true) → b ≡ false → a ≡ false
+      not_before true b f k = absurd (let z = f refl in cc)
+      not_before false b f k = refl
 
   sequencer_stays : (i : ℕ) (u : Stamp) (acc : ℕ) → SequencerSays s i u acc → SequencerSays t i u acc
   sequencer_stays i u acc h =
@@ -83,42 +109,70 @@ module _ (w v : World) (s t : Group) (g : Grows s t) (more : (rest : List Record
       record {
         decided = decided_stays (key u) h.decided;
         within = omega arith;
-        begins = part_stays (s.node i).list (t.node i).list report.stored (line t u) (g.each i).list h.within (begins_trans h.begins (g.lines (key u) h.decided));
+        begins = part_stays (s.node i).list (t.node i).list report.stored (line t u) (g.each i).list h.within
+            (begins_trans h.begins (g.lines (key u) h.decided));
       }
 
   leaver_stays : (i : ℕ) (u : Stamp) (report : Report) → LeaverSays s i u report → LeaverSays t i u report
-  leaver_stays i u report h =
+  leaver_stays i u report (of_view leaves h) = of_view ((g.each i).leaving leaves) (report_stays i u report h)
+  leaver_stays i u report (before_it leaves h) =
       let low = h.within in
       let up = begins_length (g.each i).list in
-      record {
-        leaves = (g.each i).leaving h.leaves;
+      let accepted = h.accepted in
+      let more = begins_length g.group in
+      let same = taken_more h.join s.group t.group g.group h.accepted in
+      before_it ((g.each i).leaving leaves) (record {
         within = omega arith;
-        begins = λ d member. part_stays (s.node i).list (t.node i).list report.stored (line t u) (g.each i).list h.within (⊎_elim
-            (λ (old : s.views.decided (key u) ≡ true). begins_trans (h.begins old (subst (λ (c : Chosen). has c.members i ≡ true) (g.decided (key u) old).1 member)) (g.lines (key u) old))
-            (λ (new : NewView s t (key u)). part_begins (s.node i).list (line t u) report.stored (new.leavers i h.leaves member))
+        join = h.join;
+        accepted = omega arith;
+        joined = subst (λ l. mem l i ≡ true) (sym same) h.joined;
+        later = λ d. subst (λ l. Begins l (t.views.chosen (key u)).before) (sym same) (⊎_elim
+            (λ (old : s.views.decided (key u) ≡ true).
+            subst (λ (c : Chosen). Begins (take h.join s.group) c.before) (sym (g.decided (key u) old).1) (h.later old))
+            (λ (new : NewView s t (key u)). part_begins s.group (t.views.chosen (key u)).before h.join new.accepted)
             (g.new (key u) d));
-      }
+        begins = λ d member. part_stays (s.node i).list (t.node i).list report.stored (line t u) (g.each i).list h.within (⊎_elim
+            (λ (old : s.views.decided (key u) ≡ true).
+            begins_trans (h.begins old (subst (λ (c : Chosen). has c.members i ≡ true) (g.decided (key u) old).1 member)) (g.lines (key u) old))
+            (λ (new : NewView s t (key u)). part_begins (s.node i).list (line t u) report.stored (new.leavers i leaves member))
+            (g.new (key u) d));
+      })
 
-  welcome_stays : (i : ℕ) (u : Stamp) (base join : ℕ) (image : Image) (name : ℕ) → WelcomeSays s i u base join image name → WelcomeSays t i u base join image name
+  welcome_stays : (i : ℕ) (u : Stamp) (base join : ℕ) (image : Image) (name : ℕ) → WelcomeSays s i u base join image name
+      → WelcomeSays t i u base join image name
   welcome_stays i u base join image name h =
       let above = h.above in
-      let low : join ≤ length s.group = item_within s.group join (Join name) h.accepted in
+      let low = h.accepted in
+      let more = begins_length g.group in
+      let same = taken_more join s.group t.group g.group low in
       record {
         by = h.by;
         decided = decided_stays (key u) h.decided;
         above = h.above;
-        accepted = item_stays s.group t.group join (Join name) g.group h.accepted;
+        accepted = omega arith;
+        joined = subst (λ l. mem l name ≡ true) (sym same) h.joined;
+        first = λ a begins short. h.first a (begins_both begins g.group (omega arith)) short;
         image_ = h.image_ ∙ ap told (sym (taken_more base s.group t.group g.group (omega arith)));
-        later = λ x d up. subst (λ l. Begins l (t.views.chosen x).before) (sym (taken_more join s.group t.group g.group low)) (⊎_elim
-            (λ (old : s.views.decided x ≡ true). subst (λ (c : Chosen). Begins (take join s.group) c.before) (sym (g.decided x old).1) (h.later x old up))
+        later = λ x d up. subst (λ l. Begins l (t.views.chosen x).before) (sym same) (⊎_elim
+            (λ (old : s.views.decided x ≡ true).
+            subst (λ (c : Chosen). Begins (take join s.group) c.before) (sym (g.decided x old).1) (h.later x old up))
             (λ (new : NewView s t x). part_begins s.group (t.views.chosen x).before join new.accepted)
             (g.new x d));
       }
 
+  welcome_to_stays : (i : ℕ) (u : Stamp) (base join : ℕ) (image : Image) (name : ℕ) → WelcomeTo s i u base join image name
+      → WelcomeTo t i u base join image name
+  welcome_to_stays i u base join image name (has_begun h) = has_begun ((g.each name).log h)
+  welcome_to_stays i u base join image name (has_gone h) = has_gone ((g.each name).stopped h)
+  welcome_to_stays i u base join image name (has_left h) = has_left ((g.each name).departed h)
+  welcome_to_stays i u base join image name (is_leaving h) = is_leaving ((g.each name).leaving h)
+  welcome_to_stays i u base join image name (may_begin h) = may_begin (welcome_stays i u base join image name h)
+
   gone_stays : (number name : ℕ) → GoneSays s number name → GoneSays t number name
   gone_stays number name (has_stopped h) = has_stopped ((g.each name).stopped h)
   gone_stays number name (may_go before is accepted stored) = may_go before is (begins_trans accepted g.group)
-      (λ j member there stays. begins_trans (stored j member (there_before j there) (not_yet (s.node j).leaving (t.node j).leaving (g.each j).leaving stays)) (g.each j).list)
+      (λ j member there stays. begins_trans (stored j member (there_before j there) (not_yet (s.node j).leaving (t.node j).leaving (g.each j).leaving stays))
+      (g.each j).list)
     where
       not_yet : (a b : Bool) → (a ≡ true → b ≡ true) → b ≡ false → a ≡ false
       not_yet true b f k = absurd (let z = f refl in cc)
@@ -126,10 +180,17 @@ module _ (w v : World) (s t : Group) (g : Grows s t) (more : (rest : List Record
 
   vote_stays : (i : ℕ) (u : Stamp) (shown : Vote) → VoteSays s i u shown → VoteSays t i u shown
   vote_stays i u shown (own h) = own h
-  vote_stays i u shown (tells h) = tells (record { list = h.list; shown = g.shown (key u) i h.list h.shown; view = h.view; top = h.top; members = h.members; taken = h.taken })
+  vote_stays i u shown (tells h) = tells (record {
+    list = h.list;
+    shown = g.shown (key u) i h.list h.shown;
+    view = h.view;
+    top = h.top;
+    members = h.members;
+    taken = h.taken;
+  })
   vote_stays i u shown (over_vote d) = over_vote (decided_stays (key u) d)
 
-  all_stay : (u : Stamp) (h : ℕ) → AllShown s u h → AllShown t u h
+  pub all_stay : (u : Stamp) (h : ℕ) → AllShown s u h → AllShown t u h
   all_stay u h k = record {
     list = k.list;
     shown = g.shown (key u) h k.list k.shown;
@@ -145,31 +206,53 @@ module _ (w v : World) (s t : Group) (g : Grows s t) (more : (rest : List Record
 
   piece_stays : (i : ℕ) (u : Stamp) (number : ℕ) (e : Entry) → PieceSays s i u number e → PieceSays t i u number e
   piece_stays i u number e (of_line by d h) = of_line by (decided_stays (key u) d) (item_stays (line s u) (line t u) number e (g.lines (key u) d) h)
-  piece_stays i u number e (of_shown h) = of_shown (record { served = g.served (key u) i h.served; list = h.list; shown = g.shown (key u) i h.list h.shown; stands = h.stands })
+  piece_stays i u number e (of_shown h) = of_shown
+      (record { served = g.served (key u) i h.served; list = h.list; shown = g.shown (key u) i h.list h.shown; stands = h.stands })
   piece_stays i u number e (over by d) = over by (decided_stays (key u) d)
 
 -- ---- each kind
 
 pub letters_stay : LettersStay
-letters_stay w v s t to (Request i u report req body) more g h = record { reports = report_stays w v s t g more i u report h.reports; asked = asked_stays w v s t g more i req body h.asked }
-letters_stay w v s t to (Spread i u report req body) more g h = record { reports = report_stays w v s t g more i u report h.reports; asked = asked_stays w v s t g more i req body h.asked }
-letters_stay w v s t to (Bcast i u base acc number e) more g h = entry_stays w v s t g more i u acc number e h
-letters_stay w v s t to (Order i u base acc number from req) more g h = record { body = h.body; entry = entry_stays w v s t g more i u acc number (Data from req h.body) h.entry; asked = asked_stays w v s t g more from req h.body h.asked }
-letters_stay w v s t to (Accept i u base acc high poll) more g h = sequencer_stays w v s t g more i u acc h
+letters_stay w v s t to (Request i u report req body) more g h = record {
+  reports = report_stays w v s t g more i u report h.reports;
+  asked = asked_stays w v s t g more i req body h.asked;
+}
+letters_stay w v s t to (Spread i u report req body) more g h = record {
+  reports = report_stays w v s t g more i u report h.reports;
+  asked = asked_stays w v s t g more i req body h.asked;
+}
+letters_stay w v s t to (Bcast i u base acc number e) more g h = (trimmed_stays w v s t g more base h.0, entry_stays w v s t g more i u acc number e h.1)
+letters_stay w v s t to (Order i u base acc number from req) more g h = (
+  trimmed_stays w v s t g more base h.0,
+  (let k = h.1 in
+      record {
+        body = k.body;
+        entry = entry_stays w v s t g more i u acc number (Data from req k.body) k.entry;
+        asked = asked_stays w v s t g more from req k.body k.asked;
+      }),
+)
+letters_stay w v s t to (Accept i u base acc high poll) more g h = (trimmed_stays w v s t g more base h.0, sequencer_stays w v s t g more i u acc h.1)
 letters_stay w v s t to (Ack i u report) more g h = report_stays w v s t g more i u report h
 letters_stay w v s t to (Nack i u report) more g h = report_stays w v s t g more i u report h
 letters_stay w v s t to (Hold i u base high req) more g h = tt
 letters_stay w v s t to (JoinAsk i u) more g h = tt
-letters_stay w v s t to (Welcome i u base join image) more g h = λ name in_. welcome_stays w v s t g more i u base join image name (h name in_)
+letters_stay w v s t to (Welcome i u base join image) more g h = (
+  trimmed_stays w v s t g more base h.0,
+  λ name in_. welcome_to_stays w v s t g more i u base join image name (h.1 name in_),
+)
 letters_stay w v s t to (LeaveAsk i u report) more g h = leaver_stays w v s t g more i u report h
 letters_stay w v s t to (Gone i u number) more g h = λ name in_. gone_stays w v s t g more number name (h name in_)
-letters_stay w v s t to (Invite i u) more g h = h
-letters_stay w v s t to (VoteOf i u shown) more g h = vote_stays w v s t g more i u shown h
+letters_stay w v s t to (Invite i u) more g h = tt
+letters_stay w v s t to (VoteOf i u shown) more g h = (h.0, vote_stays w v s t g more i u shown h.1)
 letters_stay w v s t to (Fetch i u stored) more g h = fetch_stays w v s t g more i u to h
-letters_stay w v s t to (Piece i u base number e) more g h = piece_stays w v s t g more i u number e h
-letters_stay w v s t to (Result i u base number names resilience) more g h = record {
-  by = h.by;
-  decided = decided_stays w v s t g more (key u) h.decided;
-  stands = item_stays (line s u) (line t u) number (View u names resilience) (g.lines (key u) h.decided) h.stands;
-}
+letters_stay w v s t to (Piece i u base number e) more g h = (trimmed_stays w v s t g more base h.0, piece_stays w v s t g more i u number e h.1)
+letters_stay w v s t to (Result i u base number names resilience) more g h = (
+  trimmed_stays w v s t g more base h.0,
+  λ own. (let k = h.1 own in
+      record {
+        by = k.by;
+        decided = decided_stays w v s t g more (key u) k.decided;
+        stands = item_stays (line s u) (line t u) number (View u names resilience) (g.lines (key u) k.decided) k.stands;
+      }),
+)
 letters_stay w v s t to (HandOver i u) more g h = tt

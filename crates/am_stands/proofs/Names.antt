@@ -13,12 +13,12 @@ use Rattle.am_model.specs.World.{Decided, World, is_stopped, has_departed}
 use Rattle.am_model.specs.Claims.{up_to_next, line_of}
 use Rattle.am_model.proofs.Greatest.{split}
 use Rattle.am_stands.specs.Standing.{NameStands, FrontsStand, ViewsStand, within}
-use Rattle.am_stands.specs.Moving.{none, moves, Leads}
+use Rattle.am_stands.specs.Moving.{MoveOk, none, moves, Leads}
 
 -- ---- moves in turn
 
-pub one_move : (P : Group → Type 0) (s t : Group) → Move s t → P t → Leads P s
-one_move P s t m h = record { to = t; path = moves m none; is = h }
+pub one_move : (P : Group → Type 0) (s t : Group) (move : Move s t) → MoveOk move → P t → Leads P s
+one_move P s t m ok h = record { to = t; path = moves m ok none; is = h }
 
 pub no_move : (P : Group → Type 0) (s : Group) → P s → Leads P s
 no_move P s h = record { to = s; path = none; is = h }
@@ -57,7 +57,8 @@ views_noted w v views same lines h = record {
     line = n.line ∙ sym (lines k d there);
     opens = n.opens;
   });
-  decided = λ x t. (let n = h.decided x t in record { index = n.index; view = n.view; there = ap (λ (l : List Decided). slice_get l n.index) same ∙ n.there; is = n.is });
+  decided = λ x t. (let n = h.decided x t in
+      record { index = n.index; view = n.view; there = ap (λ (l : List Decided). slice_get l n.index) same ∙ n.there; is = n.is });
   current = λ d last. h.current d (record { before = last.before; is = sym same ∙ last.is });
 }
 

@@ -1,5 +1,6 @@
 -- Whose own Leave isn't in its list is still a member there, if it ever was.
-use Rattle.std.proofs.Common.{◌≡◌, ◌≢◌, ◌⊎◌, inl, inr, ⊎_elim, ℕ, ◌+◌, ◌<◌, ◌==◌, ◌&&◌, not, nat_lt, List, [], ◌∷◌, ◌++◌, length, true, false, slice_index, refl, sym, ap, ◌∙◌, subst, arith}
+use Rattle.std.proofs.Common.{◌≡◌, ◌≢◌, ◌⊎◌, inl, inr, ⊎_elim, ℕ, ◌+◌, ◌<◌, ◌==◌, ◌&&◌, not, nat_lt, List, [], ◌∷◌, ◌++◌, length, true, false, slice_index}
+use Rattle.std.proofs.Common.{refl, sym, ap, ◌∙◌, subst, arith}
 use Rattle.std.proofs.lemmas.Bool.Decides.{nat_tests}
 use Rattle.am_base.specs.declared.entry.Entry.{Entry}
 use Rattle.am_base.specs.declared.entry.Entry.TheVariants.{Data, Join, Leave, View}
@@ -28,9 +29,11 @@ unfolding after
 left_row image n name long h =
     let alive : ((at_place image name).life == life_of name) ≡ true = let l = h.is in grind (arith, nat_tests) in
     rw alive (⊎_elim
-    (λ (z : (place_of name ≡ place_of name) × (row_at (with_row image name (record (at_place image name) { left = n })) (place_of name) ≡ record (at_place image name) { left = n })).
+    (λ (z : (place_of name ≡ place_of name) × (row_at (with_row image name (record (at_place image name) { left = n })) (place_of name) ≡ record
+    (at_place image name) { left = n })).
     row_alive (with_row image name (record (at_place image name) { left = n })) name (record (at_place image name) { left = n }) z.1 h.is)
-    (λ (z : (place_of name ≢ place_of name) × (row_at (with_row image name (record (at_place image name) { left = n })) (place_of name) ≡ row_at image (place_of name))). absurd (z.0 refl))
+    (λ (z : (place_of name ≢ place_of name) × (row_at (with_row image name (record (at_place image name) { left = n })) (place_of name) ≡ row_at image
+    (place_of name))). absurd (z.0 refl))
     (row_set image name (place_of name) (record (at_place image name) { left = n }) long))
 
 -- after a View a member is one, or its row tells that it left
@@ -41,16 +44,20 @@ view_row n given life r h = by_cases (nat_lt 0 (member_life r) && not (member_li
 
 viewed_row : (image : Image) (n : ℕ) (stamp : Stamp) (names : List ℕ) (resilience name : ℕ) → length image.rows ≡ 16
     → In (row_at image (place_of name)) (life_of name)
-    → In (row_at (after image n (View stamp names resilience)) (place_of name)) (life_of name) ⊎ ((row_of (after image n (View stamp names resilience)) name).left ≡ n)
+    → In (row_at (after image n (View stamp names resilience)) (place_of name)) (life_of name) ⊎
+    ((row_of (after image n (View stamp names resilience)) name).left ≡ n)
 viewed_row image n stamp names resilience name long h =
     let next = after image n (View stamp names resilience) in
     let place = place_of name in
     let is = row_view image n stamp names resilience place (mod16 name) in
-    let full : is_blank image ≡ false = by_cases (is_blank image) (λ t. absurd (let none = blank_joined image place t in let some = h.joined in omega arith)) (λ f. f) in
-    let at : row_at next place ≡ viewed false n (slice_index names place) (row_at image place) = is ∙ ap (λ b. viewed b n (slice_index names place) (row_at image place)) full in
+    let full : is_blank image ≡ false = by_cases (is_blank image) (λ t. absurd (let none = blank_joined image place t in let some = h.joined in omega arith))
+    (λ f. f) in
+    let at : row_at next place ≡ viewed false n (slice_index names place) (row_at image place) = is
+    ∙ ap (λ b. viewed b n (slice_index names place) (row_at image place)) full in
     ⊎_elim
     (λ (z : In (viewed false n (slice_index names place) (row_at image place)) (life_of name)). inl (subst (λ q. In q (life_of name)) (sym at) z))
-    (λ (z : viewed false n (slice_index names place) (row_at image place) ≡ record (row_at image place) { left = n }). inr (row_alive next name (record (row_at image place) { left = n }) (at ∙ z) h.is))
+    (λ (z : viewed false n (slice_index names place) (row_at image place) ≡ record (row_at image place) { left = n }). inr
+    (row_alive next name (record (row_at image place) { left = n }) (at ∙ z) h.is))
     (view_row n (slice_index names place) (life_of name) (row_at image place) h)
 
 -- ---- the last entry
@@ -62,14 +69,17 @@ last_keeps a (Join joiner) name good member left = mem_push a (Join joiner) name
 last_keeps a (Leave leaver) name good member left = by_cases (leaver == name)
     (λ t. absurd (let same : leaver ≡ name = grind (arith, nat_tests) in
     let row = left_row (told a) (1 + length a) name (long_told a) (mem_in a name member) in
-    let z : (row_of (told (a ++ Leave leaver ∷ [])) name).left ≡ 1 + length a = ap (λ k. (row_of (told (a ++ Leave k ∷ [])) name).left) same ∙ ap (λ (i : Image). (row_of i name).left) (told_push a (Leave name)) ∙ row in
+    let z : (row_of (told (a ++ Leave leaver ∷ [])) name).left ≡ 1 + length a = ap (λ k. (row_of (told (a ++ Leave k ∷ [])) name).left) same
+    ∙ ap (λ (i : Image). (row_of i name).left) (told_push a (Leave name)) ∙ row in
     omega arith))
     (λ f. mem_push a (Leave leaver) name good (λ same. (let t : (leaver == name) ≡ true = grind (arith, nat_tests) in cc)) member)
 last_keeps a (View stamp names resilience) name good member left =
     let e = View stamp names resilience in
     ⊎_elim
-    (λ (z : In (row_at (after (told a) (1 + length a) e) (place_of name)) (life_of name)). in_mem (a ++ e ∷ []) name (subst (λ (i : Image). In (row_at i (place_of name)) (life_of name)) (sym (told_push a e)) z))
-    (λ (z : (row_of (after (told a) (1 + length a) e) name).left ≡ 1 + length a). absurd (let y : (row_of (told (a ++ e ∷ [])) name).left ≡ 1 + length a = ap (λ (i : Image). (row_of i name).left) (told_push a e) ∙ z in omega arith))
+    (λ (z : In (row_at (after (told a) (1 + length a) e) (place_of name)) (life_of name)). in_mem (a ++ e ∷ []) name
+    (subst (λ (i : Image). In (row_at i (place_of name)) (life_of name)) (sym (told_push a e)) z))
+    (λ (z : (row_of (after (told a) (1 + length a) e) name).left ≡ 1 + length a). absurd
+    (let y : (row_of (told (a ++ e ∷ [])) name).left ≡ 1 + length a = ap (λ (i : Image). (row_of i name).left) (told_push a e) ∙ z in omega arith))
     (viewed_row (told a) (1 + length a) stamp names resilience name (long_told a) (mem_in a name member))
 
 -- ---- the whole list

@@ -9,7 +9,8 @@ use Rattle.am_chain_lists.proofs.Order.{view_viewed, view_push}
 use Rattle.am_chain_lists.proofs.Prefixes.{begins_refl, begins_more, begins_trans, begins_pushed, begins_length}
 use Rattle.am_chain_moves.specs.Group as groups
 use Rattle.am_chain_moves.specs.Group.{Group, Views, put, opening, Leads, IsUp}
-use Rattle.am_chain_moves.specs.Moves.{Move, MayNumber, MayDecide, with_line, with_choice, choice_of, longer, numbers, stores, accepts, learns, begins, raises, shows, serves, fetches, decides, gives_over, welcomes, asks, departs, closes, stops}
+use Rattle.am_chain_moves.specs.Moves.{Move, MayNumber, MayDecide, with_line, with_choice, choice_of, longer, numbers, stores, accepts, learns, begins}
+use Rattle.am_chain_moves.specs.Moves.{raises, shows, serves, fetches, decides, gives_over, welcomes, asks, departs, closes, stops}
 use Rattle.am_chain_moves.specs.Kept.{Kept}
 use Rattle.am_chain_moves.specs.Runs.{founded, more, start, first_stamp}
 use Rattle.am_chain_moves.proofs.Puts.{put_same, put_other, put_cases, put_at}
@@ -27,7 +28,9 @@ line_opens s i e b k leads plain is h x list d some part =
     let chain : s.views.line at ≡ old = leads_line s i k leads in
     let up : (y : ℕ) → Begins (s.views.line y) (put s.views.line at b.list y) = λ y. put_at (λ z l. Begins (s.views.line z) l) s.views.line at b.list
     (subst (λ l. Begins l b.list) (sym chain) (subst (Begins old) (sym is) (begins_more old (e ∷ [])))) (λ z other. begins_refl (s.views.line z)) y in
-    let before : Begins list (s.views.line x) → LineOpens (with_line s i b) list = λ low. (let o = h x list d some low in record { decided = o.decided; line_ = begins_trans o.line_ (up (key (view_of list))) }) in
+    let before : Begins list (s.views.line x)
+    → LineOpens (with_line s i b) list = λ low. (let o = h x list d some low in
+    record { decided = o.decided; line_ = begins_trans o.line_ (up (key (view_of list))) }) in
     ⊎_elim
     (λ (z : (x ≡ at) × (put s.views.line at b.list x ≡ b.list)).
     ⊎_elim
@@ -37,7 +40,8 @@ line_opens s i e b k leads plain is h x list d some part =
     let decided : s.views.decided at ≡ true = ap s.views.decided (sym z.0) ∙ d in
     record {
       decided = ap (λ (u : Stamp). s.views.decided (key u)) same ∙ decided;
-      line_ = subst (λ (u : Stamp). Begins list (put s.views.line at b.list (key u))) (sym same) (subst (Begins list) (sym (put_same s.views.line at b.list)) (subst (Begins list) (all ∙ sym is) (begins_refl list)));
+      line_ = subst (λ (u : Stamp). Begins list (put s.views.line at b.list (key u))) (sym same)
+          (subst (Begins list) (sym (put_same s.views.line at b.list)) (subst (Begins list) (all ∙ sym is) (begins_refl list)));
     }))
     (begins_pushed e (subst (Begins list) is (subst (Begins list) z.1 part))))
     (λ (z : (x ≢ at) × (put s.views.line at b.list x ≡ s.views.line x)). before (subst (Begins list) z.1 part))
@@ -72,10 +76,12 @@ choice_opens s i members resilience k may h x list d some part =
     (let same : view_of list ≡ a.promise = ap view_of whole ∙ view_viewed a.list a.promise members resilience in
     record {
       decided = ap (λ (u : Stamp). put s.views.decided at true (key u)) same ∙ put_same s.views.decided at true;
-      line_ = subst (λ (u : Stamp). Begins list (put s.views.line at all (key u))) (sym same) (subst (Begins list) (sym (put_same s.views.line at all)) (subst (Begins list) whole (begins_refl list)));
+      line_ = subst (λ (u : Stamp). Begins list (put s.views.line at all (key u))) (sym same)
+          (subst (Begins list) (sym (put_same s.views.line at all)) (subst (Begins list) whole (begins_refl list)));
     }))
     (begins_pushed (View a.promise members resilience) (subst (Begins list) z.1 part)))
-    (λ (z : (x ≢ at) × (put s.views.line at all x ≡ s.views.line x)). before x (sym (put_other s.views.decided at true x z.0) ∙ d) (subst (Begins list) z.1 part))
+    (λ (z : (x ≢ at) × (put s.views.line at all x ≡ s.views.line x)). before x (sym (put_other s.views.decided at true x z.0) ∙ d)
+    (subst (Begins list) z.1 part))
     (put_cases s.views.line at all x)
 
 -- ---- each move
@@ -85,7 +91,7 @@ same_lines s t decided lines h x list d some part =
     let o = h x list (ap (λ f. f x) (sym decided) ∙ d) some (subst (λ f. Begins list (f x)) lines part) in
     record { decided = ap (λ f. f (key (view_of list))) decided ∙ o.decided; line_ = subst (λ f. Begins list (f (key (view_of list)))) (sym lines) o.line_ }
 
-numbers_plain : (node : ℕ → groups.Node) (i : ℕ) (e : Entry) → MayNumber node i e → NotView e
+pub numbers_plain : (node : ℕ → groups.Node) (i : ℕ) (e : Entry) → MayNumber node i e → NotView e
 numbers_plain node i (Data from req body) may = tt
 numbers_plain node i (Join name) may = tt
 numbers_plain node i (Leave name) may = tt
@@ -135,4 +141,5 @@ pub runs_open : RunsOpen
 runs_open founders first resilience s (founded may) = start_opens founders first resilience
 runs_open founders first resilience t (more {s = s} run step law) =
     let moved = moves_open s step.moved step.move (run_keeps founders first resilience s run).kept (runs_open founders first resilience s run) in
-    subst LinesOpen (sym step.is) (same_lines step.moved (record (step.moved) { views = record (step.moved.views) { complete = step.complete } }) refl refl moved)
+    subst LinesOpen (sym step.is) (same_lines step.moved
+    (record (step.moved) { views = record (step.moved.views) { complete = step.complete } }) refl refl moved)

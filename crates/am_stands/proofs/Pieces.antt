@@ -1,5 +1,6 @@
 -- What a node needs to store a Piece, from what the Piece says.
-use Rattle.std.proofs.Common.{◌≡◌, ◌≢◌, ℕ, suc, ◌<◌, ◌==◌, not, List, [], ◌∷◌, ◌++◌, length, true, false, Some, slice_get, refl, sym, ap, ◌∙◌, subst, arith, max, length-append}
+use Rattle.std.proofs.Common.{◌≡◌, ◌≢◌, ℕ, suc, ◌<◌, ◌==◌, not, List, [], ◌∷◌, ◌++◌, length, true, false, Some, slice_get, refl, sym, ap, ◌∙◌, subst, arith}
+use Rattle.std.proofs.Common.{max, length-append}
 use Rattle.std.specs.List.{list_any}
 use Rattle.std.proofs.lemmas.Bool.Decides.{nat_tests}
 use Rattle.std.proofs.lemmas.List.{append_assoc}
@@ -47,10 +48,11 @@ rises : (a : List Entry) (e : Entry) → is_view e ≡ true → IsGood (a ++ e �
 rises a (Data from req body) h g = absurd (cc)
 rises a (Join name) h g = absurd (cc)
 rises a (Leave name) h g = absurd (cc)
-rises a (View stamp names resilience) h g = subst (λ (u : Stamp). key (view_of a) < key u) (sym (view_viewed a stamp names resilience)) (view_below a stamp names resilience g)
+rises a (View stamp names resilience) h g = subst (λ (u : Stamp). key (view_of a) < key u) (sym (view_viewed a stamp names resilience))
+    (view_below a stamp names resilience g)
 
 -- behind the last View there is none
-none_after : (a es : List Entry) → IsGood (a ++ es) → view_of (a ++ es) ≡ view_of a → list_any is_view es ≡ false
+pub none_after : (a es : List Entry) → IsGood (a ++ es) → view_of (a ++ es) ≡ view_of a → list_any is_view es ≡ false
 none_after a [] g same = refl
 none_after a (e ∷ es) g same =
     let again : (a ++ e ∷ []) ++ es ≡ a ++ e ∷ es = append_assoc a (e ∷ []) es in
@@ -123,7 +125,8 @@ own_line w name x s h by decided =
     let mine : d.stamp.by ≡ name = ap (λ (u : Stamp). u.by) same ∙ by in
     let good = good_begins ((h.kept.each name).list (up_name w name x s h)) h.kept.views.good in
     let viewed : view_of a.list ≡ d.stamp = view_whole w name x a old ∙ sym same in
-    ap (λ (u : Stamp). s.views.line (key u)) (sym same) ∙ is.line ∙ line_here w name x d.stamp mine ∙ ap (up_to_next d.stamp) (sym old.list) ∙ all_line d.stamp [] a.list good viewed
+    ap (λ (u : Stamp). s.views.line (key u)) (sym same) ∙ is.line ∙ line_here w name x d.stamp mine ∙ ap (up_to_next d.stamp) (sym old.list)
+    ∙ all_line d.stamp [] a.list good viewed
 
 not_nothing : (list : List Entry) (f : Entry) → list ++ f ∷ [] ≢ []
 not_nothing [] f same = cc
@@ -154,9 +157,12 @@ line_needs w name base number x v e s h promise other may decided stands =
     let old = own w name x s h in
     let up = up_name w name x s h in
     let speaks : Speaks (within w name x) name x s = record { kept = h.kept; stands = old; up = up; who = h.who } in
-    let begins : Begins a.list (line s v) = subst (λ (u : Stamp). Begins a.list (line s u)) promise (promise_line (within w name x) name x s speaks (ap (λ (u : Stamp). s.views.decided (key u)) promise ∙ decided)) in
-    let next : slice_get (line s v) (length a.list) ≡ Some e = ap (slice_get (line s v)) (long_all (within w name x) name x a old) ∙ item_next (line s v) (nodes.top x) e number may.next stands in
-    of_its_line (entry_needs w name number x v e s h.kept h.who old up promise other (others_entry w name x e s (key v) h decided begins next) decided stands may.next may.stays)
+    let begins : Begins a.list (line s v) = subst (λ (u : Stamp). Begins a.list (line s u)) promise
+    (promise_line (within w name x) name x s speaks (ap (λ (u : Stamp). s.views.decided (key u)) promise ∙ decided)) in
+    let next : slice_get (line s v) (length a.list) ≡ Some e = ap (slice_get (line s v)) (long_all (within w name x) name x a old)
+    ∙ item_next (line s v) (nodes.top x) e number may.next stands in
+    of_its_line (entry_needs w name number x v e s h.kept h.who old up promise other
+    (others_entry w name x e s (key v) h decided begins next) decided stands may.next may.stays)
 
 -- of a list that was shown
 shown_needs : (w : World) (name from base number : ℕ) (x : Node) (v : Stamp) (e : Entry) (s : Group) → Fetcher w name x s → x.core.promise ≡ v
@@ -170,9 +176,11 @@ shown_needs w name from base number x v e s h promise unfinished may is =
     let served : s.served (key a.promise) from ≡ true = ap (λ (u : Stamp). s.served (key u) from) (sym stamp) ∙ is.served in
     let shown : s.shown (key a.promise) from ≡ Some is.list = ap (λ (u : Stamp). s.shown (key u) from) (sym stamp) ∙ is.shown in
     let chain = (h.kept.served name from is.list up (old.ballot ∙ unfinished) served shown).chain in
-    let next : slice_get is.list (length a.list) ≡ Some e = ap (slice_get is.list) (long_all (within w name x) name x a old) ∙ item_next is.list (nodes.top x) e number may.next is.stands in
+    let next : slice_get is.list (length a.list) ≡ Some e = ap (slice_get is.list) (long_all (within w name x) name x a old)
+    ∙ item_next is.list (nodes.top x) e number may.next is.stands in
     of_its_shown unfinished (record {
-      others = others_entry w name x e s (key s.views.current) h h.kept.views.now ((h.kept.each name).list up) (item_stays is.list (s.views.line (key s.views.current)) (suc (length a.list)) e chain next);
+      others = others_entry w name x e s (key s.views.current) h h.kept.views.now ((h.kept.each name).list up)
+          (item_stays is.list (s.views.line (key s.views.current)) (suc (length a.list)) e chain next);
       from = from;
       list = is.list;
       served = served;
@@ -207,7 +215,8 @@ piece_needs w name from base number x v e s h other promise (for_ballot b open_ 
     let by = ((h.kept.each name).ballot up (old.ballot ∙ opened x b open_)).by in
     let same : v.by ≡ name = ap (λ (u : Stamp). u.by) (sym promise ∙ sym old.promise) ∙ by in
     not_same from x.core.who other (sym sent ∙ same ∙ sym h.who))
-piece_needs w name from base number x v e s h other promise (for_ballot b open_ fetching past) may (of_shown is) = shown_needs w name from base number x v e s h promise (opened x b open_) may is
+piece_needs w name from base number x v e s h other promise (for_ballot b open_ fetching past) may
+    (of_shown is) = shown_needs w name from base number x v e s h promise (opened x b open_) may is
 piece_needs w name from base number x v e s h other promise (for_ballot b open_ fetching past) may (over not_by decided) = absurd (
     let up = up_name w name x s h in
     let old = own w name x s h in

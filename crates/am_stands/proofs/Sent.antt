@@ -1,5 +1,6 @@
 -- What a sender says is so.
-use Rattle.std.proofs.Common.{◌≡◌, ⊎_elim, ℕ, suc, ◌+◌, ◌<◌, ◌≤◌, ◌==◌, List, [], ◌∷◌, ◌++◌, length, take, true, Some, slice_get, sym, ap, ◌∙◌, subst, arith}
+use Rattle.std.proofs.Common.{◌≡◌, ⊎_elim, ℕ, suc, ◌+◌, ◌<◌, ◌≤◌, ◌==◌, List, [], ◌∷◌, ◌++◌, length, take, true, Some, slice_get, sym, ap, ◌∙◌, subst}
+use Rattle.std.proofs.Common.{arith}
 use Rattle.std.proofs.lemmas.Bool.{cases_lt}
 use Rattle.std.proofs.lemmas.List.{length-take}
 use Rattle.std.proofs.lemmas.Bool.Decides.{nat_tests}
@@ -16,11 +17,11 @@ use Rattle.am_chain_moves.specs.Kept.{Kept}
 use Rattle.am_model.specs.Node as nodes
 use Rattle.am_model.specs.Node.{Node, view, is_member, acts, is_sequencer}
 use Rattle.am_model.specs.World.{World}
-use Rattle.am_model.proofs.Greatest.{and_both}
+use Rattle.am_model.proofs.Greatest.{split, and_both}
 use Rattle.am_effects.specs.Letters as letters
 use Rattle.am_laws.proofs.Stamps.{same_stamp}
 use Rattle.am_stands.specs.Standing.{NameStands, FrontsStand}
-use Rattle.am_stands.specs.Letters.{line, IsDecided, SequencerSays, EntrySays, ReportSays, LeaverSays, PieceSays, of_line}
+use Rattle.am_stands.specs.Letters.{line, IsDecided, SequencerSays, EntrySays, ReportSays, LeaverSays, of_view, before_it, PieceSays, of_line}
 use Rattle.am_stands.proofs.Changes.{told_all, long_all}
 use Rattle.am_stands.proofs.Growing.{leads_line}
 
@@ -42,8 +43,10 @@ promise_line v i n s h d =
     let decided : s.views.decided (key a.promise) ≡ true = ap (λ (u : Stamp). s.views.decided (key u)) same ∙ d in
     let most = h.kept.views.order (key a.promise) decided in
     subst (λ (u : Stamp). Begins a.list (line s u)) same (⊎_elim
-    (λ (below : key a.promise < key s.views.current). (let late = ok.late h.up below in begins_trans late.list (late.lines (key a.promise) decided (omega arith))))
-    (λ (above : key s.views.current ≤ key a.promise). (let keys : key s.views.current ≡ key a.promise = omega arith in subst (λ x. Begins a.list (s.views.line x)) keys (ok.list h.up)))
+    (λ (below : key a.promise < key s.views.current). (let late = ok.late h.up below in
+    begins_trans late.list (late.lines (key a.promise) decided (omega arith))))
+    (λ (above : key s.views.current ≤ key a.promise). (let keys : key s.views.current ≡ key a.promise = omega arith in
+    subst (λ x. Begins a.list (s.views.line x)) keys (ok.list h.up)))
     (cases_lt (key a.promise) (key s.views.current)))
 
 all_taken : (list : List Entry) (n : ℕ) → n ≡ length list → take n list ≡ list
@@ -63,11 +66,17 @@ report_said v i n s h d =
 pub leaver_said : (v : World) (i : ℕ) (n : Node) (s : Group) → Speaks v i n s → n.leaving ≡ true → LeaverSays s i n.core.promise (nodes.report_of n)
 leaver_said v i n s h leaves =
     let long = long_all v i n (s.node i) h.stands in
-    record {
-      leaves = h.stands.leaving ∙ leaves;
+    let joined = (h.kept.each i).joined h.up.log in
+    split (s.views.decided (key n.core.promise))
+    (λ d. of_view (h.stands.leaving ∙ leaves) (report_said v i n s h d))
+    (λ f. before_it (h.stands.leaving ∙ leaves) (record {
       within = omega arith;
-      begins = λ d member. subst (λ l. Begins l (line s n.core.promise)) (sym (all_taken (s.node i).list (nodes.top n) (sym long))) (promise_line v i n s h d);
-    }
+      join = (s.node i).start;
+      accepted = joined.accepted;
+      joined = joined.member;
+      later = λ d. absurd (cc);
+      begins = λ d member. absurd (cc);
+    }))
 
 -- ---- a sequencer
 
@@ -120,7 +129,8 @@ sequencer_said v i n s h t f =
 whole_item : (front entries : List Entry) (index : ℕ) (e : Entry) → slice_get entries index ≡ Some e
     → slice_get (front ++ entries) (length front + index) ≡ Some e
 whole_item [] entries index e h = let z : length {A = Entry} [] + index ≡ index = omega arith in ap (slice_get entries) z ∙ h
-whole_item (x ∷ front) entries index e h = let z : length (x ∷ front) + index ≡ suc (length front + index) = omega arith in ap (slice_get ((x ∷ front) ++ entries)) z ∙ whole_item front entries index e h
+whole_item (x ∷ front) entries index e h = let z : length (x ∷ front) + index ≡ suc (length front + index) = omega arith in
+    ap (slice_get ((x ∷ front) ++ entries)) z ∙ whole_item front entries index e h
 
 pub list_item : (v : World) (i : ℕ) (n : Node) (a : groups.Node) (base number : ℕ) (e : Entry) → NameStands v i n a → n.core.log.start ≤ base
     → letters.Stands n.core.log base number e → item_at a.list number ≡ Some e
@@ -146,4 +156,5 @@ pub piece_said : (v : World) (i : ℕ) (n : Node) (s : Group) (base number : ℕ
     → n.core.log.start ≤ base → letters.Stands n.core.log base number e → PieceSays s i n.core.promise number e
 piece_said v i n s base number e h t low at =
     let l = leading v i n s h t in
-    of_line (ap (λ (u : Stamp). u.by) (sym l.viewed) ∙ l.leads.by) l.decided (ap (λ g. item_at g number) l.line_ ∙ list_item v i n (s.node i) base number e h.stands low at)
+    of_line (ap (λ (u : Stamp). u.by) (sym l.viewed) ∙ l.leads.by) l.decided
+    (ap (λ g. item_at g number) l.line_ ∙ list_item v i n (s.node i) base number e h.stands low at)

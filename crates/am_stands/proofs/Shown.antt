@@ -28,15 +28,17 @@ use Rattle.am_stands.specs.Letters.{VoteTells, VoteSays, FetchSays, PieceSays, o
 use Rattle.am_stands.specs.Moving.{Moves, none, moves, Leads}
 use Rattle.am_stands.specs.States.{VotesStand}
 use Rattle.am_stands.specs.Growing.{Grows}
+use Rattle.am_stands.specs.Sending.{ShowsMore}
 use Rattle.am_effects.specs.Letters as letters
 use Rattle.am_stands.proofs.Changes.{told_all, long_all}
 use Rattle.am_stands.proofs.Sent.{Speaks, list_item}
 
 -- ---- the votes that a coordinator keeps
 
-votes_grow : (s t : Group) (ballot : Option Ballot) → Grows s t → VotesStand s ballot → VotesStand t ballot
+pub votes_grow : (s t : Group) (ballot : Option Ballot) → Grows s t → VotesStand s ballot → VotesStand t ballot
 votes_grow s t None g h = tt
-votes_grow s t (Some b) g h = λ open_ j vote is. (let k = h open_ j vote is in record { list = k.list; shown = g.shown (key b.stamp) j k.list k.shown; view = k.view; top = k.top; members = k.members; taken = k.taken })
+votes_grow s t (Some b) g h = λ open_ j vote is. (let k = h open_ j vote is in
+    record { list = k.list; shown = g.shown (key b.stamp) j k.list k.shown; view = k.view; top = k.top; members = k.members; taken = k.taken })
 
 kept_votes : (x : Node) (b : Ballot) (s : Group) → HasOpen x b → VotesStand s x.ballot → (j : ℕ) (vote : Vote) → b.votes j ≡ Some vote
     → VoteTells s j b.stamp vote
@@ -55,10 +57,16 @@ looked_votes c x b s (with_more old from v shown is heard_ low high o same stays
     let some : Some shown ≡ Some vote = rw t at at in
     let is_vote : shown ≡ vote = cc in
     let other = (and_both (not (from == x.core.who)) (is_member x.status) heard_).0 in
-    subst (λ k. VoteTells s k old.stamp vote) (sym is_from) (subst (VoteTells s from old.stamp) is_vote (subst (λ u. VoteTells s from u shown) (sym same) (said s from v shown (λ by. (let z : (from == x.core.who) ≡ true = (let y = ap (λ (u : Stamp). u.by) same in grind (arith, nat_tests)) in let q : not true ≡ true = subst (λ k. not k ≡ true) z other in cc)) (ap (λ (u : Stamp). s.views.decided (key u)) (sym same) ∙ fresh) (heard from v shown is))))))
+    subst (λ k. VoteTells s k old.stamp vote) (sym is_from)
+    (subst (VoteTells s from old.stamp) is_vote
+    (subst (λ u. VoteTells s from u shown) (sym same)
+    (said s from v shown (λ by. (let z : (from == x.core.who) ≡ true = (let y = ap (λ (u : Stamp). u.by) same in grind (arith, nat_tests)) in
+    let q : not true ≡ true = subst (λ k. not k ≡ true) z other in cc)) (ap (λ (u : Stamp). s.views.decided (key u)) (sym same) ∙ fresh)
+    (heard from v shown is))))))
     (λ f. λ at. kept_votes x old s o h j vote (rw f at at))
   where
-    said : (s : Group) (from : ℕ) (v : Stamp) (shown : Vote) → (v.by ≡ from → ⊥) → s.views.decided (key v) ≡ false → VoteSays s from v shown → VoteTells s from v shown
+    said : (s : Group) (from : ℕ) (v : Stamp) (shown : Vote) → (v.by ≡ from → ⊥) → s.views.decided (key v) ≡ false → VoteSays s from v shown
+        → VoteTells s from v shown
     said s from v shown other fresh (own by) = absurd (other by)
     said s from v shown other fresh (tells k) = k
     said s from v shown other fresh (over d) = absurd (cc)
@@ -69,7 +77,8 @@ looked_votes c x b s (with_more old from v shown is heard_ low high o same stays
 pub stands_shown : (v : World) (s t : Group) → t.node ≡ s.node → t.views ≡ s.views → t.group ≡ s.group → Stands v s → Stands v t
 stands_shown v s t node views group_ h = record {
   each = λ i few. subst (NameStands v i (v.nodes i)) (ap (λ f. f i) (sym node)) (h.each i few);
-  fronts = λ i few d. (let k = h.fronts i few d in record { told = subst (λ (a : groups.Node). (v.nodes i).core.told ≤ a.told) (ap (λ f. f i) (sym node)) k.told; acc = ap (λ f. (f i).acc) node ∙ k.acc });
+  fronts = λ i few d. (let k = h.fronts i few d in
+      record { told = subst (λ (a : groups.Node). (v.nodes i).core.told ≤ a.told) (ap (λ f. f i) (sym node)) k.told; acc = ap (λ f. (f i).acc) node ∙ k.acc });
   views = subst (λ w. ViewsStand v w) (sym views) h.views;
   group = group_ ∙ h.group;
 }
@@ -100,12 +109,6 @@ tells_list v i n s t h is =
       taken = omega arith;
     }
 
--- the group is the same but for what was shown
-pub record ShowsMore (s t : Group) : Type 0 where
-  pub node : t.node ≡ s.node
-  pub views : t.views ≡ s.views
-  pub group_ : t.group ≡ s.group
-
 pub record VoteStands (i : ℕ) (n : Node) (s t : Group) : Type 0 where
   pub same : ShowsMore s t
   pub says : VoteSays t i n.core.promise (own_vote n)
@@ -123,27 +126,38 @@ vote_said v i n s h =
     (λ d. record { to = s; path = here; is = record { same = same; says = over d } })
     (λ fresh. show v i n s h f fresh (s.shown (key p) i) refl))
   where
-    show : (v : World) (i : ℕ) (n : Node) (s : Group) → Voter v i n s → (n.core.promise.by == i) ≡ false → s.views.decided (key n.core.promise) ≡ false → (o : Option (List Entry)) → s.shown (key n.core.promise) i ≡ o → Leads (VoteStands i n s) s
+    show : (v : World) (i : ℕ) (n : Node) (s : Group) → Voter v i n s → (n.core.promise.by == i) ≡ false → s.views.decided (key n.core.promise) ≡ false
+        → (o : Option (List Entry)) → s.shown (key n.core.promise) i ≡ o → Leads (VoteStands i n s) s
     show v i n s h f fresh (Some list) is =
         let a = s.node i in
         let promised : a.promise ≡ n.core.promise = h.stands.promise in
         let shown : s.shown (key a.promise) i ≡ Some list = ap (λ (u : Stamp). s.shown (key u) i) promised ∙ is in
         let still = h.kept.still i list shown (ap (λ (u : Stamp). s.views.decided (key u)) promised ∙ fresh) in
-        record { to = s; path = none; is = record { same = record { node = refl; views = refl; group_ = refl }; says = tells (tells_list v i n s s h (is ∙ ap Some (sym still))) } }
+        record {
+          to = s;
+          path = none;
+          is = record {
+            same = record { node = refl; views = refl; group_ = refl };
+            says = tells
+                (tells_list v i n s s h (is ∙ ap Some (sym still)));
+          };
+        }
     show v i n s h f fresh None is =
         let a = s.node i in
         let promised : a.promise ≡ n.core.promise = h.stands.promise in
         let t = record s { shown = put2 s.shown (key a.promise) i (Some a.list) } in
-        let other : a.promise.by ≢ i = λ e. (let z : (n.core.promise.by == i) ≡ true = (let y = ap (λ (u : Stamp). u.by) promised in grind (arith, nat_tests)) in cc) in
+        let other : a.promise.by ≢ i = λ e. (let z :
+        (n.core.promise.by == i) ≡ true = (let y = ap (λ (u : Stamp). u.by) promised in grind (arith, nat_tests)) in cc) in
         let small : a.promise.by < 256 = subst (λ (u : Stamp). u.by < 256) (sym promised) h.small in
         let begun : key a.promise ≤ key (s.node a.promise.by).promise = subst (λ (u : Stamp). key u ≤ key (s.node u.by).promise) (sym promised) h.begun in
         let shown : put2 s.shown (key a.promise) i (Some a.list) (key n.core.promise) i ≡ Some a.list = ⊎_elim
         (λ (z : (key n.core.promise ≡ key a.promise) × (i ≡ i) × (put2 s.shown (key a.promise) i (Some a.list) (key n.core.promise) i ≡ Some a.list)). z.2)
-        (λ (z : ((key n.core.promise ≡ key a.promise) × (i ≡ i) → ⊥) × (put2 s.shown (key a.promise) i (Some a.list) (key n.core.promise) i ≡ s.shown (key n.core.promise) i)). absurd (z.0 (ap key (sym promised), refl)))
+        (λ (z : ((key n.core.promise ≡ key a.promise) × (i ≡ i) → ⊥)
+        × (put2 s.shown (key a.promise) i (Some a.list) (key n.core.promise) i ≡ s.shown (key n.core.promise) i)). absurd (z.0 (ap key (sym promised), refl)))
         (put2_cases s.shown (key a.promise) i (Some a.list) (key n.core.promise) i) in
         record {
           to = t;
-          path = moves (group.shows i h.there small other begun (ap (λ (u : Stamp). s.shown (key u) i) promised ∙ is)) none;
+          path = moves (group.shows i h.there small other begun (ap (λ (u : Stamp). s.shown (key u) i) promised ∙ is)) tt none;
           is = record { same = record { node = refl; views = refl; group_ = refl }; says = tells (tells_list v i n s t h shown) };
         }
 
@@ -159,7 +173,15 @@ pub shown_said : (v : World) (i from base number : ℕ) (n : Node) (e : Entry) (
     → n.core.log.start ≤ base → letters.Stands n.core.log base number e → Leads (PieceStands i number n e s) s
 shown_said v i from base number n e s to h by other asked (of_promise not_by of_all) low at = absurd (not_by by)
 shown_said v i from base number n e s to h by other asked (for_ballot own_by all) low at = split (s.views.decided (key n.core.promise))
-    (λ d. record { to = s; path = none; is = record { same = record { node = refl; views = refl; group_ = refl }; says = over (λ same. other (sym by ∙ same)) d } })
+    (λ d. record {
+      to = s;
+      path = none;
+      is = record {
+        same = record { node = refl; views = refl; group_ = refl };
+        says = over
+            (λ same. other (sym by ∙ same)) d;
+      };
+    })
     (λ fresh.
     let a = s.node i in
     let p = n.core.promise in
@@ -169,16 +191,24 @@ shown_said v i from base number n e s to h by other asked (for_ballot own_by all
     let shown : s.shown (key a.promise) i ≡ Some list = ap (λ (u : Stamp). s.shown (key u) i) promised ∙ known.shown in
     let still : a.list ≡ list = h.kept.still i list shown (ap (λ (u : Stamp). s.views.decided (key u)) promised ∙ fresh) in
     let others : (j : ℕ) → mem list j ≡ true → IsThere (s.node j) → (j ≡ a.promise.by) ⊎ ((vote : List Entry) × (s.shown (key a.promise) j ≡ Some vote)) =
-    subst (λ (u : Stamp). (j : ℕ) → mem list j ≡ true → IsThere (s.node j) → (j ≡ u.by) ⊎ ((vote : List Entry) × (s.shown (key u) j ≡ Some vote))) (sym promised) known.others in
+    subst (λ (u : Stamp). (j : ℕ) → mem list j ≡ true → IsThere (s.node j) → (j ≡ u.by) ⊎ ((vote : List Entry) × (s.shown (key u) j ≡ Some vote)))
+    (sym promised) known.others in
     let served : put2 s.served (key a.promise) i true (key p) i ≡ true = ⊎_elim
     (λ (z : (key p ≡ key a.promise) × (i ≡ i) × (put2 s.served (key a.promise) i true (key p) i ≡ true)). z.2)
-    (λ (z : ((key p ≡ key a.promise) × (i ≡ i) → ⊥) × (put2 s.served (key a.promise) i true (key p) i ≡ s.served (key p) i)). absurd (z.0 (ap key (sym promised), refl)))
+    (λ (z : ((key p ≡ key a.promise) × (i ≡ i) → ⊥) × (put2 s.served (key a.promise) i true (key p) i ≡ s.served (key p) i)). absurd
+    (z.0 (ap key (sym promised), refl)))
     (put2_cases s.served (key a.promise) i true (key p) i) in
     record {
       to = record s { served = put2 s.served (key a.promise) i true };
-      path = moves (group.serves i list h.up shown others) none;
+      path = moves (group.serves i list h.up shown others) tt none;
       is = record {
         same = record { node = refl; views = refl; group_ = refl };
-        says = of_shown (record { served = served; list = list; shown = known.shown; stands = ap (λ l. item_at l number) (sym still) ∙ list_item v i n a base number e h.stands low at });
+        says = of_shown (record {
+          served = served;
+          list = list;
+          shown = known.shown;
+          stands = ap (λ l. item_at l number) (sym still)
+              ∙ list_item v i n a base number e h.stands low at;
+        });
       };
     })

@@ -1,5 +1,6 @@
 -- At the start each founder is told of the first entry, and then the group stands for the world.
-use Rattle.std.proofs.Common.{◌≡◌, ℕ, zero, suc, ◌+◌, ◌<◌, ◌==◌, ◌&&◌, nat_lt, if◌then◌else◌, [], ◌∷◌, length, Bool, true, false, Some, slice_get, refl, sym, ap, ◌∙◌, subst, arith}
+use Rattle.std.proofs.Common.{◌≡◌, ℕ, zero, suc, ◌+◌, ◌<◌, ◌==◌, ◌&&◌, nat_lt, if◌then◌else◌, [], ◌∷◌, length, Bool, true, false, Some, slice_get, refl, sym}
+use Rattle.std.proofs.Common.{ap, ◌∙◌, subst, arith}
 use Rattle.std.proofs.lemmas.Bool.Decides.{nat_tests}
 use Rattle.am_base.specs.Founding.{Rules, MayFound}
 use Rattle.am_base.specs.Names.{has}
@@ -69,11 +70,16 @@ record Founds (rules : Rules) (s : Group) (k : ℕ) : Type 0 where
 founds : (rules : Rules) (k : ℕ) (s : Group) → ToldTo rules k s → has rules.founders k ≡ true → Founds rules s k
 founds rules k s h t =
     let f : nat_lt k k ≡ false = grind (arith, nat_tests) in
-    let is : s.node k ≡ first_of rules k = h.node k ∙ ap (λ b. if has rules.founders k && b then told_of (first_of rules k) else first_of rules k) f ∙ ap (λ b. if b then told_of (first_of rules k) else first_of rules k) (and_none (has rules.founders k)) in
+    let is : s.node k ≡ first_of rules k = h.node k ∙ ap (λ b. if has rules.founders k && b then told_of (first_of rules k) else first_of rules k) f
+    ∙ ap (λ b. if b then told_of (first_of rules k) else first_of rules k) (and_none (has rules.founders k)) in
     record {
       is = is;
       list = ap (λ (a : groups.Node). a.list) is ∙ rw t refl;
-      up = record { log = ap (λ (a : groups.Node). a.has_log) is ∙ t; there = record { goes = ap (λ (a : groups.Node). a.stopped) is; stays = ap (λ (a : groups.Node). a.departed) is } };
+      up = record {
+        log = ap (λ (a : groups.Node). a.has_log) is
+            ∙ t;
+        there = record { goes = ap (λ (a : groups.Node). a.stopped) is; stays = ap (λ (a : groups.Node). a.departed) is };
+      };
       promise = ap (λ (a : groups.Node). a.promise) is ∙ rw t refl;
       told = ap (λ (a : groups.Node). a.told) is;
       acc = ap (λ (a : groups.Node). a.acc) is;
@@ -99,17 +105,19 @@ told_next rules k s h = split (has rules.founders k)
     record {
       to = with_node s k b;
       path = moves (group.learns k 1 1 a.up (omega arith) (omega arith)
-          (λ x d above. absurd (let e : (x == key (begun.first_stamp (lowest_or_first rules.founders))) ≡ true = ap (λ (v : groups.Views). v.decided x) (sym h.views) ∙ d in
+          (λ x d above. absurd (let e : (x == key (begun.first_stamp (lowest_or_first rules.founders))) ≡ true = ap (λ (v : groups.Views). v.decided x)
+          (sym h.views) ∙ d in
           let same : key (s.node k).promise ≡ key (begun.first_stamp (lowest_or_first rules.founders)) = ap key a.promise in
           let z : ⊥ = grind (arith, nat_tests) in z))
-          (omega arith) (omega arith) (omega arith)) none;
+          (omega arith) (omega arith) (omega arith)) tt none;
       is = record {
         node = λ i. split (i == k)
             (λ u. (let same : i ≡ k = grind (arith, nat_tests) in
             let below : nat_lt i (k + 1) ≡ true = grind (arith, nat_tests) in
             let founded : has rules.founders i ≡ true = ap (has rules.founders) same ∙ t in
             let now : told_to rules (k + 1) i ≡ told_of (first_of rules i) = rw (founded, below) refl in
-            let mine : record (s.node k) { told = 1; acc = 1 } ≡ told_of (first_of rules i) = ap told_of a.is ∙ ap (λ j. told_of (first_of rules j)) (sym same) in
+            let mine : record (s.node k) { told = 1; acc = 1 } ≡ told_of (first_of rules i) = ap told_of a.is
+            ∙ ap (λ j. told_of (first_of rules j)) (sym same) in
             ap (λ c. if c then b else s.node i) u ∙ mine ∙ sym now))
             (λ f. ap (λ c. if c then b else s.node i) f ∙ h.node i ∙ same_but rules k i f);
         views = h.views;
@@ -124,7 +132,8 @@ told_next rules k s h = split (has rules.founders k)
             (λ u. (let same : i ≡ k = grind (arith, nat_tests) in
             let out : has rules.founders i ≡ false = ap (has rules.founders) same ∙ g in
             let before : told_to rules k i ≡ first_of rules i = ap (λ c. if c && nat_lt i k then told_of (first_of rules i) else first_of rules i) out in
-            let now : told_to rules (k + 1) i ≡ first_of rules i = ap (λ c. if c && nat_lt i (k + 1) then told_of (first_of rules i) else first_of rules i) out in
+            let now : told_to rules (k + 1) i ≡ first_of rules i = ap (λ c. if c && nat_lt i (k + 1) then told_of
+            (first_of rules i) else first_of rules i) out in
             h.node i ∙ before ∙ sym now))
             (λ f. h.node i ∙ same_but rules k i f);
         views = h.views;
@@ -171,7 +180,18 @@ founder_name rules i = record {
 }
 
 abbrev stranger_of : groups.Node
-stranger_of = record { list = []; has_log = false; stopped = false; departed = false; leaving = false; start = 1; promise = no_stamp; told = 0; acc = 0; ballot = false }
+stranger_of = record {
+  list = [];
+  has_log = false;
+  stopped = false;
+  departed = false;
+  leaving = false;
+  start = 1;
+  promise = no_stamp;
+  told = 0;
+  acc = 0;
+  ballot = false;
+}
 
 stranger_name : (rules : Rules) (i : ℕ) → NameStands (start rules) i (stranger rules i) stranger_of
 unfolding fold
@@ -231,7 +251,8 @@ start_views rules may =
       current = λ d last. ap (λ (v : Decided). v.stamp) (last_same [] last.before (founders_decided rules) d last.is);
     }
   where
-    one_noted : (rules : Rules) → NotedStands (start rules) (first_group rules).views (founders_decided rules) → (k : ℕ) (d : Decided) → slice_get (start rules).views k ≡ Some d → NotedStands (start rules) (first_group rules).views d
+    one_noted : (rules : Rules) → NotedStands (start rules) (first_group rules).views (founders_decided rules) → (k : ℕ) (d : Decided)
+        → slice_get (start rules).views k ≡ Some d → NotedStands (start rules) (first_group rules).views d
     one_noted rules h zero d at = let same : founders_decided rules ≡ d = cc in subst (NotedStands (start rules) (first_group rules).views) same h
     one_noted rules h (suc k) d at = absurd (cc)
 

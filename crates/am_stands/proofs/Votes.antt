@@ -1,15 +1,17 @@
 -- A ballot that its coordinator decides may be decided by the group's own test.
-use Rattle.std.proofs.Common.{◌≡◌, ◌≢◌, ◌⊎◌, inl, inr, ⊎_elim, ℕ, zero, suc, ◌+◌, ◌<◌, ◌≤◌, ◌==◌, ◌&&◌, ◌||◌, not, max, nat_lt, is_some, get_or, set, List, [], ◌∷◌, ◌++◌, length, Bool, true, false, Option, Some, None, slice_index, refl, sym, ap, ◌∙◌, subst, arith}
+use Rattle.std.proofs.Common.{◌≡◌, ◌≢◌, ◌⊎◌, inl, inr, ⊎_elim, ℕ, zero, suc, ◌+◌, ◌<◌, ◌≤◌, ◌==◌, ◌&&◌, ◌||◌, not, max, nat_lt, is_some, get_or, set, List}
+use Rattle.std.proofs.Common.{[], ◌∷◌, ◌++◌, length, Bool, true, false, Option, Some, None, slice_index, refl, sym, ap, ◌∙◌, subst, arith}
 use Rattle.std.specs.List.{list_all, list_any, range_with_len}
 use Rattle.std.proofs.lemmas.Bool.Decides.{nat_tests}
 use Rattle.am_base.specs.declared.entry.Entry.{Entry}
 use Rattle.am_base.specs.declared.image.Vote.{Vote}
 use Rattle.am_base.specs.declared.image.Image.{Image}
 use Rattle.am_base.specs.declared.name.Stamp.{Stamp}
-use Rattle.am_base.specs.Names.{place_of, life_of, nobody, has, size, is_within}
+use Rattle.am_base.specs.Names.{IsSet, place_of, life_of, name_at, by_place, nobody, has, size, is_within}
+use Rattle.am_base.proofs.Places.{slice_index-by_place}
 use Rattle.am_base.specs.Stamps.{stamp_lt, stamp_eq}
 use Rattle.am_base.specs.Votes.{vote_lt}
-use Rattle.am_base.specs.Lists.{members_of}
+use Rattle.am_base.specs.Lists.{member_life, members_of}
 use Rattle.am_chain_lists.specs.Whole.{Begins, told, mem, view_of, resilience_of, key}
 use Rattle.am_chain_lists.proofs.Order.{key_lt, view_up}
 use Rattle.am_chain_lists.proofs.Prefixes.{begins_trans}
@@ -20,7 +22,7 @@ use Rattle.am_chain_moves.specs.Kept.{Kept}
 use Rattle.am_model.specs.Node as nodes
 use Rattle.am_model.specs.Node.{Node, Ballot, view, members, only_name, name_where, those, is_member}
 use Rattle.am_base.specs.declared.entry.Entry.TheVariants.{View}
-use Rattle.std.proofs.lemmas.List.{append_assoc, get_or-set_same, get_or-set_other, get_or-replicate}
+use Rattle.std.proofs.lemmas.List.{append_assoc, length-map, get_or-set_same, get_or-set_other, get_or-replicate}
 use Rattle.am_chain_lists.proofs.Rows.{mod16}
 use Rattle.am_model.specs.Lawful.{is_view_of}
 use Rattle.am_model.specs.Ballots.{trimmed_for, own_vote, best_of, need_of, has_voted, is_waited_for, left_in}
@@ -29,12 +31,14 @@ use Rattle.am_model.proofs.BestVotes.{best_vote_is}
 use Rattle.am_model.proofs.Greatest.{split}
 use Rattle.am_effects.specs.Looks as looks
 use Rattle.am_bounded.proofs.Changes.{some_left}
+use Rattle.am_laws.proofs.Limits.{set_those}
 use Rattle.am_laws.proofs.Stamps.{equal_stamps}
 use Rattle.am_laws.proofs.Taken.{own_need, those_at}
 use Rattle.am_laws.proofs.ViewMembers.{viewed_members, those_some, those_long}
 use Rattle.am_stands.specs.Standing.{NameStands, within}
 use Rattle.am_effects.proofs.Says.{told_pushed}
 use Rattle.am_stands.specs.Letters.{VoteTells, AllShown, FetchSays, for_ballot}
+use Rattle.am_stands.specs.Moving.{AllVoted}
 use Rattle.am_stands.specs.Steps.{NeedsDecision}
 use Rattle.am_stands.proofs.Lines.{HasViewOf, viewed_as}
 use Rattle.am_stands.proofs.Changes.{told_whole, long_all}
@@ -90,11 +94,11 @@ best_low x b own none small views j vote few is =
 
 -- ---- who is needed
 
-some_vote : (o : Option Vote) → is_some o ≡ true → (v : Vote) × (o ≡ Some v)
+pub some_vote : (o : Option Vote) → is_some o ≡ true → (v : Vote) × (o ≡ Some v)
 some_vote None h = absurd (cc)
 some_vote (Some v) h = (v, refl)
 
-voted : (who j : ℕ) (b : Ballot) → is_waited_for who b j ≡ false → b.given_up j ≡ false → (j == who) ≡ false → is_some (b.votes j) ≡ true
+pub voted : (who j : ℕ) (b : Ballot) → is_waited_for who b j ≡ false → b.given_up j ≡ false → (j == who) ≡ false → is_some (b.votes j) ≡ true
 voted who j b waits stays other = split (is_some (b.votes j))
     (λ t. t)
     (λ f. absurd (
@@ -102,10 +106,11 @@ voted who j b waits stays other = split (is_some (b.votes j))
     let z : (not (has_voted who b j) && not (b.given_up j)) ≡ true = rw (v, stays) refl in
     cc))
 
-not_waited : (x : Node) (b : Ballot) (j : ℕ) → nat_lt 0 (size (those (is_waited_for x.core.who b) (need_of x b))) ≡ false → has (need_of x b) j ≡ true
+pub not_waited : (x : Node) (b : Ballot) (j : ℕ) → nat_lt 0 (size (those (is_waited_for x.core.who b) (need_of x b))) ≡ false → has (need_of x b) j ≡ true
     → is_waited_for x.core.who b j ≡ false
 not_waited x b j none needed = split (is_waited_for x.core.who b j)
-    (λ t. absurd (let some = some_left (is_waited_for x.core.who b) (need_of x b) j needed t in let z : nat_lt 0 (size (those (is_waited_for x.core.who b) (need_of x b))) ≡ true = grind (arith, nat_tests) in cc))
+    (λ t. absurd (let some = some_left (is_waited_for x.core.who b) (need_of x b) j needed t in
+    let z : nat_lt 0 (size (those (is_waited_for x.core.who b) (need_of x b))) ≡ true = grind (arith, nat_tests) in cc))
     (λ f. f)
 
 all_places : (p : ℕ → Bool) (from n : ℕ) → ((place : ℕ) → place < from + n → p place ≡ true) → list_all p (range_with_len from n) ≡ true
@@ -120,12 +125,38 @@ is_some_of test names place low =
     let all = slice_index names place in
     ⊎_elim
     (λ (z : slice_index (those test names) place ≡ 0). (let t : (life == 0) ≡ true = grind (arith, nat_tests) in rw t refl))
-    (λ (z : slice_index (those test names) place ≡ slice_index names place). (let t : (life == all) ≡ true = grind (arith, nat_tests) in or_true (life == 0) (life == all) t))
+    (λ (z : slice_index (those test names) place ≡ slice_index names place). (let t : (life == all) ≡ true = grind (arith, nat_tests) in
+    or_true (life == 0) (life == all) t))
     (those_some test names place low)
   where
     or_true : (a b : Bool) → b ≡ true → (a || b) ≡ true
     or_true true b t = refl
     or_true false b t = t
+
+is_equal : (a b : ℕ) → a ≡ b → (a == b) ≡ true
+is_equal a b same = grind (arith, nat_tests)
+
+is_the_same : (a b : ℕ) → (a == b) ≡ true → a ≡ b
+is_the_same a b t = grind (arith, nat_tests)
+
+not_equal : (a b : ℕ) → (a == b) ≡ false → a ≢ b
+not_equal a b f same = grind (arith, nat_tests)
+
+-- who is among those of a set that pass is in the set, and passes
+those_in : (test : ℕ → Bool) (names : List ℕ) (j : ℕ) → has (those test names) j ≡ true → (has names j ≡ true) × (test j ≡ true)
+unfolding those
+those_in test names j in_ =
+    let is = slice_index-by_place (λ place. name_where test place (slice_index names place)) (place_of j) (mod16 j) in
+    let at : name_where test (place_of j) (slice_index names (place_of j)) ≡ life_of j = sym is
+    ∙ is_the_same (slice_index (by_place (λ place. name_where test place (slice_index names place))) (place_of j)) (life_of j) in_ in
+    split (slice_index names (place_of j) == 0)
+    (λ t. absurd (let z : 0 ≡ life_of j = rw t at at in omega arith))
+    (λ f. split (test (name_at (place_of j) (slice_index names (place_of j))))
+    (λ t.
+    let life : slice_index names (place_of j) ≡ life_of j = rw (f, t) at at in
+    let name : name_at (place_of j) (slice_index names (place_of j)) ≡ j = omega arith in
+    (is_equal (slice_index names (place_of j)) (life_of j) life, ap test (sym name) ∙ t))
+    (λ g. absurd (let z : 0 ≡ life_of j = rw (f, g) at at in omega arith)))
 
 -- ---- the group's own test
 
@@ -142,7 +173,8 @@ may_decide w name x b s h may =
     let members_is : members_of (told a.list) ≡ members x = ap members_of told_is in
     let in_need : (j : ℕ) → mem a.list j ≡ true → has (need_of x b) j ≡ true = λ j m. ap (λ set. has set j) (need ∙ sym members_is) ∙ m in
     let stamp : b.stamp ≡ a.promise = h.stamp ∙ sym h.stands.promise in
-    let spared : (j : ℕ) → IsThere (s.node j) → b.given_up j ≡ false = λ j there. split (b.given_up j) (λ t. absurd (let z = h.given j t in let y = there.goes in cc)) (λ f. f) in
+    let spared : (j : ℕ) → IsThere (s.node j)
+    → b.given_up j ≡ false = λ j there. split (b.given_up j) (λ t. absurd (let z = h.given j t in let y = there.goes in cc)) (λ f. f) in
     record {
       small = h.few;
       up = h.up;
@@ -165,7 +197,8 @@ may_decide w name x b s h may =
                 (λ (z : (key vote.0.view ≡ key (view x)) × (vote.0.top ≤ nodes.top x)). (let y = z.0 in let u = z.1 in inr (omega arith, omega arith)))
                 order;
           })));
-      within = subst (λ set. is_within (left_in b (need_of x b)) set ≡ true) (need ∙ sym members_is) (all_places _ 0 16 (λ place low. is_some_of test (need_of x b) place (omega arith)));
+      within = subst (λ set. is_within (left_in b (need_of x b)) set ≡ true) (need ∙ sym members_is)
+          (all_places _ 0 16 (λ place low. is_some_of test (need_of x b) place (omega arith)));
       all = λ j m there. (let at = those_at test (need_of x b) j (in_need j m) (ap not (spared j there)) in grind (arith, nat_tests));
       strong = (let same : (told a.list).resilience ≡ (nodes.told x).resilience = ap (λ (i : Image). i.resilience) told_is in omega arith);
     }
@@ -177,7 +210,12 @@ prefix_view : (v : Stamp) (a b : List Entry) → HasViewOf v b → (p : List Ent
 unfolding view_of
 prefix_view v a [] h = absurd (cc)
 prefix_view v a (e ∷ b) h = split (is_view_of v e)
-    (λ t. (a ++ e ∷ [], record { rest = b; same = append_assoc a (e ∷ []) b }, ap (λ (i : Image). i.view) (told_push a e) ∙ viewed_as v (told a) (1 + length a) e t))
+    (λ t. (
+      a ++ e ∷ [],
+      record { rest = b; same = append_assoc a (e ∷ []) b },
+      ap (λ (i : Image). i.view) (told_push a e)
+          ∙ viewed_as v (told a) (1 + length a) e t,
+    ))
     (λ f. (let r = prefix_view v (a ++ e ∷ []) b (rw f at h) in (r.0, subst (Begins r.0) (append_assoc a (e ∷ []) b) r.1, r.2)))
 
 unseen : (s : Group) (i : ℕ) → Kept s → IsUp (s.node i) → (s.node i).ballot ≡ true → list_any (is_view_of (s.node i).promise) (s.node i).list ≡ false
@@ -205,38 +243,68 @@ view_members x b long need =
     let before = trimmed_for x b names in
     let r = max b.resilience (nodes.told x).resilience in
     let some : (place : ℕ) → place < 16 → (slice_index names place ≡ 0) ⊎ (slice_index names place ≡ slice_index (members x) place) =
-    λ place low. ⊎_elim (λ (z : slice_index names place ≡ 0). inl z) (λ (z : slice_index names place ≡ slice_index (need_of x b) place). inr (z ∙ ap (λ set. slice_index set place) need)) (those_some test (need_of x b) place low) in
-    ap members_of (told_pushed before (View b.stamp names r)) ∙ viewed_members (nodes.told x) (nodes.top x + 1) b.stamp names r long (omega arith) (those_long test (need_of x b)) some
+    λ place low. ⊎_elim (λ (z : slice_index names place ≡ 0). inl z)
+    (λ (z : slice_index names place ≡ slice_index (need_of x b) place). inr (z ∙ ap (λ set. slice_index set place) need))
+    (those_some test (need_of x b) place low) in
+    ap members_of (told_pushed before (View b.stamp names r))
+    ∙ viewed_members (nodes.told x) (nodes.top x + 1) b.stamp names r long (omega arith) (those_long test (need_of x b)) some
+
+-- each other name of the View has voted for no better list, whether it stopped or not
+all_voted : (w : World) (name : ℕ) (x : Node) (b : Ballot) (s : Group) → BallotKnown w name x b s → looks.MayDecide x b
+    → AllVoted s name (λ j. has (left_in b (need_of x b)) j ≡ true)
+unfolding view_of
+all_voted w name x b s h may j in_ =
+    let a = s.node name in
+    let told_is = told_whole w name name x a h.stands in
+    let long = long_all (within w name x) name x a h.stands in
+    let stamp : b.stamp ≡ a.promise = h.stamp ∙ sym h.stands.promise in
+    let both = those_in (λ k. not (b.given_up k)) (need_of x b) j in_ in
+    split (j == x.core.who)
+    (λ t. inl (is_the_same j x.core.who t ∙ h.who))
+    (λ f. (let vote = some_vote (b.votes j) (voted x.core.who j b (not_waited x b j may.learned.all both.0) (not_false_of (b.given_up j) both.1) f) in
+    let tells = h.votes j vote.0 vote.1 in
+    let low = best_low x b may.learned.own h.own h.view_ h.views j vote.0 (h.names j vote.0 vote.1) vote.1 in
+    let order = vote_low (own_vote x) vote.0 h.view_ (h.views j vote.0 vote.1) low in
+    let seen : key vote.0.view ≡ key (view_of tells.list) = ap key tells.view in
+    let mine : key (view x) ≡ key (view_of a.list) = ap (λ (i : Image). key i.view) (sym told_is) in
+    let top = tells.top in
+    inr (record {
+      vote = tells.list;
+      is = ap (λ (u : Stamp). s.shown (key u) j) (sym stamp) ∙ tells.shown;
+      worse = ⊎_elim
+          (λ (z : key vote.0.view < key (view x)). inl (omega arith))
+          (λ (z : (key vote.0.view ≡ key (view x)) × (vote.0.top ≤ nodes.top x)). (let y = z.0 in let u = z.1 in inr (omega arith, omega arith)))
+          order;
+    })))
+  where
+    not_false_of : (b : Bool) → not b ≡ true → b ≡ false
+    not_false_of true h = absurd (cc)
+    not_false_of false h = refl
 
 pub decision_needs : (w : World) (name : ℕ) (x : Node) (b : Ballot) (s : Group) → Kept s → BallotKnown w name x b s → x.core.promise.by ≡ name
-    → length (nodes.told x).rows ≡ 16 → looks.MayDecide x b → NeedsDecision s name x b
-decision_needs w name x b s k h own long may =
+    → IsSet (members x) → looks.MayDecide x b → NeedsDecision s name x b
+decision_needs w name x b s k h own set may =
     let same = h.stands.promise in
+    let need = own_need x b may.learned.own h.own in
     record {
       may = may_decide w name x b s h may;
       own = own;
       fresh = ap (λ (u : Stamp). s.views.decided (key u)) (sym same) ∙ undecided s name k h.up h.ballot;
       unseen = ap (λ (u : Stamp). list_any (is_view_of u) (s.node name).list) (sym same) ∙ unseen s name k h.up h.ballot;
-      members_ = view_members x b long (own_need x b may.learned.own h.own);
+      members_ = view_members x b (sym (length-map (nodes.told x).rows member_life) ∙ set.places) need;
+      set = set_those (λ j. not (b.given_up j)) (need_of x b) (subst IsSet (sym need) set);
+      voted = all_voted w name x b s h may;
     }
 
 -- ---- whom a coordinator fetches from
-
-is_equal : (a b : ℕ) → a ≡ b → (a == b) ≡ true
-is_equal a b same = grind (arith, nat_tests)
-
-is_the_same : (a b : ℕ) → (a == b) ≡ true → a ≡ b
-is_the_same a b t = grind (arith, nat_tests)
-
-not_equal : (a b : ℕ) → (a == b) ≡ false → a ≢ b
-not_equal a b f same = grind (arith, nat_tests)
 
 -- all whose votes it needs have shown a list, and the best of these is another's
 pub best_shown : (w : World) (name : ℕ) (x : Node) (b : Ballot) (s : Group) → Kept s → BallotKnown w name x b s → ((best_of x b).by == x.core.who) ≡ false
     → nat_lt 0 (size (those (is_waited_for x.core.who b) (need_of x b))) ≡ false → AllShown s b.stamp (best_of x b).by
 unfolding best_of mem
 best_shown w name x b s k h other none = ⊎_elim
-    (λ (z : ((best_of x b).by ≡ x.core.who) × ((best_of x b).vote ≡ own_vote x)). absurd (let t : ((best_of x b).by == x.core.who) ≡ true = is_equal (best_of x b).by x.core.who z.0 in cc))
+    (λ (z : ((best_of x b).by ≡ x.core.who) × ((best_of x b).vote ≡ own_vote x)). absurd
+    (let t : ((best_of x b).by == x.core.who) ≡ true = is_equal (best_of x b).by x.core.who z.0 in cc))
     (λ (z : b.votes (best_of x b).by ≡ Some (best_of x b).vote).
     (let best = h.votes (best_of x b).by (best_of x b).vote z in
     let by : b.stamp.by ≡ name = ap (λ (u : Stamp). u.by) (h.stamp ∙ sym h.stands.promise) ∙ ((k.each name).ballot h.up h.ballot).by in
@@ -255,16 +323,18 @@ best_shown w name x b s k h other none = ⊎_elim
     (best_vote_is b.votes x.core.who (own_vote x) h.view_ h.views).shown
 
 -- who is in a set of one name is that name
-only_one : (a h : ℕ) → has (only_name a) h ≡ true → h ≡ a
+pub only_one : (a h : ℕ) → has (only_name a) h ≡ true → h ≡ a
 only_one a h t = split (place_of h == place_of a)
     (λ p.
     let same = is_the_same (place_of h) (place_of a) p in
-    let at : get_or (set nobody (place_of a) (life_of a)) (place_of h) 0 ≡ life_of a = ap (λ k. get_or (set nobody (place_of a) (life_of a)) k 0) same ∙ get_or-set_same nobody (place_of a) (life_of a) 0 (mod16 a) in
+    let at : get_or (set nobody (place_of a) (life_of a)) (place_of h) 0 ≡ life_of a = ap (λ k. get_or (set nobody (place_of a) (life_of a)) k 0) same
+    ∙ get_or-set_same nobody (place_of a) (life_of a) 0 (mod16 a) in
     let life = sym at ∙ is_the_same (slice_index (only_name a) (place_of h)) (life_of h) t in
     omega arith)
     (λ f. absurd (
     let other : place_of h ≢ place_of a = not_equal (place_of h) (place_of a) f in
-    let at : get_or (set nobody (place_of a) (life_of a)) (place_of h) 0 ≡ 0 = get_or-set_other nobody (place_of a) (place_of h) (life_of a) 0 other ∙ get_or-replicate 16 (place_of h) 0 0 (mod16 h) in
+    let at : get_or (set nobody (place_of a) (life_of a)) (place_of h) 0 ≡ 0 = get_or-set_other nobody (place_of a) (place_of h) (life_of a) 0 other
+    ∙ get_or-replicate 16 (place_of h) 0 0 (mod16 h) in
     let life = sym at ∙ is_the_same (slice_index (only_name a) (place_of h)) (life_of h) t in
     omega arith))
 
@@ -274,4 +344,5 @@ pub fetch_said : (w : World) (name : ℕ) (x : Node) (b : Ballot) (s : Group) (t
     → to ≡ only_name (best_of x b).by → FetchSays s name x.core.promise to
 fetch_said w name x b s to k h other none is = for_ballot
     (ap (λ (u : Stamp). u.by) (sym h.stands.promise) ∙ ((k.each name).ballot h.up h.ballot).by)
-    (λ j at. subst (AllShown s x.core.promise) (sym (only_one (best_of x b).by j (ap (λ set. has set j) (sym is) ∙ at))) (subst (λ (u : Stamp). AllShown s u (best_of x b).by) h.stamp (best_shown w name x b s k h other none)))
+    (λ j at. subst (AllShown s x.core.promise) (sym (only_one (best_of x b).by j (ap (λ set. has set j) (sym is) ∙ at)))
+    (subst (λ (u : Stamp). AllShown s u (best_of x b).by) h.stamp (best_shown w name x b s k h other none)))

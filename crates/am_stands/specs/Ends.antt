@@ -20,7 +20,8 @@ use Rattle.am_stands.specs.Steps.{MayMove}
 -- what the group accepted after a name's step: nothing more, or the sequencer's list up to what it accepted
 pub data Accepts (w : World) (s : Group) (name : ℕ) (n : Node) : Type 0 where
   no_more : group_after w.group n ≡ w.group → Accepts w s name n
-  rises : groups.Leads name (s.node name) → MayAccept s.node (s.node name).list (length s.group) n.core.acc → group_after w.group n ≡ take n.core.acc (s.node name).list → Accepts w s name n
+  rises : groups.Leads name (s.node name) → MayAccept s.node (s.node name).list (length s.group) n.core.acc
+      → group_after w.group n ≡ take n.core.acc (s.node name).list → Accepts w s name n
 
 -- how far the name's own list is accepted then: it has departed; it had no list and nothing changed; or it has one, and is told of
 -- nothing that the group hasn't accepted, nor that a later ballot hadn't chosen
@@ -56,12 +57,13 @@ EndsStand = (w : World) (e : Event) (name : ℕ) (step : Step) (s : Group) → N
 
 -- ---- the last member goes
 
--- it has its view's line, and is alone; it accepts what it may, and the group with it
+-- it has its view's line, and is alone; and the group accepts what it does, up to where it is the group that has accepted more
 pub record NeedsClose (w : World) (s : Group) (name : ℕ) (n : Node) : Type 0 where
   pub chain : s.views.line (key (view_of (s.node name).list)) ≡ (s.node name).list
   pub alone : (j : ℕ) → mem (s.node name).list j ≡ true → j ≡ name
-  pub accepts : MayAccept (put s.node name (longer (s.node name) (Leave name))) ((s.node name).list ++ Leave name ∷ []) (length s.group) n.core.acc
-  pub accepted : group_after w.group n ≡ take n.core.acc ((s.node name).list ++ Leave name ∷ [])
+  pub upto : ℕ
+  pub accepts : MayAccept (put s.node name (longer (s.node name) (Leave name))) ((s.node name).list ++ Leave name ∷ []) (length s.group) upto
+  pub accepted : group_after w.group n ≡ take upto ((s.node name).list ++ Leave name ∷ [])
   pub grows : Begins w.group (group_after w.group n)
   pub no_view : views_after w.views (w.nodes name) n ≡ w.views
 
@@ -71,5 +73,6 @@ closed x = record (refresh_at_end (pushed x (Leave x.core.who))) { status = Depa
 
 -- this ends its step
 abbrev pub CloseStands : Type 0
-CloseStands = (w : World) (e : Event) (name : ℕ) (c : Cause) (x : Node) (step : Step) (s : Group) → MayMove w name c x s → is_sequencer x ≡ true → x.leaving ≡ true → step.node ≡ closed x
+CloseStands = (w : World) (e : Event) (name : ℕ) (c : Cause) (x : Node) (step : Step) (s : Group) → MayMove w name c x s → is_sequencer x ≡ true
+    → x.leaving ≡ true → step.node ≡ closed x
     → NeedsClose w s name step.node → StandsBut name (within w name x) s → Leads (Stands (stepped w e name step)) s

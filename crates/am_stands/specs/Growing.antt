@@ -1,5 +1,5 @@
 -- How a group goes on, as far as letters speak of it.
-use Rattle.std.specs.Prelude.{◌≡◌, ◌⊎◌, ℕ, List, ◌++◌, Some, true, false}
+use Rattle.std.specs.Prelude.{◌≡◌, ◌⊎◌, ℕ, ◌≤◌, List, ◌++◌, Some, true, false}
 use Rattle.am_base.specs.declared.entry.Entry.{Entry}
 use Rattle.am_base.specs.Names.{has}
 use Rattle.am_packet.specs.declared.packet.Packet.{Packet}
@@ -15,6 +15,8 @@ use Rattle.am_stands.specs.Letters.{PacketSays}
 -- a name keeps its list, and what ends stays ended
 pub record NameGrows (a b : groups.Node) : Type 0 where
   pub list : Begins a.list b.list
+  pub log : a.has_log ≡ true → b.has_log ≡ true
+  pub promise : key a.promise ≤ key b.promise
   pub stopped : a.stopped ≡ true → b.stopped ≡ true
   pub departed : a.departed ≡ true → b.departed ≡ true
   pub leaving : a.leaving ≡ true → b.leaving ≡ true
@@ -35,7 +37,8 @@ pub record Grows (s t : Group) : Type 0 where
 
 -- what a letter says stays so, while records are added
 abbrev pub LettersStay : Type 0
-LettersStay = (w v : World) (s t : Group) (to : List ℕ) (p : Packet) → (rest : List Record) × (v.records ≡ w.records ++ rest) → Grows s t → PacketSays w s to p → PacketSays v t to p
+LettersStay = (w v : World) (s t : Group) (to : List ℕ) (p : Packet) → (rest : List Record) × (v.records ≡ w.records ++ rest) → Grows s t → PacketSays w s to p
+    → PacketSays v t to p
 
 -- ---- moves
 

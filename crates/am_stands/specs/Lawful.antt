@@ -10,4 +10,5 @@ IsNoStop _ = Unit {0}
 
 -- a run that goes on by a move that is no stop, before any view is marked, is lawful
 abbrev pub RunsGoOn : Type 0
-RunsGoOn = (founders : List ℕ) (first resilience : ℕ) (s t : Group) → Run founders first resilience s → (move : Move s t) → IsNoStop move → Run founders first resilience t
+RunsGoOn = (founders : List ℕ) (first resilience : ℕ) (s t : Group) → Run founders first resilience s → (move : Move s t) → IsNoStop move
+    → Run founders first resilience t

@@ -5,11 +5,12 @@ use Rattle.am_base.specs.declared.image.Report.{Report}
 use Rattle.am_base.specs.declared.image.Vote.{Vote}
 use Rattle.am_base.specs.declared.image.Image.{Image}
 use Rattle.am_base.specs.declared.entry.Entry.{Entry}
-use Rattle.am_base.specs.declared.entry.Entry.TheVariants.{Data, Join, Leave, View}
+use Rattle.am_base.specs.declared.entry.Entry.TheVariants.{Data, Leave, View}
 use Rattle.am_base.specs.Names.{has}
 use Rattle.am_base.specs.Lists.{members_of}
 use Rattle.am_packet.specs.declared.packet.Packet.{Packet}
-use Rattle.am_packet.specs.declared.packet.Packet.TheVariants.{Request, Spread, Bcast, Order, Accept, Ack, Nack, Hold, JoinAsk, Welcome, LeaveAsk, Gone, Invite, Vote as VoteOf, Fetch, Piece, Result, HandOver}
+use Rattle.am_packet.specs.declared.packet.Packet.TheVariants.{Request, Spread, Bcast, Order, Accept, Ack, Nack, Hold, JoinAsk, Welcome, LeaveAsk, Gone}
+use Rattle.am_packet.specs.declared.packet.Packet.TheVariants.{Invite, Vote as VoteOf, Fetch, Piece, Result, HandOver}
 use Rattle.am_packet.specs.Boxes.{Letter}
 use Rattle.am_group.specs.Journals.{item_at}
 use Rattle.am_group.specs.declared.event.Record.{Record}
@@ -32,6 +33,12 @@ pub record AllShown (s : Group) (v : Stamp) (name : ℕ) : Type 0 where
   pub list : List Entry
   pub shown : s.shown (key v) name ≡ Some list
   pub others : (j : ℕ) → mem list j ≡ true → IsThere (s.node j) → (j ≡ v.by) ⊎ ((other : List Entry) × (s.shown (key v) j ≡ Some other))
+
+-- what is accepted up to here is stored by each name that was a member by then, is there, and isn't leaving
+pub record Trimmed (s : Group) (base : ℕ) : Type 0 where
+  pub accepted : base ≤ length s.group
+  pub stored : (j : ℕ) → IsThere (s.node j) → (s.node j).leaving ≡ false → mem (take base s.group) j ≡ true
+      → Begins (take base s.group) (s.node j).list
 
 -- ---- by kind
 
@@ -68,20 +75,38 @@ pub record SendSays (w : World) (s : Group) (sender : ℕ) (v : Stamp) (report :
   pub reports : ReportSays s sender v report
   pub asked : WasAsked w sender req body
 
--- a leaver's report is one where the view has it
-pub record LeaverSays (s : Group) (sender : ℕ) (v : Stamp) (report : Report) : Type 0 where
-  pub leaves : (s.node sender).leaving ≡ true
+-- a leaver of a view that wasn't decided yet: its Join was accepted before, so the view chose it; where it is a name of the view, the view has
+-- what it reports
+pub record LeaverWaits (s : Group) (sender : ℕ) (v : Stamp) (report : Report) : Type 0 where
   pub within : report.stored ≤ length (s.node sender).list
+  pub join : ℕ
+  pub accepted : join ≤ length s.group
+  pub joined : mem (take join s.group) sender ≡ true
+  pub later : IsDecided s v → Begins (take join s.group) (s.views.chosen (key v)).before
   pub begins : IsDecided s v → has (s.views.chosen (key v)).members sender ≡ true → Begins (take report.stored (s.node sender).list) (line s v)
 
--- to a joiner, whose Join is accepted, before each later view
+pub data LeaverSays (s : Group) (sender : ℕ) (v : Stamp) (report : Report) : Type 0 where
+  of_view : (s.node sender).leaving ≡ true → ReportSays s sender v report → LeaverSays s sender v report
+  before_it : (s.node sender).leaving ≡ true → LeaverWaits s sender v report → LeaverSays s sender v report
+
+-- to a joiner: it became a member at this number of what is accepted, above the base, and before each later view
 pub record WelcomeSays (s : Group) (sender : ℕ) (v : Stamp) (base join : ℕ) (image : Image) (name : ℕ) : Type 0 where
   pub by : v.by ≡ sender
   pub decided : IsDecided s v
   pub above : base < join
-  pub accepted : item_at s.group join ≡ Some (Join name)
+  pub accepted : join ≤ length s.group
+  pub joined : mem (take join s.group) name ≡ true
+  pub first : (a : List Entry) → Begins a s.group → length a < join → mem a name ≡ true → ⊥
   pub image_ : image ≡ told (take base s.group)
   pub later : (x : ℕ) → s.views.decided x ≡ true → key v < x → Begins (take join s.group) (s.views.chosen x).before
+
+-- who has a log, or will have none, doesn't heed a Welcome
+pub data WelcomeTo (s : Group) (sender : ℕ) (v : Stamp) (base join : ℕ) (image : Image) (name : ℕ) : Type 0 where
+  has_begun : (s.node name).has_log ≡ true → WelcomeTo s sender v base join image name
+  has_gone : (s.node name).stopped ≡ true → WelcomeTo s sender v base join image name
+  has_left : (s.node name).departed ≡ true → WelcomeTo s sender v base join image name
+  is_leaving : (s.node name).leaving ≡ true → WelcomeTo s sender v base join image name
+  may_begin : WelcomeSays s sender v base join image name → WelcomeTo s sender v base join image name
 
 -- to a leaver: it has stopped, or its Leave is accepted, and stored by all who were members before it, are there and stay
 pub data GoneSays (s : Group) (number name : ℕ) : Type 0 where
@@ -126,26 +151,26 @@ pub record ResultSays (s : Group) (sender : ℕ) (v : Stamp) (number : ℕ) (nam
   pub decided : IsDecided s v
   pub stands : item_at (line s v) number ≡ Some (View v names resilience)
 
--- ---- each packet, to these names
+-- ---- each packet, to these names; what it trims was stored
 
 abbrev pub PacketSays : World → Group → List ℕ → Packet → Type 0
 PacketSays w s to (Request i v report req body) = SendSays w s i v report req body
 PacketSays w s to (Spread i v report req body) = SendSays w s i v report req body
-PacketSays w s to (Bcast i v base acc number e) = EntrySays s i v acc number e
-PacketSays w s to (Order i v base acc number from req) = OrderSays w s i v acc number from req
-PacketSays w s to (Accept i v base acc high poll) = SequencerSays s i v acc
+PacketSays w s to (Bcast i v base acc number e) = Trimmed s base × EntrySays s i v acc number e
+PacketSays w s to (Order i v base acc number from req) = Trimmed s base × OrderSays w s i v acc number from req
+PacketSays w s to (Accept i v base acc high poll) = Trimmed s base × SequencerSays s i v acc
 PacketSays w s to (Ack i v report) = ReportSays s i v report
 PacketSays w s to (Nack i v report) = ReportSays s i v report
 PacketSays w s to (Hold i v base high req) = Unit {0}
 PacketSays w s to (JoinAsk i v) = Unit {0}
-PacketSays w s to (Welcome i v base join image) = (name : ℕ) → has to name ≡ true → WelcomeSays s i v base join image name
+PacketSays w s to (Welcome i v base join image) = Trimmed s base × ((name : ℕ) → has to name ≡ true → WelcomeTo s i v base join image name)
 PacketSays w s to (LeaveAsk i v report) = LeaverSays s i v report
 PacketSays w s to (Gone i v number) = (name : ℕ) → has to name ≡ true → GoneSays s number name
-PacketSays w s to (Invite i v) = v.by ≡ i
-PacketSays w s to (VoteOf i v vote) = VoteSays s i v vote
+PacketSays w s to (Invite i v) = Unit {0}
+PacketSays w s to (VoteOf i v vote) = (vote.view.by < 256) × VoteSays s i v vote
 PacketSays w s to (Fetch i v stored) = FetchSays s i v to
-PacketSays w s to (Piece i v base number e) = PieceSays s i v number e
-PacketSays w s to (Result i v base number names resilience) = ResultSays s i v number names resilience
+PacketSays w s to (Piece i v base number e) = Trimmed s base × PieceSays s i v number e
+PacketSays w s to (Result i v base number names resilience) = Trimmed s base × (v.by ≡ i → ResultSays s i v number names resilience)
 PacketSays w s to (HandOver i v) = Unit {0}
 
 -- and the stamp of each was begun, and isn't above its sender's promise (am_promises)

@@ -6,3 +6,7 @@ pub mod Steps
 pub mod Ends
 pub mod Growing
 pub mod Lawful
+pub mod Accepting
+pub mod Sending
+pub mod Branches
+pub mod Keeping

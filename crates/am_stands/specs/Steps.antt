@@ -6,13 +6,14 @@ use Rattle.am_base.specs.declared.image.Image.{Image}
 use Rattle.am_base.specs.declared.entry.Entry.{Entry}
 use Rattle.am_base.specs.declared.entry.Entry.TheVariants.{View}
 use Rattle.am_base.specs.declared.outcome.Outcome.{Outcome}
+use Rattle.am_base.specs.Names.{IsSet, has}
 use Rattle.am_base.specs.Lists.{fits}
 use Rattle.am_packet.specs.declared.packet.Packet.TheVariants as packet
 use Rattle.am_group.specs.declared.event.Event.{Event}
 use Rattle.am_chain_lists.specs.Whole as whole
 use Rattle.am_chain_lists.specs.Whole.{view_of, key}
 use Rattle.am_chain_moves.specs.Group.{Group, IsOngoing}
-use Rattle.am_chain_moves.specs.Moves.{MayNumber, MayWelcome, MayDecide}
+use Rattle.am_chain_moves.specs.Moves.{with_node, MayNumber, MayWelcome, MayDecide}
 use Rattle.am_model.specs.Node.{Node, Ballot, told, view, members}
 use Rattle.am_model.specs.Calls.{is_unfinished}
 use Rattle.am_model.specs.Receiving.{is_view}
@@ -26,7 +27,7 @@ use Rattle.am_effects.specs.Changes.{Promises, Change, numbers, stores, begins_l
 use Rattle.am_effects.specs.Events.{Happens, steps}
 use Rattle.am_stands.specs.Standing.{StandsBut, Stands, within}
 use Rattle.am_stands.specs.Letters.{GoneSays}
-use Rattle.am_stands.specs.Moving.{Leads}
+use Rattle.am_stands.specs.Moving.{NamesNamed, AllVoted, Leads}
 
 -- a stamp of a letter was begun: its name has promised it
 pub record WasBegun (s : Group) (v : Stamp) : Type 0 where
@@ -51,6 +52,7 @@ pub record MayMove (w : World) (name : ℕ) (c : Cause) (x : Node) (s : Group) :
 pub record NeedsNumber (s : Group) (name : ℕ) (x : Node) (e : Entry) : Type 0 where
   pub chain : s.views.line (key (view_of (s.node name).list)) ≡ (s.node name).list
   pub fit : fits (told x) e ≡ true
+  pub named : NamesNamed e
   pub may : MayNumber s.node name e
 
 -- an entry more isn't one of the node's own view, but for a View
@@ -93,6 +95,8 @@ pub record NeedsDecision (s : Group) (name : ℕ) (x : Node) (b : Ballot) : Type
   pub fresh : s.views.decided (key x.core.promise) ≡ false
   pub unseen : list_any (is_view_of x.core.promise) (s.node name).list ≡ false
   pub members_ : members (looks.view_of x b) ≡ left_in b (need_of x b)
+  pub set : IsSet (left_in b (need_of x b))
+  pub voted : AllVoted s name (λ j. has (left_in b (need_of x b)) j ≡ true)
 
 abbrev pub NeedsLook : {m : Node} {b : Ballot} {v : Verdict} → Group → ℕ → Looks m b v → Type 0
 NeedsLook {m = m} {b = b} s name (decides may) = NeedsDecision s name m b
@@ -134,6 +138,10 @@ abbrev pub IsNoStep : {w : World} {e : Event} {v : World} → Happens w e v → 
 IsNoStep (steps c s runs cause effect) = ⊥
 IsNoStep _ = Unit {0}
 
--- each of these is moves of the group, too: none, or that a name stops
+-- each of these is no move of the group, or that a name stops
+pub data EventStands (v : World) (s : Group) : Type 0 where
+  no_move : Stands v s → EventStands v s
+  stop : (i : ℕ) → Stands v (with_node s i (record (s.node i) { stopped = true })) → EventStands v s
+
 abbrev pub EventsStand : Type 0
-EventsStand = (w : World) (e : Event) (v : World) (s : Group) (z : Happens w e v) → IsNoStep z → Stands w s → Leads (Stands v) s
+EventsStand = (w : World) (e : Event) (v : World) (s : Group) (z : Happens w e v) → IsNoStep z → Stands w s → EventStands v s

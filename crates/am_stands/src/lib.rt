@@ -2,11 +2,15 @@
 //! (docs/SAFETY.md), and how each event is moves of that group, with what it needs of it.
 #![tactic(auto)]
 
+ghost use Rattle.am_stands.specs.Accepting.{RefreshAccepts, RefreshLearns, ClosingAccepts};
+ghost use Rattle.am_stands.specs.Branches.{MovesBranch, MovesNamed, DecisionsAreNew, BranchesBegin};
 ghost use Rattle.am_stands.specs.Ends.{EndsStand, CloseStands};
 ghost use Rattle.am_stands.specs.Growing.{LettersStay, MovesGrow};
+ghost use Rattle.am_stands.specs.Keeping.{ChangesGoOn, RefreshesKeep};
 ghost use Rattle.am_stands.specs.Lawful.{RunsGoOn};
 ghost use Rattle.am_stands.specs.Standing.{StartStands};
-ghost use Rattle.am_stands.specs.States.{RunsOpen};
+ghost use Rattle.am_stands.specs.Sending.{SentSays};
+ghost use Rattle.am_stands.specs.States.{RunsHaveRounds, RunsLeaveOut, RunsOpen};
 ghost use Rattle.am_stands.specs.Steps.{ChangesStand, EventsStand};
 
 /// At the start each founder is told of the first entry, and then the group stands for the world.
@@ -32,6 +36,20 @@ pub fn ends_stand()
     ensures close { CloseStands }
 {}
 
+/// What a sequencer's refresh accepts is held by enough names, where what they reported is true. So a step ends by what the group may
+/// accept, and by what its name may learn of it; and the last member's own Leave needs nothing else.
+pub fn reports_accept()
+    ensures refresh { RefreshAccepts }
+    ensures learn { RefreshLearns }
+    ensures close { ClosingAccepts }
+{}
+
+/// Each letter that a name sends at the end of its step is so, once a voter has shown the list that its vote tells, and served what it sends
+/// of it.
+pub fn letters_are_so()
+    ensures { SentSays }
+{}
+
 /// With each move the group goes on so that what a letter says of it stays so, where a decided view is a new one that found all that was
 /// accepted.
 pub fn letters_stay()
@@ -47,4 +65,27 @@ pub fn runs_go_on()
 /// In a lawful run of the group, what begins the line of a decided view begins the line of its own last View's, which was decided.
 pub fn lines_open()
     ensures { RunsOpen }
+{}
+
+/// And in such a run each decided stamp has a round, and whom a View on the chain left out has stopped.
+pub fn views_leave_out()
+    ensures rounds { RunsHaveRounds }
+    ensures left { RunsLeaveOut }
+{}
+
+/// What a name has that hasn't departed is on the chain, or was left out of it by a View; so a decision finds what each of its members has,
+/// also one that leaves or has stopped, where each of them has voted. And who joins on the chain is one of the 256 names.
+pub fn decisions_find_leavers()
+    ensures begin { BranchesBegin }
+    ensures moves { MovesBranch }
+    ensures new { DecisionsAreNew }
+    ensures names { MovesNamed }
+{}
+
+/// What is known within a step of its node, of the letter that it heard and of the group, gives each change what it needs, and is known again
+/// after it, but after a refresh and after the last member's end. A refresh keeps what the node keeps, once the group has accepted what it
+/// accepts.
+pub fn steps_go_on()
+    ensures change { ChangesGoOn }
+    ensures refresh { RefreshesKeep }
 {}

@@ -1,4 +1,5 @@
 ghost use Rattle.std.specs.Prelude.{◌≡◌, ◌<◌, ◌≤◌, ◌++◌, ◌∷◌, [], length, OnOk, OnErr, if◌then◌else◌};
+ghost use Rattle.am_base.specs.Most.{most_events};
 ghost use Rattle.am_group.specs.Addressed.{next_for};
 ghost use Rattle.am_group.specs.Journals.{letters_of, letter_at};
 ghost use Rattle.am_wire.specs.Stops.{is_stop, with_stop, stopped_in};
@@ -67,14 +68,14 @@ impl Sheet {
     /// How many records there are.
     pub fn len(&self) -> usize
         ensures value { result ≡ length self.now.records }
-        ensures few { result ≤ 100000 }
+        ensures few { result ≤ most_events }
     {
         self.journal.records().len()
     }
 
     /// Adds a record, or leaves all as it was where there is no memory.
     pub fn add(&mut self, item: Record) -> Result<(), NoMemory>
-        requires few { length self.old.records < 100000 }
+        requires few { length self.old.records < most_events }
         requires letters { length item.packets ≤ 24 }
         ensures founding { self.new.founding ≡ self.old.founding }
         ensures ok { OnOk result (self.new.records ≡ self.old.records ++ item ∷ []) }

@@ -1,0 +1,165 @@
+-- What a sequencer accepts is held by enough names.
+use Rattle.std.proofs.Common.{◌≡◌, ℕ, ◌+◌, ◌-◌, ◌<◌, ◌≤◌, ◌==◌, ◌&&◌, nat_le, Bool, true, false, List, [], length, take, refl, sym, ap, ◌∙◌, subst, arith}
+use Rattle.std.proofs.Common.{count_by}
+use Rattle.std.proofs.lemmas.Bool.Decides.{nat_tests}
+use Rattle.am_base.specs.declared.entry.Entry.{Entry}
+use Rattle.am_base.specs.declared.image.Report.{Report}
+use Rattle.am_base.specs.declared.image.Image.{Image}
+use Rattle.am_base.specs.Names.{has, names_of}
+use Rattle.am_base.specs.Lists.{Log, top_of, told_by}
+use Rattle.am_base.specs.Fronts.{counted_at, need_at, holders_at, is_held, is_satisfied, is_front, accept_front}
+use Rattle.am_core.specs.Cores.{accept, pass_over}
+use Rattle.am_core.proofs.Ranges.{all_at}
+use Rattle.am_fronts.specs.Reports.{reported}
+use Rattle.am_fronts.specs.Refresh.{own_report, tell, go_on, let_go}
+use Rattle.am_fronts.proofs.Again.{greatest_low, greatest_there}
+use Rattle.am_chain_lists.specs.Whole.{Begins, told}
+use Rattle.am_chain_lists.proofs.Prefixes.{begins_take, begins_trans, begins_both, begins_length, length_take}
+use Rattle.am_chain_moves.specs.Group as groups
+use Rattle.am_chain_moves.specs.Group.{how_many, counted, IsHeld, MayAccept}
+use Rattle.am_model.specs.Node as nodes
+use Rattle.am_model.specs.Node.{Node, is_sequencer}
+use Rattle.am_model.specs.Refresh.{lead, refresh}
+use Rattle.am_model.specs.World.{World}
+use Rattle.am_model.proofs.Greatest.{split, and_both}
+use Rattle.am_stands.specs.Standing.{NameStands}
+use Rattle.am_stands.specs.States.{Reporting}
+use Rattle.am_stands.specs.Accepting.{MayCount, RefreshAccepts}
+use Rattle.am_stands.proofs.Changes.{told_all, long_all}
+use Rattle.am_stands.proofs.Counting.{names_pass, name_small}
+use Rattle.am_stands.proofs.Parts.{counted_whole, need_whole, counted_concerned}
+
+-- ---- one number
+
+-- who reported a number has stored it
+reached : (node : ℕ → groups.Node) (x : Node) (list : List Entry) (reports : ℕ → Report) (n h : ℕ) → Reporting node list x.core.base reports
+    → MayCount x list → h < 256 → 0 < n → n ≤ length list → x.core.base < n → (told list).view_number ≤ n → has (counted list n) h ≡ true
+    → n ≤ (reports h).stored → Begins (take n list) (node h).list
+reached node x list reports n h r may few some low above high counts up =
+    let within = r.within h in
+    let told_ = r.true_ h few (counted_concerned list n h may.good some low high counts) (omega arith) in
+    let short = length_take n list low in
+    let long = length_take (reports h).stored list within in
+    begins_trans (begins_both (begins_take n list) (begins_take (reports h).stored list) (omega arith)) told_
+
+least : (a b : ℕ) → nat_le a b ≡ true → a ≤ b
+least a b t = grind (arith, nat_tests)
+
+logged : (a : groups.Node) (part : List Entry) → (a.has_log ≡ false → a.list ≡ []) → 0 < length part → Begins part a.list → a.has_log ≡ true
+logged a part blank some h = split a.has_log (λ t. t)
+    (λ f. absurd (let low = begins_length h in let none = ap length (blank f) in omega arith))
+
+pub number_held : (v : World) (i n : ℕ) (x : Node) (a : groups.Node) (node : ℕ → groups.Node) (reports : ℕ → Report) → NameStands v i x a
+    → MayCount x a.list → Reporting node a.list x.core.base reports → ((h : ℕ) → (node h).has_log ≡ false → (node h).list ≡ [])
+    → x.core.acc < n → n ≤ nodes.top x → (nodes.told x).view_number ≤ n → is_held reports x.core.log n ≡ true → IsHeld node a.list n
+number_held v i n x a node reports stands may r blank above low high held =
+    let log = x.core.log in
+    let kept = may.kept in
+    let base = may.base in
+    let taken = may.taken in
+    let long = long_all v i x a stands in
+    let same = counted_whole v i n x a stands (omega arith) in
+    let last : (told a.list).view_number ≡ (nodes.told x).view_number = ap (λ (g : Image). g.view_number) (told_all v i x a stands) in
+    let set = may.sets n (omega arith) in
+    let passes : ℕ → Bool = λ h. nat_le n (reports h).stored in
+    let holders : ℕ → Bool = λ h. has (counted_at log n) h && passes h in
+    let all : count_by passes (names_of (counted_at log n)) ≤ how_many holders = names_pass passes (counted_at log n) set in
+    let need = need_whole v i n x a stands (omega arith) set in
+    let counts : (h : ℕ) → holders h ≡ true → has (counted a.list n) h ≡ true = λ h t. ap (λ m. has m h) (sym same)
+    ∙ (and_both (has (counted_at log n) h) (passes h) t).0 in
+    let stored : (h : ℕ) → holders h ≡ true → Begins (take n a.list) (node h).list = λ h t.
+    (let both = and_both (has (counted_at log n) h) (passes h) t in
+    let up : n ≤ (reports h).stored = (let z = both.1 in grind (arith, nat_tests)) in
+    reached node x a.list reports n h r may (name_small (counted_at log n) h set both.0) (omega arith) (omega arith) (omega arith) (omega arith)
+    (counts h t) up) in
+    let part = length_take n a.list (omega arith) in
+    record {
+      holders = holders;
+      counts = counts;
+      logs = λ h t. logged (node h) (take n a.list) (blank h) (omega arith) (stored h t);
+      stored = stored;
+      enough = (let few : need_at log n ≤ count_by passes (names_of (counted_at log n)) = least (need_at log n) (holders_at reports log n) held in omega arith);
+    }
+
+-- ---- up to the front
+
+satisfied_at : (reports : ℕ → Report) (log : Log) (front n : ℕ) → n ≤ front → is_satisfied reports log front n ≡ true
+    → (m : ℕ) × (n ≤ m) × (m ≤ front) × ((told_by log).view_number ≤ m) × (is_held reports log m ≡ true)
+satisfied_at reports log front n low h = split (nat_le (told_by log).view_number n)
+    (λ t. (n, omega arith, low, least (told_by log).view_number n t, rw t at h))
+    (λ f.
+    let both = and_both (nat_le (told_by log).view_number front) (is_held reports log (told_by log).view_number) (rw f at h) in
+    let above : n ≤ (told_by log).view_number = grind (arith, nat_tests) in
+    ((told_by log).view_number, above, least (told_by log).view_number front both.0, omega arith, both.1))
+
+front_held : (v : World) (i : ℕ) (x : Node) (a : groups.Node) (node : ℕ → groups.Node) (reports : ℕ → Report) → NameStands v i x a → MayCount x a.list
+    → Reporting node a.list x.core.base reports → ((h : ℕ) → (node h).has_log ≡ false → (node h).list ≡ [])
+    → MayAccept node a.list x.core.acc (accept_front reports x.core.log x.core.acc)
+front_held v i x a node reports stands may r blank =
+    let log = x.core.log in
+    let acc = x.core.acc in
+    let within = may.within in
+    let passes = is_front reports log acc in
+    let low = greatest_low passes acc (top_of log - acc) in
+    let up = low.0 in
+    let top = low.1 in
+    let front = accept_front reports log acc in
+    let long = long_all v i x a stands in
+    record {
+      rises = up;
+      within = omega arith;
+      held = λ n above below.
+          (let there : is_front reports log acc front ≡ true = greatest_there passes acc (top_of log - acc) (omega arith) in
+          let at : is_satisfied reports log front n ≡ true = all_at (is_satisfied reports log front) (acc + 1) (front - acc) n (omega arith)
+          (omega arith) there in
+          let m = satisfied_at reports log front n below at in
+          let over = m.1 in
+          let under = m.2 in
+          (m.0, m.1, m.2, number_held v i m.0 x a node reports stands may r blank (omega arith) (omega arith) m.3 m.4));
+    }
+
+-- ---- a refresh
+
+-- its own report is true of itself
+pub own_reporting : (node : ℕ → groups.Node) (list : List Entry) (base who taken : ℕ) (reports : ℕ → Report) → taken ≤ length list → (node who).list ≡ list
+    → Reporting node list base reports
+    → Reporting node list base (reported reports who (record { stored = length list; taken = taken }))
+own_reporting node list base who taken reports low own r = record {
+  within = λ name. split (name == who)
+      (λ t. (let low = r.within who in rw t (omega arith)))
+      (λ f. rw f (r.within name));
+  taken = λ name. split (name == who)
+      (λ t. (let old = r.taken who in let z = r.within who in rw t (omega arith)))
+      (λ f. rw f (r.taken name));
+  true_ = λ name few concerned. split (name == who)
+      (λ t. λ above. (let same : name ≡ who = grind (arith, nat_tests) in
+      let k = (reported reports who (record { stored = length list; taken = taken }) name).stored in
+      subst (λ l. Begins (take k list) l) (sym (ap (λ j. (node j).list) same ∙ own)) (begins_take k list)))
+      (λ f. rw f (r.true_ name few concerned));
+}
+
+pub lead_acc : (x : Node) → x.core.acc ≤ nodes.top x
+    → (lead x).core.acc ≡ accept_front (reported x.reports x.core.who (nodes.report_of x)) x.core.log x.core.acc
+unfolding lead own_report tell go_on let_go accept pass_over
+lead_acc x within =
+    let reports = reported x.reports x.core.who (nodes.report_of x) in
+    let low = greatest_low (is_front reports x.core.log x.core.acc) x.core.acc (top_of x.core.log - x.core.acc) in
+    let up = low.0 in
+    let top = low.1 in
+    omega arith
+
+pub lead_told : (x : Node) → (lead x).core.told ≡ accept_front (reported x.reports x.core.who (nodes.report_of x)) x.core.log x.core.acc
+unfolding lead own_report tell go_on let_go accept pass_over
+lead_told x = refl
+
+pub refresh_accepts : RefreshAccepts
+unfolding refresh
+refresh_accepts v i x a node stands leads may among =
+    let long = long_all v i x a stands in
+    let taken = may.taken in
+    let within = may.within in
+    let r = own_reporting node a.list x.core.base x.core.who x.core.taken x.reports (omega arith) among.own among.reports in
+    let same : reported x.reports x.core.who (record { stored = length a.list; taken = x.core.taken }) ≡ reported x.reports x.core.who (nodes.report_of x) =
+    ap (λ k. reported x.reports x.core.who (record { stored = k; taken = x.core.taken })) long in
+    let held = front_held v i x a node _ stands may (subst (Reporting node a.list x.core.base) same r) among.blank in
+    rw leads (subst (MayAccept node a.list x.core.acc) (sym (lead_acc x may.within)) held)

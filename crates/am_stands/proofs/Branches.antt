@@ -1,0 +1,457 @@
+-- What stopped names have is on the chain, or was left out of it; so a decision finds what each of its members has.
+use Rattle.std.proofs.Common.{◌≡◌, ◌⊎◌, inl, inr, ⊎_elim, ℕ, ◌<◌, ◌≤◌, ◌==◌, ◌||◌, List, [], ◌∷◌, ◌++◌, length, take, true, false, Some}
+use Rattle.std.proofs.Common.{slice_index, refl, sym, ap, ◌∙◌, subst, arith}
+use Rattle.std.proofs.lemmas.Bool.Decides.{nat_tests}
+use Rattle.am_base.specs.declared.entry.Entry.{Entry}
+use Rattle.am_base.specs.declared.entry.Entry.TheVariants.{Leave, View}
+use Rattle.am_base.specs.declared.name.Stamp.{Stamp}
+use Rattle.am_base.specs.Names.{place_of, life_of, has, is_within}
+use Rattle.am_base.specs.Lists.{members_of}
+use Rattle.am_core.proofs.Ranges.{all_at}
+use Rattle.am_chain_lists.specs.Whole.{Begins, BeginsBelow, IsGood, told, mem, view_of, key}
+use Rattle.am_chain_lists.proofs.Prefixes.{begins_refl, begins_nil, begins_more, begins_trans, begins_both, begins_take, below_of}
+use Rattle.am_chain_lists.proofs.Prefixes.{below_length, length_push}
+use Rattle.am_chain_lists.proofs.Rows.{mod16}
+use Rattle.am_chain_lists.proofs.Members.{good_begins, mem_between, mem_viewed}
+use Rattle.am_chain_lists.proofs.Order.{key_by, view_up}
+use Rattle.am_chain_moves.specs.Group as groups
+use Rattle.am_chain_moves.specs.Group.{Group, put, put2, opening, chain_of, IsUp, IsThere, NoBetter}
+use Rattle.am_chain_moves.specs.Moves as group
+use Rattle.am_chain_moves.specs.Moves.{Move, MayDecide, Voted, with_choice, choice_of, own_stamp, longer}
+use Rattle.am_chain_moves.specs.Kept.{Kept}
+use Rattle.am_chain_moves.specs.Runs.{IsLawful, first_choice}
+use Rattle.am_chain_moves.proofs.Start.{start_kept}
+use Rattle.am_chain_moves.proofs.Puts.{by_cases, put_same, put_at, put2_cases}
+use Rattle.am_chain_moves.proofs.Nodes.{own_above}
+use Rattle.am_chain.proofs.Heart.{ballot_ok, list_chain}
+use Rattle.am_chain.proofs.Decide.{group_low}
+use Rattle.am_stands.specs.Growing.{NewView}
+use Rattle.am_stands.specs.Branches.{OnBranch, on_chain, left_out, BranchesOk, MovesBranch, DecisionsAreNew, BranchesBegin}
+use Rattle.am_stands.proofs.LeftOut.{longer_chain, none_departed}
+
+two : (a b : ℕ) → (a ≤ b) ⊎ (b < a)
+two a b = grind arith
+
+-- ---- a decision
+
+-- each name of the View is a member of what is chosen
+within_has : (members all : List ℕ) (j : ℕ) → is_within members all ≡ true → has members j ≡ true → has all j ≡ true
+within_has members all j within in_ =
+    let test : (place : ℕ) → _ = λ place. (slice_index members place == 0) || (slice_index members place == slice_index all place) in
+    let place = mod16 j in
+    let at = all_at (λ place. (slice_index members place == 0) || (slice_index members place == slice_index all place)) 0 16 (place_of j) (omega arith)
+    (omega arith) within in
+    let its : slice_index members (place_of j) ≡ life_of j = grind (arith, nat_tests) in
+    let same : slice_index all (place_of j) ≡ life_of j = grind (arith, nat_tests) in
+    grind (arith, nat_tests)
+
+-- a list that is no better, on one branch, is no longer
+vote_low : (v list branch : List Entry) → IsGood branch → Begins v branch → Begins list branch → NoBetter v list → length v ≤ length list
+vote_low v list branch good h begins worse = ⊎_elim
+    (λ (l : length v ≤ length list). l)
+    (λ (l : length list < length v).
+    let up = view_up (good_begins h good) (begins_both begins h (omega arith)) in
+    ⊎_elim
+    (λ (x : key (view_of v) < key (view_of list)). absurd (omega arith))
+    (λ (x : (key (view_of v) ≡ key (view_of list)) × (length v ≤ length list)). x.1)
+    worse)
+    (two (length v) (length list))
+
+module _ (s : Group) (k : Kept s) (lawful : IsLawful s) (c : ℕ) (members : List ℕ) (resilience : ℕ) (d : MayDecide s c members resilience) (b : BranchesOk s)
+    (voted : (j : ℕ) → has members j ≡ true → (j ≡ c) ⊎ Voted s (key (s.node c).promise) j (s.node c).list) where
+  abbrev chosen : List Entry
+  chosen = (s.node c).list
+
+  abbrev all : List Entry
+  all = opening (choice_of (s.node c) members resilience)
+
+  chain : Begins chosen (chain_of s.views)
+  chain = list_chain s k lawful c members resilience d
+
+  in_chosen : (j : ℕ) → has members j ≡ true → mem chosen j ≡ true
+  unfolding mem
+  in_chosen j h = within_has members (members_of (told chosen)) j d.within h
+
+  -- on one branch with the coordinator's list, a name of the View has no more
+  low_on : (j : ℕ) (branch : List Entry) → has members j ≡ true → (s.node j).departed ≡ false → IsGood branch → Begins chosen branch
+      → Begins (s.node j).list branch
+      → Begins (s.node j).list chosen
+  low_on j branch in_ stays good mine its = ⊎_elim
+      (λ (z : j ≡ c). subst (λ x. Begins (s.node x).list chosen) (sym z) (begins_refl chosen))
+      (λ (z : Voted s (key (s.node c).promise) j chosen).
+      let shown = k.shown (key (s.node c).promise) j z.vote z.is in
+      let low = vote_low z.vote chosen branch good (begins_trans shown.list its) mine z.worse in
+      begins_both its mine (⊎_elim (λ (y : length (s.node j).list ≤ length z.vote). omega arith) (λ (y : length (s.node j).list ≤ length chosen). y)
+      (b.short c j z.vote d.up d.ballot z.is stays)))
+      (voted j in_)
+
+  stays_in : (j : ℕ) → has members j ≡ true → (s.node j).departed ≡ false
+  stays_in j in_ = by_cases (s.node j).departed (λ t. absurd (none_departed s k lawful c members resilience d j (in_chosen j in_) t)) (λ f. f)
+
+  -- each name of the View has a beginning of what is chosen
+  members_low : (j : ℕ) → has members j ≡ true → Begins (s.node j).list chosen
+  members_low j in_ = by_branch (b.branch j (stays_in j in_))
+    where
+      by_branch : OnBranch s j → Begins (s.node j).list chosen
+      by_branch (on_chain its) = low_on j (chain_of s.views) in_ (stays_in j in_) k.views.good chain its
+      by_branch (left_out a v names strong branch part mine its good member out) = ⊎_elim
+          (λ (z : length (a ++ View v names strong ∷ []) ≤ length chosen).
+          absurd (let inside = begins_both part chain z in
+          let fine = good_begins chain k.views.good in
+          let there = mem_between j fine (begins_more a (View v names strong ∷ [])) inside member (in_chosen j in_) in
+          let has_it = mem_viewed a v names strong j there in cc))
+          (λ (z : length chosen < length (a ++ View v names strong ∷ [])).
+          (let more = length_push a (View v names strong) in
+          let below = begins_both chain (begins_trans (begins_more a (View v names strong ∷ [])) part) (omega arith) in
+          low_on j branch in_ (stays_in j in_) good (begins_trans below mine) its))
+          (two (length (a ++ View v names strong ∷ [])) (length chosen))
+
+  new_view : NewView s (with_choice s c members resilience) (key (s.node c).promise)
+  new_view =
+      let same = put_same s.views.chosen (key (s.node c).promise) (choice_of (s.node c) members resilience) in
+      let line = put_same s.views.line (key (s.node c).promise) all in
+      record {
+        accepted = subst (λ (x : groups.Chosen). Begins s.group x.before) (sym same) (group_low s k lawful c members resilience d);
+        leavers = λ i leaves in_. subst (Begins (s.node i).list) (sym line)
+            (begins_trans (members_low i (subst (λ (x : groups.Chosen). has x.members i ≡ true) same in_))
+            (begins_more chosen (View (s.node c).promise members resilience ∷ [])));
+      }
+
+  -- ---- who is on which branch then
+
+  now : chain_of (with_choice s c members resilience).views ≡ all
+  now = put_same s.views.line (key (s.node c).promise) all
+
+  on_new : {a : List Entry} → Begins a chosen → Begins a (chain_of (with_choice s c members resilience).views)
+  on_new h = subst (Begins _) (sym now) (begins_trans h (begins_more chosen (View (s.node c).promise members resilience ∷ [])))
+
+  viewed : Begins (chosen ++ View (s.node c).promise members resilience ∷ []) (chain_of (with_choice s c members resilience).views)
+  viewed = subst (Begins all) (sym now) (begins_refl all)
+
+  -- who isn't a member of what is chosen ended in it
+  ended_in : (j : ℕ) (branch : List Entry) → (s.node j).departed ≡ false → IsGood branch → Begins chosen branch → Begins (s.node j).list branch
+      → mem chosen j ≡ false
+      → Begins (s.node j).list chosen
+  ended_in j branch stays good mine its none = by_cases (s.node j).has_log
+      (λ log. ⊎_elim
+      (λ (z : length (s.node j).list ≤ length chosen). begins_both its mine z)
+      (λ (z : length chosen < length (s.node j).list).
+      absurd (let joined = (k.each j).joined log in
+      let front = begins_trans (begins_take (s.node j).start s.group) (group_low s k lawful c members resilience d) in
+      let there = b.own j stays (take (s.node j).start s.group) chosen (below_of (begins_both mine its (omega arith)) z) front joined.member in
+      cc))
+      (two (length (s.node j).list) (length chosen)))
+      (λ f. subst (λ l. Begins l chosen) (sym ((k.each j).blank f)) (begins_nil chosen))
+
+  -- on one branch with it
+  beside : (j : ℕ) (branch : List Entry) → (s.node j).departed ≡ false → IsGood branch → Begins chosen branch → Begins (s.node j).list branch
+      → Begins (s.node j).list chosen ⊎ ((mem chosen j ≡ true) × (has members j ≡ false))
+  beside j branch stays good mine its = by_cases (mem chosen j)
+      (λ t. by_cases (has members j)
+      (λ in_. inl (low_on j branch in_ stays good mine its))
+      (λ out. inr (t, out)))
+      (λ f. inl (ended_in j branch stays good mine its f))
+
+  after_choice : (j : ℕ) → (s.node j).departed ≡ false → OnBranch s j
+      → Begins (s.node j).list (chain_of (with_choice s c members resilience).views)
+      ⊎ ((a : List Entry) × (v : Stamp) × (names : List ℕ) × (strong : ℕ) × (branch : List Entry)
+      × Begins (a ++ View v names strong ∷ []) (chain_of (with_choice s c members resilience).views)
+      × Begins a branch × Begins (s.node j).list branch × IsGood branch × (mem a j ≡ true) × (has names j ≡ false))
+  after_choice j stays (on_chain its) = ⊎_elim
+      (λ (z : Begins (s.node j).list chosen). inl (on_new z))
+      (λ (z : (mem chosen j ≡ true) × (has members j ≡ false)). inr
+      (chosen, (s.node c).promise, members, resilience, chain_of s.views, viewed, chain, its, k.views.good, z.0, z.1))
+      (beside j (chain_of s.views) stays k.views.good chain its)
+  after_choice j stays (left_out a v names strong branch part mine its good member out) = ⊎_elim
+      (λ (z : length (a ++ View v names strong ∷ []) ≤ length chosen).
+      inr (a, v, names, strong, branch, on_new (begins_both part chain z), mine, its, good, member, out))
+      (λ (z : length chosen < length (a ++ View v names strong ∷ [])).
+      (let more = length_push a (View v names strong) in
+      let below = begins_trans (begins_both chain (begins_trans (begins_more a (View v names strong ∷ [])) part) (omega arith)) mine in
+      ⊎_elim
+      (λ (y : Begins (s.node j).list chosen). inl (on_new y))
+      (λ (y : (mem chosen j ≡ true) × (has members j ≡ false)). inr
+      (chosen, (s.node c).promise, members, resilience, branch, viewed, below, its, good, y.0, y.1))
+      (beside j branch stays good below its)))
+      (two (length (a ++ View v names strong ∷ [])) (length chosen))
+
+-- ---- each move
+
+-- a name that hasn't departed is up, or has what it had
+abbrev Steady : groups.Node → groups.Node → Type 0
+Steady m n = n.departed ≡ false → IsUp n ⊎ ((n.list ≡ m.list) × (m.departed ≡ false))
+
+-- what is shown to an open ballot is all that its voter has, or the ballot was open and this was shown to it
+abbrev Opened : Group → Group → Type 0
+Opened s t = (c k : ℕ) (list : List Entry) → IsUp (t.node c) → (t.node c).ballot ≡ true → t.shown (key (t.node c).promise) k ≡ Some list
+    → (length (t.node k).list ≤ length list)
+    ⊎ (IsUp (s.node c) × ((s.node c).ballot ≡ true) × (s.shown (key (s.node c).promise) k ≡ Some list) × (length (s.node c).list ≤ length (t.node c).list))
+
+branches_of : (s t : Group) → Kept t → ((j : ℕ) → Steady (s.node j) (t.node j))
+    → ((j : ℕ) → (s.node j).departed ≡ false → OnBranch s j → (t.node j).list ≡ (s.node j).list → OnBranch t j)
+    → Opened s t → BranchesOk s → BranchesOk t
+branches_of s t k steady moved opened b = record {
+  branch = λ j stays. ⊎_elim
+      (λ (up : IsUp (t.node j)). on_chain ((k.each j).list up))
+      (λ (z : ((t.node j).list ≡ (s.node j).list) × ((s.node j).departed ≡ false)). moved j z.1 (b.branch j z.1) z.0)
+      (steady j stays);
+  own = λ j stays. ⊎_elim
+      (λ (up : IsUp (t.node j)). (k.each j).own up)
+      (λ (z : ((t.node j).list ≡ (s.node j).list) × ((s.node j).departed ≡ false)).
+      subst (λ l. (a d : List Entry) → BeginsBelow d l → Begins a d → mem a j ≡ true → mem d j ≡ true) (sym z.0) (b.own j z.1))
+      (steady j stays);
+  short = λ c j list up ballot shown stays. ⊎_elim
+      (λ (own_up : IsUp (t.node j)). k.short c j list up ballot shown own_up)
+      (λ (z : ((t.node j).list ≡ (s.node j).list) × ((s.node j).departed ≡ false)). ⊎_elim
+      (λ (y : length (t.node j).list ≤ length list). inl y)
+      (λ (y : IsUp (s.node c) × ((s.node c).ballot ≡ true) × (s.shown (key (s.node c).promise) j ≡ Some list)
+      × (length (s.node c).list ≤ length (t.node c).list)).
+      (let same = ap length z.0 in
+      let grows = y.3 in
+      ⊎_elim
+      (λ (x : length (s.node j).list ≤ length list). inl (omega arith))
+      (λ (x : length (s.node j).list ≤ length (s.node c).list). inr (omega arith))
+      (b.short c j list y.0 y.1 y.2 z.1)))
+      (opened c j list up ballot shown))
+      (steady j stays);
+}
+
+-- on a chain that goes on
+still_on : (s t : Group) → Begins (chain_of s.views) (chain_of t.views) → (j : ℕ) → (s.node j).departed ≡ false → OnBranch s j
+    → (t.node j).list ≡ (s.node j).list
+    → OnBranch t j
+still_on s t chain j stays (on_chain its) same = on_chain (subst (λ l. Begins l (chain_of t.views)) (sym same) (begins_trans its chain))
+still_on s t chain j stays (left_out a v names strong branch part mine its good member out) same =
+    left_out a v names strong branch (begins_trans part chain) mine (subst (λ l. Begins l branch) (sym same) its) good member out
+
+-- a move of one name
+record OneName (s t : Group) (i : ℕ) (n : groups.Node) : Type 0 where
+  node : t.node ≡ put s.node i n
+  shown : t.shown ≡ s.shown
+  chain : Begins (chain_of s.views) (chain_of t.views)
+  steady : Steady (s.node i) n
+  -- where it has an open ballot then, it had it
+  opened : IsUp n → n.ballot ≡ true → IsUp (s.node i) × ((s.node i).ballot ≡ true) × (n.promise ≡ (s.node i).promise) × (length (s.node i).list ≤ length n.list)
+
+steady_put : (s : Group) (i : ℕ) (n : groups.Node) → Steady (s.node i) n → (j : ℕ) → Steady (s.node j) (put s.node i n j)
+steady_put s i n h j = put_at (λ k (m : groups.Node). Steady (s.node k) m) s.node i n h (λ k other stays. inr (refl, stays)) j
+
+opened_put : (s t : Group) (i : ℕ) (n : groups.Node) → OneName s t i n → Opened s t
+opened_put s t i n h c k list = subst (λ (f : ℕ → groups.Node). IsUp (f c) → (f c).ballot ≡ true → t.shown (key (f c).promise) k ≡ Some list
+    → (length (t.node k).list ≤ length list)
+    ⊎ (IsUp (s.node c) × ((s.node c).ballot ≡ true) × (s.shown (key (s.node c).promise) k ≡ Some list) × (length (s.node c).list ≤ length (f c).list)))
+    (sym h.node)
+    (put_at (λ j (m : groups.Node). IsUp m → m.ballot ≡ true → t.shown (key m.promise) k ≡ Some list
+    → (length (t.node k).list ≤ length list)
+    ⊎ (IsUp (s.node j) × ((s.node j).ballot ≡ true) × (s.shown (key (s.node j).promise) k ≡ Some list) × (length (s.node j).list ≤ length m.list))) s.node i n
+    (λ up ballot shown. (let o = h.opened up ballot in
+    inr (o.0, o.1, ap (λ (u : Stamp). s.shown (key u) k) (sym o.2) ∙ ap (λ f. f (key n.promise) k) (sym h.shown) ∙ shown, o.3)))
+    (λ j other up ballot shown. inr (up, ballot, ap (λ f. f (key (s.node j).promise) k) (sym h.shown) ∙ shown, omega arith)) c)
+
+one_name : (s t : Group) (i : ℕ) (n : groups.Node) → Kept t → OneName s t i n → BranchesOk s → BranchesOk t
+one_name s t i n k h b = branches_of s t k
+    (λ j. subst (λ (f : ℕ → groups.Node). Steady (s.node j) (f j)) (sym h.node) (steady_put s i n h.steady j))
+    (still_on s t h.chain) (opened_put s t i n h) b
+
+-- and one that changes no name
+no_name : (s t : Group) → Kept t → t.node ≡ s.node → t.views ≡ s.views → t.shown ≡ s.shown → BranchesOk s → BranchesOk t
+no_name s t k node views shown b = branches_of s t k
+    (λ j. subst (λ (f : ℕ → groups.Node). Steady (s.node j) (f j)) (sym node) (λ stays. inr (refl, stays)))
+    (still_on s t (subst (λ v. Begins (chain_of s.views) (chain_of v)) (sym views) (begins_refl (chain_of s.views))))
+    (λ c k list. subst (λ (f : ℕ → groups.Node). IsUp (f c) → (f c).ballot ≡ true → t.shown (key (f c).promise) k ≡ Some list
+    → (length (t.node k).list ≤ length list)
+    ⊎ (IsUp (s.node c) × ((s.node c).ballot ≡ true) × (s.shown (key (s.node c).promise) k ≡ Some list) × (length (s.node c).list ≤ length (f c).list)))
+    (sym node)
+    (λ up ballot is. inr (up, ballot, ap (λ f. f (key (s.node c).promise) k) (sym shown) ∙ is, omega arith))) b
+
+up_as : (m n : groups.Node) → n.has_log ≡ m.has_log → n.stopped ≡ m.stopped → n.departed ≡ m.departed → IsUp m → IsUp n
+up_as m n log stopped departed up = record { log = log ∙ up.log; there = record { goes = stopped ∙ up.there.goes; stays = departed ∙ up.there.stays } }
+
+same_chain : (s : Group) → Begins (chain_of s.views) (chain_of s.views)
+same_chain s = begins_refl (chain_of s.views)
+
+more_list : (a : List Entry) (e : Entry) → length a ≤ length (a ++ e ∷ [])
+more_list a e = (let z = length_push a e in omega arith)
+
+-- a new ballot's stamp is above all that was shown to its name
+none_shown : (s : Group) (i j : ℕ) (list : List Entry) → Kept s → i < 256 → s.shown (key (own_stamp i (s.node i))) j ≡ Some list → ⊥
+none_shown s i j list k few is =
+    let o = k.shown (key (own_stamp i (s.node i))) j list is in
+    let by = key_by o.stamp (own_stamp i (s.node i)) o.small few o.is in
+    let low : key (own_stamp i (s.node i)) ≤ key (s.node i).promise = subst (λ x. key (own_stamp i (s.node i)) ≤ key (s.node x).promise) by o.begun in
+    let above = own_above i (s.node i) (k.each i).small in
+    omega arith
+
+begun_open : (s : Group) (i : ℕ) → Kept s → i < 256 → Opened s (group.with_node s i (record (s.node i) { promise = own_stamp i (s.node i); ballot = true }))
+begun_open s i k few c j list = put_at (λ x (m : groups.Node). IsUp m → m.ballot ≡ true → s.shown (key m.promise) j ≡ Some list
+    → (length (put s.node i (record (s.node i) { promise = own_stamp i (s.node i); ballot = true }) j).list ≤ length list)
+    ⊎ (IsUp (s.node x) × ((s.node x).ballot ≡ true) × (s.shown (key (s.node x).promise) j ≡ Some list) × (length (s.node x).list ≤ length m.list))) s.node i
+    (record (s.node i) { promise = own_stamp i (s.node i); ballot = true })
+    (λ up ballot is. absurd (none_shown s i j list k few is))
+    (λ x other up ballot is. inr (up, ballot, is, omega arith)) c
+
+-- a list that is shown now
+shown_open : (s : Group) (i : ℕ) → Opened s (record s { shown = put2 s.shown (key (s.node i).promise) i (Some (s.node i).list) })
+shown_open s i c j list up ballot is = ⊎_elim
+    (λ (z : (key (s.node c).promise ≡ key (s.node i).promise) × (j ≡ i)
+    × (put2 s.shown (key (s.node i).promise) i (Some (s.node i).list) (key (s.node c).promise) j ≡ Some (s.node i).list)).
+    (let same : Some (s.node i).list ≡ Some list = sym z.2 ∙ is in
+    let its : (s.node i).list ≡ list = cc in
+    let long = ap (λ x. length (s.node x).list) z.1 ∙ ap length its in
+    inl (omega arith)))
+    (λ (z : ((key (s.node c).promise ≡ key (s.node i).promise) × (j ≡ i) → ⊥)
+    × (put2 s.shown (key (s.node i).promise) i (Some (s.node i).list) (key (s.node c).promise) j ≡ s.shown (key (s.node c).promise) j)).
+    inr (up, ballot, sym z.1 ∙ is, omega arith))
+    (put2_cases s.shown (key (s.node i).promise) i (Some (s.node i).list) (key (s.node c).promise) j)
+
+choice_branches : (s : Group) (k : Kept s) (lawful : IsLawful s) (c : ℕ) (members : List ℕ) (resilience : ℕ) (d : MayDecide s c members resilience)
+    → ((j : ℕ) → has members j ≡ true → (j ≡ c) ⊎ Voted s (key (s.node c).promise) j (s.node c).list) → Kept (with_choice s c members resilience) → BranchesOk s
+    → BranchesOk (with_choice s c members resilience)
+choice_branches s k lawful c members resilience d voted kept b =
+    let t = with_choice s c members resilience in
+    let n : groups.Node = record (s.node c) { list = opening (choice_of (s.node c) members resilience); ballot = false } in
+    branches_of s t kept
+    (λ j. steady_put s c n (λ stays. inl (up_as (s.node c) n refl refl refl d.up)) j)
+    (λ j stays old same. ⊎_elim
+    (λ (z : Begins (s.node j).list (chain_of t.views)). on_chain (subst (λ l. Begins l (chain_of t.views)) (sym same) z))
+    (λ (z : (a : List Entry) × (v : Stamp) × (names : List ℕ) × (strong : ℕ) × (branch : List Entry) × Begins (a ++ View v names strong ∷ []) (chain_of t.views)
+    × Begins a branch × Begins (s.node j).list branch × IsGood branch × (mem a j ≡ true) × (has names j ≡ false)).
+    left_out z.0 z.1 z.2 z.3 z.4 z.5 z.6 (subst (λ l. Begins l z.4) (sym same) z.7) z.8 z.9 z.10)
+    (after_choice s k lawful c members resilience d b voted j stays old))
+    (λ x j list. put_at (λ y (m : groups.Node). IsUp m → m.ballot ≡ true → s.shown (key m.promise) j ≡ Some list
+    → (length (put s.node c n j).list ≤ length list)
+    ⊎ (IsUp (s.node y) × ((s.node y).ballot ≡ true) × (s.shown (key (s.node y).promise) j ≡ Some list) × (length (s.node y).list ≤ length m.list))) s.node c n
+    (λ up ballot is. absurd (cc))
+    (λ y other up ballot is. inr (up, ballot, is, omega arith)) x) b
+
+pub moves_branch : MovesBranch
+moves_branch s t (group.numbers i e leads fit may) voted k law kt b = one_name s t i (longer (s.node i) e) kt (record {
+  node = refl;
+  shown = refl;
+  chain = subst (Begins (chain_of s.views)) (sym (longer_chain s i (longer (s.node i) e) e k leads refl)) (begins_more (chain_of s.views) (e ∷ []));
+  steady = λ stays. inl (up_as (s.node i) (longer (s.node i) e) refl refl refl leads.up);
+  opened = λ up ballot. (leads.up, ballot, refl, more_list (s.node i).list e);
+}) b
+moves_branch s t (group.stores i e up decided other stays next) voted k law kt b = one_name s t i (longer (s.node i) e) kt (record {
+  node = refl;
+  shown = refl;
+  chain = same_chain s;
+  steady = λ z. inl (up_as (s.node i) _ refl refl refl up);
+  opened = λ z ballot. (up, ballot, refl, more_list (s.node i).list e);
+}) b
+moves_branch s t (group.accepts i n leads may) voted k law kt b = no_name s t kt refl refl refl b
+moves_branch s t (group.learns i told acc up rises within before up_to given low) voted k law kt b = one_name s t i
+    (record (s.node i) { told = told; acc = acc }) kt (record {
+      node = refl;
+      shown = refl;
+      chain = same_chain s;
+      steady = λ z. inl (up_as (s.node i) _ refl refl refl up);
+      opened = λ z ballot. (up, ballot, refl, omega arith);
+    }) b
+moves_branch s t (group.begins i few up stays member) voted k law kt b = branches_of s t kt
+    (λ j. steady_put s i (record (s.node i) { promise = own_stamp i (s.node i); ballot = true }) (λ z. inl (up_as (s.node i) _ refl refl refl up)) j)
+    (still_on s t (same_chain s)) (begun_open s i k few) b
+moves_branch s t (group.raises i stamp there above) voted k law kt b = one_name s t i (record (s.node i) { promise = stamp; ballot = false }) kt (record {
+  node = refl;
+  shown = refl;
+  chain = same_chain s;
+  steady = λ z. inr (refl, there.stays);
+  opened = λ z ballot. absurd (cc);
+}) b
+moves_branch s t (group.shows i there small other begun none) voted k law kt b = branches_of s t kt (λ j stays. inr (refl, stays))
+    (still_on s t (same_chain s)) (shown_open s i) b
+moves_branch s t (group.serves i list up shown others) voted k law kt b = no_name s t kt refl refl refl b
+moves_branch s t (group.fetches i f list e up ballot served shown next) voted k law kt b = one_name s t i (longer (s.node i) e) kt (record {
+  node = refl;
+  shown = refl;
+  chain = same_chain s;
+  steady = λ z. inl (up_as (s.node i) _ refl refl refl up);
+  opened = λ z open_. (up, open_, refl, more_list (s.node i).list e);
+}) b
+moves_branch s t (group.decides i members resilience may) voted k law kt b = choice_branches s k law i members resilience may voted.1 kt b
+moves_branch s t (group.gives_over i) voted k law kt b = one_name s t i (record (s.node i) { ballot = false }) kt (record {
+  node = refl;
+  shown = refl;
+  chain = same_chain s;
+  steady = λ z. inr (refl, z);
+  opened = λ z ballot. absurd (cc);
+}) b
+moves_branch s t (group.welcomes j stamp base join may) voted k law kt b =
+    let n : groups.Node = record (s.node j) { list = take base s.group; has_log = true; start = join; promise = stamp; told = base; acc = base } in
+    one_name s t j n kt (record {
+      node = refl;
+      shown = refl;
+      chain = same_chain s;
+      steady = λ z. inl (record { log = refl; there = record { goes = may.there.goes; stays = z } });
+      opened = λ z ballot. absurd (let none = may.no_ballot in cc);
+    }) b
+moves_branch s t (group.asks i up none) voted k law kt b = one_name s t i (record (s.node i) { leaving = true }) kt (record {
+  node = refl;
+  shown = refl;
+  chain = same_chain s;
+  steady = λ z. inl (up_as (s.node i) _ refl refl refl up);
+  opened = λ z ballot. absurd (cc);
+}) b
+moves_branch s t (group.departs i before may) voted k law kt b = one_name s t i (record (s.node i) { departed = true }) kt (record {
+  node = refl;
+  shown = refl;
+  chain = same_chain s;
+  steady = λ z. absurd (cc);
+  opened = λ z ballot. absurd (let y = z.there.stays in cc);
+}) b
+moves_branch s t (group.closes i n leads leaving alone may) voted k law kt b = one_name s t i (record (longer (s.node i) (Leave i)) { departed = true }) kt
+    (record {
+      node = refl;
+      shown = refl;
+      chain = subst (Begins (chain_of s.views)) (sym (longer_chain s i (record (longer (s.node i) (Leave i)) { departed = true }) (Leave i) k leads refl))
+          (begins_more (chain_of s.views) (Leave i ∷ []));
+      steady = λ z. absurd (cc);
+      opened = λ z ballot. absurd (let y = z.there.stays in cc);
+    }) b
+moves_branch s t (group.stops i) voted k law kt b = one_name s t i (record (s.node i) { stopped = true }) kt (record {
+  node = refl;
+  shown = refl;
+  chain = same_chain s;
+  steady = λ z. inr (refl, z);
+  opened = λ z ballot. absurd (let y = z.there.goes in cc);
+}) b
+
+-- ---- what a decision finds
+
+pub decisions_are_new : DecisionsAreNew
+decisions_are_new s t (group.decides i members resilience may) voted k law b = (
+  by_cases (s.views.decided (key (s.node i).promise))
+      (λ d. absurd (let above = (ballot_ok s k law i members resilience may).above in let most = k.views.order (key (s.node i).promise) d in omega arith))
+      (λ f. f),
+  new_view s k law i members resilience may b voted.1,
+)
+decisions_are_new s t (group.numbers i e leads fit may) voted k law b = tt
+decisions_are_new s t (group.stores i e up decided other stays next) voted k law b = tt
+decisions_are_new s t (group.accepts i n leads may) voted k law b = tt
+decisions_are_new s t (group.learns i told acc up rises within before up_to given low) voted k law b = tt
+decisions_are_new s t (group.begins i few up stays member) voted k law b = tt
+decisions_are_new s t (group.raises i stamp there above) voted k law b = tt
+decisions_are_new s t (group.shows i there small other begun none) voted k law b = tt
+decisions_are_new s t (group.serves i list up shown others) voted k law b = tt
+decisions_are_new s t (group.fetches i f list e up ballot served shown next) voted k law b = tt
+decisions_are_new s t (group.gives_over i) voted k law b = tt
+decisions_are_new s t (group.welcomes j stamp base join may) voted k law b = tt
+decisions_are_new s t (group.asks i up none) voted k law b = tt
+decisions_are_new s t (group.departs i before may) voted k law b = tt
+decisions_are_new s t (group.closes i n leads leaving alone may) voted k law b = tt
+decisions_are_new s t (group.stops i) voted k law b = tt
+
+-- ---- the start
+
+pub branches_begin : BranchesBegin
+branches_begin founders first resilience may =
+    let k = start_kept founders first resilience may in
+    record {
+      branch = λ i stays. by_cases (has founders i)
+          (λ t. on_chain (rw t (begins_refl (opening (first_choice founders first resilience)))))
+          (λ f. on_chain (rw f (begins_nil (opening (first_choice founders first resilience)))));
+      own = λ i stays. by_cases (has founders i)
+          (λ t. (k.each i).own (record { log = t; there = record { goes = refl; stays = refl } }))
+          (λ f. rw f (λ a d below. absurd (let z = below_length below in omega arith)));
+      short = λ c j list up ballot. absurd (cc);
+    }

@@ -1,0 +1,174 @@
+-- Who joins is one of the 256 names, and a View has a set of them: so members are sets of names.
+use Rattle.std.proofs.Common.{◌≡◌, ◌≢◌, ⊎_elim, ℕ, ◌+◌, ◌-◌, ◌<◌, ◌≤◌, ◌==◌, ◌&&◌, not, nat_lt, Bool, true, false, List, [], ◌∷◌}
+use Rattle.std.proofs.Common.{◌++◌, length, take, Option, Some, None, slice_get, slice_index, refl, sym, ap, ◌∙◌, subst, arith}
+use Rattle.std.specs.Prelude.{All}
+use Rattle.std.proofs.lemmas.Bool.Decides.{nat_tests}
+use Rattle.std.proofs.lemmas.List.{length-map, get_or-replicate}
+use Rattle.std.proofs.lemmas.List.Elements.{All-head, All-tail, All-nil, All-cons, All-append, All-take}
+use Rattle.am_base.specs.declared.entry.Entry.{Entry}
+use Rattle.am_base.specs.declared.entry.Entry.TheVariants.{Data, Join, Leave, View}
+use Rattle.am_base.specs.declared.image.Row.{Row}
+use Rattle.am_base.specs.declared.image.Image.{Image}
+use Rattle.am_base.specs.Names.{IsSet, place_of, life_of, has}
+use Rattle.am_base.specs.Lists.{blank_row, blank, is_blank, at_place, member_life, members_of, with_row, viewed, after, fold, top_of}
+use Rattle.am_base.specs.Fronts.{counted_of}
+use Rattle.am_core.proofs.Lives.{unions_most, member_at}
+use Rattle.am_chain_lists.specs.Whole.{Begins, told, key}
+use Rattle.am_chain_lists.proofs.Rows.{by_cases, row_at, row_set, row_view, long_after, mod16}
+use Rattle.am_chain_lists.proofs.Members.{long_told}
+use Rattle.am_chain_moves.specs.Group as groups
+use Rattle.am_chain_moves.specs.Group.{Group, counted, opening, chain_of}
+use Rattle.am_chain_moves.specs.Moves as group
+use Rattle.am_chain_moves.specs.Moves.{Move, choice_of, longer}
+use Rattle.am_chain_moves.proofs.Puts.{put_same}
+use Rattle.am_effects.proofs.Items.{all_get}
+use Rattle.am_model.specs.Node as nodes
+use Rattle.am_model.specs.Node.{Node}
+use Rattle.am_model.specs.Refresh.{concerned}
+use Rattle.am_model.specs.World.{World}
+use Rattle.am_stands.specs.Moving.{NamesNamed}
+use Rattle.am_stands.specs.Standing.{NameStands}
+use Rattle.am_stands.specs.Accepting.{CountsNames}
+use Rattle.am_stands.specs.Sending.{RowsLive}
+use Rattle.am_stands.specs.Branches.{MovesNamed}
+use Rattle.am_stands.proofs.Changes.{told_all}
+use Rattle.am_stands.proofs.LeftOut.{longer_chain}
+use Rattle.am_stands.proofs.Parts.{counted_whole, image_whole}
+
+-- ---- each move
+
+pushed_named : (list : List Entry) (e : Entry) → All NamesNamed list → NamesNamed e → All NamesNamed (list ++ e ∷ [])
+pushed_named list e h new = All-append NamesNamed list (e ∷ []) h (All-cons NamesNamed e [] new (All-nil NamesNamed))
+
+pub front_named : (a b : List Entry) → Begins a b → All NamesNamed b → All NamesNamed a
+front_named [] b h k = All-nil NamesNamed
+front_named (x ∷ a) b h k = (let all = subst (All NamesNamed) (sym h.same) k in
+    All-cons NamesNamed x a (All-head NamesNamed x (a ++ h.rest) all)
+    (front_named a (a ++ h.rest) (record { rest = h.rest; same = refl }) (All-tail NamesNamed x (a ++ h.rest) all)))
+
+pub moves_named : MovesNamed
+moves_named s t (group.numbers i e leads fit may) ok k h = subst (All NamesNamed) (sym (longer_chain s i (longer (s.node i) e) e k leads refl))
+    (pushed_named (chain_of s.views) e h ok)
+moves_named s t (group.stores i e up decided other stays next) ok k h = h
+moves_named s t (group.accepts i n leads may) ok k h = h
+moves_named s t (group.learns i told acc up rises within before up_to given low) ok k h = h
+moves_named s t (group.begins i few up stays member) ok k h = h
+moves_named s t (group.raises i stamp there above) ok k h = h
+moves_named s t (group.shows i there small other begun none) ok k h = h
+moves_named s t (group.serves i list up shown others) ok k h = h
+moves_named s t (group.fetches i f list e up ballot served shown next) ok k h = h
+moves_named s t (group.decides i members resilience may) ok k h =
+    subst (All NamesNamed) (sym (put_same s.views.line (key (s.node i).promise) (opening (choice_of (s.node i) members resilience))))
+    (pushed_named (s.node i).list (groups_view i members resilience) (front_named (s.node i).list (chain_of s.views) ((k.each i).list may.up) h) ok.0)
+  where
+    groups_view : ℕ → List ℕ → ℕ → Entry
+    groups_view i members resilience = View (s.node i).promise members resilience
+moves_named s t (group.gives_over i) ok k h = h
+moves_named s t (group.welcomes j stamp base join may) ok k h = h
+moves_named s t (group.asks i up none) ok k h = h
+moves_named s t (group.departs i before may) ok k h = h
+moves_named s t (group.closes i n leads leaving alone may) ok k h =
+    subst (All NamesNamed) (sym (longer_chain s i (record (longer (s.node i) (Leave i)) { departed = true }) (Leave i) k leads refl))
+    (pushed_named (chain_of s.views) (Leave i) h tt)
+moves_named s t (group.stops i) ok k h = h
+
+-- ---- rows
+
+record RowNamed (r : Row) : Type 0 where
+  life : r.life ≤ 16
+  lives : r.life ≡ 0 → r.joined ≡ 0
+
+abbrev RowsNamed : Image → Type 0
+RowsNamed image = (place : ℕ) → place < 16 → RowNamed (row_at image place)
+
+put_named : (image : Image) (who : ℕ) (r : Row) → length image.rows ≡ 16 → RowNamed r → RowsNamed image → RowsNamed (with_row image who r)
+put_named image who r long new h place low = ⊎_elim
+    (λ (z : (place ≡ place_of who) × (row_at (with_row image who r) place ≡ r)). subst RowNamed (sym z.1) new)
+    (λ (z : (place ≢ place_of who) × (row_at (with_row image who r) place ≡ row_at image place)). subst RowNamed (sym z.1) (h place low))
+    (row_set image who place r long)
+
+viewed_named : (first : Bool) (n given : ℕ) (r : Row) → given ≤ 16 → RowNamed r → RowNamed (viewed first n given r)
+viewed_named true n given r low h = by_cases (given == 0)
+    (λ t. rw t h)
+    (λ f. rw f (record { life = low; lives = λ z. absurd (grind (arith, nat_tests)) }))
+viewed_named false n given r low h = by_cases (nat_lt 0 (member_life r) && not (member_life r == given))
+    (λ t. rw t (record { life = h.life; lives = h.lives }))
+    (λ f. rw f h)
+
+after_named : (image : Image) (n : ℕ) (e : Entry) → length image.rows ≡ 16 → NamesNamed e → RowsNamed image → RowsNamed (after image n e)
+unfolding after
+after_named image n (Data from req body) long e h = by_cases ((at_place image from).life == life_of from)
+    (λ t. rw t (put_named image from (record (at_place image from) { last = req }) long
+    (let o = h (place_of from) (mod16 from) in record { life = o.life; lives = o.lives }) h))
+    (λ f. rw f h)
+after_named image n (Join name) long e h = put_named image name (record { life = life_of name; joined = n; left = 0; last = 0 }) long
+    (record { life = omega arith; lives = λ z. absurd (omega arith) }) h
+after_named image n (Leave name) long e h = by_cases ((at_place image name).life == life_of name)
+    (λ t. rw t (put_named image name (record (at_place image name) { left = n }) long
+    (let o = h (place_of name) (mod16 name) in record { life = o.life; lives = o.lives }) h))
+    (λ f. rw f h)
+after_named image n (View stamp names resilience) long e h = λ place low.
+    (let places = e.places in
+    subst RowNamed (sym (row_view image n stamp names resilience place low))
+    (viewed_named (is_blank image) n (slice_index names place) (row_at image place) (e.lives place (omega arith)) (h place low)))
+
+fold_named : (image : Image) (n : ℕ) (es : List Entry) → length image.rows ≡ 16 → All NamesNamed es → RowsNamed image → RowsNamed (fold image n es)
+unfolding fold
+fold_named image n [] long k h = h
+fold_named image n (e ∷ es) long k h = fold_named (after image n e) (n + 1) es (long_after image n e long) (All-tail NamesNamed e es k)
+    (after_named image n e long (All-head NamesNamed e es k) h)
+
+rows_named : (list : List Entry) → All NamesNamed list → RowsNamed (told list)
+rows_named list k = fold_named blank 1 list refl k
+    (λ place low. subst RowNamed (sym (get_or-replicate 16 place blank_row blank_row low)) (record { life = omega arith; lives = λ z. refl }))
+
+member_named : (r : Row) → RowNamed r → member_life r ≤ 16
+member_named r h = by_cases (nat_lt 0 r.joined && (r.left == 0)) (λ t. rw t h.life) (λ f. rw f (omega arith))
+
+pub members_named : (list : List Entry) → All NamesNamed list → IsSet (members_of (told list))
+members_named list k =
+    let long = long_told list in
+    let size = length-map (told list).rows member_life ∙ long in
+    record {
+      places = size;
+      lives = λ place low. (let small : place < 16 = omega arith in
+          let is = member_at (told list) place (omega arith) in
+          let most = member_named (row_at (told list) place) (rows_named list k place small) in
+          omega arith);
+    }
+
+counted_named : (list : List Entry) (n : ℕ) (o : Option Entry) → All NamesNamed list → ((e : Entry) → o ≡ Some e → NamesNamed e)
+    → IsSet (counted_of o (members_of (told (take n list))))
+counted_named list n None k its = members_named (take n list) (All-take NamesNamed n list k)
+counted_named list n (Some (Data from req body)) k its = members_named (take n list) (All-take NamesNamed n list k)
+counted_named list n (Some (Join name)) k its = members_named (take n list) (All-take NamesNamed n list k)
+counted_named list n (Some (Leave name)) k its = members_named (take n list) (All-take NamesNamed n list k)
+counted_named list n (Some (View stamp names resilience)) k its = its (View stamp names resilience) refl
+
+-- ---- of a node, whose list is so
+
+pub counts_names : (v : World) (i : ℕ) (x : Node) (a : groups.Node) → NameStands v i x a → All NamesNamed a.list → CountsNames x
+counts_names v i x a h k n low = subst IsSet (sym (counted_whole v i n x a h low))
+    (counted_named a.list (n - 1) (slice_get a.list (n - 1)) k (λ e is. all_get NamesNamed a.list (n - 1) e k is))
+
+pub rows_live : (v : World) (i : ℕ) (x : Node) (a : groups.Node) → NameStands v i x a → All NamesNamed a.list → RowsLive x
+rows_live v i x a h k name none =
+    let is = told_all v i x a h in
+    let row = rows_named a.list k (place_of name) (mod16 name) in
+    let same : row_at (told a.list) (place_of name) ≡ at_place (nodes.told x) name = ap (λ (g : Image). at_place g name) is in
+    ap (λ (r : Row). r.joined) (sym same) ∙ row.lives (ap (λ (r : Row). r.life) same ∙ none)
+
+pub concerned_small : (v : World) (i : ℕ) (x : Node) (a : groups.Node) → NameStands v i x a → All NamesNamed a.list → x.core.log.start ≤ x.core.acc
+    → (j : ℕ) → has (concerned x) j ≡ true → j < 256
+concerned_small v i x a h k low j in_ =
+    let log = x.core.log in
+    let place = mod16 j in
+    let most = unions_most log x.core.acc (top_of log - x.core.acc) (place_of j) 16 place (λ n from upto.
+    (let is = ap (λ (g : Image). members_of g) (image_whole v i n x a h (omega arith)) in
+    let set = members_named (take n a.list) (All-take NamesNamed n a.list k) in
+    let size = set.places in
+    let its = set.lives (place_of j) (omega arith) in
+    let same = ap (λ m. slice_index m (place_of j)) is in
+    omega arith)) in
+    let at : slice_index (concerned x) (place_of j) ≡ life_of j = grind (arith, nat_tests) in
+    omega arith

@@ -1,0 +1,68 @@
+-- Who is concerned by a list with one entry more, and what is reported of it.
+use Rattle.std.proofs.Common.{◌≡◌, ◌⊎◌, inl, inr, ⊎_elim, ℕ, ◌+◌, ◌≤◌, List, [], ◌∷◌, ◌++◌, length, true, false, refl, sym, ap, ◌∙◌, subst, arith}
+use Rattle.am_base.specs.declared.entry.Entry.{Entry}
+use Rattle.am_base.specs.declared.entry.Entry.TheVariants.{Data, Join, Leave, View}
+use Rattle.am_base.specs.declared.image.Report.{Report}
+use Rattle.am_base.specs.declared.image.Image.{Image}
+use Rattle.am_base.specs.Names.{place_of, life_of}
+use Rattle.am_chain_lists.specs.Whole.{Begins, NotView, told, mem}
+use Rattle.am_chain_lists.proofs.Prefixes.{begins_refl, begins_more, begins_trans, begins_pushed, length_push}
+use Rattle.am_chain_lists.proofs.Rows.{row_at, In}
+use Rattle.am_chain_lists.proofs.Members.{told_push, long_told, mem_in, in_mem}
+use Rattle.am_chain_moves.specs.Group as groups
+use Rattle.am_model.specs.Receiving.{is_view}
+use Rattle.am_laws.proofs.ViewSteps.{after_same}
+use Rattle.am_stands.specs.States.{IsConcerned, Reporting}
+use Rattle.am_stands.proofs.Ends.{taken_more}
+use Rattle.am_stands.proofs.Joins.{Becomes, stayed, joins, founds, became}
+use Rattle.am_stands.proofs.Parts.{number_low}
+
+-- ---- who is a member after an entry that is no View
+
+pub no_view : (e : Entry) → NotView e → is_view e ≡ false
+no_view (Data from req body) h = refl
+no_view (Join name) h = refl
+no_view (Leave name) h = refl
+no_view (View stamp names resilience) h = absurd h
+
+pub mem_back : (a : List Entry) (e : Entry) (name : ℕ) → NotView e → mem (a ++ e ∷ []) name ≡ true → (mem a name ≡ true) ⊎ (e ≡ Join name)
+mem_back a e name plain h = back (became (told a) (1 + length a) e name (long_told a) (omega arith)
+    (subst (λ (i : Image). In (row_at i (place_of name)) (life_of name)) (told_push a e) (mem_in (a ++ e ∷ []) name h)))
+  where
+    back : Becomes (told a) (1 + length a) e name → (mem a name ≡ true) ⊎ (e ≡ Join name)
+    back (stayed in_ same) = inl (in_mem a name in_)
+    back (joins is same) = inr is
+    back (founds viewed blank_ same) = absurd (let z = no_view e plain in cc)
+
+-- ---- and so who is concerned
+
+pub concerned_push : (list : List Entry) (e : Entry) (name : ℕ) → NotView e → IsConcerned (list ++ e ∷ []) name
+    → IsConcerned list name ⊎ (e ≡ Join name)
+concerned_push list e name plain h =
+    let same : (told (list ++ e ∷ [])).view_number ≡ (told list).view_number =
+    ap (λ (i : Image). i.view_number) (told_push list e) ∙ (after_same (told list) (1 + length list) e (no_view e plain)).number in
+    let from_ = h.from in
+    ⊎_elim
+    (λ (z : Begins h.upto list). inl (record { upto = h.upto; begins = z; from = omega arith; member = h.member }))
+    (λ (z : h.upto ≡ list ++ e ∷ []). ⊎_elim
+    (λ (m : mem list name ≡ true). inl (record { upto = list; begins = begins_refl list; from = number_low list; member = m }))
+    (λ (j : e ≡ Join name). inr j)
+    (mem_back list e name plain (subst (λ l. mem l name ≡ true) z h.member)))
+    (begins_pushed e h.begins)
+
+-- ---- reports
+
+-- where names have no less, and a report of one that joins is at the base
+pub reporting_push : (node after_ : ℕ → groups.Node) (list : List Entry) (e : Entry) (base : ℕ) (reports : ℕ → Report) → NotView e
+    → ((i : ℕ) → Begins (node i).list (after_ i).list) → ((i : ℕ) → e ≡ Join i → (reports i).stored ≤ base)
+    → Reporting node list base reports → Reporting after_ (list ++ e ∷ []) base reports
+reporting_push node after_ list e base reports plain grow fresh r = record {
+  within = λ name. (let low = r.within name in let more = length_push list e in omega arith);
+  taken = r.taken;
+  true_ = λ name few concerned above. ⊎_elim
+      (λ (z : IsConcerned list name). subst (λ l. Begins l (after_ name).list)
+      (sym (taken_more (reports name).stored list (list ++ e ∷ []) (begins_more list (e ∷ [])) (r.within name)))
+      (begins_trans (r.true_ name few z above) (grow name)))
+      (λ (z : e ≡ Join name). absurd (let low = fresh name z in omega arith))
+      (concerned_push list e name plain concerned);
+}

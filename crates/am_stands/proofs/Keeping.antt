@@ -1,0 +1,279 @@
+-- What a node keeps besides what it shares with the group, and what is known of it within a step.
+use Rattle.std.proofs.Common.{◌≡◌, ℕ, ◌<◌, ◌==◌, ◌||◌, not, max, true, false, List}
+use Rattle.std.proofs.Common.{Some, refl, sym, ap, ◌∙◌, subst, arith}
+use Rattle.std.proofs.lemmas.Bool.Decides.{nat_tests}
+use Rattle.am_base.specs.declared.entry.Entry.{Entry}
+use Rattle.am_base.specs.declared.entry.Entry.TheVariants.{View}
+use Rattle.am_base.specs.declared.image.Image.{Image}
+use Rattle.am_base.specs.declared.image.Vote.{Vote}
+use Rattle.am_base.specs.declared.name.Stamp.{Stamp}
+use Rattle.am_base.specs.declared.outcome.Outcome.{Outcome}
+use Rattle.am_base.specs.Founding.{Rules}
+use Rattle.am_base.specs.Names.{IsSet, has}
+use Rattle.am_base.specs.Stamps.{stamp_eq}
+use Rattle.am_base.specs.Lists.{members_of}
+use Rattle.am_packet.specs.declared.packet.Packet.TheVariants as packet
+use Rattle.am_chain_lists.specs.Whole.{IsGood, mem, key}
+use Rattle.am_chain_lists.proofs.Members.{good_begins}
+use Rattle.am_chain_lists.proofs.Order.{view_small}
+use Rattle.am_chain_moves.specs.Group.{Group, IsUp, chain_of}
+use Rattle.am_chain_moves.specs.Kept.{Kept}
+use Rattle.am_model.specs.declared.status.Status.{Status}
+use Rattle.am_model.specs.declared.status.Status.TheVariants as status
+use Rattle.am_model.specs.Node.{Node, Ballot, view, members, is_member, is_asking, is_sequencer, acts, lowest_or_first}
+use Rattle.am_model.specs.Ballots.{Verdict}
+use Rattle.am_model.specs.Calls.{is_unfinished}
+use Rattle.am_model.specs.Hearing.{hears_member, hears_sequencer}
+use Rattle.am_model.specs.Group.{has_log}
+use Rattle.am_model.specs.World.{World, is_stopped, has_departed}
+use Rattle.am_model.proofs.Greatest.{split, and_both}
+use Rattle.am_effects.specs.Causes.{Cause, hears}
+use Rattle.am_effects.specs.Looks.{Balloting, Looks, finds_itself_out, waits, fetches_from_best, finds_too_few, finds_no_room, decides, with_more}
+use Rattle.am_effects.specs.Looks.{without_one, as_it_is}
+use Rattle.am_effects.specs.Changes.{Numbers, MayStore, MayBeWelcomed, Fetches}
+use Rattle.am_effects.specs.Changes.{Promises, invited, overtaken, told_result, Carries, whole_entry, by_number, Change, refreshes, settles, takes_report}
+use Rattle.am_effects.specs.Changes.{admits, numbers, keeps_body, notes, stores, begins_list, departs}
+use Rattle.am_effects.specs.Changes.{looks, promises, opens, fetches, stores_view, queues, collects, takes, asks_to_join, asks_to_leave, closes}
+use Rattle.am_effects.proofs.Tests.{not_true}
+use Rattle.am_laws.proofs.Stamps.{same_stamp}
+use Rattle.am_laws.proofs.Taken.{looked_vote}
+use Rattle.am_laws.proofs.Trims.{told_used}
+use Rattle.am_laws.proofs.ViewChanges.{OpenBallot, looked_at}
+use Rattle.am_sent.proofs.Kept as sent
+use Rattle.am_sent.proofs.Changes.{MaySend, body_of_sent}
+use Rattle.am_stands.specs.Standing.{NameStands, within}
+use Rattle.am_stands.specs.Letters as says
+use Rattle.am_stands.specs.Letters.{Trimmed, VoteTells, VoteSays, AllShown, WasAsked, PacketSays, IsDecided, line}
+use Rattle.am_stands.specs.States.{BodiesAsked}
+use Rattle.am_stands.specs.Steps.{WasBegun, MayMove, NeedsNumber, NeedsEntry, NeedsWelcome, Needs, NeedsLook, NeedsPiece}
+use Rattle.am_stands.specs.Sending.{KeptWhole}
+use Rattle.am_stands.proofs.Changes.{looked_open, own_name, is_up, told_whole}
+use Rattle.am_stands.proofs.ChainNames.{front_named, members_named}
+use Rattle.am_stands.proofs.Entries.{is_leading, view_whole}
+use Rattle.am_stands.proofs.Heard.{bcast_needs, order_needs, result_needs, number_needs}
+use Rattle.am_stands.proofs.Onward.{group_kept, group_whole}
+use Rattle.am_stands.proofs.Pieces.{piece_needs}
+use Rattle.am_stands.proofs.Requests.{own_fits}
+use Rattle.am_stands.proofs.Shown.{looked_votes}
+use Rattle.am_stands.proofs.Votes.{BallotKnown, decision_needs, undecided}
+use Rattle.am_stands.proofs.Welcomes.{welcome_needs}
+use Rattle.am_stands.specs.Keeping.{BallotStands, LastStands, Stepping}
+
+-- ---- a node
+
+-- ---- within a step
+
+module _ (rules : Rules) (w : World) (name : ℕ) (c : Cause) (x : Node) (s : Group) (h : Stepping rules w name c x s) where
+  pub kept : Kept s
+  kept = group_kept rules.founders (lowest_or_first rules.founders) rules.resilience s h.group
+
+  pub whole : KeptWhole s
+  whole = group_whole rules.founders (lowest_or_first rules.founders) rules.resilience s h.group
+
+  pub old : NameStands (within w name x) name x (s.node name)
+  old = own_name w name x s h.few h.stands
+
+  pub up : is_member x.status ≡ true → IsUp (s.node name)
+  up t = is_up w name x (s.node name) h.runs t old
+
+  pub good : is_member x.status ≡ true → IsGood (s.node name).list
+  good t = good_begins ((kept.each name).list (up t)) kept.views.good
+
+  promise_begun : (v : Stamp) → Promises c x v → WasBegun s v
+  promise_begun v (invited from _ is heard own) = h.begun (packet.Invite from v) is
+  promise_begun v (overtaken from _ vote is heard above) = h.begun (packet.Vote from v vote) is
+  promise_begun v (told_result from _ base number names resilience is heard own other) = h.begun (packet.Result from v base number names resilience) is
+
+  pub may_move : MayMove w name c x s
+  may_move = record {
+    few = h.few;
+    runs = h.runs;
+    who = h.who;
+    promise = h.along.names.promise_;
+    ballot = λ b is open_. sym ((subst (OpenBallot x.core.who x.core.promise (view x)) is h.along.balloted.opened) open_).promised;
+    stamps = promise_begun;
+    noted = h.noted;
+    gone = λ from v number is. (let k = h.heard (packet.Gone from v number) is in k.says name k.addressed);
+  }
+
+  -- the ballot that is looked at
+  pub looked_last : (b : Ballot) → Balloting c x b → BallotStands w b
+  looked_last b (as_it_is was o on) = subst (LastStands w) o.last h.keeps.last
+  looked_last b (without_one was other is o apart) =
+      let k = subst (LastStands w) o.last h.keeps.last in
+      record {
+        given = λ j. split (j == other)
+            (λ t. λ at. (let same : other ≡ j = grind (arith, nat_tests) in subst (λ z. is_stopped w z ≡ true) same (h.given other is)))
+            (λ f. λ at. k.given j (rw f at at));
+        names = λ j vote. split (j == other)
+            (λ t. λ at. absurd (let z = rw t at at in cc))
+            (λ f. λ at. k.names j vote (rw f at at));
+      }
+  looked_last b (with_more was from v shown is heard low high o same stays) =
+      let k = subst (LastStands w) o.last h.keeps.last in
+      let small = h.names.senders (packet.Vote from v shown) is in
+      let named = (h.heard (packet.Vote from v shown) is).says.0 in
+      record {
+        given = k.given;
+        names = λ j vote. split (j == from)
+            (λ t. λ at. (let its : j ≡ from = grind (arith, nat_tests) in
+            let some : Some shown ≡ Some vote = rw t at at in
+            let is_vote : shown ≡ vote = cc in
+            (subst (λ z. z < 256) (sym its) small, subst (λ (z : Vote). z.view.by < 256) is_vote named)))
+            (λ f. λ at. k.names j vote (rw f at at));
+      }
+
+  pub unfinished : (b : Ballot) → Balloting c x b → is_unfinished x.ballot ≡ true
+  unfinished b why = looked_open c x b why
+
+  pub known : (b : Ballot) → Balloting c x b → BallotKnown w name x b s
+  known b why =
+      let open_ = looked_open c x b why in
+      let member = (h.keeps.opens open_).0 in
+      let looked = (looked_at x b why h.along.balloted).open_ in
+      let has_ballot = old.ballot ∙ open_ in
+      let fresh = undecided s name kept (up member) has_ballot in
+      let same : (s.node name).promise ≡ b.stamp = old.promise ∙ looked.promised in
+      let last = looked_last b why in
+      record {
+        few = h.few;
+        who = h.who;
+        stands = old;
+        up = up member;
+        ballot = has_ballot;
+        stamp = sym looked.promised;
+        votes = looked_votes c x b s why looked.own (ap (λ (u : Stamp). s.views.decided (key u)) (sym same) ∙ fresh)
+            (λ from v vote is. (h.heard (packet.Vote from v vote) is).says.1) h.keeps.votes;
+        own = looked_vote c x b why h.along.owned.vote;
+        given = λ j t. (let gone = last.given j t in
+            let few = h.stopped j gone in
+            (h.stands.each j few).stopped ∙ gone);
+        view_ = subst (λ (u : Stamp). u.by < 256) (view_whole w name x (s.node name) old) (view_small (s.node name).list (good member));
+        views = λ j vote is. (last.names j vote is).1;
+        names = λ j vote is. (last.names j vote is).0;
+      }
+
+  -- ---- what each change needs
+
+  was_asked : (who req : ℕ) (body : List ℕ) → sent.WasSent w.records who req body → WasAsked w who req body
+  was_asked who req body k = record { index = k.index; done = k.send; there = k.there; is = k.is }
+
+  bodies : BodiesAsked w x
+  bodies from req body is = was_asked from req body (subst (MaySend w.records from req) is (body_of_sent w.records name x from req h.sent))
+
+  pub list_member : is_sequencer x ≡ true → mem (s.node name).list name ≡ true
+  unfolding mem
+  list_member t = ap (λ (i : Image). has (members_of i) name) (told_whole w name name x (s.node name) old) ∙ ap (has (members x)) (sym h.who)
+      ∙ h.along.owned.leads t
+
+  pub sequencer_member : is_sequencer x ≡ true → is_member x.status ≡ true
+  sequencer_member t = (and_both (is_member x.status) (stamp_eq x.core.promise (view x)) (and_both (acts x) ((view x).by == x.core.who) t).0).0
+
+  pub member_set : is_member x.status ≡ true → IsSet (members x)
+  member_set t = subst (λ (i : Image). IsSet (members_of i)) (told_whole w name name x (s.node name) old)
+      (members_named (s.node name).list (front_named (s.node name).list (chain_of s.views) ((kept.each name).list (up t)) h.group.named))
+
+  pub number_ok : (e : Entry) → is_sequencer x ≡ true → Numbers c x e → NeedsNumber s name x e
+  number_ok e t why = number_needs w name c x e s kept h.who h.runs old (is_leading w name x (s.node name) h.who t old)
+      (told_used x h.along.owned.fronts).places
+      (own_fits (within w name x) name x (s.node name) old (good (sequencer_member t))
+      (subst (λ k. mem (s.node name).list k ≡ true) (sym h.who) (list_member t)) h.keeps.turn)
+      (λ from v report is. (h.heard (packet.LeaveAsk from v report) is).says)
+      (λ from v is. h.names.senders (packet.JoinAsk from v) is) why
+
+  store_ok : (from : ℕ) (v : Stamp) (base acc number : ℕ) (e : Entry) → Carries c x from v base acc number e → hears_sequencer x from v ≡ true
+      → MayStore x x.core.base base number e → NeedsEntry s name x e
+  store_ok from v base acc number e (whole_entry _ is) heard may =
+      bcast_needs w name from x.core.base base acc number x v e s kept h.who h.runs old heard may (h.heard (packet.Bcast from v base acc number e) is).says.1
+  store_ok from v base acc number e (by_number sender req body is found) heard may =
+      order_needs w name from x.core.base base acc number sender req x v body s kept h.who h.runs old heard found may bodies h.once
+      (h.heard (packet.Order from v base acc number sender req) is).says.1
+
+  asking_blank : (t : Status) → is_member t ≡ false → (is_member t || is_asking t) ≡ true → (has_log t ≡ false) × (has_departed t ≡ false)
+  asking_blank status.Stranger f k = absurd (cc)
+  asking_blank status.Asking f k = (refl, refl)
+  asking_blank status.Member f k = absurd (cc)
+  asking_blank status.Departed f k = absurd (cc)
+
+  welcome_ok : (from : ℕ) (v : Stamp) (base join : ℕ) (image : Image) → c ≡ hears (packet.Welcome from v base join image)
+      → MayBeWelcomed x from v base join image → NeedsWelcome s name v base join image
+  welcome_ok from v base join image is may =
+      let k = h.heard (packet.Welcome from v base join image) is in
+      let blank_ = asking_blank x.status may.no_member (and_both (not (from == x.core.who)) (is_member x.status || is_asking x.status) may.asks).1 in
+      by_kind blank_.0 blank_.1 (k.says.1 name k.addressed)
+    where
+      by_kind : has_log x.status ≡ false → has_departed x.status ≡ false → says.WelcomeTo s from v base join image name → NeedsWelcome s name v base join image
+      by_kind none stays (says.has_begun t) = absurd (let f = old.log_ ∙ none in cc)
+      by_kind none stays (says.has_gone t) = absurd (let f = old.stopped ∙ h.runs in cc)
+      by_kind none stays (says.has_left t) = absurd (let f = old.departed ∙ stays in cc)
+      by_kind none stays (says.is_leaving t) = absurd (let log = h.keeps.leaves (sym old.leaving ∙ t) in cc)
+      by_kind none stays (says.may_begin t) =
+          welcome_needs w name from base join x v image s kept h.who h.runs h.along.names.promise_ (h.names.stamps (packet.Welcome from v base join image) is)
+          (split x.leaving (λ u. absurd (let log = h.keeps.leaves u in cc)) (λ f. f))
+          (split (is_unfinished x.ballot) (λ u. absurd (let z = (h.keeps.opens u).0 in let y = may.no_member in cc)) (λ f. f))
+          old may t
+
+  pub looks_own : (b : Ballot) → Balloting c x b → x.core.promise.by ≡ name
+  looks_own b why = (let o = (looked_at x b why h.along.balloted).open_ in ap (λ (u : Stamp). u.by) o.promised ∙ o.own ∙ h.who)
+
+  look_ok : (b : Ballot) (v : Verdict) → Balloting c x b → (look : Looks x b v) → NeedsLook s name look
+  look_ok b v why (finds_itself_out y) = tt
+  look_ok b v why (waits y z) = tt
+  look_ok b v why (fetches_from_best y z u) = tt
+  look_ok b v why (finds_too_few y z) = tt
+  look_ok b v why (finds_no_room y) = tt
+  look_ok b v why (decides may) = decision_needs w name x b s kept (known b why) (looks_own b why) (member_set (h.keeps.opens (unfinished b why)).0) may
+
+  pub other_heard : (from : ℕ) → hears_member x from ≡ true → ((from == x.core.who) ≡ false) × (is_member x.status ≡ true)
+  other_heard from t = (let both = and_both (not (from == x.core.who)) (is_member x.status) t in (not_true (from == x.core.who) both.0, both.1))
+
+  fetch_ok : (from : ℕ) (v : Stamp) (base number : ℕ) (e : Entry) → c ≡ hears (packet.Piece from v base number e) → hears_member x from ≡ true
+      → stamp_eq v x.core.promise ≡ true → Fetches x from v e → MayStore x (max x.core.base base) base number e → NeedsPiece s name x e
+  fetch_ok from v base number e is heard promise why may =
+      let o = other_heard from heard in
+      piece_needs w name from base number x v e s (record {
+        kept = kept;
+        opens = whole.opens;
+        few = h.few;
+        who = h.who;
+        promise = h.along.names.promise_;
+        runs = h.runs;
+        noted = h.noted;
+        stands = h.stands;
+        member = o.1;
+      }) o.0 (sym (same_stamp v x.core.promise promise)) why may (h.heard (packet.Piece from v base number e) is).says.1
+
+  result_ok : (from : ℕ) (v : Stamp) (base number : ℕ) (names : List ℕ) (resilience : ℕ) → c ≡ hears (packet.Result from v base number names resilience)
+      → hears_member x from ≡ true → (v.by == from) ≡ true → (v.by == x.core.who) ≡ false → x.core.promise ≡ v
+      → MayStore x (max x.core.base base) base number (View v names resilience) → NeedsEntry s name x (View v names resilience)
+  result_ok from v base number names resilience is heard own other promise may =
+      result_needs w name from (max x.core.base base) base number x v names resilience s kept h.who h.runs old heard other promise may
+      ((h.heard (packet.Result from v base number names resilience) is).says.1 (let z : v.by ≡ from = grind (arith, nat_tests) in z))
+
+  abbrev pub IsNoClose : {o : Outcome} {y : Node} → Change c o x y → Type 0
+  IsNoClose (closes leads leaves alone room) = ⊥
+  IsNoClose _ = Unit {0}
+
+  pub needs : (o : Outcome) (y : Node) (z : Change c o x y) → IsNoClose z → Needs s name z
+  needs o y refreshes open_ = tt
+  needs o y settles open_ = tt
+  needs o y (takes_report from v report by may) open_ = tt
+  needs o y (admits from v is leads fit) open_ = tt
+  needs o y (numbers e leads room why) open_ = number_ok e leads why
+  needs o y (keeps_body from v report req body is heard) open_ = tt
+  needs o y (notes from v base acc by heard) open_ = tt
+  needs o y (stores from v base acc number e by heard plain may) open_ = store_ok from v base acc number e by heard may
+  needs o y (begins_list from v base join image is says_ may) open_ = welcome_ok from v base join image is may
+  needs o y (departs from v number is heard leaves) open_ = tt
+  needs o y (promises v low why) open_ = tt
+  needs o y (opens least resilience by may) open_ = tt
+  needs o y (looks b verdict over why look is) open_ = look_ok b verdict why look
+  needs o y (fetches from v base number e is heard promise below why may) open_ = fetch_ok from v base number e is heard promise why may
+  needs o y (stores_view from v base number names resilience is heard own other promise below may) open_ =
+      result_ok from v base number names resilience is heard own other promise may
+  needs o y (queues body is says_ member stays few) open_ = tt
+  needs o y (collects req is) open_ = tt
+  needs o y (takes e is says_ member some there) open_ = tt
+  needs o y (asks_to_join is was) open_ = tt
+  needs o y (asks_to_leave is was stays done) open_ = tt
+  needs o y (closes leads leaves alone room) open_ = absurd open_

@@ -1,0 +1,577 @@
+-- What a node keeps, through each of its changes.
+use Rattle.std.proofs.Common.{◌≡◌, ◌⊎◌, inl, inr, ⊎_elim, ℕ, ◌+◌, ◌≤◌, ◌==◌, ◌&&◌, ◌||◌, not, max, nat_lt, nat_le, if◌then◌else◌, Bool, true}
+use Rattle.std.proofs.Common.{false, List, [], ◌∷◌, ◌++◌, length, take, Option, Some, None, unwrap_or, refl, sym, ap, ◌∙◌, subst, arith}
+use Rattle.std.proofs.Common.{append-nil}
+use Rattle.std.proofs.lemmas.Bool.Decides.{nat_tests}
+use Rattle.std.proofs.lemmas.List.{append_assoc}
+use Rattle.am_base.specs.declared.entry.Entry.{Entry}
+use Rattle.am_base.specs.declared.entry.Entry.TheVariants.{View}
+use Rattle.am_base.specs.declared.image.Image.{Image}
+use Rattle.am_base.specs.declared.image.Report.{Report}
+use Rattle.am_base.specs.declared.image.Vote.{Vote}
+use Rattle.am_base.specs.declared.name.Stamp.{Stamp}
+use Rattle.am_base.specs.declared.outcome.Outcome.{Outcome}
+use Rattle.am_base.specs.declared.outcome.Outcome.TheVariants as said
+use Rattle.am_base.specs.Founding.{Rules}
+use Rattle.am_base.specs.Names.{names_of}
+use Rattle.am_base.specs.Stamps.{stamp_lt, stamp_eq}
+use Rattle.am_base.specs.Lists.{fits, after, told_by}
+use Rattle.am_packet.specs.declared.packet.Packet.{Packet}
+use Rattle.am_packet.specs.declared.packet.Packet.TheVariants as packet
+use Rattle.am_fronts.specs.Reports.{least_of, reported}
+use Rattle.am_chain_lists.specs.Whole.{Begins, IsGood, key}
+use Rattle.am_chain_lists.proofs.Members.{good_begins}
+use Rattle.am_chain_moves.specs.Group.{Group, opening}
+use Rattle.am_model.specs.declared.status.Status.{Status}
+use Rattle.am_model.specs.declared.status.Status.TheVariants as status
+use Rattle.am_model.specs.Node as nodes
+use Rattle.am_model.specs.Node.{Node, Ballot, view, acts, unsettled, is_member, is_asking, is_sequencer, pushed, trimmed, lowest_or_first}
+use Rattle.am_model.specs.Ballots.{Verdict, overtaken as overtaken_by, need_of, left_in, taken_by}
+use Rattle.am_model.specs.Calls.{is_unfinished}
+use Rattle.am_model.specs.Group.{has_log}
+use Rattle.am_model.specs.Refresh.{settle}
+use Rattle.am_model.specs.World.{World, is_stopped, has_departed}
+use Rattle.am_model.proofs.Greatest.{split, and_both}
+use Rattle.am_effects.specs.Causes.{Cause, hears, BringsSend, by_request, by_spread, BringsReport, with_send, by_ack, by_nack, by_leave_ask, BringsFronts}
+use Rattle.am_effects.specs.Causes.{with_entry, with_number, alone}
+use Rattle.am_effects.specs.Looks.{Balloting, Looks, finds_itself_out, waits, fetches_from_best, finds_too_few, finds_no_room, decides, HasLearned}
+use Rattle.am_model.specs.Hearing.{hears_member, hears_in_view, hears_sequencer}
+use Rattle.am_effects.specs.Changes.{MayReport, Change, refreshes, settles, takes_report, admits, numbers, keeps_body, notes, stores, begins_list}
+use Rattle.am_effects.specs.Changes.{departs, promises}
+use Rattle.am_effects.specs.Changes.{opens, looks, fetches, stores_view, queues, collects, takes, asks_to_join, asks_to_leave, closes}
+use Rattle.am_effects.proofs.Statuses.{logged}
+use Rattle.am_effects.proofs.Rests.{settle_is}
+use Rattle.am_effects.proofs.Says.{told_pushed}
+use Rattle.am_laws.proofs.Stamps.{same_stamp}
+use Rattle.am_laws.proofs.TakenRuns.{Along}
+use Rattle.am_laws.proofs.Trims.{told_used}
+use Rattle.am_stands.specs.Standing.{NameStands, within}
+use Rattle.am_stands.specs.Letters as says
+use Rattle.am_stands.specs.Letters.{Trimmed, VoteTells, AllShown, PacketSays, IsDecided, line}
+use Rattle.am_stands.specs.Growing.{Grows}
+use Rattle.am_stands.specs.States.{VotesStand, FetchesStand, ReportsStand, ReportsFresh, OpensStand, IsNew, IsConcerned, Reporting}
+use Rattle.am_stands.proofs.Changes.{or_last, long_all}
+use Rattle.am_stands.proofs.Onward.{group_kept}
+use Rattle.am_stands.proofs.Entries.{key_stamp}
+use Rattle.am_stands.proofs.Keeping.{kept, old, up, good, known, looked_last}
+use Rattle.am_stands.proofs.Keeping.{unfinished, sequencer_member, number_ok, other_heard}
+use Rattle.am_stands.proofs.Letters.{all_stay, trimmed_stays}
+use Rattle.am_stands.proofs.Reporting.{reporting_grow, reporting_base, reporting_anew, reporting_admit, reporting_more, reporting_pushed, fits_new}
+use Rattle.am_stands.proofs.Reporting.{new_before, known_old, report_true, leaver_true}
+use Rattle.am_stands.proofs.Requests.{turn_grows, turn_queued, turn_collected, turn_settled}
+use Rattle.am_stands.proofs.Sent.{Speaks, Leading, leading}
+use Rattle.am_stands.proofs.Shown.{votes_grow}
+use Rattle.am_stands.proofs.Trimming.{trimmed_max, TakenKnown, votes_trim}
+use Rattle.am_stands.proofs.Votes.{best_shown}
+use Rattle.am_stands.specs.Keeping.{BallotStands, GroupFor, HeardSo, IsPlain, LastStands, NodeKeeps, OwnTurn, Stepping}
+
+-- ---- what stays, as the group goes on
+
+fetches_grow : (w : World) (s t : Group) (ballot : Option Ballot) → Grows s t → FetchesStand s ballot → FetchesStand t ballot
+fetches_grow w s t None g h = tt
+fetches_grow w s t (Some b) g h = λ open_ from want is. all_stay w w s t g ([], sym (append-nil w.records)) b.stamp from (h open_ from want is)
+
+pub trimmed_grow : (w : World) (s t : Group) (base : ℕ) → Grows s t → Trimmed s base → Trimmed t base
+trimmed_grow w s t base g h = trimmed_stays w w s t g ([], sym (append-nil w.records)) base h
+
+pub record Ballots (w : World) (s : Group) (ballot : Option Ballot) : Type 0 where
+  pub votes : VotesStand s ballot
+  pub fetches : FetchesStand s ballot
+  pub last : LastStands w ballot
+
+pub ballots_grow : (w : World) (s t : Group) (ballot : Option Ballot) → Grows s t → Ballots w s ballot → Ballots w t ballot
+ballots_grow w s t ballot g h = record { votes = votes_grow s t ballot g h.votes; fetches = fetches_grow w s t ballot g h.fetches; last = h.last }
+
+-- an overtaken one is over
+ballots_overtaken : (w : World) (s : Group) (v : Stamp) (ballot : Option Ballot) → Ballots w s ballot → Ballots w s (overtaken_by v ballot)
+ballots_overtaken w s v None h = h
+ballots_overtaken w s v (Some b) h = split (not b.is_over && stamp_lt b.stamp v)
+    (λ t. rw t (record {
+      votes = λ open_ name vote is. absurd (cc);
+      fetches = λ open_ from want is. absurd (cc);
+      last = (let k = h.last in record { given = k.given; names = k.names });
+    }))
+    (λ f. rw f h)
+
+-- one that has ended, and one that goes on
+ballots_over : (w : World) (s : Group) (b : Ballot) (o : Outcome) → BallotStands w b → Ballots w s (Some (record b { answer = o; is_over = true }))
+ballots_over w s b o k = record {
+  votes = λ open_ name vote is. absurd (cc);
+  fetches = λ open_ from want is. absurd (cc);
+  last = record { given = k.given; names = k.names };
+}
+
+ballots_open : (w : World) (s : Group) (b : Ballot) (o : Outcome) → BallotStands w b
+    → ((j : ℕ) (vote : Vote) → b.votes j ≡ Some vote → VoteTells s j b.stamp vote)
+    → ((from want : ℕ) → o ≡ said.Fetching from want → AllShown s b.stamp from) → Ballots w s (Some (record b { answer = o; is_over = false }))
+ballots_open w s b o k votes shown = record {
+  votes = λ open_ name vote is. votes name vote is;
+  fetches = λ open_ from want is. shown from want is;
+  last = record { given = k.given; names = k.names };
+}
+
+not_shown : (o : Outcome) → ((from want : ℕ) → o ≡ said.Fetching from want → ⊥) → (from want : ℕ) → o ≡ said.Fetching from want → ⊥
+not_shown o f = f
+
+module _ (rules : Rules) (w : World) (name : ℕ) (c : Cause) (x : Node) (s : Group) (h : Stepping rules w name c x s) where
+  pub ballots : Ballots w s x.ballot
+  ballots = record { votes = h.keeps.votes; fetches = h.keeps.fetches; last = h.keeps.last }
+
+  -- a look
+  looked : (b : Ballot) (v : Verdict) → Balloting c x b → Looks x b v → Ballots w s v.node.ballot
+  looked b v why (finds_itself_out y) = ballots_over w s b _ (looked_last rules w name c x s h b why)
+  looked b v why (waits y z) = ballots_open w s b _ (looked_last rules w name c x s h b why) (known rules w name c x s h b why).votes
+      (λ from want is. absurd (cc))
+  looked b v why (fetches_from_best y z u) =
+      let k = known rules w name c x s h b why in
+      let all = best_shown w name x b s (kept rules w name c x s h) k u z in
+      ballots_open w s b _ (looked_last rules w name c x s h b why) k.votes
+      (λ from want is. (let same : _ ≡ from = ap fetched_from is in subst (AllShown s b.stamp) same all))
+    where
+      fetched_from : Outcome → ℕ
+      fetched_from (said.Fetching from want) = from
+      fetched_from _ = 0
+  looked b v why (finds_too_few y z) = ballots_over w s b _ (looked_last rules w name c x s h b why)
+  looked b v why (finds_no_room y) = ballots_over w s b _ (looked_last rules w name c x s h b why)
+  looked b v why (decides may) = ballots_over w s b _ (looked_last rules w name c x s h b why)
+
+stays_member : (t : Status) → is_member t ≡ true → has_departed t ≡ false
+stays_member status.Stranger h = refl
+stays_member status.Asking h = refl
+stays_member status.Member h = refl
+stays_member status.Departed h = absurd (cc)
+
+-- ---- each part, at the group that the moves of a change lead to
+
+module _ (rules : Rules) (w v : World) (name : ℕ) (c : Cause) (x y : Node) (s t : Group) (h : Stepping rules w name c x s) (g : Grows s t)
+    (gt : GroupFor rules t) (runs : is_stopped v name ≡ false) (group_ : v.group ≡ w.group)
+    (new : NameStands (within v name y) name y (t.node name)) where
+  olds : NameStands (within w name x) name x (s.node name)
+  olds = old rules w name c x s h
+
+  k : NodeKeeps w s name x
+  k = h.keeps
+
+  grow : (i : ℕ) → Begins (s.node i).list (t.node i).list
+  grow i = (g.each i).list
+
+  same_list : y.core.log ≡ x.core.log → (t.node name).list ≡ (s.node name).list
+  same_list log = new.list ∙ (λ i. take (log i).start (group_ i) ++ (log i).entries) ∙ sym olds.list
+
+  more_list : (e : Entry) → y.core.log ≡ (pushed x e).core.log → (t.node name).list ≡ (s.node name).list ++ e ∷ []
+  more_list e log = new.list ∙ (λ i. take (log i).start (group_ i) ++ (log i).entries)
+      ∙ sym (append_assoc (take x.core.log.start w.group) x.core.log.entries (e ∷ [])) ∙ ap (λ l. l ++ e ∷ []) (sym olds.list)
+
+  -- the list of a member is a good one, and so is one that is the same
+  good_member : is_member y.status ≡ true → IsGood (t.node name).list
+  good_member u =
+      let k_ = group_kept rules.founders (lowest_or_first rules.founders) rules.resilience t gt in
+      good_begins ((k_.each name).list (record {
+        log = new.log_
+            ∙ logged y.status u;
+        there = record { goes = new.stopped ∙ runs; stays = new.departed ∙ stays_member y.status u };
+      })) k_.views.good
+
+  good_same : y.core.log ≡ x.core.log → IsGood (t.node name).list
+  good_same log = subst IsGood (sym (same_list log)) k.good
+
+  ballots_same : y.ballot ≡ x.ballot → Ballots w t y.ballot
+  ballots_same same = subst (Ballots w t) (sym same) (ballots_grow w s t x.ballot g (ballots rules w name c x s h))
+
+  opens_same : y.ballot ≡ x.ballot → y.status ≡ x.status → y.leaving ≡ x.leaving → OpensStand y
+  opens_same ballot stays leaving open_ = (let o = k.opens (sym (ap is_unfinished ballot) ∙ open_) in (ap is_member stays ∙ o.0, leaving ∙ o.1))
+
+  reports_same : y.core.log ≡ x.core.log → y.reports ≡ x.reports → x.core.base ≤ y.core.base → ReportsStand t name y
+  reports_same log reports base = subst (Reporting t.node (t.node name).list y.core.base) (sym reports)
+      (subst (λ l. Reporting t.node l y.core.base x.reports) (sym (same_list log))
+      (reporting_base t.node (s.node name).list x.core.base y.core.base x.reports base
+      (reporting_grow s.node t.node (s.node name).list x.core.base x.reports grow k.reports)))
+
+  fresh_same : nodes.told y ≡ nodes.told x → y.reports ≡ x.reports → x.core.base ≤ y.core.base → ReportsFresh y
+  fresh_same told_ reports base j new_ = (let old_ = k.fresh j (subst (λ (i : Image). IsNew i j) told_ new_) in
+      let is : (y.reports j).stored ≡ (x.reports j).stored = ap (λ f. (f j).stored) reports in omega arith)
+
+  trimmed_same : y.core.base ≡ x.core.base → Trimmed t y.core.base
+  trimmed_same same = subst (Trimmed t) (sym same) (trimmed_grow w s t x.core.base g k.trimmed)
+
+  turn_same : y.core.who ≡ x.core.who → y.sends ≡ x.sends → OwnTurn y.core.who (t.node name).list y.sends
+  turn_same who sends = subst (λ i. OwnTurn i (t.node name).list y.sends) (sym who) (subst (OwnTurn x.core.who (t.node name).list) (sym sends)
+      (turn_grows x.core.who (s.node name).list (t.node name).list x.sends (grow name) k.turn))
+
+  leaves_same : has_log y.status ≡ has_log x.status → y.leaving ≡ x.leaving → y.leaving ≡ true → has_log y.status ≡ true
+  leaves_same log leaving u = log ∙ k.leaves (sym leaving ∙ u)
+
+  keep : IsGood (t.node name).list → Ballots w t y.ballot → OpensStand y → ReportsStand t name y → ReportsFresh y → Trimmed t y.core.base
+      → OwnTurn y.core.who (t.node name).list y.sends
+      → (y.leaving ≡ true → has_log y.status ≡ true) → NodeKeeps w t name y
+  keep fine b o r f tr tu l = record {
+    good = fine;
+    votes = b.votes;
+    fetches = b.fetches;
+    last = b.last;
+    opens = o;
+    reports = r;
+    fresh = f;
+    trimmed = tr;
+    turn = tu;
+    leaves = l;
+  }
+
+  -- nothing of that changes but sends, and no list
+  keep_same : y.core.log ≡ x.core.log → y.core.who ≡ x.core.who → y.core.base ≡ x.core.base → y.reports ≡ x.reports → y.ballot ≡ x.ballot → y.status ≡ x.status
+      → y.leaving ≡ x.leaving → OwnTurn y.core.who (t.node name).list y.sends → NodeKeeps w t name y
+  keep_same log who base reports ballot stays leaving turn =
+      keep (good_same log) (ballots_same ballot) (opens_same ballot stays leaving) (reports_same log reports (let z = base in omega arith))
+      (fresh_same (ap told_by log) reports (let z = base in omega arith)) (trimmed_same base) turn (leaves_same (ap has_log stays) leaving)
+
+  -- an entry more, above a base that isn't lower
+  keep_pushed : (e : Entry) → is_member x.status ≡ true → y.core.log ≡ (pushed x e).core.log → fits (nodes.told x) e ≡ true → y.core.who ≡ x.core.who
+      → x.core.base ≤ y.core.base → y.reports ≡ x.reports → y.ballot ≡ x.ballot → y.status ≡ x.status → y.leaving ≡ x.leaving → y.sends ≡ x.sends
+      → Trimmed t y.core.base → NodeKeeps w t name y
+  keep_pushed e member log fit who base reports ballot stays leaving sends trims =
+      keep (good_member (ap is_member stays ∙ member)) (ballots_same ballot) (opens_same ballot stays leaving)
+      (subst (Reporting t.node (t.node name).list y.core.base) (sym reports) (subst (λ l. Reporting t.node l y.core.base x.reports) (sym (more_list e log))
+      (reporting_base t.node ((s.node name).list ++ e ∷ []) x.core.base y.core.base x.reports base
+      (reporting_pushed s.node t.node (s.node name).list e x.core.base x.reports k.good grow
+      (λ i is. k.fresh i (fits_new (nodes.told x) i (subst (λ z. fits (nodes.told x) z ≡ true) is fit))) k.reports))))
+      (λ j new_. (let told_ : nodes.told y ≡ after (nodes.told x) (nodes.top x + 1) e = ap told_by log ∙ told_pushed x e in
+      let old_ = k.fresh j (new_before (nodes.told x) (nodes.top x + 1) e j (told_used x h.along.owned.fronts).places (omega arith) fit
+      (subst (λ (i : Image). IsNew i j) told_ new_)) in
+      let is : (y.reports j).stored ≡ (x.reports j).stored = ap (λ f. (f j).stored) reports in
+      omega arith))
+      trims (turn_same who sends) (leaves_same (ap has_log stays) leaving)
+
+-- ---- letters
+
+brings_trim : (w : World) (s : Group) (name : ℕ) (c : Cause) (from : ℕ) (v : Stamp) (base acc : ℕ) → ((p : _) → c ≡ hears p → HeardSo w s name p)
+    → BringsFronts c from v base acc → Trimmed s base
+brings_trim w s name c from v base acc heard (with_entry _ _ _ _ number e) = (heard (packet.Bcast from v base acc number e) refl).says.0
+brings_trim w s name c from v base acc heard (with_number _ _ _ _ number sender req) = (heard (packet.Order from v base acc number sender req) refl).says.0
+brings_trim w s name c from v base acc heard (alone _ _ _ _ high poll) = (heard (packet.Accept from v base acc high poll) refl).says.0
+
+-- ---- a report that a sequencer takes
+
+send_said : (w : World) (s : Group) (name : ℕ) (c : Cause) (from : ℕ) (v : Stamp) (report : Report) (req : ℕ) (body : List ℕ)
+    → ((p : Packet) → c ≡ hears p → HeardSo w s name p) → BringsSend c from v report req body → says.ReportSays s from v report
+send_said w s name c from v report req body heard (by_request _ _ _ _ _) = (heard (packet.Request from v report req body) refl).says.reports
+send_said w s name c from v report req body heard (by_spread _ _ _ _ _) = (heard (packet.Spread from v report req body) refl).says.reports
+
+reports_said : (w : World) (s : Group) (name : ℕ) (c : Cause) (from : ℕ) (v : Stamp) (report : Report) → ((p : Packet) → c ≡ hears p → HeardSo w s name p)
+    → BringsReport c from v report → says.ReportSays s from v report ⊎ says.LeaverSays s from v report
+reports_said w s name c from v report heard (with_send _ _ _ req body b) = inl (send_said w s name c from v report req body heard b)
+reports_said w s name c from v report heard (by_ack _ _ _) = inl (heard (packet.Ack from v report) refl).says
+reports_said w s name c from v report heard (by_nack _ _ _) = inl (heard (packet.Nack from v report) refl).says
+reports_said w s name c from v report heard (by_leave_ask _ _ _) = inr (heard (packet.LeaveAsk from v report) refl).says
+
+module _ (rules : Rules) (w : World) (name : ℕ) (c : Cause) (x : Node) (s : Group) (h : Stepping rules w name c x s) (t : is_sequencer x ≡ true) where
+  speaks : Speaks (within w name x) name x s
+  speaks = record {
+    kept = kept rules w name c x s h;
+    stands = old rules w name c x s h;
+    up = up rules w name c x s h
+        (sequencer_member rules w name c x s h t);
+    who = h.who;
+  }
+
+  leads : Leading name x s
+  leads = leading (within w name x) name x s speaks t
+
+  -- its view's View
+  record Viewed : Type 0 where
+    stamp : (s.views.chosen (key x.core.promise)).stamp ≡ x.core.promise
+    opens : Begins (opening (s.views.chosen (key x.core.promise))) (s.node name).list
+
+  viewed : Viewed
+  viewed =
+      let l = leads in
+      let noted_ = h.stands.views.decided (key x.core.promise) l.decided in
+      let k = h.stands.views.noted noted_.index noted_.view noted_.there in
+      let same : noted_.view.stamp ≡ x.core.promise = key_stamp noted_.view.stamp x.core.promise
+      (h.noted noted_.index noted_.view noted_.there) h.along.names.promise_ noted_.is in
+      record {
+        stamp = subst (λ (u : Stamp). (s.views.chosen (key u)).stamp ≡ u) same k.stamp;
+        opens = subst (Begins (opening (s.views.chosen (key x.core.promise)))) l.line_
+            (subst (λ (u : Stamp). Begins (opening (s.views.chosen (key u))) (s.views.line (key u))) same k.opens);
+      }
+
+  report_so : (from : ℕ) (report : Report) → says.ReportSays s from x.core.promise report ⊎ says.LeaverSays s from x.core.promise report
+      → report.stored ≤ length (s.node name).list → IsConcerned (s.node name).list from → Begins (take report.stored (s.node name).list) (s.node from).list
+  report_so from report its low concerned = ⊎_elim
+      (λ (z : says.ReportSays s from x.core.promise report). report_true s from x.core.promise (s.node name).list report leads.line_ low z)
+      (λ (z : says.LeaverSays s from x.core.promise report). (let q = viewed in
+      leaver_true s from x.core.promise (s.node name).list report leads.decided leads.line_
+      (good rules w name c x s h (sequencer_member rules w name c x s h t)) q.stamp leads.viewed q.opens low
+      z concerned))
+      its
+
+  taken_report : (from : ℕ) (v : Stamp) (report : Report) → BringsReport c from v report → MayReport x from v report
+      → Reporting s.node (s.node name).list x.core.base (reported x.reports from report)
+  taken_report from v report by may =
+      let long = long_all (within w name x) name x (s.node name) (old rules w name c x s h) in
+      let fit = and_both (nat_le report.taken report.stored) (nat_le report.stored (nodes.top x)) may.fits in
+      let took : report.taken ≤ report.stored = (let z = fit.0 in grind (arith, nat_tests)) in
+      let low : report.stored ≤ nodes.top x = (let z = fit.1 in grind (arith, nat_tests)) in
+      let acting = and_both (is_member x.status) (stamp_eq x.core.promise (view x)) (and_both (acts x) ((view x).by == x.core.who) t).0 in
+      let same : v ≡ x.core.promise = same_stamp v (view x) may.view ∙ sym (same_stamp x.core.promise (view x) acting.1) in
+      reporting_more s.node (s.node name).list x.core.base from report x.reports (omega arith) took
+      (report_so from report (subst (λ u. says.ReportSays s from u report ⊎ says.LeaverSays s from u report) same
+      (reports_said w s name c from v report h.heard by)) (omega arith)) h.keeps.reports
+
+-- ---- each change
+
+was_open : (v : Stamp) (ballot : Option Ballot) → is_unfinished (overtaken_by v ballot) ≡ true → is_unfinished ballot ≡ true
+was_open v None u = u
+was_open v (Some b) u = split (not b.is_over && stamp_lt b.stamp v) (λ t. absurd (let z = rw t at u in cc)) (λ f. rw f at u)
+
+module _ (rules : Rules) (w v : World) (name : ℕ) (c : Cause) (o : Outcome) (x y : Node) (s t : Group) (h : Stepping rules w name c x s) (g : Grows s t)
+    (gt : GroupFor rules t) (runs : is_stopped v name ≡ false) (group_ : v.group ≡ w.group)
+    (new : NameStands (within v name y) name y (t.node name)) (later : Along rules y) where
+  abbrev same : y.core.log ≡ x.core.log → y.core.who ≡ x.core.who → y.core.base ≡ x.core.base → y.reports ≡ x.reports → y.ballot ≡ x.ballot
+      → y.status ≡ x.status
+      → y.leaving ≡ x.leaving → OwnTurn y.core.who (t.node name).list y.sends → NodeKeeps w t name y
+  same = keep_same rules w v name c x y s t h g gt runs group_ new
+
+  abbrev turns : y.core.who ≡ x.core.who → y.sends ≡ x.sends → OwnTurn y.core.who (t.node name).list y.sends
+  turns = turn_same rules w v name c x y s t h g gt runs group_ new
+
+  abbrev parts : IsGood (t.node name).list → Ballots w t y.ballot → OpensStand y → ReportsStand t name y → ReportsFresh y → Trimmed t y.core.base
+      → OwnTurn y.core.who (t.node name).list y.sends
+      → (y.leaving ≡ true → has_log y.status ≡ true) → NodeKeeps w t name y
+  parts = keep rules w v name c x y s t h g gt runs group_ new
+
+  trims : (base : ℕ) → Trimmed s base → Trimmed t base
+  trims base k = trimmed_grow w s t base g k
+
+  -- its base stands within its list
+  base_within : y.core.base ≤ length (t.node name).list
+  base_within =
+      let f = later.owned.fronts in
+      let a = f.base in
+      let b = f.given in
+      let d = f.accepted in
+      let long = long_all (within v name y) name y (t.node name) new in
+      omega arith
+
+  -- a look: with the same list and base
+  looked_plain : Ballots w t y.ballot → OpensStand y → y.core.log ≡ x.core.log → y.core.who ≡ x.core.who → y.core.base ≡ x.core.base → y.reports ≡ x.reports
+      → y.status ≡ x.status → y.leaving ≡ x.leaving → y.sends ≡ x.sends → NodeKeeps w t name y
+  looked_plain b opens_ log who base reports stays leaving sends = parts (good_same rules w v name c x y s t h g gt runs group_ new log) b opens_
+      (reports_same rules w v name c x y s t h g gt runs group_ new log reports (let z = base in omega arith))
+      (fresh_same rules w v name c x y s t h g gt runs group_ new (ap told_by log) reports (let z = base in omega arith))
+      (trimmed_same rules w v name c x y s t h g gt runs group_ new base) (turns who sends)
+      (leaves_same rules w v name c x y s t h g gt runs group_ new (ap has_log stays) leaving)
+
+module _ (rules : Rules) (w : World) (name : ℕ) (c : Cause) (x : Node) (s : Group) (h : Stepping rules w name c x s) (b : Ballot) (why : Balloting c x b) where
+  open_same : (y : Node) → y.status ≡ x.status → y.leaving ≡ x.leaving → OpensStand y
+  open_same y stays leaving u = (let z = h.keeps.opens (unfinished rules w name c x s h b why) in (ap is_member stays ∙ z.0, leaving ∙ z.1))
+
+  over_none : (y : Node) (a : Outcome) → y.ballot ≡ Some (record b { answer = a; is_over = true }) → OpensStand y
+  over_none y a ballot u = absurd (let z = sym (ap is_unfinished ballot) ∙ u in cc)
+
+  taken_known : TakenKnown x s
+  taken_known =
+      let f = h.along.owned.fronts in
+      let low = h.accepted in
+      let size = ap length h.stands.group in
+      record { taken = f.given; within = f.accepted; accepted = omega arith }
+
+  -- its base after it trimmed by the votes
+  trimmed_votes : HasLearned x b → Trimmed s
+      (max x.core.base (unwrap_or (least_of (taken_by x.core.who x.core.taken b) (names_of (left_in b (need_of x b)))) 0))
+  trimmed_votes learned = trimmed_max s x.core.base
+      (unwrap_or (least_of (taken_by x.core.who x.core.taken b) (names_of (left_in b (need_of x b)))) 0) h.keeps.trimmed
+      (votes_trim w name x b s (kept rules w name c x s h) (known rules w name c x s h b why) learned taken_known)
+
+keeps_look : (rules : Rules) (w v : World) (name : ℕ) (c : Cause) (o : Outcome) (x : Node) (s t : Group) (h : Stepping rules w name c x s) (g : Grows s t)
+    (gt : GroupFor rules t) → is_stopped v name ≡ false → v.group ≡ w.group
+    → (b : Ballot) (verdict : Verdict) (why : Balloting c x b) → Looks x b verdict → NameStands (within v name verdict.node) name verdict.node (t.node name)
+    → Along rules verdict.node → NodeKeeps w t name verdict.node
+keeps_look rules w v name c o x s t h g gt runs group_ b verdict why (finds_itself_out a) new later =
+    looked_plain rules w v name c o x verdict.node s t h g gt runs group_ new later
+    (ballots_grow w s t verdict.node.ballot g (looked rules w name c x s h b verdict why (finds_itself_out a)))
+    (over_none rules w name c x s h b why verdict.node _ refl) refl refl refl refl refl refl refl
+keeps_look rules w v name c o x s t h g gt runs group_ b verdict why (waits a d) new later =
+    looked_plain rules w v name c o x verdict.node s t h g gt runs group_ new later
+    (ballots_grow w s t verdict.node.ballot g (looked rules w name c x s h b verdict why (waits a d)))
+    (open_same rules w name c x s h b why verdict.node refl refl) refl refl refl refl refl refl refl
+keeps_look rules w v name c o x s t h g gt runs group_ b verdict why (fetches_from_best a d e) new later =
+    looked_plain rules w v name c o x verdict.node s t h g gt runs group_ new later
+    (ballots_grow w s t verdict.node.ballot g (looked rules w name c x s h b verdict why (fetches_from_best a d e)))
+    (open_same rules w name c x s h b why verdict.node refl refl) refl refl refl refl refl refl refl
+keeps_look rules w v name c o x s t h g gt runs group_ b verdict why (finds_too_few a d) new later =
+    looked_plain rules w v name c o x verdict.node s t h g gt runs group_ new later
+    (ballots_grow w s t verdict.node.ballot g (looked rules w name c x s h b verdict why (finds_too_few a d)))
+    (over_none rules w name c x s h b why verdict.node _ refl) refl refl refl refl refl refl refl
+keeps_look rules w v name c o x s t h g gt runs group_ b verdict why (finds_no_room learned) new later =
+    let y = verdict.node in
+    keep rules w v name c x y s t h g gt runs group_ new (good_same rules w v name c x y s t h g gt runs group_ new refl)
+    (ballots_grow w s t y.ballot g (looked rules w name c x s h b verdict why (finds_no_room learned)))
+    (over_none rules w name c x s h b why y _ refl)
+    (reports_same rules w v name c x y s t h g gt runs group_ new refl refl (omega arith))
+    (fresh_same rules w v name c x y s t h g gt runs group_ new refl refl (omega arith))
+    (trimmed_grow w s t y.core.base g (trimmed_votes rules w name c x s h b why learned))
+    (turn_same rules w v name c x y s t h g gt runs group_ new refl refl)
+    (leaves_same rules w v name c x y s t h g gt runs group_ new refl refl)
+keeps_look rules w v name c o x s t h g gt runs group_ b verdict why (decides may) new later =
+    let y = verdict.node in
+    keep rules w v name c x y s t h g gt runs group_ new
+    (good_member rules w v name c x y s t h g gt runs group_ new (h.keeps.opens (unfinished rules w name c x s h b why)).0)
+    (ballots_grow w s t y.ballot g (looked rules w name c x s h b verdict why (decides may)))
+    (over_none rules w name c x s h b why y _ refl)
+    (reporting_anew t.node (t.node name).list y.core.base (base_within rules w v name c o x y s t h g gt runs group_ new later))
+    (λ j new_. split (nat_lt j 256) (λ u. rw u (omega arith)) (λ f. rw f (omega arith)))
+    (trimmed_grow w s t y.core.base g (trimmed_votes rules w name c x s h b why may.learned))
+    (turn_same rules w v name c x y s t h g gt runs group_ new refl refl)
+    (leaves_same rules w v name c x y s t h g gt runs group_ new refl refl)
+
+heard_member : (x : Node) (from : ℕ) (v : Stamp) → hears_sequencer x from v ≡ true → is_member x.status ≡ true
+heard_member x from v heard =
+    (and_both (not (from == x.core.who)) (is_member x.status)
+    (and_both (hears_member x from) (acts x && stamp_eq v (view x)) (and_both (hears_in_view x from v) (v.by == from) heard).0).0).1
+
+-- its own sends, where one is settled
+settled_turns : (rules : Rules) (w : World) (name : ℕ) (c : Cause) (x : Node) (s t : Group) (h : Stepping rules w name c x s) → Grows s t
+    → OwnTurn x.core.who (t.node name).list (settle x).sends
+settled_turns rules w name c x s t h g = turn_grows x.core.who (s.node name).list (t.node name).list (settle x).sends (g.each name).list
+    (turn_settled (within w name x) name x (s.node name) (old rules w name c x s h) h.keeps.good h.keeps.turn)
+
+-- ---- each change, but for a refresh and the last member's end
+
+no_log_none : (t : Status) → is_member t ≡ false → (is_member t || is_asking t) ≡ true → has_log t ≡ false
+no_log_none status.Stranger f h = absurd (cc)
+no_log_none status.Asking f h = refl
+no_log_none status.Member f h = absurd (cc)
+no_log_none status.Departed f h = absurd (cc)
+
+pub keeps_next : (rules : Rules) (w v : World) (name : ℕ) (c : Cause) (o : Outcome) (x y : Node) (s t : Group) (z : Change c o x y) → IsPlain z
+    → (h : Stepping rules w name c x s) (g : Grows s t) (gt : GroupFor rules t)
+    → is_stopped v name ≡ false → v.group ≡ w.group → NameStands (within v name y) name y (t.node name) → Along rules y → NodeKeeps w t name y
+keeps_next rules w v name c o x y s t refreshes plain h g gt runs group_ new later = absurd plain
+keeps_next rules w v name c o x y s t settles plain h g gt runs group_ new later =
+    let is = settle_is x in
+    keep_same rules w v name c x y s t h g gt runs group_ new (ap (λ (n : Node). n.core.log) is) (ap (λ (n : Node). n.core.who) is)
+    (ap (λ (n : Node). n.core.base) is)
+    (ap (λ (n : Node). n.reports) is) (ap (λ (n : Node). n.ballot) is) (ap (λ (n : Node). n.status) is) (ap (λ (n : Node). n.leaving) is)
+    (subst (λ k. OwnTurn k (t.node name).list y.sends) (sym (ap (λ (n : Node). n.core.who) is)) (settled_turns rules w name c x s t h g))
+keeps_next rules w v name c o x y s t (takes_report from u report by may) plain h g gt runs group_ new later =
+    let taken_ = taken_report rules w name c x s h may.leads from u report by may in
+    keep rules w v name c x y s t h g gt runs group_ new (good_same rules w v name c x y s t h g gt runs group_ new refl)
+    (ballots_same rules w v name c x y s t h g gt runs group_ new refl) (opens_same rules w v name c x y s t h g gt runs group_ new refl refl refl)
+    (subst (λ l. Reporting t.node l y.core.base y.reports) (sym (same_list rules w v name c x y s t h g gt runs group_ new refl))
+    (reporting_grow s.node t.node (s.node name).list y.core.base y.reports (λ i. (g.each i).list) taken_))
+    (λ j new_. split (j == from)
+    (λ u_. absurd (let is : j ≡ from = grind (arith, nat_tests) in known_old (nodes.told x) from may.known (subst (IsNew (nodes.told x)) is new_)))
+    (λ f. rw f (h.keeps.fresh j new_)))
+    (trimmed_same rules w v name c x y s t h g gt runs group_ new refl) (turn_same rules w v name c x y s t h g gt runs group_ new refl refl)
+    (leaves_same rules w v name c x y s t h g gt runs group_ new refl refl)
+keeps_next rules w v name c o x y s t (admits from u is leads_ fit) plain h g gt runs group_ new later =
+    let low = base_within rules w v name c o x y s t h g gt runs group_ new later in
+    let size = ap length (same_list rules w v name c x y s t h g gt runs group_ new refl) in
+    keep rules w v name c x y s t h g gt runs group_ new (good_same rules w v name c x y s t h g gt runs group_ new refl)
+    (ballots_same rules w v name c x y s t h g gt runs group_ new refl) (opens_same rules w v name c x y s t h g gt runs group_ new refl refl refl)
+    (subst (λ l. Reporting t.node l y.core.base y.reports) (sym (same_list rules w v name c x y s t h g gt runs group_ new refl))
+    (reporting_admit t.node (s.node name).list x.core.base from x.reports (omega arith)
+    (reporting_grow s.node t.node (s.node name).list x.core.base x.reports (λ i. (g.each i).list) h.keeps.reports)))
+    (λ j new_. split (j == from) (λ u_. rw u_ (omega arith)) (λ f. rw f (h.keeps.fresh j new_)))
+    (trimmed_same rules w v name c x y s t h g gt runs group_ new refl) (turn_same rules w v name c x y s t h g gt runs group_ new refl refl)
+    (leaves_same rules w v name c x y s t h g gt runs group_ new refl refl)
+keeps_next rules w v name c o x y s t (numbers e leads_ room why) plain h g gt runs group_ new later =
+    keep_pushed rules w v name c x y s t h g gt runs group_ new e (sequencer_member rules w name c x s h leads_) refl
+    (number_ok rules w name c x s h e leads_ why).fit refl
+    (omega arith) refl refl refl refl refl (trimmed_same rules w v name c x y s t h g gt runs group_ new refl)
+keeps_next rules w v name c o x y s t (keeps_body from u report req body is heard) plain h g gt runs group_ new later =
+    keep_same rules w v name c x y s t h g gt runs group_ new refl refl refl refl refl refl refl
+    (turn_same rules w v name c x y s t h g gt runs group_ new refl refl)
+keeps_next rules w v name c o x y s t (notes from u base acc by heard) plain h g gt runs group_ new later =
+    let trim = brings_trim w s name c from u base acc h.heard by in
+    keep rules w v name c x y s t h g gt runs group_ new (good_same rules w v name c x y s t h g gt runs group_ new refl)
+    (ballots_same rules w v name c x y s t h g gt runs group_ new refl) (opens_same rules w v name c x y s t h g gt runs group_ new refl refl refl)
+    (reports_same rules w v name c x y s t h g gt runs group_ new refl refl (omega arith))
+    (fresh_same rules w v name c x y s t h g gt runs group_ new refl refl (omega arith))
+    (trimmed_grow w s t y.core.base g (trimmed_max s x.core.base _ h.keeps.trimmed (either (nat_le base x.core.taken) base x.core.base trim h.keeps.trimmed)))
+    (turn_same rules w v name c x y s t h g gt runs group_ new refl refl) (leaves_same rules w v name c x y s t h g gt runs group_ new refl refl)
+  where
+    either : (b : Bool) (p q : ℕ) → Trimmed s p → Trimmed s q → Trimmed s (if b then p else q)
+    either true p q a d = a
+    either false p q a d = d
+keeps_next rules w v name c o x y s t (stores from u base acc number e by heard plain_ may) plain h g gt runs group_ new later =
+    keep_pushed rules w v name c x y s t h g gt runs group_ new e (heard_member x from u heard) refl may.fits refl (omega arith) refl refl refl refl refl
+    (trimmed_same rules w v name c x y s t h g gt runs group_ new refl)
+keeps_next rules w v name c o x y s t (begins_list from u base join image is says_ may) plain h g gt runs group_ new later =
+    let none = no_log_none x.status may.no_member (and_both (not (from == x.core.who)) (is_member x.status || is_asking x.status) may.asks).1 in
+    let trim = (h.heard (packet.Welcome from u base join image) is).says.0 in
+    let nothing : (s.node name).list ≡ [] = ((kept rules w name c x s h).each name).blank ((old rules w name c x s h).log_ ∙ none) in
+    let size = ap length nothing in
+    keep rules w v name c x y s t h g gt runs group_ new (good_member rules w v name c x y s t h g gt runs group_ new refl)
+    (ballots_same rules w v name c x y s t h g gt runs group_ new refl)
+    (λ u_. absurd (let k = (h.keeps.opens u_).0 in let z = may.no_member in cc))
+    (record {
+      within = λ j. (let low = h.keeps.reports.within j in omega arith);
+      taken = h.keeps.reports.taken;
+      true_ = λ j few concerned above. absurd (let low = h.keeps.reports.within j in omega arith);
+    })
+    (λ j new_. (let low = h.keeps.reports.within j in omega arith))
+    (trimmed_grow w s t base g trim) (turn_same rules w v name c x y s t h g gt runs group_ new refl refl) (λ u_. refl)
+keeps_next rules w v name c o x y s t (departs from u number is heard leaves) plain h g gt runs group_ new later =
+    keep rules w v name c x y s t h g gt runs group_ new (good_same rules w v name c x y s t h g gt runs group_ new refl)
+    (ballots_same rules w v name c x y s t h g gt runs group_ new refl) (λ u_. absurd (let k = (h.keeps.opens u_).1 in cc))
+    (reports_same rules w v name c x y s t h g gt runs group_ new refl refl (omega arith))
+    (fresh_same rules w v name c x y s t h g gt runs group_ new refl refl (omega arith))
+    (trimmed_same rules w v name c x y s t h g gt runs group_ new refl) (turn_same rules w v name c x y s t h g gt runs group_ new refl refl) (λ u_. refl)
+keeps_next rules w v name c o x y s t (promises u low why) plain h g gt runs group_ new later =
+    keep rules w v name c x y s t h g gt runs group_ new (good_same rules w v name c x y s t h g gt runs group_ new refl)
+    (ballots_grow w s t y.ballot g (ballots_overtaken w s u x.ballot (ballots rules w name c x s h))) (λ u_. h.keeps.opens (was_open u x.ballot u_))
+    (reports_same rules w v name c x y s t h g gt runs group_ new refl refl (omega arith))
+    (fresh_same rules w v name c x y s t h g gt runs group_ new refl refl (omega arith))
+    (trimmed_same rules w v name c x y s t h g gt runs group_ new refl) (turn_same rules w v name c x y s t h g gt runs group_ new refl refl)
+    (leaves_same rules w v name c x y s t h g gt runs group_ new refl refl)
+keeps_next rules w v name c o x y s t (opens least resilience by may) plain h g gt runs group_ new later =
+    keep rules w v name c x y s t h g gt runs group_ new (good_same rules w v name c x y s t h g gt runs group_ new refl)
+    (record {
+      votes = λ open_ j vote is. absurd (cc);
+      fetches = λ open_ from want is. absurd (cc);
+      last = record { given = λ j u_. absurd (cc); names = λ j vote is. absurd (cc) };
+    })
+    (λ u_. (may.member, may.stays))
+    (reports_same rules w v name c x y s t h g gt runs group_ new refl refl (omega arith))
+    (fresh_same rules w v name c x y s t h g gt runs group_ new refl refl (omega arith))
+    (trimmed_same rules w v name c x y s t h g gt runs group_ new refl) (turn_same rules w v name c x y s t h g gt runs group_ new refl refl)
+    (leaves_same rules w v name c x y s t h g gt runs group_ new refl refl)
+keeps_next rules w v name c o x y s t (looks b verdict over why look is) plain h g gt runs group_ new later =
+    keeps_look rules w v name c o x s t h g gt runs group_ b verdict why look new later
+keeps_next rules w v name c o x y s t (fetches from u base number e is heard promise below why may) plain h g gt runs group_ new later =
+    keep_pushed rules w v name c x y s t h g gt runs group_ new e (other_heard rules w name c x s h from heard).1 refl may.fits refl
+    (omega arith) refl refl refl refl refl
+    (trimmed_grow w s t y.core.base g (trimmed_max s x.core.base base h.keeps.trimmed (h.heard (packet.Piece from u base number e) is).says.0))
+keeps_next rules w v name c o x y s t (stores_view from u base number names resilience is heard own other promise below may) plain h g gt runs
+    group_ new later =
+    keep_pushed rules w v name c x y s t h g gt runs group_ new (View u names resilience) (other_heard rules w name c x s h from heard).1 refl may.fits refl
+    (omega arith) refl refl refl refl refl
+    (trimmed_grow w s t y.core.base g (trimmed_max s x.core.base base h.keeps.trimmed (h.heard (packet.Result from u base number names resilience) is).says.0))
+keeps_next rules w v name c o x y s t (queues body is says_ member stays few) plain h g gt runs group_ new later =
+    keep_same rules w v name c x y s t h g gt runs group_ new refl refl refl refl refl refl refl
+    (turn_queued x.core.who (t.node name).list body x.sends
+    (turn_grows x.core.who (s.node name).list (t.node name).list x.sends (g.each name).list h.keeps.turn))
+keeps_next rules w v name c o x y s t (collects req is) plain h g gt runs group_ new later =
+    keep_same rules w v name c x y s t h g gt runs group_ new refl refl refl refl refl refl refl
+    (turn_collected x.core.who req (t.node name).list x.sends
+    (turn_grows x.core.who (s.node name).list (t.node name).list x.sends (g.each name).list h.keeps.turn))
+keeps_next rules w v name c o x y s t (takes e is says_ member some there) plain h g gt runs group_ new later =
+    keep_same rules w v name c x y s t h g gt runs group_ new refl refl refl refl refl refl refl
+    (turn_same rules w v name c x y s t h g gt runs group_ new refl refl)
+keeps_next rules w v name c o x y s t (asks_to_join is was) plain h g gt runs group_ new later =
+    keep rules w v name c x y s t h g gt runs group_ new (good_same rules w v name c x y s t h g gt runs group_ new refl)
+    (ballots_same rules w v name c x y s t h g gt runs group_ new refl) (λ u_. absurd (let k = (h.keeps.opens u_).0 in let z = ap is_member was in cc))
+    (reports_same rules w v name c x y s t h g gt runs group_ new refl refl (omega arith))
+    (fresh_same rules w v name c x y s t h g gt runs group_ new refl refl (omega arith))
+    (trimmed_same rules w v name c x y s t h g gt runs group_ new refl) (turn_same rules w v name c x y s t h g gt runs group_ new refl refl)
+    (leaves_same rules w v name c x y s t h g gt runs group_ new (sym (ap has_log was)) refl)
+keeps_next rules w v name c o x y s t (asks_to_leave is was stays done) plain h g gt runs group_ new later =
+    keep rules w v name c x y s t h g gt runs group_ new (good_same rules w v name c x y s t h g gt runs group_ new refl)
+    (ballots_same rules w v name c x y s t h g gt runs group_ new refl)
+    (λ u_. absurd (let k = or_last (nat_lt 0 (unsettled x)) (is_unfinished x.ballot) done in cc))
+    (reports_same rules w v name c x y s t h g gt runs group_ new refl refl (omega arith))
+    (fresh_same rules w v name c x y s t h g gt runs group_ new refl refl (omega arith))
+    (trimmed_same rules w v name c x y s t h g gt runs group_ new refl) (turn_same rules w v name c x y s t h g gt runs group_ new refl refl)
+    (λ u_. ap has_log was)
+keeps_next rules w v name c o x y s t (closes leads_ leaves alone_ room) plain h g gt runs group_ new later = absurd plain

@@ -1,0 +1,175 @@
+-- What the group accepts at the end of a step, and what the name learns of it.
+use Rattle.std.proofs.Common.{◌≡◌, ℕ, ◌+◌, ◌-◌, ◌<◌, ◌≤◌, ◌==◌, max, min, nat_lt, true, false, List, ◌++◌, length, take, drop, refl, sym, ap, ◌∙◌, subst}
+use Rattle.std.proofs.Common.{arith, append-nil}
+use Rattle.std.proofs.Math.Seq.{take-append-add, drop-append-add, drop-append_seam}
+use Rattle.std.proofs.lemmas.Bool.Decides.{nat_tests}
+use Rattle.std.proofs.lemmas.List.{length-take}
+use Rattle.am_base.specs.declared.entry.Entry.{Entry}
+use Rattle.am_base.specs.Lists.{top_of}
+use Rattle.am_core.specs.Cores.{CoreState, accept, pass_over}
+use Rattle.am_chain_lists.specs.Whole.{Begins, key}
+use Rattle.am_chain_lists.proofs.Prefixes.{begins_refl, begins_length, begins_both, begins_take, length_take}
+use Rattle.am_chain_moves.specs.Group as groups
+use Rattle.am_chain_moves.specs.Group.{Group, IsUp, MayAccept}
+use Rattle.am_chain_moves.specs.Kept.{Kept}
+use Rattle.am_model.specs.Node as nodes
+use Rattle.am_model.specs.Node.{Node, view, acts, is_sequencer}
+use Rattle.am_model.specs.Refresh.{refresh}
+use Rattle.am_model.specs.Calls.{is_unfinished}
+use Rattle.am_model.specs.Group.{has_log}
+use Rattle.am_model.specs.World.{World, has_departed, grown, group_after}
+use Rattle.am_model.proofs.Greatest.{split, and_both}
+use Rattle.am_effects.proofs.Rests.{rests_refresh, leads_rests}
+use Rattle.am_stands.specs.Standing.{NameStands, within}
+use Rattle.am_stands.specs.Ends.{no_more, rises}
+use Rattle.am_stands.specs.Accepting.{ComesTo, AcceptsAndLearns, RefreshLearns}
+use Rattle.am_stands.proofs.Changes.{same_name, is_up}
+use Rattle.am_stands.proofs.Sent.{Speaks, leading}
+use Rattle.am_stands.proofs.Learned.{word_group, follower_learns}
+use Rattle.am_stands.proofs.Accepting.{lead_acc, lead_told, refresh_accepts}
+
+-- ---- the group list after a step
+
+pub same_by : (n : Node) → is_sequencer n ≡ true → ((view n).by == n.core.who) ≡ true
+same_by n t = (and_both (acts n) ((view n).by == n.core.who) t).1
+
+-- what is accepted beyond the group list is the list up to there
+pub grown_is : (v : World) (i : ℕ) (n : Node) (a : groups.Node) → NameStands v i n a → Begins v.group a.list
+    → grown v.group n.core ≡ take (max (length v.group) n.core.acc) a.list
+grown_is v i n a h begins =
+    let start_ = n.core.log.start in
+    let g = length v.group in
+    let front = take start_ v.group in
+    let entries = n.core.log.entries in
+    let low = h.begins.within in
+    let long : length front ≡ start_ = (let c = length-take start_ v.group in omega arith) in
+    let at : length front + (g - start_) ≡ g = omega arith in
+    let rest : drop (g - start_) entries ≡ begins.rest =
+    sym (drop-append-add front entries (g - start_)) ∙ (λ i. drop (at i) (sym h.list i)) ∙ ap (drop g) (sym begins.same)
+    ∙ drop-append_seam v.group begins.rest in
+    let high : g + (n.core.acc - g) ≡ max g n.core.acc = omega arith in
+    ap (λ l. v.group ++ take (n.core.acc - g) l) rest ∙ sym (take-append-add v.group begins.rest (n.core.acc - g)) ∙ (λ i. take (high i) (begins.same i))
+
+same_group : (group : List Entry) (core : CoreState) → core.acc ≤ length group → grown group core ≡ group
+same_group group core low =
+    let none : core.acc - length group ≡ 0 = omega arith in
+    ap (λ k. group ++ take k (drop (length group - core.log.start) core.log.entries)) none ∙ append-nil group
+
+pub no_more_group : (group : List Entry) (n : Node) → n.core.acc ≤ length group → group_after group n ≡ group
+no_more_group group n low = split ((view n).by == n.core.who) (λ t. rw t (same_group group n.core low)) (λ f. rw f refl)
+
+-- ---- a sequencer
+
+grown_after : (group list : List Entry) (n : Node) → is_sequencer n ≡ true → grown group n.core ≡ list → group_after group n ≡ list
+grown_after group list n t is = let by = same_by n t in rw by is
+
+-- what it tells is what it accepts
+told_after : (x : Node) → is_sequencer x ≡ true → x.core.acc ≤ nodes.top x → (refresh x).core.told ≡ (refresh x).core.acc
+unfolding refresh
+told_after x t within = rw t (lead_told x ∙ sym (lead_acc x within))
+
+-- and who follows accepts what it is told of
+advanced : (x : Node) → is_sequencer x ≡ false → ((refresh x).core.told ≡ x.core.told) × ((refresh x).core.acc ≡ max x.core.acc (min x.core.told (nodes.top x)))
+unfolding refresh accept pass_over
+advanced x f = rw f (refl, refl)
+
+fewer : (node : ℕ → groups.Node) (list : List Entry) (from g to : ℕ) → from ≤ g → g ≤ to → MayAccept node list from to → MayAccept node list g to
+fewer node list from g to low high may = record { rises = high; within = may.within; held = λ n above below. may.held n (omega arith) below }
+
+module _ (w : World) (s : Group) (name heard : ℕ) (x : Node) (k : Kept s) (h : ComesTo w s name heard x) where
+  abbrev y : Node
+  y = refresh x
+
+  up : IsUp (s.node name)
+  up = is_up w name x (s.node name) h.runs h.member h.stands
+
+  -- the same list after the refresh
+  stands_after : NameStands (within w name y) name y (s.node name)
+  stands_after =
+      let r = rests_refresh x in
+      same_name w name name x y (s.node name) (record {
+        log = r.log;
+        log_ = ap has_log r.rests.status;
+        departed = ap has_departed r.rests.status;
+        leaving = r.rests.leaving;
+        promise = r.rests.promise;
+        ballot = ap is_unfinished r.rests.ballot;
+        start = r.begins;
+      }) h.stands
+
+  -- who follows
+  follows : is_sequencer x ≡ false → AcceptsAndLearns w s name y
+  follows f =
+      let fronts = (k.each name).fronts in
+      let told_ = fronts.told in
+      let heard_ = word_group s name heard h.word in
+      let size = ap length h.group in
+      let told = h.follows f in
+      let acc = h.acc in
+      let up_to = h.up_to in
+      let given = h.given in
+      let within_ = h.within in
+      let is = advanced x f in
+      let its_told = is.0 in
+      let its_acc = is.1 in
+      let same_top = ap top_of (rests_refresh x).log in
+      let same = no_more_group w.group y (omega arith) in
+      let grows : Begins w.group (group_after w.group y) = subst (Begins w.group) (sym same) (begins_refl w.group) in
+      record {
+        accepts = no_more same;
+        grows = grows;
+        learns = follower_learns (within w name y) name heard y s (group_after w.group y) k stands_after up
+            (subst (λ g. Begins g (group_after w.group y)) (sym h.group) grows) h.word
+            (record { told = omega arith; up_to = omega arith; given = omega arith; within = omega arith });
+      }
+
+  -- a sequencer
+  leads : is_sequencer x ≡ true → AcceptsAndLearns w s name y
+  leads t =
+      let a = s.node name in
+      let speaks : Speaks (within w name x) name x s = record { kept = k; stands = h.stands; up = up; who = h.who } in
+      let l = leading (within w name x) name x s speaks t in
+      let counts = h.leads t in
+      let chain = ((k.each name).leads l.leads).chain in
+      let begins : Begins w.group a.list = subst (λ g. Begins g a.list) h.group (subst (Begins s.group) (sym chain) k.group) in
+      let own : (s.node x.core.who).list ≡ a.list = ap (λ j. (s.node j).list) h.who in
+      let held = refresh_accepts (within w name x) name x a s.node h.stands t counts.0
+      (record { reports = counts.1; own = own; blank = λ j. (k.each j).blank }) in
+      let g = length w.group in
+      let size = ap length h.group in
+      let rises_ = held.rises in
+      let high = held.within in
+      let some = begins_length begins in
+      let all = max g y.core.acc in
+      let is : group_after w.group y ≡ take all a.list = grown_after w.group (take all a.list) y (leads_rests (rests_refresh x).rests ∙ t)
+      (grown_is (within w name y) name y a stands_after begins) in
+      let long : length (take all a.list) ≡ all = length_take all a.list (omega arith) in
+      let long_after = ap length is in
+      let fronts = (k.each name).fronts in
+      let told_ = fronts.told in
+      let acc = h.acc in
+      let up_to = h.up_to in
+      let its_told = told_after x t h.within in
+      let grows : Begins w.group (group_after w.group y) = subst (Begins w.group) (sym is) (begins_both begins (begins_take all a.list) (omega arith)) in
+      record {
+        accepts = split (nat_lt g y.core.acc)
+            (λ more. (let up_ : g < y.core.acc = grind (arith, nat_tests) in
+            let same : all ≡ y.core.acc = omega arith in
+            rises l.leads (fewer s.node a.list x.core.acc (length s.group) y.core.acc (omega arith) (omega arith) held) (is ∙ ap (λ n. take n a.list) same)))
+            (λ none. no_more (no_more_group w.group y (let low : y.core.acc ≤ g = grind (arith, nat_tests) in low)));
+        grows = grows;
+        learns = record {
+          up = up;
+          told = omega arith;
+          before = λ z d above. absurd (let most = k.views.order z d in
+              let now = l.current in
+              let promised : key a.promise ≡ key x.core.promise = ap key h.stands.promise in
+              omega arith);
+          up_to = omega arith;
+          given = omega arith;
+          within = omega arith;
+        };
+      }
+
+pub refresh_learns : RefreshLearns
+refresh_learns w s name heard x k h = split (is_sequencer x) (leads w s name heard x k h) (follows w s name heard x k h)

@@ -1,0 +1,163 @@
+-- In every lawful run of the group, whom a View on the chain left out has stopped.
+use Rattle.std.proofs.Common.{◌≡◌, ⊎_elim, ℕ, List, [], ◌∷◌, ◌++◌, length, true, false, Some, slice_get, refl, sym, ap, ◌∙◌, subst, arith}
+use Rattle.am_base.specs.declared.entry.Entry.{Entry}
+use Rattle.am_base.specs.declared.entry.Entry.TheVariants.{Data, Join, Leave, View}
+use Rattle.am_base.specs.declared.name.Stamp.{Stamp}
+use Rattle.am_base.specs.Names.{has}
+use Rattle.am_chain_lists.specs.Whole.{Begins, NotView, mem, view_of, key}
+use Rattle.am_chain_lists.proofs.Prefixes.{begins_more, begins_trans, begins_length, begins_pushed, length_push}
+use Rattle.am_chain_lists.proofs.Members.{good_begins, leaver_in, leaver_out, mem_between, mem_nil}
+use Rattle.am_chain_moves.specs.Group as groups
+use Rattle.am_chain_moves.specs.Group.{Group, put, opening, chain_of, Leads}
+use Rattle.am_chain_moves.specs.Moves.{Move, MayDecide, with_line, with_choice, choice_of, longer, numbers, stores, accepts, learns, begins, raises, shows}
+use Rattle.am_chain_moves.specs.Moves.{serves, fetches, decides, gives_over, welcomes, asks, departs, closes, stops}
+use Rattle.am_chain_moves.specs.Kept.{Kept}
+use Rattle.am_chain_moves.specs.Runs.{IsLawful, founded, more, start, first_stamp}
+use Rattle.am_chain_moves.proofs.Puts.{by_cases, put_same, put_at}
+use Rattle.am_chain.proofs.Heart.{list_chain, departed_in}
+use Rattle.am_chain.proofs.Runs.{run_keeps}
+use Rattle.am_effects.proofs.Items.{get_last}
+use Rattle.am_stands.specs.States.{LeftOut, RunsLeaveOut}
+use Rattle.am_stands.proofs.Opens.{numbers_plain}
+
+-- ---- who stopped stays so
+
+put_stops : (s : Group) (i : ℕ) (b : groups.Node) → ((s.node i).stopped ≡ true → b.stopped ≡ true) → (j : ℕ) → (s.node j).stopped ≡ true
+    → (put s.node i b j).stopped ≡ true
+put_stops s i b new j = put_at (λ k (m : groups.Node). (s.node k).stopped ≡ true → m.stopped ≡ true) s.node i b new (λ k other h. h) j
+
+same_left : (s t : Group) → ((j : ℕ) → (s.node j).stopped ≡ true → (t.node j).stopped ≡ true) → chain_of t.views ≡ chain_of s.views → LeftOut s → LeftOut t
+same_left s t stays chain h a v names resilience name part member out =
+    stays name (h a v names resilience name (subst (Begins (a ++ View v names resilience ∷ [])) chain part) member out)
+
+-- ---- an entry more, that is no View
+
+last_is : (a b : List Entry) (x y : Entry) → a ++ x ∷ [] ≡ b ++ y ∷ [] → x ≡ y
+last_is a b x y same =
+    let one = length_push a x in
+    let two = length_push b y in
+    let long = ap length same in
+    let size : length a ≡ length b = omega arith in
+    let at : Some x ≡ Some y = sym (get_last a x) ∙ ap (λ l. slice_get l (length a)) same ∙ ap (slice_get (b ++ y ∷ [])) size ∙ get_last b y in
+    cc
+
+is_no_view : (e : Entry) (v : Stamp) (names : List ℕ) (resilience : ℕ) → NotView e → View v names resilience ≡ e → ⊥
+is_no_view (Data from req body) v names resilience plain same = cc
+is_no_view (Join name) v names resilience plain same = cc
+is_no_view (Leave name) v names resilience plain same = cc
+is_no_view (View stamp members strong) v names resilience plain same = plain
+
+line_left : (s t : Group) (e : Entry) → ((j : ℕ) → (s.node j).stopped ≡ true → (t.node j).stopped ≡ true) → NotView e
+    → chain_of t.views ≡ chain_of s.views ++ e ∷ [] → LeftOut s → LeftOut t
+line_left s t e stays plain chain h a v names resilience name part member out = ⊎_elim
+    (λ (z : Begins (a ++ View v names resilience ∷ []) (chain_of s.views)). stays name (h a v names resilience name z member out))
+    (λ (z : a ++ View v names resilience ∷ [] ≡ chain_of s.views ++ e ∷ []).
+    absurd (is_no_view e v names resilience plain (last_is a (chain_of s.views) (View v names resilience) e z)))
+    (begins_pushed e (subst (Begins (a ++ View v names resilience ∷ [])) chain part))
+
+-- the chain of who numbers
+pub longer_chain : (s : Group) (i : ℕ) (b : groups.Node) (e : Entry) → Kept s → Leads i (s.node i) → b.list ≡ (s.node i).list ++ e ∷ []
+    → chain_of (with_line s i b).views ≡ chain_of s.views ++ e ∷ []
+longer_chain s i b e k leads is =
+    let ok = (k.each i).leads leads in
+    let viewed : view_of (s.node i).list ≡ s.views.current = ap view_of ok.chain ∙ k.views.view in
+    ap (put s.views.line (key (view_of (s.node i).list)) b.list) (ap key (sym viewed)) ∙ put_same s.views.line (key (view_of (s.node i).list)) b.list
+    ∙ is ∙ ap (λ l. l ++ e ∷ []) ok.chain
+
+-- ---- a decision
+
+-- who departed is no member of what is chosen
+pub none_departed : (s : Group) (k : Kept s) (lawful : IsLawful s) (c : ℕ) (members : List ℕ) (resilience : ℕ) (d : MayDecide s c members resilience) (j : ℕ)
+    → mem (s.node c).list j ≡ true → (s.node j).departed ≡ true → ⊥
+none_departed s k lawful c members resilience d j member gone =
+    let o = k.departed j gone in
+    let inside = departed_in s k lawful c members resilience d j gone in
+    let good = good_begins (begins_trans inside (list_chain s k lawful c members resilience d)) k.views.good in
+    leaver_out o.before j good (mem_between j (good_begins (list_chain s k lawful c members resilience d) k.views.good)
+    (begins_more o.before (Leave j ∷ [])) inside (leaver_in o.before j good) member)
+
+choice_left : (s : Group) (k : Kept s) (lawful : IsLawful s) (c : ℕ) (members : List ℕ) (resilience : ℕ) → MayDecide s c members resilience → LeftOut s
+    → LeftOut (with_choice s c members resilience)
+choice_left s k lawful c members resilience d h a v names strong name part member out =
+    let old = (s.node c).list in
+    let e = View (s.node c).promise members resilience in
+    let all = opening (choice_of (s.node c) members resilience) in
+    let is : chain_of (with_choice s c members resilience).views ≡ all = put_same s.views.line (key (s.node c).promise) all in
+    let stays = put_stops s c (record (s.node c) { list = all; ballot = false }) (λ t. t) in
+    ⊎_elim
+    (λ (z : Begins (a ++ View v names strong ∷ []) old).
+    stays name (h a v names strong name (begins_trans z (list_chain s k lawful c members resilience d)) member out))
+    (λ (z : a ++ View v names strong ∷ [] ≡ old ++ e ∷ []).
+    (let last = last_is a old (View v names strong) e z in
+    let its : names ≡ members = ap (λ x. names_of_view x) last in
+    let one = length_push a (View v names strong) in
+    let two = length_push old e in
+    let long = ap length z in
+    let front : a ≡ old = same_front a old (View v names strong) e z in
+    let here = subst (λ l. mem l name ≡ true) front member in
+    stays name (by_cases (s.node name).stopped
+    (λ t. t)
+    (λ goes. by_cases (s.node name).departed
+    (λ gone. absurd (none_departed s k lawful c members resilience d name here gone))
+    (λ there. absurd (let in_ = d.all name here (record { goes = goes; stays = there }) in let o = ap (λ set. has set name) its ∙ in_ in cc))))))
+    (begins_pushed e (subst (Begins (a ++ View v names strong ∷ [])) is part))
+  where
+    names_of_view : Entry → List ℕ
+    names_of_view (Data from req body) = []
+    names_of_view (Join joiner) = []
+    names_of_view (Leave leaver) = []
+    names_of_view (View stamp set strong) = set
+
+    same_front : (a b : List Entry) (x y : Entry) → a ++ x ∷ [] ≡ b ++ y ∷ [] → a ≡ b
+    same_front [] [] x y same = refl
+    same_front [] (b ∷ bs) x y same = absurd (let z = ap length same in let u = length_push bs y in omega arith)
+    same_front (a ∷ as_) [] x y same = absurd (let z = ap length same in let u = length_push as_ x in omega arith)
+    same_front (a ∷ as_) (b ∷ bs) x y same =
+        let first : a ≡ b = cc in
+        let rest : as_ ++ x ∷ [] ≡ bs ++ y ∷ [] = cc in
+        (λ i. first i ∷ same_front as_ bs x y rest i)
+
+-- ---- each move
+
+pub moves_left : (s t : Group) → Move s t → Kept s → IsLawful s → LeftOut s → LeftOut t
+moves_left s t (numbers i e leads fit may) k law h = line_left s t e (put_stops s i (longer (s.node i) e) (λ z. z)) (numbers_plain s.node i e may)
+    (longer_chain s i (longer (s.node i) e) e k leads refl) h
+moves_left s t (stores i e up decided other stays next) k law h = same_left s t (put_stops s i _ (λ z. z)) refl h
+moves_left s t (accepts i n leads may) k law h = same_left s t (λ j z. z) refl h
+moves_left s t (learns i told acc up rises within before up_to given low) k law h = same_left s t (put_stops s i _ (λ z. z)) refl h
+moves_left s t (begins i few up stays member) k law h = same_left s t (put_stops s i _ (λ z. z)) refl h
+moves_left s t (raises i stamp there above) k law h = same_left s t (put_stops s i _ (λ z. z)) refl h
+moves_left s t (shows i there small other begun none) k law h = same_left s t (λ j z. z) refl h
+moves_left s t (serves i list up shown others) k law h = same_left s t (λ j z. z) refl h
+moves_left s t (fetches i f list e up ballot served shown next) k law h = same_left s t (put_stops s i _ (λ z. z)) refl h
+moves_left s t (decides i members resilience may) k law h = choice_left s k law i members resilience may h
+moves_left s t (gives_over i) k law h = same_left s t (put_stops s i _ (λ z. z)) refl h
+moves_left s t (welcomes j stamp base join may) k law h = same_left s t (put_stops s j _ (λ z. z)) refl h
+moves_left s t (asks i up none) k law h = same_left s t (put_stops s i _ (λ z. z)) refl h
+moves_left s t (departs i before may) k law h = same_left s t (put_stops s i _ (λ z. z)) refl h
+moves_left s t (closes i n leads leaving alone may) k law h =
+    line_left s t (Leave i) (put_stops s i _ (λ z. z)) tt (longer_chain s i (record (longer (s.node i) (Leave i)) { departed = true }) (Leave i) k leads refl) h
+moves_left s t (stops i) k law h = same_left s t (put_stops s i _ (λ z. refl)) refl h
+
+-- ---- each run
+
+start_left : (founders : List ℕ) (first resilience : ℕ) → LeftOut (start founders first resilience)
+start_left founders first resilience a v names strong name part member out = ⊎_elim
+    (λ (low : Begins (a ++ View v names strong ∷ []) []). absurd (let long = begins_length low in let one = length_push a (View v names strong) in omega arith))
+    (λ (all : a ++ View v names strong ∷ [] ≡ [] ++ View (first_stamp first) founders resilience ∷ []).
+    absurd (let long = ap length all in
+    let one = length_push a (View v names strong) in
+    mem_nil name (subst (λ l. mem l name ≡ true) (nothing a (omega arith)) member)))
+    (begins_pushed (View (first_stamp first) founders resilience) part)
+  where
+    nothing : (l : List Entry) → length l ≡ 0 → l ≡ []
+    nothing [] none = refl
+    nothing (x ∷ xs) none = absurd (omega arith)
+
+pub runs_leave_out : RunsLeaveOut
+runs_leave_out founders first resilience s (founded may) = start_left founders first resilience
+runs_leave_out founders first resilience t (more {s = s} run step law) =
+    let o = run_keeps founders first resilience s run in
+    let moved = moves_left s step.moved step.move o.kept o.lawful (runs_leave_out founders first resilience s run) in
+    subst LeftOut (sym step.is) (same_left step.moved (record (step.moved) { views = record (step.moved.views) { complete = step.complete } })
+    (λ j z. z) refl moved)

@@ -1,0 +1,178 @@
+-- What a node tells of its list by numbers is what the whole list tells.
+use Rattle.std.proofs.Common.{◌≡◌, ℕ, zero, suc, ◌+◌, ◌-◌, ◌<◌, ◌≤◌, true, false, List, [], ◌∷◌, ◌++◌, length, take, drop, Option, Some, None, slice_get}
+use Rattle.std.proofs.Common.{refl, sym, ap, ◌∙◌, subst, arith}
+use Rattle.std.proofs.Math.Seq.{take-append-add, drop-append_seam}
+use Rattle.std.proofs.lemmas.List.{length-take, take-append-drop}
+use Rattle.am_base.specs.declared.entry.Entry.{Entry}
+use Rattle.am_base.specs.declared.entry.Entry.TheVariants.{Data, Join, Leave, View}
+use Rattle.am_base.specs.declared.image.Image.{Image}
+use Rattle.am_base.specs.Names.{IsSet, has, size}
+use Rattle.am_base.specs.Lists.{blank, fold, after, members_of, entry_at, image_at, members_at}
+use Rattle.am_base.specs.Fronts.{counted_of, counted_at, need_at}
+use Rattle.am_core.proofs.Folds.{slice_get-drop}
+use Rattle.am_fronts.proofs.Views.{view_grows}
+use Rattle.am_chain_lists.specs.Whole.{IsGood, told, mem, resilience_of}
+use Rattle.am_chain_lists.proofs.Prefixes.{begins_take, begins_push, length_take, length_push, take_begins}
+use Rattle.am_chain_lists.proofs.Members.{good_begins, told_push, viewed_mem}
+use Rattle.am_chain_moves.specs.Group as groups
+use Rattle.am_chain_moves.specs.Group.{how_many, counted, need_of}
+use Rattle.am_model.specs.Node.{Node}
+use Rattle.am_model.specs.Receiving.{is_view}
+use Rattle.am_model.specs.World.{World}
+use Rattle.am_model.proofs.Folds.{fold_append}
+use Rattle.am_model.proofs.Greatest.{split}
+use Rattle.am_effects.proofs.Ballots.{entry_is}
+use Rattle.am_laws.proofs.ViewSteps.{after_same}
+use Rattle.am_stands.specs.Standing.{NameStands}
+use Rattle.am_stands.specs.States.{IsConcerned}
+use Rattle.am_stands.proofs.Counting.{names_few}
+
+-- ---- by numbers
+
+pub part_get : (front entries : List Entry) (i : ℕ) → slice_get (front ++ entries) (length front + i) ≡ slice_get entries i
+part_get front entries i = sym (slice_get-drop (length front) i (front ++ entries)) ∙ ap (λ l. slice_get l i) (drop-append_seam front entries)
+
+pub image_whole : (v : World) (i n : ℕ) (x : Node) (a : groups.Node) → NameStands v i x a → x.core.log.start ≤ n
+    → image_at x.core.log n ≡ told (take n a.list)
+image_whole v i n x a h low =
+    let start_ = x.core.log.start in
+    let front = take start_ v.group in
+    let part = take (n - start_) x.core.log.entries in
+    let long : length front ≡ start_ = (let b = h.begins.within in let c = length-take start_ v.group in omega arith) in
+    let at : n ≡ length front + (n - start_) = omega arith in
+    let one : 1 + length front ≡ start_ + 1 = omega arith in
+    let is : take n a.list ≡ front ++ part =
+    ap (λ k. take k a.list) at ∙ ap (take (length front + (n - start_))) h.list ∙ take-append-add front x.core.log.entries (n - start_) in
+    sym (ap told is ∙ fold_append blank 1 front part ∙ ap (λ (g : Image). fold g (1 + length front) part) (sym h.begins.image)
+    ∙ ap (λ m. fold x.core.log.image m part) one)
+
+pub entry_whole : (v : World) (i n : ℕ) (x : Node) (a : groups.Node) → NameStands v i x a → x.core.log.start < n
+    → entry_at x.core.log n ≡ slice_get a.list (n - 1)
+entry_whole v i n x a h low =
+    let start_ = x.core.log.start in
+    let front = take start_ v.group in
+    let index = n - 1 - start_ in
+    let long : length front ≡ start_ = (let b = h.begins.within in let c = length-take start_ v.group in omega arith) in
+    let at : length front + index ≡ n - 1 = omega arith in
+    entry_is x.core.log n index (omega arith) ∙ sym (part_get front x.core.log.entries index) ∙ ap (slice_get (front ++ x.core.log.entries)) at
+    ∙ ap (λ l. slice_get l (n - 1)) (sym h.list)
+
+-- who counts, and how many are needed
+pub counted_whole : (v : World) (i n : ℕ) (x : Node) (a : groups.Node) → NameStands v i x a → x.core.log.start < n
+    → counted_at x.core.log n ≡ counted a.list n
+counted_whole v i n x a h low =
+    ap (λ o. counted_of o (members_at x.core.log (n - 1))) (entry_whole v i n x a h low)
+    ∙ ap (λ (g : Image). counted_of (slice_get a.list (n - 1)) (members_of g)) (image_whole v i (n - 1) x a h (omega arith))
+
+pub need_whole : (v : World) (i n : ℕ) (x : Node) (a : groups.Node) → NameStands v i x a → x.core.log.start < n
+    → IsSet (counted_at x.core.log n) → need_of a.list n ≤ need_at x.core.log n
+unfolding resilience_of
+need_whole v i n x a h low set =
+    let is = counted_whole v i n x a h low in
+    let strong : (image_at x.core.log n).resilience ≡ (told (take n a.list)).resilience = ap (λ (g : Image). g.resilience)
+    (image_whole v i n x a h (omega arith)) in
+    let few : how_many (has (counted a.list n)) ≤ size (counted_at x.core.log n) =
+    subst (λ m. how_many (has m) ≤ size (counted_at x.core.log n)) is (names_few (counted_at x.core.log n) set) in
+    omega arith
+
+-- ---- the number of the last View
+
+plain_number : (a : List Entry) (e : Entry) → is_view e ≡ false → (told (a ++ e ∷ [])).view_number ≡ (told a).view_number
+plain_number a e f = ap (λ (g : Image). g.view_number) (told_push a e) ∙ (after_same (told a) (1 + length a) e f).number
+
+pub view_its : (image : Image) (number : ℕ) (e : Entry) → is_view e ≡ true → (after image number e).view_number ≡ number
+unfolding after
+view_its image number (Data from req body) t = absurd (cc)
+view_its image number (Join name) t = absurd (cc)
+view_its image number (Leave name) t = absurd (cc)
+view_its image number (View stamp names resilience) t = refl
+
+-- where no View stands from a number on, the last one's number is as before it
+number_kept : (image : Image) (number : ℕ) (es : List Entry) → (fold image number es).view_number < number
+    → (fold image number es).view_number ≡ image.view_number
+unfolding fold
+number_kept image number [] h = refl
+number_kept image number (e ∷ es) h = split (is_view e)
+    (λ t. absurd (
+    let now = view_its image number e t in
+    let more = view_grows (after image number e) (number + 1) es (omega arith) in
+    omega arith))
+    (λ f. number_kept (after image number e) (number + 1) es (omega arith) ∙ (after_same image number e f).number)
+
+pub part_number : (list : List Entry) (n : ℕ) → n ≤ length list → (told list).view_number ≤ n → (told (take n list)).view_number ≡ (told list).view_number
+part_number list n low h =
+    let long = length_take n list low in
+    let all : told list ≡ fold (told (take n list)) (1 + n) (drop n list) =
+    ap told (sym (take-append-drop n list)) ∙ fold_append blank 1 (take n list) (drop n list)
+    ∙ ap (λ k. fold (told (take n list)) (1 + k) (drop n list)) long in
+    let same = ap (λ (g : Image). g.view_number) all in
+    sym (same ∙ number_kept (told (take n list)) (1 + n) (drop n list) (omega arith))
+
+fold_low : (image : Image) (n : ℕ) (es : List Entry) → image.view_number < n → (fold image n es).view_number < n + length es
+unfolding fold
+fold_low image n [] h = omega arith
+fold_low image n (e ∷ es) h = split (is_view e)
+    (λ t. let z = view_its image n e t in let r = fold_low (after image n e) (n + 1) es (omega arith) in omega arith)
+    (λ f. let z = (after_same image n e f).number in let r = fold_low (after image n e) (n + 1) es (omega arith) in omega arith)
+
+pub number_low : (list : List Entry) → (told list).view_number ≤ length list
+number_low list = let r = fold_low blank 1 list (omega arith) in omega arith
+
+-- ---- who counts is concerned
+
+plain_counts : (e : Entry) (before : List ℕ) → is_view e ≡ false → counted_of (Some e) before ≡ before
+plain_counts (Data from req body) before f = refl
+plain_counts (Join name) before f = refl
+plain_counts (Leave name) before f = refl
+plain_counts (View stamp names resilience) before f = absurd (cc)
+
+pub next_part : (list : List Entry) (n : ℕ) (e : Entry) → n < length list → slice_get list n ≡ Some e → take (n + 1) list ≡ take n list ++ e ∷ []
+next_part list n e low at =
+    let long : length (take n list) ≡ n = length_take n list (omega arith) in
+    let all = begins_push e (begins_take n list) (ap (slice_get list) long ∙ at) in
+    let size : length (take n list ++ e ∷ []) ≡ n + 1 = length_push (take n list) e ∙ ap (λ k. k + 1) long in
+    ap (λ k. take k list) (sym size) ∙ take_begins all
+
+counted_in : (list : List Entry) (n : ℕ) (name : ℕ) (o : Option Entry) → IsGood list → n < length list → (told list).view_number ≤ n + 1
+    → slice_get list n ≡ o → has (counted_of o (members_of (told (take n list)))) name ≡ true → IsConcerned list name
+unfolding mem
+counted_in list n name None good low high is h = absurd (some list n low is)
+  where
+    some : (list : List Entry) (n : ℕ) → n < length list → slice_get list n ≡ None → ⊥
+    some [] n low is = omega arith
+    some (e ∷ list) zero low is = cc
+    some (e ∷ list) (suc n) low is = some list n (omega arith) is
+counted_in list n name (Some e) good low high is h = split (is_view e)
+    (λ t. viewed e t is h)
+    (λ f.
+    let part = next_part list n e low is in
+    let long : length (take n list) ≡ n = length_take n list (omega arith) in
+    let same = part_number list (n + 1) (omega arith) high in
+    let before = ap (λ l. (told l).view_number) part ∙ plain_number (take n list) e f in
+    let short = number_low (take n list) in
+    record {
+      upto = take n list;
+      begins = begins_take n list;
+      from = omega arith;
+      member = ap (λ set. has set name) (sym (plain_counts e (members_of (told (take n list))) f)) ∙ h;
+    })
+  where
+    viewed : (e : Entry) → is_view e ≡ true → slice_get list n ≡ Some e → has (counted_of (Some e) (members_of (told (take n list)))) name ≡ true
+        → IsConcerned list name
+    viewed (Data from req body) t is h = absurd (cc)
+    viewed (Join joiner) t is h = absurd (cc)
+    viewed (Leave leaver) t is h = absurd (cc)
+    viewed (View stamp names resilience) t is h =
+        let part = next_part list n (View stamp names resilience) low is in
+        let long : length (take (n + 1) list) ≡ n + 1 = length_take (n + 1) list (omega arith) in
+        let good_part : IsGood (take n list ++ View stamp names resilience ∷ []) = subst IsGood part (good_begins (begins_take (n + 1) list) good) in
+        record {
+          upto = take (n + 1) list;
+          begins = begins_take (n + 1) list;
+          from = omega arith;
+          member = subst (λ l. mem l name ≡ true) (sym part) (viewed_mem (take n list) stamp names resilience name good_part h);
+        }
+
+pub counted_concerned : (list : List Entry) (n name : ℕ) → IsGood list → 0 < n → n ≤ length list → (told list).view_number ≤ n
+    → has (counted list n) name ≡ true → IsConcerned list name
+counted_concerned list n name good low high from_ h = counted_in list (n - 1) name (slice_get list (n - 1)) good (omega arith) (omega arith) refl h

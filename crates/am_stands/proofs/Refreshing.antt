@@ -1,0 +1,219 @@
+-- What a node keeps, through a refresh: what it accepts then is accepted in the group before, and what it trims was taken by all who need it.
+use Rattle.std.proofs.Common.{◌≡◌, ⊎_elim, ℕ, ◌+◌, ◌≤◌, ◌==◌, true, false, List, length, refl, sym, ap, ◌∙◌, subst, arith}
+use Rattle.std.proofs.lemmas.Bool.Decides.{nat_tests}
+use Rattle.am_base.specs.declared.entry.Entry.{Entry}
+use Rattle.am_base.specs.declared.image.Image.{Image}
+use Rattle.am_base.specs.declared.image.Report.{Report}
+use Rattle.am_base.specs.Founding.{Rules}
+use Rattle.am_base.specs.Lists.{told_by}
+use Rattle.am_core.specs.Cores.{accept, pass_over}
+use Rattle.am_fronts.specs.Reports.{reported}
+use Rattle.am_fronts.specs.Refresh.{own_report, tell, go_on, let_go}
+use Rattle.am_chain_lists.specs.Whole.{IsGood, told, mem}
+use Rattle.am_chain_lists.proofs.Members.{mem_in}
+use Rattle.am_chain_moves.specs.Group.{Group}
+use Rattle.am_chain_moves.specs.Kept.{Kept}
+use Rattle.am_model.specs.Node as nodes
+use Rattle.am_model.specs.Node.{Node, view, acts, is_member, is_sequencer, lowest_or_first}
+use Rattle.am_model.specs.Calls.{is_unfinished}
+use Rattle.am_model.specs.Group.{has_log}
+use Rattle.am_model.specs.Refresh.{advance, lead, refresh}
+use Rattle.am_model.specs.World.{World}
+use Rattle.am_model.proofs.Greatest.{split}
+use Rattle.am_effects.specs.Causes.{Cause}
+use Rattle.am_effects.proofs.Rests.{rests_refresh, refresh_is, leads_rests}
+use Rattle.am_laws.proofs.TakenRuns.{Along}
+use Rattle.am_stands.specs.Standing.{NameStands, within}
+use Rattle.am_stands.specs.Letters.{Trimmed}
+use Rattle.am_stands.specs.Growing.{Grows}
+use Rattle.am_stands.specs.States.{OpensStand, ReportsFresh, ReportsStand, IsNew, Reporting}
+use Rattle.am_stands.proofs.Accepting.{own_reporting}
+use Rattle.am_stands.proofs.Changes.{told_whole, long_all, is_up}
+use Rattle.am_stands.proofs.ChainNames.{concerned_small, front_named}
+use Rattle.am_stands.proofs.Keeping.{old, list_member, sequencer_member}
+use Rattle.am_stands.proofs.Keeps.{Ballots, ballots, ballots_grow, trimmed_grow}
+use Rattle.am_stands.proofs.Onward.{group_kept}
+use Rattle.am_stands.proofs.Reporting.{reporting_grow, reporting_base}
+use Rattle.am_stands.proofs.Trimming.{Refreshed, refresh_trims}
+use Rattle.am_stands.specs.Keeping.{GroupFor, NodeKeeps, OwnTurn, RefreshesKeep, Refreshing, Stepping}
+
+-- ---- what a refresh does to reports and base
+
+-- its own report, before what is accepted goes on and after it
+abbrev twice : Node → ℕ → Report
+twice x = λ name. reported (reported x.reports x.core.who (nodes.report_of x)) x.core.who (nodes.report_of (lead x)) name
+
+lead_reports : (x : Node) → (lead x).reports ≡ twice x
+unfolding lead own_report tell go_on let_go accept pass_over
+lead_reports x = refl
+
+advance_same : (x : Node) → ((advance x).reports ≡ x.reports) × ((advance x).core.base ≡ x.core.base)
+unfolding accept pass_over
+advance_same x = (refl, refl)
+
+lead_leads : (x : Node) → is_sequencer x ≡ true → refresh x ≡ lead x
+unfolding refresh
+lead_leads x t = rw t refl
+
+follow_follows : (x : Node) → is_sequencer x ≡ false → refresh x ≡ advance x
+unfolding refresh
+follow_follows x f = rw f refl
+
+-- a member could not join anew
+member_old : (list : List Entry) (name : ℕ) → mem list name ≡ true → IsNew (told list) name → ⊥
+member_old list name member new =
+    let k = mem_in list name member in
+    let j = k.joined in
+    let i = k.is in
+    ⊎_elim (λ z. omega arith) (λ z. omega arith) new
+
+-- ---- a refresh, where the group has accepted what it accepts
+
+module _ (rules : Rules) (w v : World) (name : ℕ) (c : Cause) (x : Node) (s t : Group) (h : Stepping rules w name c x s) (g : Grows s t)
+    (gt : GroupFor rules t) (now : Refreshing v name x s t) (later : Along rules (refresh x)) where
+  abbrev y : Node
+  y = refresh x
+
+  olds : NameStands (within w name x) name x (s.node name)
+  olds = old rules w name c x s h
+
+  k : NodeKeeps w s name x
+  k = h.keeps
+
+  kept_t : Kept t
+  kept_t = group_kept rules.founders (lowest_or_first rules.founders) rules.resilience t gt
+
+  log : y.core.log ≡ x.core.log
+  log = (rests_refresh x).log
+
+  who : y.core.who ≡ x.core.who
+  who = (rests_refresh x).rests.who
+
+  base_up : x.core.base ≤ y.core.base
+  base_up = (rests_refresh x).rests.base
+
+  ballots_y : Ballots w t y.ballot
+  ballots_y = subst (Ballots w t) (sym (rests_refresh x).rests.ballot) (ballots_grow w s t x.ballot g (ballots rules w name c x s h))
+
+  sends_y : y.sends ≡ x.sends
+  sends_y = ap (λ (n : Node). n.sends) (refresh_is x)
+
+  opens_y : OpensStand y
+  opens_y open_ = (let o = k.opens (sym (ap is_unfinished (rests_refresh x).rests.ballot) ∙ open_) in
+      (ap is_member (rests_refresh x).rests.status ∙ o.0, (rests_refresh x).rests.leaving ∙ o.1))
+
+  -- reports that were true are so of the same list
+  reports_grow : Reporting t.node (t.node name).list x.core.base x.reports
+  reports_grow = subst (λ l. Reporting t.node l x.core.base x.reports) (sym now.list)
+      (reporting_grow s.node t.node (s.node name).list x.core.base x.reports (λ i. (g.each i).list) k.reports)
+
+  long : length (t.node name).list ≡ nodes.top x
+  long = ap length now.list ∙ long_all (within w name x) name x (s.node name) olds
+
+  -- with its own report, of what its application has taken
+  own_more : (taken : ℕ) (reports : ℕ → Report) → taken ≤ nodes.top x → Reporting t.node (t.node name).list x.core.base reports
+      → Reporting t.node (t.node name).list x.core.base (reported reports x.core.who (record { stored = nodes.top x; taken = taken }))
+  own_more taken reports low r = subst (λ z. Reporting t.node (t.node name).list x.core.base
+      (reported reports x.core.who (record { stored = z; taken = taken })))
+      long (own_reporting t.node (t.node name).list x.core.base x.core.who taken reports (let size_ = long in omega arith) (ap (λ j. (t.node j).list) h.who) r)
+
+  -- ---- a sequencer's
+
+  module _ (leads : is_sequencer x ≡ true) where
+    is : y ≡ lead x
+    is = lead_leads x leads
+
+    fronts_in : (y.core.taken ≤ nodes.top x) × (x.core.taken ≤ nodes.top x)
+    fronts_in =
+        let a = later.owned.fronts in
+        let b = h.along.owned.fronts in
+        let given = a.given in
+        let accepted = a.accepted in
+        let given_ = b.given in
+        let accepted_ = b.accepted in
+        let top_ : nodes.top y ≡ nodes.top x = ap (λ l. l.start + length l.entries) log in
+        (omega arith, omega arith)
+
+    reports_are : y.reports ≡ reported (reported x.reports x.core.who (nodes.report_of x)) x.core.who (record { stored = nodes.top x; taken = y.core.taken })
+    reports_are = ap (λ (n : Node). n.reports) is ∙ lead_reports x
+        ∙ ap (λ z. reported (reported x.reports x.core.who (nodes.report_of x)) x.core.who z)
+        (ap nodes.report_of (sym is) ∙ ap (λ z. record { stored = z; taken = y.core.taken }) (ap (λ l. l.start + length l.entries) log))
+
+    reports_led : Reporting t.node (t.node name).list x.core.base y.reports
+    reports_led = (let low = fronts_in in subst (Reporting t.node (t.node name).list x.core.base) (sym reports_are)
+        (own_more y.core.taken (reported x.reports x.core.who (nodes.report_of x)) low.0 (own_more x.core.taken x.reports low.1 reports_grow)))
+
+    leads_y : is_sequencer y ≡ true
+    leads_y = leads_rests (rests_refresh x).rests ∙ leads
+
+    member_y : is_member y.status ≡ true
+    member_y = ap is_member (rests_refresh x).rests.status ∙ sequencer_member rules w name c x s h leads
+
+    refreshed : Refreshed (within v name y) name x y t
+    refreshed =
+        let f = later.owned.fronts in
+        let kept_ = f.kept in
+        let base = f.base in
+        let given = f.given in
+        let up = is_up v name y (t.node name) now.runs member_y now.stands in
+        record {
+          is = is;
+          speaks = record { kept = kept_t; stands = now.stands; up = up; who = who ∙ h.who };
+          leads = leads_y;
+          start = omega arith;
+          base = omega arith;
+          within = f.accepted;
+          accepted = now.accepted;
+          names = concerned_small (within v name y) name y (t.node name) now.stands (front_named (t.node name).list _ ((kept_t.each name).list up) gt.named)
+              (omega arith);
+          reports = reports_led;
+          trimmed = trimmed_grow w s t x.core.base g k.trimmed;
+        }
+
+    -- who isn't new has reported what it did before, or is the sequencer
+    fresh_led : ReportsFresh y
+    fresh_led j new_ = split (j == x.core.who)
+        (λ u. absurd (let same : j ≡ x.core.who = grind (arith, nat_tests) in
+        let told_ : nodes.told y ≡ told (s.node name).list = ap told_by log ∙ sym (told_whole w name name x (s.node name) olds) in
+        member_old (s.node name).list j (subst (λ i. mem (s.node name).list i ≡ true) (sym (same ∙ h.who)) (list_member rules w name c x s h leads))
+        (subst (λ (i : Image). IsNew i j) told_ new_)))
+        (λ f. let old_ = k.fresh j (subst (λ (i : Image). IsNew i j) (ap told_by log) new_) in
+        let same : (y.reports j).stored ≡ (x.reports j).stored = ap (λ r. (r j).stored) reports_are ∙ rw f refl in
+        let up = base_up in
+        omega arith)
+
+  reports_y : ReportsStand t name y
+  reports_y = reporting_base t.node (t.node name).list x.core.base y.core.base y.reports base_up (split (is_sequencer x) reports_led
+      (λ f. subst (Reporting t.node (t.node name).list x.core.base)
+      (sym (ap (λ (n : Node). n.reports) (follow_follows x f) ∙ (advance_same x).0)) reports_grow))
+
+  fresh_y : ReportsFresh y
+  fresh_y = split (is_sequencer x) fresh_led
+      (λ f. λ j new_. (let old_ = k.fresh j (subst (λ (i : Image). IsNew i j) (ap told_by log) new_) in
+      let same : (y.reports j).stored ≡ (x.reports j).stored = ap (λ (n : Node). (n.reports j).stored) (follow_follows x f)
+      ∙ ap (λ r. (r j).stored) (advance_same x).0 in
+      let up = base_up in
+      omega arith))
+
+  trimmed_y : Trimmed t y.core.base
+  trimmed_y = split (is_sequencer x)
+      (λ u. refresh_trims (within v name y) name x y t (refreshed u))
+      (λ f. subst (Trimmed t) (sym (ap (λ (n : Node). n.core.base) (follow_follows x f) ∙ (advance_same x).1)) (trimmed_grow w s t x.core.base g k.trimmed))
+
+  pub keeps_refresh : NodeKeeps w t name (refresh x)
+  keeps_refresh = record {
+    good = subst IsGood (sym now.list) k.good;
+    votes = ballots_y.votes;
+    fetches = ballots_y.fetches;
+    last = ballots_y.last;
+    opens = opens_y;
+    reports = reports_y;
+    fresh = fresh_y;
+    trimmed = trimmed_y;
+    turn = subst (λ q. OwnTurn q (t.node name).list y.sends) (sym who) (subst (λ l. OwnTurn x.core.who l y.sends) (sym now.list)
+        (subst (OwnTurn x.core.who (s.node name).list) (sym sends_y) k.turn));
+    leaves = λ u. (ap has_log (rests_refresh x).rests.status ∙ k.leaves (sym (rests_refresh x).rests.leaving ∙ u));
+  }
+
+pub refreshes_keep : RefreshesKeep
+refreshes_keep = keeps_refresh

@@ -1,0 +1,304 @@
+-- Each letter that is sent is so.
+use Rattle.std.proofs.Common.{◌≡◌, ◌≢◌, ℕ, ◌<◌, ◌≤◌, ◌==◌, ◌&&◌, ◌||◌, true, false, List, [], ◌∷◌, length, take, refl, sym, ap, ◌∙◌, subst, arith}
+use Rattle.std.proofs.lemmas.Bool.Decides.{nat_tests}
+use Rattle.std.proofs.lemmas.Option.{slice_get_within}
+use Rattle.am_base.specs.declared.entry.Entry.{Entry}
+use Rattle.am_base.specs.declared.entry.Entry.TheVariants.{Data}
+use Rattle.am_base.specs.declared.image.Image.{Image}
+use Rattle.am_base.specs.declared.name.Stamp.{Stamp}
+use Rattle.am_base.specs.Names.{has}
+use Rattle.am_base.specs.Stamps.{stamp_eq, no_stamp}
+use Rattle.am_base.specs.Lists.{row_of, entry_at, image_at, fold}
+use Rattle.am_packet.specs.declared.packet.Packet.{Packet}
+use Rattle.am_packet.specs.declared.packet.Packet.TheVariants as packet
+use Rattle.am_chain_lists.specs.Whole.{Begins, mem, view_of, key}
+use Rattle.am_chain_lists.proofs.Members.{good_begins}
+use Rattle.am_chain_lists.proofs.Order.{key_by, view_small}
+use Rattle.am_chain_moves.specs.Group as groups
+use Rattle.am_chain_moves.specs.Group.{Group, IsThere, opening}
+use Rattle.am_model.specs.declared.status.Status.{Status}
+use Rattle.am_model.specs.declared.status.Status.TheVariants as status
+use Rattle.am_model.specs.Node as nodes
+use Rattle.am_model.specs.Node.{Node, Ballot, view, is_member, acts, is_sequencer, only_name}
+use Rattle.am_model.specs.Group.{has_log}
+use Rattle.am_model.specs.Ballots.{own_vote}
+use Rattle.am_model.specs.Resets.{may_fetch}
+use Rattle.am_model.specs.Ticks.{viewed_by}
+use Rattle.am_model.specs.World.{World, has_departed}
+use Rattle.am_model.proofs.Greatest.{split, and_both}
+use Rattle.am_effects.specs.Causes.{Cause, hears}
+use Rattle.am_effects.specs.Letters as letters
+use Rattle.am_effects.specs.Letters.{MayFetch, for_ballot, of_promise, MayTell, leads, decided, Says, request, spread, bcast, order, accept, ack, nack, hold}
+use Rattle.am_effects.specs.Letters.{join_ask, welcome}
+use Rattle.am_effects.specs.Letters.{leave_ask, gone, invite, vote, fetch, piece, result, hand_over}
+use Rattle.am_effects.proofs.Statuses.{logged}
+use Rattle.am_laws.proofs.Stamps.{same_stamp}
+use Rattle.am_stands.specs.Letters as says
+use Rattle.am_stands.specs.Letters.{line, IsDecided, AllShown, FetchSays, PacketSays, ResultSays}
+use Rattle.am_stands.specs.Moving.{none, Leads}
+use Rattle.am_stands.specs.Sending.{KeptWhole, Sender, ShowsMore, SaysSo, SentSays}
+use Rattle.am_stands.proofs.Changes.{told_all, long_all}
+use Rattle.am_stands.proofs.Entries.{key_stamp}
+use Rattle.am_stands.proofs.Going.{gone_says}
+use Rattle.am_stands.proofs.Opens.{list_opens}
+use Rattle.am_stands.proofs.Results.{tells_leads, result_said}
+use Rattle.am_stands.proofs.Sent.{Speaks, leading, report_said, leaver_said, sequencer_said, entry_said, piece_said}
+use Rattle.am_stands.proofs.Shown.{PieceStands, vote_said, shown_said}
+use Rattle.am_stands.proofs.Votes.{only_one}
+use Rattle.am_stands.proofs.Welcoming.{is_welcomed, welcome_says}
+
+-- ---- who acts
+
+member_of : (t : Status) → has_log t ≡ true → has_departed t ≡ false → is_member t ≡ true
+member_of status.Stranger h d = absurd (cc)
+member_of status.Asking h d = absurd (cc)
+member_of status.Member h d = refl
+member_of status.Departed h d = absurd (cc)
+
+no_round : key no_stamp < 256
+unfolding key
+no_round = omega arith
+
+nothing_viewed : view_of [] ≡ no_stamp
+unfolding view_of fold
+nothing_viewed = refl
+
+some_list : (list : List Entry) (p : Stamp) → view_of list ≡ p → 256 ≤ key p → list ≢ []
+some_list [] p same round empty = (let z = ap key (sym nothing_viewed ∙ same) in let y = no_round in let x : ⊥ = omega arith in x)
+some_list (e ∷ es) p same round empty = cc
+
+-- who acts has a promise that was decided: its list's view
+pub acts_decided : (v : World) (i : ℕ) (n : Node) (s : Group) → KeptWhole s → Speaks v i n s → acts n ≡ true → IsDecided s n.core.promise
+unfolding view_of
+acts_decided v i n s g h t =
+    let acting = and_both (is_member n.status) (stamp_eq n.core.promise (view n)) t in
+    let promise = same_stamp n.core.promise (view n) acting.1 in
+    let viewed : view_of (s.node i).list ≡ n.core.promise = ap (λ (x : Image). x.view) (told_all v i n (s.node i) h.stands) ∙ sym promise in
+    let mine : key (s.node i).promise ≡ key n.core.promise = ap key h.stands.promise in
+    let round = g.rounds.promised i h.up.log in
+    let some = some_list (s.node i).list n.core.promise viewed (omega arith) in
+    ap (λ (u : Stamp). s.views.decided (key u)) (sym viewed) ∙ (list_opens s i g.kept g.opens h.up some).decided
+
+acting_member : (n : Node) → acts n ≡ true → is_member n.status ≡ true
+acting_member n t = (and_both (is_member n.status) (stamp_eq n.core.promise (view n)) t).0
+
+leading_acts : (n : Node) → is_sequencer n ≡ true → acts n ≡ true
+leading_acts n t = (and_both (acts n) ((view n).by == n.core.who) t).0
+
+same_number : (a b : ℕ) → (a == b) ≡ true → a ≡ b
+same_number a b t = grind (arith, nat_tests)
+
+not_number : (a b : ℕ) → (a == b) ≡ false → a ≢ b
+not_number a b f same = grind (arith, nat_tests)
+
+module _ (v : World) (i : ℕ) (c : Cause) (m n : Node) (s : Group) (h : Sender v i c m n s) where
+  speaks : is_member n.status ≡ true → Speaks v i n s
+  speaks t = record { kept = h.group.kept; stands = h.stands; up = record { log = h.stands.log_ ∙ logged n.status t; there = h.there }; who = h.who }
+
+  speaks_acting : acts n ≡ true → Speaks v i n s
+  speaks_acting t = speaks (acting_member n t)
+
+  speaks_leading : is_sequencer n ≡ true → Speaks v i n s
+  speaks_leading t = speaks_acting (leading_acts n t)
+
+  -- who has a log is a member
+  logged_member : has_log n.status ≡ true → is_member n.status ≡ true
+  logged_member t = member_of n.status t (sym h.stands.departed ∙ h.there.stays)
+
+  so : (to : List ℕ) (p : Packet) → PacketSays v s to p → Leads (SaysSo v to p s) s
+  so to p k = record { to = s; path = none; is = record { same = record { node = refl; views = refl; group_ = refl }; says = k } }
+
+  reports : acts n ≡ true → says.ReportSays s i n.core.promise (nodes.report_of n)
+  reports t = report_said v i n s (speaks_acting t) (acts_decided v i n s h.group (speaks_acting t) t)
+
+  sends_own : (to : List ℕ) (req : ℕ) (body : List ℕ) → acts n ≡ true → letters.HasSend n req body
+      → says.SendSays v s n.core.who n.core.promise (nodes.report_of n) req body
+  sends_own to req body t has_it = subst (λ j. says.SendSays v s j n.core.promise (nodes.report_of n) req body) (sym h.who)
+      (record { reports = reports t; asked = h.sends.own req body has_it })
+
+  sequencer : is_sequencer n ≡ true → says.SequencerSays s i n.core.promise n.core.acc
+  sequencer t = sequencer_said v i n s (speaks_leading t) t h.fronts
+
+  numbered : (number : ℕ) (e : Entry) → is_sequencer n ≡ true → letters.Stands n.core.log m.core.base number e
+      → says.EntrySays s i n.core.promise n.core.acc number e
+  numbered number e t at = entry_said v i n s m.core.base number e (speaks_leading t) t h.fronts h.numbers.start at
+
+  -- a Fetch for its own promise, and one for a ballot of its own
+  fetched : (to : List ℕ) → MayFetch m n to → FetchSays s i n.core.promise to
+  fetched to (of_promise other is) = says.of_promise
+      (λ same. not_number n.core.promise.by n.core.who other (same ∙ sym h.who))
+      (λ j in_. only_one n.core.promise.by j (ap (λ set. has set j) (sym is) ∙ in_))
+  fetched to (for_ballot b open_ from want answer is) =
+      let known = h.ballots.fetches b from want open_ answer in
+      says.for_ballot known.0 (λ j in_. subst (AllShown s n.core.promise) (sym (only_one from j (ap (λ set. has set j) (sym is) ∙ in_))) known.1)
+
+  -- a View of its own
+  told_result : (number : ℕ) (names : List ℕ) → number ≡ (nodes.told n).view_number → viewed_by (entry_at n.core.log number) ≡ names → MayTell n
+      → n.core.promise.by ≡ i → ResultSays s i n.core.promise number names (nodes.told n).resilience
+  told_result number names is viewed may mine =
+      let member = logged_member (tells_log may) in
+      let t = tells_leads n member may h.ballots.own (mine ∙ sym h.who) in
+      let l = leading v i n s (speaks_leading t) t in
+      let noted = h.views.decided (key n.core.promise) l.decided in
+      let k = h.views.noted noted.index noted.view noted.there in
+      let same : noted.view.stamp ≡ n.core.promise = key_stamp noted.view.stamp n.core.promise (h.noted noted.index noted.view noted.there) h.small noted.is in
+      result_said v i number n names s (speaks_leading t) t
+      (subst (λ (u : Stamp). (s.views.chosen (key u)).stamp ≡ u) same k.stamp)
+      (subst (λ (u : Stamp). Begins (opening (s.views.chosen (key u))) (s.views.line (key u))) same k.opens)
+      (h.leader t).viewed is viewed
+    where
+      tells_log : MayTell n → has_log n.status ≡ true
+      tells_log (leads t) = logged n.status (acting_member n (leading_acts n t))
+      tells_log (decided b number names there answer at) = h.ballots.blank b there
+
+  -- what is sent of its list
+  piece_log : (number : ℕ) (e : Entry) → letters.Stands n.core.log m.core.base number e → is_member n.status ≡ true
+  piece_log number e at = logged_member (split (has_log n.status) (λ t. t) (λ f. absurd (
+      let none = ap length ((h.group.kept.each i).blank (h.stands.log_ ∙ f)) in
+      let long = long_all v i n (s.node i) h.stands in
+      let some = slice_get_within n.core.log.entries at.index e at.there in
+      omega arith)))
+
+  pieced : (from : ℕ) (u : Stamp) (stored number : ℕ) (e : Entry) → c ≡ hears (packet.Fetch from u stored) → may_fetch n from u ≡ true
+      → letters.Stands n.core.log m.core.base number e → Leads (PieceStands i number n e s) s
+  pieced from u stored number e is may at =
+      let member = piece_log number e at in
+      let both = and_both (stamp_eq u n.core.promise) ((u.by == from) || ((u.by == n.core.who) && stamp_eq (view n) u)) may in
+      let promise : u ≡ n.core.promise = same_stamp u n.core.promise both.0 in
+      split (u.by == from)
+      (λ t.
+      let by : n.core.promise.by ≡ from = ap (λ (x : Stamp). x.by) (sym promise) ∙ same_number u.by from t in
+      let asks = h.asked from stored u is in
+      let asked = subst (λ (x : Stamp). FetchSays s from x asks.0) promise asks.2 in
+      shown_said v i from m.core.base number n e s asks.0 (speaks member) by (not_itself from asks.0 by asks.1 asked) asks.1 asked h.numbers.start at)
+      (λ f.
+      let rest : ((u.by == n.core.who) && stamp_eq (view n) u) ≡ true = rw f at both.1 in
+      let own = and_both (u.by == n.core.who) (stamp_eq (view n) u) rest in
+      let viewed : view n ≡ n.core.promise = same_stamp (view n) u own.1 ∙ promise in
+      let leads_ : is_sequencer n ≡ true = leads_own member viewed (ap (λ (x : Stamp). x.by) (sym promise) ∙ same_number u.by n.core.who own.0) in
+      record {
+        to = s;
+        path = none;
+        is = record {
+          same = record { node = refl; views = refl; group_ = refl };
+          says = piece_said v i n s m.core.base number e
+              (speaks member) leads_ h.numbers.start at;
+        };
+      })
+    where
+      itself : (x : Stamp) → stamp_eq x x ≡ true
+      itself x = grind (arith, nat_tests)
+
+      leads_own : is_member n.status ≡ true → view n ≡ n.core.promise → n.core.promise.by ≡ n.core.who → is_sequencer n ≡ true
+      leads_own member viewed mine =
+          let a : stamp_eq n.core.promise (view n) ≡ true = subst (λ x. stamp_eq n.core.promise x ≡ true) (sym viewed) (itself n.core.promise) in
+          let b : ((view n).by == n.core.who) ≡ true = (let z = ap (λ (x : Stamp). x.by) viewed ∙ mine in grind (arith, nat_tests)) in
+          rw (member, a, b) refl
+
+      -- nobody fetches from itself
+      not_itself : (from : ℕ) (to : List ℕ) → n.core.promise.by ≡ from → has to i ≡ true → FetchSays s from n.core.promise to → from ≢ i
+      not_itself from to by in_ (says.for_ballot own all) same =
+          let known = all i in_ in
+          let ok = h.group.kept.shown (key n.core.promise) i known.list known.shown in
+          let its = key_by ok.stamp n.core.promise ok.small h.small ok.is in
+          ok.other (its ∙ by ∙ same)
+      not_itself from to by in_ (says.of_promise other all) same = other by
+
+-- ---- each letter
+
+-- its view is of a name
+view_named : (v : World) (i : ℕ) (c : Cause) (m n : Node) (s : Group) → Sender v i c m n s → (view n).by < 256
+unfolding view_of
+view_named v i c m n s h =
+    let same : view_of (s.node i).list ≡ view n = ap (λ (x : Image). x.view) (told_all v i n (s.node i) h.stands) in
+    subst (λ (u : Stamp). u.by < 256) same (split (s.node i).has_log
+    (λ t. view_small (s.node i).list (good_begins ((h.group.kept.each i).list (record { log = t; there = h.there })) h.group.kept.views.good))
+    (λ f. subst (λ l. (view_of l).by < 256) (sym ((h.group.kept.each i).blank f)) (subst (λ (u : Stamp). u.by < 256) (sym nothing_viewed) (omega arith))))
+
+trimmed_same : (s t : Group) (base : ℕ) → ShowsMore s t → says.Trimmed s base → says.Trimmed t base
+trimmed_same s t base same h = record {
+  accepted = subst (λ l. base ≤ length l) (sym same.group_) h.accepted;
+  stored = λ j. subst (λ (f : ℕ → groups.Node). IsThere (f j) → (f j).leaving ≡ false → mem (take base t.group) j ≡ true
+      → Begins (take base t.group) (f j).list) (sym same.node)
+      (subst (λ l. IsThere (s.node j) → (s.node j).leaving ≡ false → mem (take base l) j ≡ true → Begins (take base l) (s.node j).list) (sym same.group_)
+      (h.stored j));
+}
+
+pub sent_says : SentSays
+sent_says v i c m n s to p h (request _ req body a f has_it) = so v i c m n s h to _ (sends_own v i c m n s h to req body a has_it)
+sent_says v i c m n s to p h (spread _ req body a f has_it) = so v i c m n s h to _ (sends_own v i c m n s h to req body a has_it)
+sent_says v i c m n s to p h (bcast _ number e t at) = so v i c m n s h to _
+    (h.trimmed, subst (λ j. says.EntrySays s j n.core.promise n.core.acc number e) (sym h.who) (numbered v i c m n s h number e t at))
+sent_says v i c m n s to p h (order _ number from req u report body is t at) = so v i c m n s h to _ (
+  h.trimmed,
+  subst (λ j. says.OrderSays v s j n.core.promise n.core.acc number from req) (sym h.who)
+      (record { body = body; entry = numbered v i c m n s h number (Data from req body) t at; asked = h.sends.numbered at.index from req body at.there }),
+)
+sent_says v i c m n s to p h (accept _ poll t) = so v i c m n s h to _
+    (h.trimmed, subst (λ j. says.SequencerSays s j n.core.promise n.core.acc) (sym h.who) (sequencer v i c m n s h t))
+sent_says v i c m n s to p h (ack _ a) = so v i c m n s h to _
+    (subst (λ j. says.ReportSays s j n.core.promise (nodes.report_of n)) (sym h.who) (reports v i c m n s h a))
+sent_says v i c m n s to p h (nack _ a) = so v i c m n s h to _
+    (subst (λ j. says.ReportSays s j n.core.promise (nodes.report_of n)) (sym h.who) (reports v i c m n s h a))
+sent_says v i c m n s to p h (hold _ from u report req body by t) = so v i c m n s h to _ tt
+sent_says v i c m n s to p h (join_ask _ a) = so v i c m n s h to _ tt
+sent_says v i c m n s to p h (welcome name t may) =
+    let good = good_begins ((h.group.kept.each i).list (speaks_leading v i c m n s h t).up) h.group.kept.views.good in
+    let base = h.numbers.base in
+    let taken = h.numbers.taken in
+    let is = is_welcomed v i m n (s.node i) name h.stands good h.lives h.numbers.start h.numbers.accepted may in
+    so v i c m n s h (only_name name) _ (
+      h.trimmed,
+      λ j in_.
+          subst (λ k. says.WelcomeTo s k n.core.promise n.core.base (row_of (nodes.told n) name).joined (image_at n.core.log n.core.base) j) (sym h.who)
+          (welcome_says v i n s name (speaks_leading v i c m n s h t) t h.fronts h.numbers.kept (omega arith) is h.trimmed j in_),
+    )
+sent_says v i c m n s to p h (leave_ask _ member leaves) = so v i c m n s h to _
+    (subst (λ j. says.LeaverSays s j n.core.promise (nodes.report_of n)) (sym h.who) (leaver_said v i n s (speaks v i c m n s h member) leaves))
+sent_says v i c m n s to p h (gone name t may) =
+    let l = h.leader t in
+    let base = h.numbers.base in
+    let taken = h.numbers.taken in
+    so v i c m n s h (only_name name) _ (gone_says v i n s name (record {
+      speaks = speaks_leading v i c m n s h t;
+      leads = t;
+      fronts = h.fronts;
+      kept = h.numbers.kept;
+      base = omega arith;
+      within = h.numbers.within;
+      names = l.names;
+      reports = l.reports;
+      trimmed = h.trimmed;
+      left_out = h.group.left_out;
+    }) may)
+sent_says v i c m n s to p h (invite _ may) = so v i c m n s h to _ tt
+sent_says v i c m n s to p h (vote from u is) =
+    let taken = h.numbers.taken in
+    let within = h.numbers.within in
+    let r = vote_said v i n s (record { kept = h.group.kept; stands = h.stands; there = h.there; small = h.small; begun = h.begun; taken = omega arith }) in
+    record {
+      to = r.to;
+      path = r.path;
+      is = record { same = r.is.same; says = (view_named v i c m n s h, subst (λ j. says.VoteSays r.to j n.core.promise (own_vote n)) (sym h.who) r.is.says) };
+    }
+sent_says v i c m n s to p h (fetch _ may) = so v i c m n s h to _ (subst (λ j. FetchSays s j n.core.promise to) (sym h.who) (fetched v i c m n s h to may))
+sent_says v i c m n s to p h (piece from u stored number e is may at) =
+    let r = pieced v i c m n s h from u stored number e is may at in
+    record {
+      to = r.to;
+      path = r.path;
+      is = record {
+        same = r.is.same;
+        says = (
+          trimmed_same s r.to n.core.base r.is.same h.trimmed,
+          subst (λ j. says.PieceSays r.to j n.core.promise number e)
+              (sym h.who) r.is.says,
+        );
+      };
+    }
+sent_says v i c m n s to p h (result _ number names is viewed may) = so v i c m n s h to _ (
+  h.trimmed,
+  λ mine. subst (λ j. ResultSays s j n.core.promise number names (nodes.told n).resilience) (sym h.who)
+      (told_result v i c m n s h number names is viewed may (mine ∙ h.who)),
+)
+sent_says v i c m n s to p h (hand_over _ t leaves) = so v i c m n s h to _ tt

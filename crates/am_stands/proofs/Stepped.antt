@@ -1,0 +1,271 @@
+-- One change of a step after another, while none is a refresh: what is known within the step stays known.
+use Rattle.std.proofs.Common.{◌≡◌, ⊎_elim, ℕ, ◌<◌, ◌≤◌, List, [], length, Option, Some, None, slice_get, refl, sym}
+use Rattle.std.proofs.Common.{ap, subst, arith, append-nil}
+use Rattle.am_base.specs.declared.outcome.Outcome.{Outcome}
+use Rattle.am_base.specs.declared.name.Stamp.{Stamp}
+use Rattle.am_base.specs.Founding.{Rules}
+use Rattle.am_chain_lists.proofs.Order.{view_small}
+use Rattle.am_chain_moves.specs.Group.{Group}
+use Rattle.am_model.specs.Node.{Node, Ballot, view, lowest_or_first}
+use Rattle.am_model.specs.Ballots.{Verdict}
+use Rattle.am_model.specs.World.{Decided, World, last_view}
+use Rattle.am_effects.specs.Causes.{Cause}
+use Rattle.am_effects.specs.Looks.{Looks, finds_itself_out, waits, fetches_from_best, finds_too_few, finds_no_room, decides}
+use Rattle.am_effects.specs.Changes.{Change, refreshes, settles, takes_report, admits, numbers, keeps_body, notes, stores, begins_list, departs, promises}
+use Rattle.am_effects.specs.Changes.{opens, looks, fetches, stores_view, queues, collects, takes, asks_to_join, asks_to_leave, closes, Changes, unchanged}
+use Rattle.am_effects.specs.Changes.{changed}
+use Rattle.am_effects.proofs.Items.{get_push}
+use Rattle.am_effects.proofs.Rests.{settle_is}
+use Rattle.am_laws.specs.Packets.{stamp_of}
+use Rattle.am_laws.proofs.Named.{change_named}
+use Rattle.am_laws.proofs.TakenRuns.{Along, along_changes}
+use Rattle.am_sent.proofs.Changes.{CauseSent, change_sent}
+use Rattle.am_stands.specs.Standing.{StandsBut, within}
+use Rattle.am_stands.specs.Growing.{Grows}
+use Rattle.am_stands.specs.Moving.{Moves, none, moves}
+use Rattle.am_stands.specs.Steps.{Needs, after_change, after_look}
+use Rattle.am_stands.proofs.Carried.{changes_stand}
+use Rattle.am_stands.proofs.Changes.{own_name}
+use Rattle.am_stands.proofs.Entries.{view_whole}
+use Rattle.am_stands.specs.States.{SendsOnce}
+use Rattle.am_stands.specs.Letters.{WasAsked}
+use Rattle.am_stands.proofs.Keeping.{may_move, needs, IsNoClose}
+use Rattle.am_stands.proofs.Keeps.{keeps_next}
+use Rattle.am_stands.proofs.Letters.{letters_stay}
+use Rattle.am_stands.proofs.Onward.{GoesOn, goes_on, grows_same, grows_trans}
+use Rattle.am_stands.specs.Keeping.{ChangesGoOn, IsPlain, LastStands, Next, NodeKeeps, Stepping}
+
+-- ---- the world after a change: with the views that it noted
+
+abbrev pub viewing : World → List Decided → World
+viewing w views = record w { views = views }
+
+last_same : (w : World) (views : List Decided) (ballot : Option Ballot) → LastStands w ballot → LastStands (viewing w views) ballot
+last_same w views None h = tt
+last_same w views (Some b) h = record { given = h.given; names = h.names }
+
+keeps_same : (w : World) (views : List Decided) (s : Group) (i : ℕ) (x : Node) → NodeKeeps w s i x → NodeKeeps (viewing w views) s i x
+keeps_same w views s i x h = record {
+  good = h.good;
+  votes = h.votes;
+  fetches = h.fetches;
+  last = last_same w views x.ballot h.last;
+  opens = h.opens;
+  reports = h.reports;
+  fresh = h.fresh;
+  trimmed = h.trimmed;
+  turn = h.turn;
+  leaves = h.leaves;
+}
+
+asked_same : (w : World) (views : List Decided) (who req : ℕ) (body : List ℕ) → WasAsked (viewing w views) who req body → WasAsked w who req body
+asked_same w views who req body k = record { index = k.index; done = k.done; there = k.there; is = k.is }
+
+once_same : (w : World) (views : List Decided) → SendsOnce w → SendsOnce (viewing w views)
+once_same w views h name req a b p q = h name req a b (asked_same w views name req a p) (asked_same w views name req b q)
+
+looked_is : {m : Node} {b : Ballot} {v : Verdict} (look : Looks m b v) (w : World) → after_look look w ≡ viewing w (after_look look w).views
+looked_is (finds_itself_out a) w = refl
+looked_is (waits a d) w = refl
+looked_is (fetches_from_best a d e) w = refl
+looked_is (finds_too_few a d) w = refl
+looked_is (finds_no_room a) w = refl
+looked_is (decides may) w = refl
+
+after_is : {c : Cause} {o : Outcome} {x y : Node} (z : Change c o x y) (w : World) → after_change z w ≡ viewing w (after_change z w).views
+after_is refreshes w = refl
+after_is settles w = refl
+after_is (takes_report from v report by may) w = refl
+after_is (admits from v is leads fit) w = refl
+after_is (numbers e leads room why) w = refl
+after_is (keeps_body from v report req body is heard) w = refl
+after_is (notes from v base acc by heard) w = refl
+after_is (stores from v base acc number e by heard plain may) w = refl
+after_is (begins_list from v base join image is says_ may) w = refl
+after_is (departs from v number is heard leaves) w = refl
+after_is (promises v low why) w = refl
+after_is (opens least resilience by may) w = refl
+after_is (looks b verdict over why look is) w = looked_is look w
+after_is (fetches from v base number e is heard promise below why may) w = refl
+after_is (stores_view from v base number names resilience is heard own other promise below may) w = refl
+after_is (queues body is says_ member stays few) w = refl
+after_is (collects req is) w = refl
+after_is (takes e is says_ member some there) w = refl
+after_is (asks_to_join is was) w = refl
+after_is (asks_to_leave is was stays done) w = refl
+after_is (closes leads leaves alone room) w = refl
+
+looked_noted : {m : Node} {b : Ballot} {v : Verdict} (look : Looks m b v) (w : World) → (view v.node).by < 256
+    → ((k : ℕ) (d : Decided) → slice_get w.views k ≡ Some d → d.stamp.by < 256)
+    → (k : ℕ) (d : Decided) → slice_get (after_look look w).views k ≡ Some d → d.stamp.by < 256
+looked_noted (finds_itself_out a) w small h = h
+looked_noted (waits a e) w small h = h
+looked_noted (fetches_from_best a e f) w small h = h
+looked_noted (finds_too_few a e) w small h = h
+looked_noted (finds_no_room a) w small h = h
+looked_noted {v = v} (decides may) w small h = λ k d is. ⊎_elim
+    (λ (z : slice_get w.views k ≡ Some d). h k d z)
+    (λ (z : (k ≡ length w.views) × (last_view v.node ≡ d)). subst (λ (q : Decided). q.stamp.by < 256) z.1 small)
+    (get_push w.views (last_view v.node) k d is)
+
+noted_next : {c : Cause} {o : Outcome} {x y : Node} (z : Change c o x y) (w : World) → (view y).by < 256
+    → ((k : ℕ) (d : Decided) → slice_get w.views k ≡ Some d → d.stamp.by < 256)
+    → (k : ℕ) (d : Decided) → slice_get (after_change z w).views k ≡ Some d → d.stamp.by < 256
+noted_next refreshes w small h = h
+noted_next settles w small h = h
+noted_next (takes_report from v report by may) w small h = h
+noted_next (admits from v is leads fit) w small h = h
+noted_next (numbers e leads room why) w small h = h
+noted_next (keeps_body from v report req body is heard) w small h = h
+noted_next (notes from v base acc by heard) w small h = h
+noted_next (stores from v base acc number e by heard plain may) w small h = h
+noted_next (begins_list from v base join image is says_ may) w small h = h
+noted_next (departs from v number is heard leaves) w small h = h
+noted_next (promises v low why) w small h = h
+noted_next (opens least resilience by may) w small h = h
+noted_next (looks b verdict over why look is) w small h = looked_noted look w small h
+noted_next (fetches from v base number e is heard promise below why may) w small h = h
+noted_next (stores_view from v base number names resilience is heard own other promise below may) w small h = h
+noted_next (queues body is says_ member stays few) w small h = h
+noted_next (collects req is) w small h = h
+noted_next (takes e is says_ member some there) w small h = h
+noted_next (asks_to_join is was) w small h = h
+noted_next (asks_to_leave is was stays done) w small h = h
+noted_next (closes leads leaves alone room) w small h = h
+
+-- ---- how far its list is accepted
+
+looked_acc : {m : Node} {b : Ballot} {v : Verdict} (look : Looks m b v) → v.node.core.acc ≡ m.core.acc
+looked_acc (finds_itself_out a) = refl
+looked_acc (waits a e) = refl
+looked_acc (fetches_from_best a e f) = refl
+looked_acc (finds_too_few a e) = refl
+looked_acc (finds_no_room a) = refl
+looked_acc (decides may) = refl
+
+acc_next : (rules : Rules) (w : World) (name : ℕ) (c : Cause) (o : Outcome) (x y : Node) (s : Group) (z : Change c o x y) → IsPlain z → Needs s name z
+    → s.group ≡ w.group → x.core.acc ≤ length w.group → y.core.acc ≤ length w.group
+acc_next rules w name c o x y s refreshes plain is group_ low = absurd plain
+acc_next rules w name c o x y s settles plain is group_ low = (let same : y.core.acc ≡ x.core.acc = ap (λ (n : Node). n.core.acc) (settle_is x) in omega arith)
+acc_next rules w name c o x y s (takes_report from v report by may) plain is group_ low = low
+acc_next rules w name c o x y s (admits from v was leads fit) plain is group_ low = low
+acc_next rules w name c o x y s (numbers e leads room why) plain is group_ low = low
+acc_next rules w name c o x y s (keeps_body from v report req body was heard) plain is group_ low = low
+acc_next rules w name c o x y s (notes from v base acc by heard) plain is group_ low = low
+acc_next rules w name c o x y s (stores from v base acc number e by heard plain_ may) plain is group_ low = low
+acc_next rules w name c o x y s (begins_list from v base join image was says_ may) plain is group_ low =
+    (let most = is.within in let same = ap length group_ in omega arith)
+acc_next rules w name c o x y s (departs from v number was heard leaves) plain is group_ low = low
+acc_next rules w name c o x y s (promises v below why) plain is group_ low = low
+acc_next rules w name c o x y s (opens least resilience by may) plain is group_ low = low
+acc_next rules w name c o x y s (looks b verdict over why look was) plain is group_ low = (let same = looked_acc look in omega arith)
+acc_next rules w name c o x y s (fetches from v base number e was heard promise below why may) plain is group_ low = low
+acc_next rules w name c o x y s (stores_view from v base number names resilience was heard own other promise below may) plain is group_ low = low
+acc_next rules w name c o x y s (queues body was says_ member stays few) plain is group_ low = low
+acc_next rules w name c o x y s (collects req was) plain is group_ low = low
+acc_next rules w name c o x y s (takes e was says_ member some there) plain is group_ low = low
+acc_next rules w name c o x y s (asks_to_join was asked) plain is group_ low = low
+acc_next rules w name c o x y s (asks_to_leave was member stays done) plain is group_ low = low
+acc_next rules w name c o x y s (closes leads leaves alone room) plain is group_ low = absurd plain
+
+-- a plain change ends nothing
+no_close : {c : Cause} {o : Outcome} {x y : Node} (rules : Rules) (w : World) (name : ℕ) (s : Group) (h : Stepping rules w name c x s) (z : Change c o x y)
+    → IsPlain z
+    → IsNoClose rules w name c x s h z
+no_close rules w name s h (closes leads leaves alone room) plain = absurd plain
+no_close rules w name s h _ plain = tt
+
+-- ---- one change
+
+step_to : (rules : Rules) (w : World) (views : List Decided) (name : ℕ) (c : Cause) (o : Outcome) (x y : Node) (s t : Group) (z : Change c o x y) → IsPlain z
+    → (h : Stepping rules w name c x s) → CauseSent w.records name o c → GoesOn rules.founders (lowest_or_first rules.founders) rules.resilience s t
+    → StandsBut name (within (viewing w views) name y) t → ((k : ℕ) (d : Decided) → slice_get views k ≡ Some d → d.stamp.by < 256)
+    → Along rules y → NodeKeeps w t name y → Stepping rules (viewing w views) name c y t
+step_to rules w views name c o x y s t z plain h sent_ on stands noted along keeps =
+    let v = viewing w views in
+    let g = on.grows in
+    record {
+      group = on.group_;
+      stands = stands;
+      few = h.few;
+      who = change_named name x y z h.who;
+      runs = h.runs;
+      stopped = h.stopped;
+      noted = noted;
+      along = along;
+      names = h.names;
+      used = h.used;
+      sent = change_sent w.records name c o x y sent_ z h.sent;
+      once = once_same w views h.once;
+      begun = λ p is. (let k = h.begun p is in let up = (g.each (stamp_of p).by).promise in let low = k.begun in
+          record { small = k.small; begun = omega arith });
+      heard = λ p is. (let k = h.heard p is in record {
+        to = k.to;
+        addressed = k.addressed;
+        says = letters_stay w v s t k.to p
+            ([], sym (append-nil w.records)) g k.says;
+      });
+      given = h.given;
+      keeps = keeps_same w views t name y keeps;
+      accepted = acc_next rules w name c o x y s z plain (needs rules w name c x s h o y z (no_close rules w name s h z plain)) h.stands.group h.accepted;
+    }
+
+pub step_on : (rules : Rules) (w : World) (name : ℕ) (c : Cause) (o : Outcome) (x y : Node) (s : Group) (z : Change c o x y) → IsPlain z
+    → Stepping rules w name c x s → CauseSent w.records name o c → Next rules (after_change z w) name c y s
+step_on rules w name c o x y s z plain h sent_ =
+    let leads = changes_stand w name c o x y s z (may_move rules w name c x s h)
+    (needs rules w name c x s h o y z (no_close rules w name s h z plain)) h.stands in
+    let on = goes_on rules.founders (lowest_or_first rules.founders) rules.resilience s leads.to h.group leads.path in
+    let along = along_changes rules x y h.names h.used (changed z unchanged) h.along in
+    let same = after_is z w in
+    let v = viewing w (after_change z w).views in
+    let stands = subst (λ (q : World). StandsBut name (within q name y) leads.to) same leads.is in
+    let own = own_name v name y leads.to h.few stands in
+    let keeps = keeps_next rules w v name c o x y s leads.to z plain h on.grows on.group_ h.runs refl own along in
+    let small = subst (λ (u : Stamp). u.by < 256) (view_whole v name y (leads.to.node name) own) (view_small (leads.to.node name).list keeps.good) in
+    record {
+      to = leads.to;
+      path = leads.path;
+      grows = on.grows;
+      goes = subst (λ v. Stepping rules v name c y leads.to) (sym same)
+          (step_to rules w (after_change z w).views name c o x y s leads.to z plain h sent_ on stands (noted_next z w small h.noted) along keeps);
+    }
+
+-- ---- changes in turn
+
+-- none of these is a refresh, nor the last member's end
+unfoldable pub AllPlain : {c : Cause} {o : Outcome} {x y : Node} → Changes c o x y → Type 0
+AllPlain unchanged = Unit {0}
+AllPlain (changed z more) = IsPlain z × AllPlain more
+
+-- the views that they noted, and the group that they lead to
+pub record Onward (rules : Rules) (w : World) (name : ℕ) (c : Cause) (y : Node) (s : Group) : Type 0 where
+  pub views : List Decided
+  pub to : Group
+  pub path : Moves s to
+  pub grows : Grows s to
+  pub goes : Stepping rules (viewing w views) name c y to
+
+pub changes_on : (rules : Rules) (name : ℕ) (c : Cause) (o : Outcome) (w : World) (x y : Node) (s : Group) (zs : Changes c o x y) → AllPlain zs
+    → Stepping rules w name c x s → CauseSent w.records name o c → Onward rules w name c y s
+unfolding AllPlain
+changes_on rules name c o w x y s unchanged plain h sent_ = record { views = w.views; to = s; path = none; grows = grows_same s; goes = h }
+changes_on rules name c o w x y s (changed {n = m} z more) plain h sent_ =
+    let one = step_on rules w name c o x m s z plain.0 h sent_ in
+    let same = after_is z w in
+    let now = viewing w (after_change z w).views in
+    let rest = changes_on rules name c o now m y one.to more plain.1 (subst (λ v. Stepping rules v name c m one.to) same one.goes) sent_ in
+    record {
+      views = rest.views;
+      to = rest.to;
+      path = in_turn one.path rest.path;
+      grows = grows_trans s one.to rest.to one.grows rest.grows;
+      goes = rest.goes;
+    }
+  where
+    in_turn : {a b d : Group} → Moves a b → Moves b d → Moves a d
+    in_turn none more_ = more_
+    in_turn (moves move ok rest_) more_ = moves move ok (in_turn rest_ more_)
+
+pub changes_go_on : ChangesGoOn
+changes_go_on = step_on

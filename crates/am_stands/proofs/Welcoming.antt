@@ -1,0 +1,160 @@
+-- The Welcome that is sent is so: it tells a joiner where it became a member, and what is accepted below.
+use Rattle.std.proofs.Common.{◌≡◌, ℕ, zero, suc, ◌+◌, ◌<◌, ◌≤◌, ◌==◌, nat_lt, true, List, length, take, Some, refl, sym, ap, ◌∙◌, subst, arith}
+use Rattle.std.proofs.lemmas.Bool.Decides.{nat_tests}
+use Rattle.am_base.specs.declared.entry.Entry.{Entry}
+use Rattle.am_base.specs.declared.entry.Entry.TheVariants.{Join}
+use Rattle.am_base.specs.declared.image.Row.{Row}
+use Rattle.am_base.specs.declared.image.Image.{Image}
+use Rattle.am_base.specs.declared.name.Stamp.{Stamp}
+use Rattle.am_base.specs.Names.{place_of, life_of, has}
+use Rattle.am_base.specs.Lists.{Log, at_place, row_of, image_at, told_by}
+use Rattle.am_group.specs.Journals.{item_at}
+use Rattle.am_chain_lists.specs.Whole.{Begins, IsGood, told, mem}
+use Rattle.am_chain_lists.proofs.Prefixes.{begins_refl, begins_trans, begins_both, begins_length, begins_take, length_take, take_begins}
+use Rattle.am_chain_lists.proofs.Rows.{row_at, In}
+use Rattle.am_chain_lists.proofs.Members.{mem_in, in_mem, mem_between}
+use Rattle.am_chain_moves.specs.Group as groups
+use Rattle.am_chain_moves.specs.Group.{Group}
+use Rattle.am_model.specs.Node as nodes
+use Rattle.am_model.specs.Node.{Node, is_sequencer, only_name}
+use Rattle.am_model.specs.World.{World}
+use Rattle.am_model.proofs.Greatest.{split}
+use Rattle.am_effects.specs.Letters.{MayWelcome, just_joined, asks_again}
+use Rattle.am_stands.specs.Standing.{NameStands, FrontsStand}
+use Rattle.am_stands.specs.Letters.{Trimmed, WelcomeSays, WelcomeTo, has_begun, has_gone, has_left, is_leaving, may_begin}
+use Rattle.am_stands.specs.Sending.{RowsLive}
+use Rattle.am_stands.proofs.Changes.{told_all, long_all}
+use Rattle.am_stands.proofs.Ends.{taken_more}
+use Rattle.am_stands.proofs.Joins.{joined_in, JoinsAt, joins_at}
+use Rattle.am_stands.proofs.Parts.{image_whole, next_part}
+use Rattle.am_stands.proofs.Sent.{Speaks, leading, list_item}
+use Rattle.am_stands.proofs.Votes.{only_one}
+
+-- ---- who is welcomed
+
+-- the row of a member
+pub member_row : (list : List Entry) (name : ℕ) → mem list name ≡ true → row_of (told list) name ≡ row_at (told list) (place_of name)
+member_row list name member =
+    let is = (mem_in list name member).is in
+    let t : ((at_place (told list) name).life == life_of name) ≡ true = grind (arith, nat_tests) in
+    rw t refl
+
+last_joined : (list : List Entry) (name : ℕ) → item_at list (length list) ≡ Some (Join name) → mem list name ≡ true
+last_joined list name at = last (length list) refl at
+  where
+    last : (n : ℕ) → n ≡ length list → item_at list n ≡ Some (Join name) → mem list name ≡ true
+    last zero is at = absurd (cc)
+    last (suc n) is at =
+        let part = next_part list n (Join name) (omega arith) at in
+        let all : take (n + 1) list ≡ list = (let z : n + 1 ≡ length list = omega arith in ap (λ k. take k list) z ∙ take_begins (begins_refl list)) in
+        subst (λ l. mem l name ≡ true) (sym part ∙ all) (joined_in (take n list) name)
+
+-- is a member, whose Join is accepted
+pub record IsWelcomed (n : Node) (list : List Entry) (name : ℕ) : Type 0 where
+  pub member : mem list name ≡ true
+  pub accepted : (row_of (nodes.told n) name).joined ≤ n.core.acc
+
+pub is_welcomed : (v : World) (i : ℕ) (m n : Node) (a : groups.Node) (name : ℕ) → NameStands v i n a → IsGood a.list → RowsLive n
+    → n.core.log.start ≤ m.core.base → m.core.acc ≤ n.core.acc → MayWelcome m n name → IsWelcomed n a.list name
+is_welcomed v i m n a name h good lives low up (just_joined number next high accepted stands) =
+    let long = long_all v i n a h in
+    let at : item_at a.list (length a.list) ≡ Some
+    (Join name) = (let z : length a.list ≡ number = long ∙ high in ap (item_at a.list) z ∙ list_item v i n a m.core.base number (Join name) h low stands) in
+    let member = last_joined a.list name at in
+    let joins = joins_at a.list name good member in
+    let within = joins.within in
+    let row = ap (λ (r : Row). r.joined) (ap (λ (g : Image). row_of g name) (sym (told_all v i n a h)) ∙ member_row a.list name member) in
+    record { member = member; accepted = omega arith }
+is_welcomed v i m n a name h good lives low up (asks_again same life some stays accepted behind) =
+    let told_ : nodes.told n ≡ nodes.told m = ap (λ (l : Log). told_by l) same in
+    let told_is = told_all v i n a h in
+    let q = at_place (nodes.told n) name in
+    let same_q : q ≡ at_place (nodes.told m) name = ap (λ (g : Image). at_place g name) told_ in
+    let joined : q.joined ≡ (at_place (nodes.told m) name).joined = ap (λ (r : Row). r.joined) same_q in
+    let left : q.left ≡ 0 = ap (λ (r : Row). r.left) same_q ∙ stays in
+    let its : q.life ≡ life_of name = ap (λ (r : Row). r.life) same_q
+    ∙ life (λ none. (let z = lives name (ap (λ (r : Row). r.life) same_q ∙ none) in let y : ⊥ = omega arith in y)) in
+    let here : row_at (told a.list) (place_of name) ≡ q = ap (λ (g : Image). at_place g name) told_is in
+    let in_ : In q (life_of name) = record { joined = omega arith; left = left; is = its } in
+    let member = in_mem a.list name (subst (λ r. In r (life_of name)) (sym here) in_) in
+    let row : (row_of (nodes.told n) name).joined ≡ q.joined = ap (λ (r : Row). r.joined)
+    (ap (λ (g : Image). row_of g name) (sym told_is) ∙ member_row a.list name member ∙ here) in
+    record { member = member; accepted = omega arith }
+
+-- ---- the letter
+
+pub welcome_said : (v : World) (i : ℕ) (n : Node) (s : Group) (name : ℕ) → Speaks v i n s → is_sequencer n ≡ true → FrontsStand n (s.node i)
+    → n.core.log.start ≤ n.core.base → n.core.base ≤ n.core.acc → IsWelcomed n (s.node i).list name
+    → n.core.base < (row_of (nodes.told n) name).joined
+    → WelcomeSays s i n.core.promise n.core.base (row_of (nodes.told n) name).joined (image_at n.core.log n.core.base) name
+welcome_said v i n s name h t f low kept is above =
+    let a = s.node i in
+    let l = leading v i n s h t in
+    let fronts = (h.kept.each i).fronts in
+    let told_ = fronts.told in
+    let given = fronts.acc in
+    let acc = f.acc in
+    let accepted = is.accepted in
+    let chain = ((h.kept.each i).leads l.leads).chain in
+    let good : IsGood a.list = subst IsGood (sym chain) h.kept.views.good in
+    let begins : Begins s.group a.list = subst (Begins s.group) (sym chain) h.kept.group in
+    let join = (row_of (nodes.told n) name).joined in
+    let row : join ≡ (row_at (told a.list) (place_of name)).joined =
+    ap (λ (r : Row). r.joined) (ap (λ (g : Image). row_of g name) (sym (told_all v i n a h.stands)) ∙ member_row a.list name is.member) in
+    let joins : JoinsAt a.list name join = subst (JoinsAt a.list name) (sym row) (joins_at a.list name good is.member) in
+    let part : take join a.list ≡ take join s.group = taken_more join s.group a.list begins (omega arith) in
+    let front : take n.core.base a.list ≡ take n.core.base s.group = taken_more n.core.base s.group a.list begins (omega arith) in
+    record {
+      by = ap (λ (u : Stamp). u.by) (sym l.viewed) ∙ l.leads.by;
+      decided = l.decided;
+      above = above;
+      accepted = omega arith;
+      joined = subst (λ x. mem x name ≡ true) part joins.member;
+      first = λ b starts short. joins.first b (begins_trans starts begins) short;
+      image_ = image_whole v i n.core.base n a h.stands low ∙ ap told front;
+      later = λ x d up. absurd (let most = h.kept.views.order x d in let c = l.current in omega arith);
+    }
+
+-- What was trimmed is stored by each name that was a member by then, is there and isn't leaving: so where the base isn't below the Join,
+-- the joiner has begun, or will not.
+pub welcome_to : (v : World) (i : ℕ) (n : Node) (s : Group) (name : ℕ) → Speaks v i n s → is_sequencer n ≡ true → FrontsStand n (s.node i)
+    → n.core.log.start ≤ n.core.base → n.core.base ≤ n.core.acc → IsWelcomed n (s.node i).list name → Trimmed s n.core.base
+    → WelcomeTo s i n.core.promise n.core.base (row_of (nodes.told n) name).joined (image_at n.core.log n.core.base) name
+welcome_to v i n s name h t f low kept is trimmed =
+    let a = s.node i in
+    let join = (row_of (nodes.told n) name).joined in
+    split (nat_lt n.core.base join)
+    (λ u. may_begin (welcome_said v i n s name h t f low kept is (let z : n.core.base < join = grind (arith, nat_tests) in z)))
+    (λ g.
+    let reached : join ≤ n.core.base = grind (arith, nat_tests) in
+    split (s.node name).has_log (λ u. has_begun u)
+    (λ none. split (s.node name).stopped (λ u. has_gone u)
+    (λ runs. split (s.node name).leaving (λ u. is_leaving u)
+    (λ stays. split (s.node name).departed (λ u. has_left u)
+    (λ never. absurd (
+    let l = leading v i n s h t in
+    let chain = ((h.kept.each i).leads l.leads).chain in
+    let good : IsGood a.list = subst IsGood (sym chain) h.kept.views.good in
+    let begins : Begins s.group a.list = subst (Begins s.group) (sym chain) h.kept.group in
+    let row : join ≡ (row_at (told a.list) (place_of name)).joined =
+    ap (λ (r : Row). r.joined) (ap (λ (g : Image). row_of g name) (sym (told_all v i n a h.stands)) ∙ member_row a.list name is.member) in
+    let joins : JoinsAt a.list name join = subst (JoinsAt a.list name) (sym row) (joins_at a.list name good is.member) in
+    let some = joins.some in
+    let accepted = trimmed.accepted in
+    let long = length_take n.core.base s.group trimmed.accepted in
+    let front = length_take join a.list joins.within in
+    let cut : Begins (take n.core.base s.group) a.list = begins_trans (begins_take n.core.base s.group) begins in
+    let there : mem (take n.core.base s.group) name ≡ true = mem_between name good
+    (begins_both (begins_take join a.list) cut (omega arith)) cut joins.member is.member in
+    let stored = begins_length (trimmed.stored name (record { goes = runs; stays = never }) stays there) in
+    let nothing = ap length ((h.kept.each name).blank none) in
+    omega arith))))))
+
+-- to the joiner alone
+pub welcome_says : (v : World) (i : ℕ) (n : Node) (s : Group) (name : ℕ) → Speaks v i n s → is_sequencer n ≡ true → FrontsStand n (s.node i)
+    → n.core.log.start ≤ n.core.base → n.core.base ≤ n.core.acc → IsWelcomed n (s.node i).list name → Trimmed s n.core.base
+    → (j : ℕ) → has (only_name name) j ≡ true
+    → WelcomeTo s i n.core.promise n.core.base (row_of (nodes.told n) name).joined (image_at n.core.log n.core.base) j
+welcome_says v i n s name h t f low kept is trimmed j in_ =
+    subst (WelcomeTo s i n.core.promise n.core.base (row_of (nodes.told n) name).joined (image_at n.core.log n.core.base)) (sym (only_one name j in_))
+    (welcome_to v i n s name h t f low kept is trimmed)

@@ -1,0 +1,135 @@
+-- What a node keeps besides what it shares with the group, what is known of it within a step, and that it stays so.
+use Rattle.std.specs.Prelude.{◌≡◌, ℕ, ◌+◌, ◌<◌, ◌≤◌, List, length, Option, Some, None, slice_get, true, false}
+use Rattle.am_base.specs.declared.entry.Entry.{Entry}
+use Rattle.am_base.specs.declared.image.Vote.{Vote}
+use Rattle.am_base.specs.declared.outcome.Outcome.{Outcome}
+use Rattle.am_base.specs.declared.event.NodeEvent.TheVariants.{GiveUp}
+use Rattle.am_base.specs.Founding.{Rules}
+use Rattle.am_base.specs.Names.{has}
+use Rattle.am_packet.specs.declared.packet.Packet.{Packet}
+use Rattle.am_model.specs.Claims.{requests_of}
+use Rattle.am_sender.specs.Sends as own
+use Rattle.am_chain_lists.specs.Whole.{IsGood}
+use Rattle.am_chain_moves.specs.Group.{Group}
+use Rattle.am_chain_moves.specs.Runs.{Run}
+use Rattle.am_model.specs.Node.{Node, Ballot, lowest_or_first}
+use Rattle.am_model.specs.Group.{has_log}
+use Rattle.am_model.specs.Refresh.{refresh}
+use Rattle.am_model.specs.World.{Decided, World, is_stopped}
+use Rattle.am_effects.specs.Causes.{Cause, calls, hears}
+use Rattle.am_effects.specs.Changes.{Change, refreshes, closes}
+use Rattle.am_laws.proofs.Taken.{HeardUsed}
+use Rattle.am_laws.proofs.TakenRuns.{Along}
+use Rattle.am_laws.proofs.ViewNames.{HeardNames}
+use Rattle.am_laws.specs.Packets.{stamp_of}
+use Rattle.am_sent.proofs.Kept as sent
+use Rattle.am_sent.proofs.Changes.{CauseSent}
+use Rattle.am_unballoted.proofs.Turns.{Turn}
+use Rattle.am_stands.specs.Standing.{NameStands, StandsBut, within}
+use Rattle.am_stands.specs.Letters.{Trimmed, PacketSays}
+use Rattle.am_stands.specs.Growing.{Grows}
+use Rattle.am_stands.specs.Moving.{Moves}
+use Rattle.am_stands.specs.States.{VotesStand, FetchesStand, ReportsStand, ReportsFresh, OpensStand, SendsOnce}
+use Rattle.am_stands.specs.Steps.{WasBegun, after_change}
+use Rattle.am_stands.specs.Branches.{BranchesOk, ChainNamed}
+
+-- ---- the group
+
+-- what is so of a group that stands for a run of the definitions
+pub record GroupOk (founders : List ℕ) (first resilience : ℕ) (s : Group) : Type 0 where
+  pub run : Run founders first resilience s
+  pub branches : BranchesOk s
+  pub named : ChainNamed s
+
+abbrev pub GroupFor : Rules → Group → Type 0
+GroupFor rules s = GroupOk rules.founders (lowest_or_first rules.founders) rules.resilience s
+
+-- ---- a node
+
+-- only stopped names are given up, and views of votes are of names
+pub record BallotStands (w : World) (b : Ballot) : Type 0 where
+  pub given : (j : ℕ) → b.given_up j ≡ true → is_stopped w j ≡ true
+  pub names : (j : ℕ) (vote : Vote) → b.votes j ≡ Some vote → (j < 256) × (vote.view.by < 256)
+
+abbrev pub LastStands : World → Option Ballot → Type 0
+LastStands w None = Unit {0}
+LastStands w (Some b) = BallotStands w b
+
+-- what isn't settled are the next requests up to the last, and the first of them is at most the one after those that the name's list has
+pub record OwnTurn (who : ℕ) (list : List Entry) (sends : own.Sends) : Type 0 where
+  pub next : ℕ
+  pub turn : Turn next next sends.queue sends.last
+  pub low : next ≤ 1 + length (requests_of who list)
+
+pub record NodeKeeps (w : World) (s : Group) (i : ℕ) (x : Node) : Type 0 where
+  pub good : IsGood (s.node i).list
+  pub votes : VotesStand s x.ballot
+  pub fetches : FetchesStand s x.ballot
+  pub last : LastStands w x.ballot
+  pub opens : OpensStand x
+  pub reports : ReportsStand s i x
+  pub fresh : ReportsFresh x
+  pub trimmed : Trimmed s x.core.base
+  pub turn : OwnTurn x.core.who (s.node i).list x.sends
+  pub leaves : x.leaving ≡ true → has_log x.status ≡ true
+
+-- ---- within a step
+
+-- a packet that is heard was sent to this name
+pub record HeardSo (w : World) (s : Group) (name : ℕ) (p : Packet) : Type 0 where
+  pub to : List ℕ
+  pub addressed : has to name ≡ true
+  pub says : PacketSays w s to p
+
+-- the world has the step's record already
+pub record Stepping (rules : Rules) (w : World) (name : ℕ) (c : Cause) (x : Node) (s : Group) : Type 0 where
+  pub group : GroupFor rules s
+  pub stands : StandsBut name (within w name x) s
+  pub few : name < 256
+  pub who : x.core.who ≡ name
+  pub runs : is_stopped w name ≡ false
+  pub stopped : (j : ℕ) → is_stopped w j ≡ true → j < 256
+  pub noted : (k : ℕ) (d : Decided) → slice_get w.views k ≡ Some d → d.stamp.by < 256
+  pub along : Along rules x
+  pub names : HeardNames c
+  pub used : HeardUsed c
+  pub sent : sent.Keeps w.records name x
+  pub once : SendsOnce w
+  pub begun : (p : Packet) → c ≡ hears p → WasBegun s (stamp_of p)
+  pub heard : (p : Packet) → c ≡ hears p → HeardSo w s name p
+  pub given : (other : ℕ) → c ≡ calls (GiveUp other) → is_stopped w other ≡ true
+  pub keeps : NodeKeeps w s name x
+  pub accepted : x.core.acc ≤ length w.group
+
+-- ---- a change
+
+-- no refresh, nor the last member's end
+abbrev pub IsPlain : {c : Cause} {o : Outcome} {x y : Node} → Change c o x y → Type 0
+IsPlain refreshes = ⊥
+IsPlain (closes leads_ leaves alone_ room) = ⊥
+IsPlain _ = Unit {0}
+
+-- the group that it leads to
+pub record Next (rules : Rules) (v : World) (name : ℕ) (c : Cause) (y : Node) (s : Group) : Type 0 where
+  pub to : Group
+  pub path : Moves s to
+  pub grows : Grows s to
+  pub goes : Stepping rules v name c y to
+
+-- each change that is plain is moves of the group, to one of which all that is known within the step is so again
+abbrev pub ChangesGoOn : Type 0
+ChangesGoOn = (rules : Rules) (w : World) (name : ℕ) (c : Cause) (o : Outcome) (x y : Node) (s : Group) (z : Change c o x y) → IsPlain z
+    → Stepping rules w name c x s → CauseSent w.records name o c → Next rules (after_change z w) name c y s
+
+-- ---- a refresh
+
+pub record Refreshing (v : World) (name : ℕ) (x : Node) (s t : Group) : Type 0 where
+  pub runs : is_stopped v name ≡ false
+  pub stands : NameStands (within v name (refresh x)) name (refresh x) (t.node name)
+  pub list : (t.node name).list ≡ (s.node name).list
+  pub accepted : (refresh x).core.acc ≤ length t.group
+
+-- and a refresh keeps what a node keeps, once the group has accepted what it accepts
+abbrev pub RefreshesKeep : Type 0
+RefreshesKeep = (rules : Rules) (w v : World) (name : ℕ) (c : Cause) (x : Node) (s t : Group) → Stepping rules w name c x s → Grows s t
+    → GroupFor rules t → Refreshing v name x s t → Along rules (refresh x) → NodeKeeps w t name (refresh x)
