@@ -1,5 +1,5 @@
 -- What one list of a group gives: each member's list tells what the sequencer's tells up to there.
-use Rattle.std.proofs.Common.{◌≡◌, ◌⊎◌, inl, inr, ⊎_elim, ℕ, zero, suc, ◌+◌, ◌-◌, ◌<◌, ◌≤◌, nat_le, true, List, [], ◌∷◌, length, take, Some, slice_get, refl, sym, ap, ◌∙◌, arith, length-append, subst}
+use Rattle.std.proofs.Common.{◌≡◌, max, ◌⊎◌, inl, inr, ⊎_elim, ℕ, zero, suc, ◌+◌, ◌-◌, ◌<◌, ◌≤◌, nat_le, true, List, [], ◌∷◌, length, take, Some, slice_get, refl, sym, ap, ◌∙◌, arith, length-append, subst}
 use Rattle.std.proofs.lemmas.Bool.{cases_lt}
 use Rattle.std.proofs.lemmas.Bool.Decides.{nat_tests}
 use Rattle.std.proofs.Math.Seq.{take-append-add}
@@ -26,7 +26,7 @@ use Rattle.am_laws.proofs.TakenRuns.{run_owned}
 use Rattle.am_laws.proofs.ViewSteps.{after_same}
 use Rattle.am_repair.specs.Standing.{IsBeginning, Agrees, OneListAgrees}
 use Rattle.am_repair.proofs.Nodes.{acting, leading}
-use Rattle.am_repair.proofs.KnownRuns.{sequencers_trim_known}
+use Rattle.am_repair.proofs.ReportedRuns.{known_is_taken}
 use Rattle.am_repair.proofs.Beginning.{few_acting}
 use Rattle.am_repair.proofs.Lists.{entry_within}
 
@@ -181,8 +181,8 @@ unfolding mem
 listed_is w q name own there = ap (λ (i : Image). has (members_of i) name) (sym (whole_told w q q own)) ∙ there
 
 agrees : (w : World) (q m : Node) → IsGood (lists.whole w q) → IsBeginning w q q → IsBeginning w q m → view m ≡ view q → Fronts q → Fronts m
-    → q.core.base ≤ (q.reports m.core.who).taken → (q.reports m.core.who).taken ≤ m.core.taken → Agrees q m
-agrees w q m good own h same fq fm known taken =
+    → q.core.base ≤ m.core.taken → (q.reports m.core.who).taken ≤ max q.core.base m.core.taken → Agrees q m
+agrees w q m good own h same fq fm trimmed_ known =
     let kept = fq.kept in
     let given = fm.given in
     let accepted = fm.accepted in
@@ -192,8 +192,8 @@ agrees w q m good own h same fq fm known taken =
       low = low;
       within = goes_no_further w q m own h;
       told_ = tells_same w q m own h low;
-      base = omega arith;
-      reported = taken;
+      base = trimmed_;
+      reported = omega arith;
     }
 
 pub one_list_agrees : OneListAgrees
@@ -212,10 +212,9 @@ one_list_agrees rules events place may low repair one settled_ =
           let m = w.nodes name in
           let low_ = few_acting rules w name laws act.0 in
           let who = laws.blanks.views.named.who name in
-          let known = sequencers_trim_known rules events by may few repair.leads name low_ there in
-          agrees w q m one.good own (one.each name (acting m act.0).0) act.1 leads (laws.each name low_).fronts
-          (subst (λ i. q.core.base ≤ (q.reports i).taken) (sym who) known)
-          (subst (λ i. (q.reports i).taken ≤ m.core.taken) (sym who) (settled_.taken name there)));
+          let known = known_is_taken rules events by name may few low_ in
+          agrees w q m one.good own (one.each name (acting m act.0).0) act.1 leads (laws.each name low_).fronts (settled_.trims name there)
+          (subst (λ i. (q.reports i).taken ≤ max q.core.base m.core.taken) (sym who) known));
       alone = λ name member. listed_is w q name own (one.listed name member);
       fit = λ number e there. fits_there w q number e one.good own there;
       counted = settled_.counted;

@@ -57,9 +57,9 @@ pub record IsOneList (w : World) (q : Node) : Type 0 where
   pub each : (name : ℕ) → is_member (w.nodes name).status ≡ true → IsBeginning w q (w.nodes name)
   pub listed : (name : ℕ) → is_member (w.nodes name).status ≡ true → whole.mem (lists.whole w q) name ≡ true
 
--- what is left: what the sequencer knows to be taken was taken, and who has left is accepted to have left
+-- what is left: the sequencer trims no more than each member has taken, and who has left is accepted to have left
 pub record IsSettled (w : World) (q : Node) : Type 0 where
-  pub taken : (name : ℕ) → has (members q) name ≡ true → (q.reports name).taken ≤ (w.nodes name).core.taken
+  pub trims : (name : ℕ) → has (members q) name ≡ true → q.core.base ≤ (w.nodes name).core.taken
   pub counted : (number : ℕ) → q.core.acc < number → number ≤ top q → (told q).view_number ≤ number
       → All (λ name. has (members q) name ≡ true) (names_of (counted_at q.core.log number))
 

@@ -2,7 +2,7 @@
 #![tactic(auto)]
 
 ghost use Rattle.am_repair.specs.Standing.{OneListAgrees, RepairableIsLawful, RepairsWhereListsAgree};
-ghost use Rattle.am_repair.specs.Known.{SequencersTrimKnown};
+ghost use Rattle.am_repair.specs.Known.{KnownIsTaken, SequencersTrimKnown};
 ghost use Rattle.am_repair.specs.Rounds.{CalmStays, RoundsStore};
 ghost use Rattle.am_repair.specs.Rows.{
   EntriesAreStored,
@@ -59,8 +59,13 @@ pub fn sequencers_trim_known()
     ensures { SequencersTrimKnown }
 {}
 
-/// Lists agree where the sequencer's whole list fits and each Member's begins it, where what it knows to be taken was taken, and where who
-/// has left is accepted to have left.
+/// What anybody knows a name to have taken was taken, or is no more than its own base.
+pub fn what_is_known_was_taken()
+    ensures { KnownIsTaken }
+{}
+
+/// Lists agree where the sequencer's whole list fits and each Member's begins it, where it trims no more than each member has taken, and
+/// where who has left is accepted to have left.
 pub fn one_list_agrees()
     ensures { OneListAgrees }
 {}

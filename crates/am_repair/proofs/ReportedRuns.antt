@@ -1,0 +1,163 @@
+-- In each run what anybody knows a name to have taken was taken, or is no more than its own base.
+use Rattle.am_base.specs.Founding.{MayFound, Rules}
+use Rattle.am_base.specs.Names.{has}
+use Rattle.am_base.specs.declared.outcome.Outcome.{Outcome}
+use Rattle.am_group.specs.declared.event.Event.{Event}
+use Rattle.am_laws.proofs.Named.{few_names}
+use Rattle.am_laws.proofs.Taken.{HeardUsed}
+use Rattle.am_laws.proofs.ViewNames.{HeardNames}
+use Rattle.am_laws.proofs.Views.{heard_names}
+use Rattle.am_model.proofs.Greatest.{split}
+use Rattle.am_model.specs.Emit.{Step}
+use Rattle.am_model.specs.Node.{Node}
+use Rattle.am_packet.specs.declared.packet.Packet.{Packet}
+use Rattle.am_packet.specs.declared.packet.Packet.TheVariants as packet
+use Rattle.std.proofs.lemmas.Bool.Decides.{nat_tests}
+use Rattle.std.proofs.Common.{◌≡◌, ℕ, ◌<◌, ◌≤◌, ◌==◌, true, refl, sym, ap, ◌∙◌, subst, arith}
+use Rattle.std.specs.Prelude.{All}
+use Rattle.std.proofs.lemmas.List.Elements.{All-nil, All-append, All-weaker}
+use Rattle.am_packet.specs.Boxes.{Letter}
+use Rattle.am_model.specs.World.{World, start, unchanged, stepped, run}
+use Rattle.am_model.specs.Claims.{heard_by}
+use Rattle.am_effects.specs.Causes.{Cause, calls, hears, refuses}
+use Rattle.am_effects.specs.Letters.{LetterSays}
+use Rattle.am_effects.specs.Changes.{Changes, unchanged as no_change, changed}
+use Rattle.am_effects.specs.Effects.{Effect}
+use Rattle.am_effects.specs.Events.{actor, WasSentTo, IsCause, idles, stops, returns, steps}
+use Rattle.am_effects.proofs.Items.{all_item}
+use Rattle.am_effects.proofs.Runs.{EachKeeps, runs_keep}
+use Rattle.am_laws.proofs.TakenRuns.{Along, along_changes, AllOwned, heard_used, each_along, each_owned, owned_start}
+use Rattle.am_repair.specs.Known.{KnownIsTaken}
+use Rattle.am_repair.proofs.Reported.{ReportTaken, CauseTaken, Truly, Rises, truly_change, rises_change, says_taken}
+
+equal : (a b : ℕ) → (a == b) ≡ true → a ≡ b
+equal a b t = grind (arith, nat_tests)
+
+itself : (a : ℕ) → (a == a) ≡ true
+itself a = grind (arith, nat_tests)
+
+-- ---- a step
+
+record Told (nodes : ℕ → Node) (m n : Node) : Type 0 where
+  truly : Truly nodes n
+  rises : Rises m n
+
+told_changes : (rules : Rules) (nodes : ℕ → Node) {c : Cause} {o : Outcome} (m n : Node) → HeardNames c → HeardUsed c → CauseTaken nodes c
+    → Changes c o m n
+    → Along rules m → Truly nodes m → Told nodes m n
+told_changes rules nodes m n names used w no_change a h = record { truly = h; rises = record { base = omega arith; taken = omega arith } }
+told_changes rules nodes m n names used w (changed {n = x} one more) a h =
+    let next = told_changes rules nodes x n names used w more (along_changes rules m x names used (changed one no_change) a)
+    (truly_change nodes _ _ m x w a.blanked one h) in
+    let r = rises_change _ _ m x a.blanked a.owned.fronts one in
+    let s = next.rises in
+    let b1 = r.base in let b2 = s.base in let t1 = r.taken in let t2 = s.taken in
+    record { truly = next.truly; rises = record { base = omega arith; taken = omega arith } }
+
+-- ---- worlds
+
+abbrev LetterTaken : (ℕ → Node) → Letter → Type 0
+LetterTaken nodes l = ReportTaken nodes l.packet
+
+pub record AllTold (rules : Rules) (w : World) : Type 0 where
+  pub laws : AllOwned rules w
+  pub each : (i : ℕ) → i < 256 → Truly w.nodes (w.nodes i)
+  pub letters : All (LetterTaken w.nodes) w.letters
+
+more_taken : (old new : ℕ → Node) → ((name : ℕ) → (old name).core.taken ≤ (new name).core.taken) → (p : Packet) → ReportTaken old p → ReportTaken new p
+more_taken old new up (packet.Request s v report req body) h = let a = up s in omega arith
+more_taken old new up (packet.Spread s v report req body) h = let a = up s in omega arith
+more_taken old new up (packet.Bcast s v base acc number e) h = tt
+more_taken old new up (packet.Order s v base acc number from req) h = tt
+more_taken old new up (packet.Accept s v base acc high poll) h = tt
+more_taken old new up (packet.Ack s v report) h = let a = up s in omega arith
+more_taken old new up (packet.Nack s v report) h = let a = up s in omega arith
+more_taken old new up (packet.Hold s v base high req) h = tt
+more_taken old new up (packet.JoinAsk s v) h = tt
+more_taken old new up (packet.Welcome s v base join image) h = tt
+more_taken old new up (packet.LeaveAsk s v report) h = let a = up s in omega arith
+more_taken old new up (packet.Gone s v number) h = tt
+more_taken old new up (packet.Invite s v) h = tt
+more_taken old new up (packet.Vote s v vote) h = tt
+more_taken old new up (packet.Fetch s v stored) h = tt
+more_taken old new up (packet.Piece s v base number e) h = tt
+more_taken old new up (packet.Result s v base number names resilience) h = tt
+more_taken old new up (packet.HandOver s v) h = tt
+
+more_truly : (old new : ℕ → Node) → ((name : ℕ) → (old name).core.taken ≤ (new name).core.taken) → (m : Node) → Truly old m → Truly new m
+more_truly old new up m h name other = let a = h name other in let b = up name in omega arith
+
+cause_taken : (w : World) (e : Event) (c : Cause) → All (LetterTaken w.nodes) w.letters → IsCause w (actor w e) e.act c → CauseTaken w.nodes c
+cause_taken w e (hears p) all cause =
+    let was : WasSentTo w (actor w e) e.act p = cause in
+    subst (ReportTaken w.nodes) was.is (all_item (LetterTaken w.nodes) w.letters (heard_by e.act) was.letter all was.there)
+cause_taken w e (calls x) all cause = tt
+cause_taken w e refuses all cause = tt
+
+told_step : (rules : Rules) (w : World) (e : Event) (c : Cause) (s : Step) → IsCause w (actor w e) e.act c → Effect (w.nodes (actor w e)) c s
+    → AllOwned rules (stepped w e (actor w e) s) → AllTold rules w → AllTold rules (stepped w e (actor w e) s)
+unfolding stepped
+told_step rules w e c s cause effect laws h =
+    let name = actor w e in
+    let m = w.nodes name in
+    let n = s.node in
+    let few = few_names rules w e h.laws.blanks.views.named in
+    let a = told_changes rules w.nodes m n (heard_names rules w e c h.laws.blanks.views cause) (heard_used rules w e c h.laws cause)
+    (cause_taken w e c h.letters cause) effect.changes (each_along rules w name few h.laws) (h.each name few) in
+    let v = stepped w e name s in
+    let itself_ = itself name in
+    let here : v.nodes name ≡ n = rw itself_ refl in
+    let up : (other : ℕ) → (w.nodes other).core.taken ≤ (v.nodes other).core.taken = λ other. split (other == name)
+    (λ t. let is = equal other name t in rw (t, is) a.rises.taken) (λ f. rw f (omega arith)) in
+    let sender = effect.sender in
+    let who : n.core.who ≡ name = ap (λ (x : Node). x.core.who) (sym here) ∙ laws.blanks.views.named.who name in
+    let same_who : sender.core.who ≡ name = sym (ap (λ (x : Node). x.core.who) effect.is) ∙ who in
+    let same_taken : n.core.taken ≡ sender.core.taken = ap (λ (x : Node). x.core.taken) effect.is in
+    let at : (v.nodes sender.core.who).core.taken ≡ n.core.taken = ap (λ k. (v.nodes k).core.taken) same_who ∙ ap (λ (x : Node). x.core.taken) here in
+    let low : sender.core.taken ≤ (v.nodes sender.core.who).core.taken = omega arith in
+    record {
+      laws = laws;
+      each = λ other small. split (other == name)
+          (λ t. rw t (more_truly w.nodes v.nodes up n a.truly))
+          (λ f. rw f (more_truly w.nodes v.nodes up (w.nodes other) (h.each other small)));
+      letters = All-append (LetterTaken v.nodes) w.letters s.letters
+          (All-weaker (LetterTaken w.nodes) (LetterTaken v.nodes) (λ l x. more_taken w.nodes v.nodes up l.packet x) w.letters h.letters)
+          (All-weaker (LetterSays m c sender) (LetterTaken v.nodes)
+          (λ l x. says_taken v.nodes m sender c l.to l.packet low x.says) s.letters effect.letters);
+    }
+
+told_same : (rules : Rules) (w v : World) → v.nodes ≡ w.nodes → v.letters ≡ w.letters → AllOwned rules v → AllTold rules w → AllTold rules v
+told_same rules w v nodes letters laws h = record {
+  laws = laws;
+  each = rw nodes h.each;
+  letters = rw (nodes, letters) h.letters;
+}
+
+each_told : (rules : Rules) → EachKeeps (AllTold rules)
+unfolding unchanged
+each_told rules w e v (idles o idle) h = told_same rules w v refl refl (each_owned rules w e v (idles o idle) h.laws) h
+each_told rules w e v (stops runs) h = told_same rules w v refl refl (each_owned rules w e v (stops runs) h.laws) h
+each_told rules w e v (returns place is left more) h = told_same rules w v refl refl (each_owned rules w e v (returns place is left more) h.laws) h
+each_told rules w e v (steps c s runs cause effect) h =
+    told_step rules w e c s cause effect (each_owned rules w e v (steps c s runs cause effect) h.laws) h
+
+told_start : (rules : Rules) → MayFound rules → AllTold rules (start rules)
+told_start rules may = record {
+  laws = owned_start rules may;
+  each = λ i few name other. split (has rules.founders i) (λ t. rw t (split (has rules.founders name) (λ a. rw a (omega arith)) (λ b. rw b (omega arith))))
+      (λ f. rw f (omega arith));
+  letters = All-nil (LetterTaken (start rules).nodes);
+}
+
+pub known_is_taken : KnownIsTaken
+known_is_taken rules events q name may few small =
+    let all = runs_keep (AllTold rules) (each_told rules) (start rules) events (told_start rules may) in
+    let w = run rules events in
+    let who = all.laws.blanks.views.named.who q in
+    split (name == q)
+    (λ t. let is = equal name q t in
+    let own = (all.laws.each q few).fronts.reported in
+    let a = ap (λ k. ((w.nodes q).reports k).taken) (is ∙ sym who) in
+    let b = ap (λ k. (w.nodes k).core.taken) is in
+    omega arith)
+    (λ f. all.each q few name (ap (λ k. name == k) who ∙ f))
