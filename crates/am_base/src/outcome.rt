@@ -1,11 +1,12 @@
 ghost use Rattle.std.specs.Prelude.{◌≡◌};
 
+use crate::boxed::Boxed;
 use crate::entry::Entry;
 use crate::name::{Name, Stamp};
 use crate::names::Names;
 
 /// What came of a call, a tick, a hearing, or of an event of the world (docs/PROTOCOL.md, "Outcomes").
-#[derive(Drop, Clone, Debug)]
+#[derive(Drop, Debug)]
 pub enum Outcome {
     /// The send has this request number.
     Queued { req: u32 },
@@ -18,7 +19,7 @@ pub enum Outcome {
     /// There is no such send, or no such ballot.
     Unknown,
     /// The application was given this entry.
-    Took { number: u32, entry: Entry },
+    Took { number: u32, entry: Boxed<Entry> },
     /// Nothing more is accepted.
     Empty,
     /// The ask went out.
@@ -120,8 +121,12 @@ pub enum Outcome {
 }
 
 impl Outcome {
-    /// The same outcome. It takes no memory.
+    ghost use Rattle.std.specs.Prelude.{false};
+    ghost use Rattle.am_base.specs.Outcomes.{is_took};
+
+    /// The same outcome. It takes no memory, so it is none that gives an entry.
     pub fn copied(&self) -> Outcome
+        requires { is_took self.now ≡ false }
         ensures { result ≡ self.now }
     {
         match self {
@@ -133,10 +138,7 @@ impl Outcome {
                 number: *number,
             },
             Outcome::Unknown => Outcome::Unknown,
-            Outcome::Took { number, entry } => Outcome::Took {
-                number: *number,
-                entry: entry.copied(),
-            },
+            Outcome::Took { .. } => unreachable!(),
             Outcome::Empty => Outcome::Empty,
             Outcome::Asked => Outcome::Asked,
             Outcome::Joined { number } => Outcome::Joined { number: *number },

@@ -101,7 +101,7 @@ pub struct Record {
     /// The life of the place that acted, 1 to 16.
     pub life: u8,
     pub by: By,
-    pub outcome: Boxed<Outcome>,
+    pub outcome: Outcome,
     /// The letters that went out, in their order.
     pub packets: Items<Letter>,
 }

@@ -48,7 +48,7 @@ fn record_of(alloc: Global, node: u8, outcome: Outcome, to: &[u16]) -> Result<Re
             call: 0,
             part: Part::Call,
         },
-        outcome: Boxed::of(alloc, outcome)?,
+        outcome,
         packets,
     })
 }
@@ -152,7 +152,7 @@ fn a_name_has_its_deliveries(rt: HostRuntime) -> Result<(), Fail> {
     for (node, number) in [(1, 1), (0, 1), (1, 2)] {
         let outcome = Outcome::Took {
             number,
-            entry: sent.copied(),
+            entry: Boxed::of(alloc, sent.copied())?,
         };
         records.push(record_of(alloc, node, outcome, &[])?)?;
     }

@@ -1,6 +1,7 @@
 ghost use Rattle.std.specs.Prelude.{◌≡◌, ◌<◌, ◌≤◌};
-ghost use Rattle.am_model.specs.Play.{is_sent};
+ghost use Rattle.am_base.specs.Most.{most_events};
 ghost use Rattle.am_pump.specs.Choices.{draw, drawn};
+ghost use Rattle.am_pump.specs.Counts.{ends_sent};
 ghost use Rattle.am_pump.specs.Generating.{generated_rules, turn_of, counting};
 
 use crate::chooser::Chooser;
@@ -11,7 +12,7 @@ use am_base::founding::Founding;
 use am_base::name::Name;
 use am_base::names::Names;
 use am_base::outcome::Outcome;
-use am_group::event::{Act, Event};
+use am_group::event::{Act, Event, Record};
 use am_world::world::{World, WorldRefusal};
 use rand_pcg::Lcg64Xsh32;
 use rand_pcg::rand_core::utils::NextWord;
@@ -74,11 +75,14 @@ fn counting(number: usize, size: usize) -> Body
     }
 }
 
-/// Whether a send was answered as sent.
-fn is_sent(outcome: &Outcome) -> bool
-    ensures { result ≡ is_sent outcome.now }
+/// Whether the last of the records tells that a send stands in the list.
+fn ends_sent(records: &[Record]) -> bool
+    ensures { result ≡ ends_sent records.now }
 {
-    matches!(outcome, Outcome::Sent { .. })
+    match records.last() {
+        Some(record) => matches!(record.outcome, Outcome::Sent { .. }),
+        None => false,
+    }
 }
 
 /// Places 0 to 3 found the group of a generated run.
@@ -141,7 +145,7 @@ impl Generator {
     fn sent_by(&self, place: u8) -> u32
         requires { place < 4 }
         ensures value { result ≡ sent_by (replay self.now.play) place }
-        ensures few { result ≤ 100000 }
+        ensures few { result ≤ most_events }
     {
         let _few = self.world.journal().records().len();
         self.sent[usize::from(place)]
@@ -193,12 +197,13 @@ impl Generator {
     fn happen(&mut self, place: u8, act: Act) -> Result<(), WorldRefusal>
         requires { place < 4 }
         ensures ok { OnOk result (self.new ≡ record self.old { play = after self.old.play (event_at place act) }) }
-        ensures spent { IfErr result (λ refusal. refusal ≡ refusals.Spent → length self.old.play.events ≡ 100000) }
+        ensures spent { IfErr result (λ refusal. refusal ≡ refusals.Spent → length self.old.play.events ≡ most_events) }
     {
         let sent = self.sent_by(place);
         let node = Name::of_byte(place);
-        let outcome = self.world.step(&Event { node, act })?;
-        self.sent[usize::from(place)] = sent + u32::from(is_sent(&outcome));
+        self.world.step(&Event { node, act })?;
+        let is_sent = ends_sent(self.world.journal().records());
+        self.sent[usize::from(place)] = sent + u32::from(is_sent);
         Ok(())
     }
 
@@ -207,7 +212,7 @@ impl Generator {
     #[tactic(auto, unfolding(crate::specs::Generating::driven))]
     pub fn step(&mut self) -> Result<(), WorldRefusal>
         ensures ok { OnOk result (self.new ≡ driven self.old) }
-        ensures spent { IfErr result (λ refusal. refusal ≡ refusals.Spent → length self.old.play.events ≡ 100000) }
+        ensures spent { IfErr result (λ refusal. refusal ≡ refusals.Spent → length self.old.play.events ≡ most_events) }
     {
         let place = draw(&mut self.words, 4) as u8;
         let turn = turn_of(draw(&mut self.words, 16));

@@ -110,7 +110,7 @@ fn push_parts(out: &mut String, founding: &Founding, outcome: &Outcome) -> Resul
     match outcome {
         Outcome::Took { number, entry } => {
             write!(out, " {number} ")?;
-            push_entry(out, founding, entry)
+            push_entry(out, founding, entry.get())
         }
         Outcome::NoBody { from, req } => {
             out.push_str(" ")?;

@@ -1,5 +1,6 @@
 ghost use Rattle.std.specs.Prelude.{◌≡◌, ◌++◌, OnOk, IfOk, count_by, string_bytes};
-ghost use Rattle.am_model.specs.Play.{count_line, is_took, is_sent, is_held};
+ghost use Rattle.am_base.specs.Outcomes.{is_took, is_sent, is_held};
+ghost use Rattle.am_model.specs.Play.{count_line};
 ghost use Rattle.am_report.specs.Summaries.{summary_for};
 
 use crate::lines::push_mark;
@@ -13,19 +14,19 @@ use std::alloc::Global;
 fn is_took(item: &Record) -> bool
     ensures { result ≡ is_took item.now.outcome }
 {
-    matches!(item.outcome.get(), Outcome::Took { .. })
+    matches!(item.outcome, Outcome::Took { .. })
 }
 
 fn is_sent(item: &Record) -> bool
     ensures { result ≡ is_sent item.now.outcome }
 {
-    matches!(item.outcome.get(), Outcome::Sent { .. })
+    matches!(item.outcome, Outcome::Sent { .. })
 }
 
 fn is_held(item: &Record) -> bool
     ensures { result ≡ is_held item.now.outcome }
 {
-    matches!(item.outcome.get(), Outcome::Held { .. })
+    matches!(item.outcome, Outcome::Held { .. })
 }
 
 fn took(records: &[Record]) -> usize

@@ -1,5 +1,6 @@
 -- Which run of a group a world is.
 use Rattle.std.specs.Prelude.{◌≡◌, ℕ, ◌+◌, ◌<◌, ◌≤◌, List, [], ◌∷◌, ◌++◌, length, map, Some, Bool, false, slice_get, slice_index, slice_index_or}
+use Rattle.am_base.specs.Most.{most_events}
 use Rattle.am_base.specs.declared.entry.Entry.{Entry}
 use Rattle.am_base.specs.declared.outcome.Outcome.{Outcome}
 use Rattle.am_base.specs.Founding.{Rules, MayFound}
@@ -58,7 +59,7 @@ pub record Shows (w : model.World) (nodes : List Node) (lives : List ℕ) (flags
 
 pub record IsRun (p : Play) (nodes : List Node) (lives : List ℕ) (flags : List Bool) (records : List Record) (group : List Entry) : Type 0 where
   pub founded : MayFound p.rules
-  pub few : length p.events ≤ 100000
+  pub few : length p.events ≤ most_events
   pub short : length group ≤ 1 + length p.events
   pub shows : Shows (replay p) nodes lives flags records group
 
@@ -73,3 +74,7 @@ the_record e life outcome letters = record { event = e; life = life; by = no_cal
 -- the event's record has this outcome
 abbrev pub Answers : Play → Event → Outcome → Type 0
 Answers p event outcome = (letters : List Letter) × ((replay (after p event)).records ≡ (replay p).records ++ record_of (replay p) event outcome letters ∷ [])
+
+-- exactly one record more, the event's
+abbrev pub IsOneMore : Play → Event → Type 0
+IsOneMore p event = (outcome : Outcome) × Answers p event outcome

@@ -1,4 +1,5 @@
 ghost use Rattle.std.specs.Prelude.{◌≡◌, ◌+◌, ◌≤◌, [], length, IfOk};
+ghost use Rattle.am_base.specs.Most.{most_events};
 ghost use Rattle.am_world.specs.Watched.{stops_by};
 ghost use Rattle.am_base.specs.Names.{place_of};
 
@@ -8,6 +9,7 @@ use am_base::NoMemory;
 use am_base::entry::Entry;
 use am_base::event::NodeEvent;
 use am_base::founding::Founding;
+use am_base::limits::MOST_EVENTS;
 use am_base::name::Name;
 use am_base::outcome::Outcome;
 use am_group::event::Event;
@@ -17,9 +19,6 @@ use am_node::node::Node;
 use am_watch::watcher::Watcher;
 use std::alloc::Global;
 use std::marker::Model;
-
-/// How many events a run has at most.
-pub const MOST_EVENTS: usize = 100_000;
 
 /// Why a world doesn't do an event.
 #[derive(Clone, Copy, PartialEq, Eq, Debug)]
@@ -81,7 +80,7 @@ impl World {
     ghost use Rattle.am_model.specs.Ends.{IsEndOf};
     ghost use Rattle.am_node.specs.Info.{info_of};
     ghost use Rattle.am_node.specs.Stands.{state_of};
-    ghost use Rattle.am_world.specs.Runs.{after, Answers, replay};
+    ghost use Rattle.am_world.specs.Runs.{after, replay, IsOneMore};
     ghost use Rattle.am_world.specs.Asked.{answered, comes, IsNextLife};
 
     /// The group of a founding, to which nothing has happened.
@@ -164,38 +163,38 @@ impl World {
     }
 
     /// An event that is no step of a node: a name has stopped, or nothing changed that is watched.
-    fn answer(&mut self, event: &Event, name: Name, outcome: Outcome) -> Result<Outcome, NoMemory>
-        requires few { length self.old.events < 100000 }
+    fn answer(&mut self, event: &Event, name: Name, outcome: Outcome) -> Result<(), NoMemory>
+        requires few { length self.old.events < most_events }
         requires name { name ≡ current (replay self.old) (place_of event.now.node) }
         requires next { IsNextLife name outcome }
         requires comes { happens (replay self.old) event.now ≡ answered (replay self.old) event.now outcome }
         ensures ok { OnOk result (self.new ≡ after self.old event.now) }
-        ensures outcome { IfOk result (λ o. Answers self.old event.now o) }
+        ensures one { OnOk result (IsOneMore self.old event.now) }
         ensures err { OnErr result (self.new ≡ self.old) }
     {
         self.watcher.reserve()?;
         let stops = stops_by(self.run.is_stopped(name), &outcome);
-        let outcome = self.run.answer(event, name, outcome)?;
+        self.run.answer(event, name, outcome)?;
         if stops {
             self.watcher.stop(name);
         } else {
             self.watcher.pass();
         }
-        Ok(outcome)
+        Ok(())
     }
 
     /// A name's node does a step.
-    fn act(&mut self, event: &Event, name: Name, what: &NodeEvent) -> Result<Outcome, NoMemory>
-        requires few { length self.old.events < 100000 }
+    fn act(&mut self, event: &Event, name: Name, what: &NodeEvent) -> Result<(), NoMemory>
+        requires few { length self.old.events < most_events }
         requires name { name ≡ current (replay self.old) (place_of event.now.node) }
         requires comes { happens (replay self.old) event.now ≡ comes (replay self.old) event.now (Ok what.now) }
         ensures ok { OnOk result (self.new ≡ after self.old event.now) }
-        ensures outcome { IfOk result (λ o. Answers self.old event.now o) }
+        ensures one { OnOk result (IsOneMore self.old event.now) }
         ensures err { OnErr result (self.new ≡ self.old) }
     {
         self.watcher.reserve()?;
         let known = self.run.group().len();
-        let outcome = self.run.act(event, name, what)?;
+        self.run.act(event, name, what)?;
         note_step(
             &mut self.watcher,
             name,
@@ -204,23 +203,24 @@ impl World {
             self.run.group(),
             known,
         );
-        Ok(outcome)
+        Ok(())
     }
 
     /// Does an event. After a refusal all is as it was. It is Spent exactly where 100,000 events were done.
-    pub fn step(&mut self, event: &Event) -> Result<Outcome, WorldRefusal>
+    pub fn step(&mut self, event: &Event) -> Result<(), WorldRefusal>
         ensures ok { OnOk result (self.new ≡ after self.old event.now) }
-        ensures outcome { IfOk result (λ o. Answers self.old event.now o) }
-        ensures spent { (result ≡ Err WorldRefusal.Spent) ↔ (length self.old.events ≡ 100000) }
+        ensures one { OnOk result (IsOneMore self.old event.now) }
+        ensures spent { (result ≡ Err WorldRefusal.Spent) ↔ (length self.old.events ≡ most_events) }
         ensures err { OnErr result (self.new ≡ self.old) }
     {
         if self.run.events() == MOST_EVENTS {
             return Err(WorldRefusal::Spent);
         }
         let name = self.run.name_at(event.node);
-        match self.run.asked(event) {
-            Ok(what) => Ok(self.act(event, name, &what)?),
-            Err(outcome) => Ok(self.answer(event, name, outcome)?),
+        match self.run.asked(event)? {
+            Ok(what) => self.act(event, name, &what)?,
+            Err(outcome) => self.answer(event, name, outcome)?,
         }
+        Ok(())
     }
 }
