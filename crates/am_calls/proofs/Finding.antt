@@ -32,8 +32,12 @@ use Rattle.am_model.specs.Claims.{heard_by}
 use Rattle.am_calls.specs.Laws.{IsApart, IsLeft}
 use Rattle.am_calls.specs.Lawful.{IsLawful, plan_by, terms_of}
 use Rattle.am_calls.specs.Callings.{luck_after}
-use Rattle.am_calls.specs.Boxes.{node_by, GivesUp, lost_in, Gave, Chose, Found, Picked, event_at, turn_by}
-use Rattle.am_wire.specs.declared.rule.Key.TheVariants.{Place}
+use Rattle.am_calls.specs.Boxes.{node_by, GivesUp, lost_in, Gave, Chose, Found, Picked, event_at, turn_by, Boxed, IsBox, IsShareOf, Looks}
+use Rattle.atomic_table.specs.Seated.{TableId}
+use Rattle.am_wire.specs.Passes.{Known, Sees}
+use Rattle.am_wire.specs.declared.rule.Key.{Key}
+use Rattle.am_wire.specs.declared.wire.WireRefusal.{WireRefusal}
+use Rattle.am_wire.specs.declared.rule.Key.TheVariants.{Place, Caller}
 use Rattle.am_wire.specs.Keys.{is_of, of_key}
 use Rattle.am_wire.specs.Seats.{GoesOn}
 use Rattle.am_wire.proofs.Views.{rest_of, goes_through}
@@ -41,7 +45,7 @@ use Rattle.am_calls.proofs.Apart.{others_are_apart}
 use Rattle.am_calls.proofs.Knows.{knows, name_now}
 use Rattle.am_calls.proofs.Nexts.{nodes_stay, stopped_in_more, or_true}
 use Rattle.am_calls.proofs.Stays.{next_stays, first_apart}
-use Rattle.am_calls.proofs.Boxing.{Beyond, none_of, own_key, not_equal}
+use Rattle.am_calls.proofs.Boxing.{Beyond, beyond, none_of, own_key, not_equal}
 use Rattle.am_calls.proofs.Turning.{ahead_is_sent}
 
 -- ---- what is known
@@ -345,3 +349,22 @@ turn_found plan luck name caller call seen last three a lost low whole far first
       act_ = chose.picked.act_;
       lost_ = chose.picked.lost_;
     })
+
+-- as a box finds it: a search, and then what the caller has seen, too
+pub turn_by_box : (wire : TableId) (plan : RacePlan) (name : ℕ) (pass pass' : Known) (m : Node) (reach : ℕ) (latest : Option ℕ) (stopped : Bool) (closed : Option WireRefusal) (b0 b1 : Boxed)
+    (share share' : Known) (luck : Luck) (caller call : ℕ) (a : Act) (lost : ℕ) → record { name = name; seen = pass.seen; closed = closed } ≡ b1
+    → IsBox wire plan name pass m reach latest stopped closed → Looks b0 b1 → Sees pass pass' → Follows (IsLawful pass.terms) pass'.seen → IsShareOf wire plan caller share
+    → share.seen ≡ b0.seen → Sees share share' → share'.seen ≡ pass'.seen → luck ≡ luck_after plan caller (words_drawn caller b0.seen)
+    → is_ready (node_by plan b0.seen b0.name) (own_of (of_call caller call b0.seen)) ≡ false → Found plan luck b0.name b0.seen b1.seen a lost
+    → is_turn (plan_by (terms_of plan)) pass'.seen (event_at b0.name a) (turn_by caller call lost) ≡ true
+turn_by_box wire plan name pass pass' m reach latest stopped closed b0 b1 share share' luck caller call a lost is box looks sees lawful its met shows both_ lucky unready found =
+    let three : List Record = pass'.seen in
+    let n_is : name ≡ b0.name = ap (λ (b : Boxed). b.name) is ∙ looks.name in
+    let s_is : pass.seen ≡ b1.seen = ap (λ (b : Boxed). b.seen) is in
+    let low : b0.name < 16 = subst (λ (n : ℕ). n < 16) n_is box.place in
+    let whole : Follows (IsLawful (terms_of plan)) three = subst (λ (t : Terms). Follows (IsLawful t) three) box.terms lawful in
+    let here : GoesOn (Place name ∷ []) pass.seen three = subst (λ (ks : List Key). GoesOn ks pass.seen three) box.keys sees.goes in
+    let then_ : GoesOn (Place b0.name ∷ []) b1.seen three = subst (λ (n : ℕ). GoesOn (Place n ∷ []) b1.seen three) n_is (subst (λ (rs : List Record). GoesOn (Place name ∷ []) rs three) s_is here) in
+    let told_ : GoesOn (Caller caller ∷ []) share.seen three = subst (GoesOn (Caller caller ∷ []) share.seen) both_ (subst (λ (ks : List Key). GoesOn ks share.seen share'.seen) its.keys shows.goes) in
+    turn_found plan luck b0.name caller call b0.seen b1.seen three a lost low whole
+    (beyond b0.seen share.seen three b0.name caller met (through b0.name b0.seen b1.seen three looks.goes then_) told_) looks.goes then_ lucky unready found
