@@ -1,5 +1,5 @@
 -- Callers as contracts see them, and what a blocking call leaves.
-use Rattle.std.specs.Prelude.{◌≡◌, ℕ, ◌+◌, ◌≤◌, ◌<◌, List, [], ◌∷◌, ◌++◌, length, Option, Some, None, All, Bool, true, ◌==◌, Unit}
+use Rattle.std.specs.Prelude.{◌≡◌, ℕ, ◌+◌, ◌≤◌, ◌<◌, List, [], ◌∷◌, ◌++◌, length, Option, Some, None, All, Bool, true, ◌==◌}
 use Rattle.std.specs.List.{list_all}
 use Rattle.atomic_table.specs.Seated.{TableId}
 use Rattle.am_base.specs.Names.{place_of}

@@ -244,13 +244,7 @@ impl<'g, N: Racing, G: Gate> Kernels<'g, N, G> {
         requires room { caller.old.calls < 4294967295 }
         ensures { Called N.plan node caller.old caller.new result }
     {
-        match Act::send(self.alloc, body) {
-            Ok(act) => self.make(rt, caller, node, &act),
-            Err(_) => {
-                caller.calls += 1;
-                Answer::NoMemory
-            }
-        }
+        self.make(rt, caller, node, &Act::Send(body))
     }
 
     /// Takes the next accepted entry. Took with it; Late where its turns were used before there was one.

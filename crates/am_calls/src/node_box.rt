@@ -1,4 +1,15 @@
-ghost use Rattle.std.specs.Prelude.{◌≡◌, ◌<◌, [], ◌∷◌, None};
+ghost use Rattle.std.specs.Prelude.{◌≡◌, ◌||◌, ◌+◌, ◌<◌, ◌≤◌, [], ◌∷◌, ◌++◌, None, length, max, vec_len, vec_capacity, IfOk, IfErr, OnErr};
+ghost use Rattle.std.specs.Option.{option_copied};
+ghost use Rattle.am_base.specs.declared.outcome.Outcome.TheVariants as said;
+ghost use Rattle.am_model.specs.Claims.{heard_by};
+ghost use Rattle.am_node.specs.Nodes.{HasNumbersLeft};
+ghost use Rattle.am_node.specs.Stands.{state_of};
+ghost use Rattle.am_wire.specs.declared.rule.Key.TheVariants.{Place};
+ghost use Rattle.am_wire.specs.declared.wire.WireRefusal.TheVariants as refusals;
+ghost use Rattle.am_wire.specs.Seats.{GoesOn};
+ghost use Rattle.am_wire.specs.Stops.{is_stop};
+ghost use Rattle.am_calls.specs.Boxes.{what_of, Steps, MayAct, IsShareOf, IsTurn, Acted};
+ghost use Rattle.am_calls.specs.Turns.{lost_by, unless_nought, or_nought};
 
 use crate::answer::Answer;
 use crate::caller::Hand;
@@ -6,8 +17,6 @@ use crate::gate::Gate;
 use crate::naming::{RaceLaw, Racing};
 use crate::outcomes::{is_take, request_in};
 use crate::ready::{Came, is_ready_after, may_take, round_in};
-use am_base::NoMemory;
-use am_base::boxed::Boxed;
 use am_base::event::NodeEvent;
 use am_base::items::Items;
 use am_base::name::Name;
@@ -19,7 +28,7 @@ use am_letter::out_box::OutBox;
 use am_node::info::Info;
 use am_node::node::Node;
 use am_pump::chooser::Choice;
-use am_wire::wire::{Pass, Wire, WireRefusal};
+use am_wire::wire::{Pass, Share, Wire, WireRefusal};
 use std::alloc::Global;
 use std::marker::{Model, PhantomData};
 use std::sync::Wait;
@@ -84,10 +93,12 @@ fn answer_of(refusal: WireRefusal) -> Answer {
     }
 }
 
-/// What an act asks of a node that runs; None where it is no step of one.
-fn asked(act: &Act, letter: Option<&Letter>) -> Option<NodeEvent> {
+/// What an act asks of a node that runs, with the letter that it hears; None where it is no step of one.
+fn asked(act: &Act, letter: Option<&Letter>) -> Option<NodeEvent>
+    ensures { result ≡ what_of act.now (option_copied letter.entry) }
+{
     match act {
-        Act::Send(body) => Some(NodeEvent::Send(body.get().copied())),
+        Act::Send(body) => Some(NodeEvent::Send(body.copied())),
         Act::Done(req) => Some(NodeEvent::Done(*req)),
         Act::Take => Some(NodeEvent::Take),
         Act::Join => Some(NodeEvent::Join),
@@ -108,19 +119,82 @@ fn asked(act: &Act, letter: Option<&Letter>) -> Option<NodeEvent> {
     }
 }
 
+/// A node does what was asked, and its letters are put together.
+fn step(node: &mut Node, out: &mut OutBox, what: &Option<NodeEvent>) -> Outcome
+    requires numbers { HasNumbersLeft (state_of node.old) }
+    ensures steps { Steps what.now (state_of node.old) result out.new (state_of node.new) }
+    ensures few { length out.new ≤ 9 }
+{
+    out.clear();
+    match what {
+        Some(what) => {
+            let outcome = node.step(what, out);
+            let _accepted = node.accepted();
+            outcome
+        }
+        None => Outcome::Stopped,
+    }
+}
+
 /// The number of the letter that an act hears, or 0.
-fn heard_by(act: &Act) -> u32 {
+fn heard_by(act: &Act) -> u32
+    ensures { result ≡ heard_by act.now }
+{
     match act {
         Act::Hear(number) => *number,
+        Act::Cut { packet, .. } => *packet,
         _ => 0,
     }
 }
 
 /// The number of the letter that a turn lost, or 0.
-fn lost_by(part: Part) -> u32 {
+fn lost_by(part: Part) -> u32
+    ensures { result ≡ lost_by part }
+{
     match part {
         Part::Turn(lost) => lost,
         Part::Call | Part::Check => 0,
+    }
+}
+
+/// Whether a name has stopped, behind an act of its own.
+fn stops_by(stopped: bool, act: &Act) -> bool
+    ensures { result ≡ (stopped || is_stop act.now) }
+{
+    if let Act::Stop = act {
+        return true;
+    }
+    stopped
+}
+
+/// How far a place has come, behind a letter that was heard and one that was lost.
+fn cursor_after(cursor: u32, heard: u32, lost: u32) -> u32
+    ensures { result ≡ max (max cursor heard) lost }
+{
+    cursor.max(heard).max(lost)
+}
+
+/// The last letter that was heard, behind one more, or none where the number is 0.
+fn last_after(last: Option<u32>, heard: u32) -> Option<u32>
+    ensures { result ≡ unless_nought (max (or_nought last) heard) }
+{
+    let greatest = last.unwrap_or(0).max(heard);
+    if greatest == 0 { None } else { Some(greatest) }
+}
+
+/// The record of an act of which nothing has come yet.
+fn blank(alloc: Global, name: Name, act: &Act, by: By) -> Record
+    ensures { result ≡ record { event = record { node = name; act = act.now }; life = 1; by = by; outcome = said.Idle; packets = [] } }
+{
+    Record {
+        event: Event {
+            node: name,
+            act: act.copied(),
+        },
+        life: 1,
+        by,
+        outcome: Outcome::Idle,
+        packets: Items::new(alloc),
     }
 }
 
@@ -140,7 +214,10 @@ fn end_of(act: &Act, came: Option<&Came>) -> Act {
 }
 
 /// Copies letters, for which there is room.
-fn copy_letters(letters: &[Letter], into: &mut Vec<Letter>) {
+fn copy_letters(letters: &[Letter], into: &mut Vec<Letter>)
+    requires { vec_len into.old + length letters.now ≤ vec_capacity into.old }
+    ensures { into.new.items ≡ into.old.items ++ letters.now }
+{
     for letter in letters {
         into.push_reserved(letter.copied());
     }
@@ -195,52 +272,50 @@ impl<N: Racing> NodeBox<N> {
         }
     }
 
-    /// Its node does an act, and the letters that it sends are put together.
-    fn step(&mut self, act: &Act, letter: Option<&Letter>) -> Outcome {
-        self.out.clear();
-        match asked(act, letter) {
-            Some(what) => self.node.step(&what, &mut self.out),
-            None => Outcome::Stopped,
-        }
-    }
-
-    /// How far it has come behind an act.
-    fn note(&mut self, act: &Act, part: Part) {
-        let heard = heard_by(act);
-        if 0 < heard && self.last.unwrap_or(0) < heard {
-            self.last = Some(heard);
-        }
-        self.cursor = self.cursor.max(heard).max(lost_by(part));
-        if let Act::Stop = act {
-            self.is_stopped = true;
-        }
-    }
-
-    /// Its node does an act of a caller, which is then in the journal. After a refusal at the journal the box is closed.
+    /// Its node does an act of a caller, which both have then seen in the journal. Behind what both have seen it may do it, and a
+    /// turn is one of its call. After a refusal of the journal the box is closed; where there was no memory for the record, all is
+    /// as it was.
     pub fn act<R: Wait>(
         &mut self,
         rt: &R,
         alloc: Global,
         wire: &Wire<RaceLaw>,
-        hand: &mut Hand,
+        share: &mut Share,
         act: Act,
         letter: Option<&Letter>,
         by: By,
-    ) -> Result<Came, WireRefusal> {
+    ) -> Result<Came, WireRefusal>
+        requires own { wire.now.id ≡ N.wire }
+        requires share { IsShareOf N.wire N.plan by.caller share.old }
+        requires open_ { self.old.closed ≡ None }
+        requires few { length self.old.seen ≤ 100000 }
+        requires may { MayAct self.old.seen self.old.name act (option_copied letter) }
+        requires met { share.old.seen ≡ self.old.seen }
+        requires turn { IsTurn N.plan self.old.seen (record { node = self.old.name; act = act }) by }
+        ensures name { self.new.name ≡ self.old.name }
+        ensures share { IsShareOf N.wire N.plan by.caller share.new }
+        ensures both { share.new.seen ≡ self.new.seen }
+        ensures ok { IfOk result (λ came. Acted self.old self.new share.old share.new act by came) }
+        ensures place { OnErr result (GoesOn (Place self.old.name ∷ []) self.old.seen self.new.seen) }
+        ensures caller { OnErr result (GoesOn share.old.keys share.old.seen share.new.seen) }
+        ensures spent { IfErr result (λ refusal. refusal ≡ refusals.Spent → length self.new.seen ≡ 100000) }
+    {
         let Ok(mut packets) = Vec::with_capacity(alloc, 9) else {
             return Err(WireRefusal::NoMemory);
         };
-        let Ok(mut item) = self.blank(alloc, &act, by) else {
-            return Err(WireRefusal::NoMemory);
-        };
-        let outcome = self.step(&act, letter);
+        let mut item = blank(alloc, self.name, &act, by);
+        let what = asked(&act, letter);
+        let outcome = step(&mut self.node, &mut self.out, &what);
         let round = round_in(self.out.letters());
         copy_letters(self.out.letters(), &mut packets);
-        item.outcome.set(outcome.copied());
+        item.outcome = outcome.copied();
         item.packets = Items::of(packets);
-        match wire.commit(rt, &mut self.pass, &mut hand.share, item) {
+        match wire.commit(rt, &mut self.pass, share, item) {
             Ok(_number) => {
-                self.note(&act, by.part);
+                let heard = heard_by(&act);
+                self.last = last_after(self.last, heard);
+                self.cursor = cursor_after(self.cursor, heard, lost_by(by.part));
+                self.is_stopped = stops_by(self.is_stopped, &act);
                 Ok(Came { outcome, round })
             }
             Err(refusal) => {
@@ -248,20 +323,6 @@ impl<N: Racing> NodeBox<N> {
                 Err(refusal)
             }
         }
-    }
-
-    /// The record of an act of which nothing has come yet.
-    fn blank(&self, alloc: Global, act: &Act, by: By) -> Result<Record, NoMemory> {
-        Ok(Record {
-            event: Event {
-                node: self.name,
-                act: act.copied()?,
-            },
-            life: 1,
-            by,
-            outcome: Boxed::of(alloc, Outcome::Idle)?,
-            packets: Items::new(alloc),
-        })
     }
 
     /// A name that its ballot waits for and that has stopped, the least of them.
@@ -330,7 +391,7 @@ impl<N: Racing> NodeBox<N> {
         gate.between(self.name, &by);
         let drew = 0 < heard_by(&turn.act) || 0 < turn.lost;
         let Turn { act, letter, .. } = turn;
-        match self.act(rt, alloc, wire, hand, act, letter.as_ref(), by) {
+        match self.act(rt, alloc, wire, &mut hand.share, act, letter.as_ref(), by) {
             Ok(came) => {
                 hand.drawn += u32::from(drew);
                 Ok(came.outcome)
@@ -354,7 +415,7 @@ impl<N: Racing> NodeBox<N> {
         by: By,
     ) -> Result<Came, WireRefusal> {
         gate.between(self.name, &by);
-        self.act(rt, alloc, wire, hand, act, None, by)
+        self.act(rt, alloc, wire, &mut hand.share, act, None, by)
     }
 
     /// The first look of a call that is no receive: its own act.
@@ -373,9 +434,7 @@ impl<N: Racing> NodeBox<N> {
             call: call.number,
             part: Part::Call,
         };
-        let Ok(act) = call.act.copied() else {
-            return Err(Answer::NoMemory);
-        };
+        let act = call.act.copied();
         match self.ask(rt, alloc, wire, gate, hand, act, by) {
             Ok(came) => Ok(came),
             Err(refusal) => Err(answer_of(refusal)),

@@ -77,7 +77,7 @@ fn two_nodes_at_once(rt: HostRuntime) -> Result<(), Fail> {
 fn both_receive_what_one_sends(rt: HostRuntime) -> Result<(), Fail> {
     let alloc = rt.alloc();
     let body = Body::of(b"a").ok_or("a body")?;
-    let sends = vec![in alloc; Act::send(alloc, body)?, Act::Take, Act::Take]?;
+    let sends = vec![in alloc; Act::Send(body), Act::Take, Act::Take]?;
     let first = thread_of(alloc, 0, sends);
     let second = thread_of(alloc, 1, vec![in alloc; Act::Take, Act::Take]?);
     let plan = plan_of(alloc, vec![in alloc; first, second]?, 10000)?;

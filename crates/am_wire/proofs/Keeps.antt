@@ -5,7 +5,7 @@ use mathlib.Core.Option.{Option, none, some, some-injective, some-ne-none}
 use lib.ListN.{get_elem?}
 use prog.Atomic.{either}
 use Rattle.std.proofs.lemmas.Bool.{ltb-true, lt-ltb, eqb-true}
-use Rattle.std.proofs.lemmas.List.{take-append-drop}
+use Rattle.std.proofs.lemmas.List.{take-append-drop, length-take}
 use Rattle.std.proofs.Math.Nat.{mod-lt}
 use Rattle.std.proofs.Math.Seq.{take-append_seam, drop-append_seam}
 use Rattle.std.proofs.lemmas.List.Elements.{All-append}
@@ -329,11 +329,11 @@ follows_first next log seen begins each before rest r e =
 
 -- a journal of which each record comes next, and one that comes next behind it
 pub follows_more : (next : List Record → Record → Type 0) (log : List Record) (r : Record) → Follows next log → next log r → Follows next (log ++ r ∷ [])
-follows_more next log r each its before rest q e = behind rest e
+follows_more next log r each its before others q e = behind others e
   where
     last_two : (rest : List Record) (x : Record) → (more : List Record) × ((y : Record) × (x ∷ rest ≡ more ++ y ∷ []))
-    last_two [] x = ([], x, refl)
-    last_two (z ∷ rest) x = let m = last_two rest z in (x ∷ m.0, m.1.0, ap (λ (l : List Record). x ∷ l) m.1.1)
+    last_two [] x = ([], (x, refl))
+    last_two (z ∷ rest) x = let m = last_two rest z in (x ∷ m.0, (m.1.0, ap (λ (l : List Record). x ∷ l) m.1.1))
 
     behind : (rest : List Record) → log ++ r ∷ [] ≡ before ++ q ∷ rest → next before q
     behind [] is = let s = snoc_same log before r q is in subst (λ (l : List Record). next l q) s.0 (subst (next log) s.1 its)
@@ -441,6 +441,9 @@ count_allows next terms slots id me r may s k len at small =
 
 -- ---- looking
 
+no_longer : (log seen : List Record) → StartsWith log seen → length log ≤ 100000 → length seen ≤ 100000
+no_longer log seen begins most = omega (arith, length-take (length seen) log, ap length begins)
+
 pub look_allows : (next : Terms → List Record → Record → Type 0) (terms : Terms) (slots id : ℕ) (me : Sat) → me.0.turn ≡ false → me.1 ≡ []
     → Allows (Stands next terms) slots id me 1 (λ n. n) (looked next (step slots 1 0 0 none) me)
 look_allows next terms slots id me off empty s k len at small =
@@ -468,6 +471,7 @@ look_allows next terms slots id me off empty s k len at small =
         same = ap (λ (c : List (ℕ × Page)). (new, c)) empty;
         goes = mine.older;
         lawful = λ keyed. subst (λ (t : Terms). Follows (next t) me.0.seen) (sym (mine.founded keyed)) (follows_first (next terms) k.log me.0.seen mine.goes.begins k.lawful);
+        few = no_longer k.log me.0.seen mine.goes.begins k.most;
       },
     )
 
@@ -641,6 +645,7 @@ unites_after next v w m' keyed l = subst (Unites next v w) (sym l.same) (record 
   idle = record { turn = refl; older = refl; empty = refl };
   terms = refl;
   lawful = l.lawful (both_keyed v.keys w.keys keyed);
+  few = l.few;
   keys = refl;
   seen = refl;
   mine = l.goes 0 (sight_of v) (omega arith);

@@ -133,6 +133,7 @@ pub record Looks (next : Terms → List Record → Record → Type 0) (m m' : Sa
   pub same : m' ≡ (view m.0.terms m.0.keys m.0.seen [] false, [])
   pub goes : All (λ o. GoesOn o.keys o.seen m.0.seen) m.0.older
   pub lawful : 0 < length m.0.keys → Follows (next m.0.terms) m.0.seen
+  pub few : length m.0.seen ≤ 100000
 
 abbrev pub looked : (Terms → List Record → Record → Type 0) → Step Page → Sat → ℕ → Sat → Type 0
 looked next st m n m' = Looks next m m'
@@ -142,6 +143,7 @@ pub record Unites (next : Terms → List Record → Record → Type 0) (v w : Vi
   pub idle : IsIdle m
   pub terms : m.0.terms ≡ v.terms
   pub lawful : Follows (next m.0.terms) m.0.seen
+  pub few : length m.0.seen ≤ 100000
   pub keys : m.0.keys ≡ w.keys ++ v.keys
   pub seen : m.0.seen ≡ longer v.seen w.seen
   pub mine : GoesOn v.keys v.seen m.0.seen
