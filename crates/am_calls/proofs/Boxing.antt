@@ -32,6 +32,7 @@ use Rattle.am_wire.specs.declared.rule.Key.{Key}
 use Rattle.am_wire.specs.declared.rule.Key.TheVariants.{Place, Caller}
 use Rattle.am_wire.specs.declared.rule.Terms.{Terms}
 use Rattle.am_wire.specs.declared.wire.WireRefusal.{WireRefusal}
+use Rattle.am_wire.specs.declared.wire.WireRefusal.TheVariants as refusals
 use Rattle.am_wire.specs.Keys.{is_of, of_key, times, same_key}
 use Rattle.am_wire.specs.Passes.{Known, IsReady, Committed, Sees}
 use Rattle.am_wire.specs.Seats.{Follows, GoesOn}
@@ -42,7 +43,7 @@ use Rattle.am_calls.specs.Tags.{of_place, is_turn_part}
 use Rattle.am_calls.specs.Turns.{is_turn, greatest, passed, cursor, last_heard, lost_by, unless_nought, or_nought}
 use Rattle.am_calls.specs.Laws.{IsApart}
 use Rattle.am_calls.specs.Lawful.{is_of_race, plan_by, terms_of, IsLawful}
-use Rattle.am_calls.specs.Boxes.{what_of, Steps, Hears, MayAct, Boxed, Keeps, IsBox, IsShareOf, IsTurn}
+use Rattle.am_calls.specs.Boxes.{what_of, Steps, Hears, MayAct, Boxed, Keeps, IsBox, IsShareOf, IsTurn, IsRefused, refused}
 use Rattle.am_calls.proofs.Knows.{Knows, knows, name_now, told_more, stopped_more}
 use Rattle.am_calls.proofs.Legality.{next_tells}
 use Rattle.am_calls.proofs.Nexts.{nodes_stay, stopped_in_more, none_stop, or_true, or_none, item_more, lives_of, all_cons}
@@ -276,7 +277,7 @@ nought_again (suc n) = refl
 
 -- ---- boxes
 
-same_closed : (name : ℕ) (seen : List Record) (closed : Option WireRefusal) (b : Boxed) → record { name = name; seen = seen; closed = closed } ≡ b → b.closed ≡ None → closed ≡ None
+pub same_closed : (name : ℕ) (seen : List Record) (closed : Option WireRefusal) (b : Boxed) → record { name = name; seen = seen; closed = closed } ≡ b → b.closed ≡ None → closed ≡ None
 same_closed name seen closed b is open_ = ap (λ (x : Boxed). x.closed) is ∙ open_
 
 pub box_numbers : (wire : TableId) (plan : RacePlan) (name : ℕ) (pass : Known) (m : Node) (far : ℕ) (last : Option ℕ) (stopped : Bool) (closed : Option WireRefusal) (b : Boxed)
@@ -386,9 +387,9 @@ module _ (wire : TableId) (plan : RacePlan) (name : ℕ) (pass share : Known) (m
           is_none (Some y) = false
 
 -- a box whose pass has seen more, without a record of its place
-pub box_sees : (wire : TableId) (plan : RacePlan) (name : ℕ) (pass pass' : Known) (m : Node) (far : ℕ) (last : Option ℕ) (stopped : Bool) (closed : Option WireRefusal)
+open_sees : (wire : TableId) (plan : RacePlan) (name : ℕ) (pass pass' : Known) (m : Node) (far : ℕ) (last : Option ℕ) (stopped : Bool) (closed : Option WireRefusal)
     → IsBox wire plan name pass m far last stopped closed → closed ≡ None → Sees pass pass' → Follows (IsLawful pass.terms) pass'.seen → IsBox wire plan name pass' m far last stopped closed
-box_sees wire plan name pass pass' m far last stopped closed box runs sees lawful =
+open_sees wire plan name pass pass' m far last stopped closed box runs sees lawful =
     let goes : GoesOn (Place name ∷ []) pass.seen pass'.seen = subst (λ (ks : List Key). GoesOn ks pass.seen pass'.seen) box.keys sees.goes in
     let same_place : of_place name pass'.seen ≡ of_place name pass.seen = goes.own (Place name) (own_key (Place name)) in
     let more : List Record = drop (length pass.seen) pass'.seen in
@@ -423,3 +424,47 @@ box_sees wire plan name pass pass' m far last stopped closed box runs sees lawfu
         is_none : Option WireRefusal → Bool
         is_none None = true
         is_none (Some y) = false
+
+some_not_none : (x : WireRefusal) → Some x ≡ None → ⊥
+some_not_none x e = true≢false (ap is_some e)
+  where
+    is_some : Option WireRefusal → Bool
+    is_some None = false
+    is_some (Some y) = true
+
+pub box_sees : (wire : TableId) (plan : RacePlan) (name : ℕ) (pass pass' : Known) (m : Node) (far : ℕ) (last : Option ℕ) (stopped : Bool) (closed : Option WireRefusal)
+    → IsBox wire plan name pass m far last stopped closed → Sees pass pass' → Follows (IsLawful pass.terms) pass'.seen → length pass'.seen ≤ 100000
+    → IsBox wire plan name pass' m far last stopped closed
+box_sees wire plan name pass pass' m far last stopped None box sees lawful few = open_sees wire plan name pass pass' m far last stopped None box refl sees lawful
+box_sees wire plan name pass pass' m far last stopped (Some refusal) box sees lawful few = record {
+  own = sees.wire ∙ box.own;
+  terms = sees.terms ∙ box.terms;
+  keys = sees.keys ∙ box.keys;
+  place = box.place;
+  lawful = subst (λ (t : Terms). Follows (IsLawful t) pass'.seen) box.terms lawful;
+  node = λ e. absurd (some_not_none refusal e);
+  cursor_ = λ e. absurd (some_not_none refusal e);
+  last_ = λ e. absurd (some_not_none refusal e);
+  stopped_ = λ e. absurd (some_not_none refusal e);
+  spent = λ e.
+      let more : List Record = drop (length pass.seen) pass'.seen in
+      let long : length pass'.seen ≡ length (pass.seen ++ more) = ap length (rest_of pass'.seen pass.seen sees.goes.begins) in
+      let was = box.spent e in
+      omega (arith, length-append pass.seen more);
+}
+
+-- an open box that sees more
+pub sees_more : (wire : TableId) (plan : RacePlan) (name : ℕ) (pass pass' : Known) (m : Node) (far : ℕ) (last : Option ℕ) (stopped : Bool) (closed : Option WireRefusal) (b : Boxed)
+    → record { name = name; seen = pass.seen; closed = closed } ≡ b → IsBox wire plan name pass m far last stopped closed → b.closed ≡ None → Sees pass pass'
+    → Follows (IsLawful pass.terms) pass'.seen → IsBox wire plan name pass' m far last stopped closed
+sees_more wire plan name pass pass' m far last stopped closed b is box open_ sees lawful =
+    open_sees wire plan name pass pass' m far last stopped closed box (same_closed name pass.seen closed b is open_) sees lawful
+
+pub goes_place : (wire : TableId) (plan : RacePlan) (name : ℕ) (pass pass' : Known) (m : Node) (far : ℕ) (last : Option ℕ) (stopped : Bool) (closed : Option WireRefusal)
+    → IsBox wire plan name pass m far last stopped closed → Sees pass pass' → GoesOn (Place name ∷ []) pass.seen pass'.seen
+goes_place wire plan name pass pass' m far last stopped closed box sees = subst (λ (ks : List Key). GoesOn ks pass.seen pass'.seen) box.keys sees.goes
+
+pub refusal_of : (wire : TableId) (plan : RacePlan) (name : ℕ) (pass : Known) (m : Node) (far : ℕ) (last : Option ℕ) (stopped : Bool) (closed : Option WireRefusal) (refusal : WireRefusal)
+    → IsBox wire plan name pass m far last stopped closed → closed ≡ Some refusal → IsRefused pass.seen name (refused refusal)
+refusal_of wire plan name pass m far last stopped closed refusals.NoMemory box e = tt
+refusal_of wire plan name pass m far last stopped closed refusals.Spent box e = box.spent e

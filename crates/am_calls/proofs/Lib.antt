@@ -6,3 +6,4 @@ pub mod Knows
 pub mod Nexts
 pub mod Acting
 pub mod Boxing
+pub mod Names

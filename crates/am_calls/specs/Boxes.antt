@@ -31,6 +31,8 @@ use Rattle.am_calls.specs.Turns.{cursor, last_heard, is_turn}
 use Rattle.am_calls.specs.Lawful.{IsLawful, is_of_race, plan_by, terms_of}
 use Rattle.am_calls.specs.Tags.{is_turn_part}
 use Rattle.am_calls.specs.declared.ready.Came.{Came}
+use Rattle.am_calls.specs.declared.answer.Answer.{Answer}
+use Rattle.am_calls.specs.declared.answer.Answer.TheVariants as answer
 use Rattle.am_calls.specs.Ready.{round_in}
 
 -- ---- acts
@@ -128,3 +130,22 @@ pub record Acted (old new : Boxed) (share share' : Known) (a : Act) (by : By) (c
   pub seen : new.seen ≡ before ++ item ∷ []
   pub share_ : share' ≡ record share { seen = before ++ item ∷ [] }
   pub open_ : new.closed ≡ None
+
+-- ---- refusals
+
+-- why a call is refused at a node: by its Stop, by the journal's length, or for want of memory
+abbrev pub IsRefused : List Record → ℕ → Answer → Type 0
+IsRefused seen name answer.Stopped = has_stopped seen name ≡ true
+IsRefused seen name answer.Spent = length seen ≡ 100000
+IsRefused seen name answer.NoMemory = Unit {0}
+IsRefused seen name _ = ⊥
+
+abbrev pub refused : WireRefusal → Answer
+refused refusals.NoMemory = answer.NoMemory
+refused refusals.Spent = answer.Spent
+
+-- the same box, which has seen more, without a record of its place
+pub record Looks (old new : Boxed) : Type 0 where
+  pub name : new.name ≡ old.name
+  pub closed : new.closed ≡ old.closed
+  pub goes : GoesOn (Place old.name ∷ []) old.seen new.seen

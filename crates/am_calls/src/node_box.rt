@@ -1,4 +1,4 @@
-ghost use Rattle.std.specs.Prelude.{◌≡◌, ◌||◌, ◌+◌, ◌<◌, ◌≤◌, [], ◌∷◌, ◌++◌, None, length, max, vec_len, vec_capacity, IfOk, IfErr, OnErr};
+ghost use Rattle.std.specs.Prelude.{◌≡◌, ◌||◌, ◌+◌, ◌<◌, ◌≤◌, [], ◌∷◌, ◌++◌, None, length, max, vec_len, vec_capacity, IfOk, IfErr, OnOk, OnErr, false};
 ghost use Rattle.std.specs.Option.{option_copied};
 ghost use Rattle.am_base.specs.declared.outcome.Outcome.TheVariants as said;
 ghost use Rattle.am_model.specs.Claims.{heard_by};
@@ -7,8 +7,10 @@ ghost use Rattle.am_node.specs.Stands.{state_of};
 ghost use Rattle.am_wire.specs.declared.rule.Key.TheVariants.{Place};
 ghost use Rattle.am_wire.specs.declared.wire.WireRefusal.TheVariants as refusals;
 ghost use Rattle.am_wire.specs.Seats.{GoesOn};
-ghost use Rattle.am_wire.specs.Stops.{is_stop};
-ghost use Rattle.am_calls.specs.Boxes.{what_of, Steps, MayAct, IsShareOf, IsTurn, Acted};
+ghost use Rattle.am_wire.specs.Passes.{Sees};
+ghost use Rattle.am_wire.specs.Stops.{is_stop, has_stopped};
+ghost use Rattle.am_calls.specs.Boxes.{what_of, Steps, MayAct, IsShareOf, IsTurn, Acted, IsRefused, Looks, refused};
+ghost use Rattle.am_calls.specs.Lawful.{terms_of};
 ghost use Rattle.am_calls.specs.Turns.{lost_by, unless_nought, or_nought};
 
 use crate::answer::Answer;
@@ -86,7 +88,9 @@ impl<N: Racing> Model for NodeBox<N> {
     ghost invariant = { λ b. IsBox N.wire N.plan b.name b.pass (state_of b.node) b.cursor b.last b.is_stopped b.closed };
 }
 
-fn answer_of(refusal: WireRefusal) -> Answer {
+fn answer_of(refusal: WireRefusal) -> Answer
+    ensures { result ≡ refused refusal }
+{
     match refusal {
         WireRefusal::NoMemory => Answer::NoMemory,
         WireRefusal::Spent => Answer::Spent,
@@ -252,8 +256,19 @@ impl<N: Racing> NodeBox<N> {
     }
 
     /// The box and a caller see what either has seen. It is an error where the box does nothing more.
-    fn meet(&mut self, wire: &Wire<RaceLaw>, hand: &mut Hand) -> Result<(), Answer> {
-        wire.meet(&mut self.pass, &mut hand.share);
+    fn meet(&mut self, wire: &Wire<RaceLaw>, share: &mut Share) -> Result<(), Answer>
+        requires own { (wire.now.id ≡ N.wire) × (share.old.wire ≡ N.wire) }
+        requires terms { share.old.terms ≡ terms_of N.plan }
+        requires one { length share.old.keys ≡ 1 }
+        ensures looks { Looks self.old self.new }
+        ensures share { Sees share.old share.new }
+        ensures both { share.new.seen ≡ self.new.seen }
+        ensures few { length self.new.seen ≤ 100000 }
+        ensures open_ { OnOk result (self.new.closed ≡ None) }
+        ensures runs { OnOk result (has_stopped self.new.seen self.new.name ≡ false) }
+        ensures err { IfErr result (IsRefused self.new.seen self.new.name) }
+    {
+        wire.meet(&mut self.pass, share);
         if let Some(refusal) = self.closed {
             return Err(answer_of(refusal));
         }
@@ -428,7 +443,7 @@ impl<N: Racing> NodeBox<N> {
         hand: &mut Hand,
         call: &Call,
     ) -> Result<Came, Answer> {
-        self.meet(wire, hand)?;
+        self.meet(wire, &mut hand.share)?;
         let by = By {
             caller: call.caller,
             call: call.number,
@@ -452,7 +467,7 @@ impl<N: Racing> NodeBox<N> {
         call: &Call,
         has_turn: bool,
     ) -> Result<Looked, Answer> {
-        self.meet(wire, hand)?;
+        self.meet(wire, &mut hand.share)?;
         if has_turn && !self.is_ready(call) {
             return match self.spend(rt, alloc, wire, gate, hand, call) {
                 Ok(outcome) => Ok(Looked::Turn(outcome)),

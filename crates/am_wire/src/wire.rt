@@ -254,6 +254,7 @@ impl<L: Law> Wire<L> {
         ensures longer { pass.new.seen ≡ longer pass.old.seen share.old.seen }
         ensures lawful { Follows (L.next pass.old.terms) pass.new.seen }
         ensures both { share.new.seen ≡ pass.new.seen }
+        ensures few { length pass.new.seen ≤ 100000 }
     {
         let mut seat = seat_in(&mut pass.badge);
         self.unite(&mut seat, seat_in(&mut share.badge));
