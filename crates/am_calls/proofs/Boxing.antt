@@ -18,6 +18,7 @@ use Rattle.am_group.specs.declared.event.By.{By}
 use Rattle.am_group.specs.declared.event.Event.{Event}
 use Rattle.am_group.specs.declared.event.Record.{Record}
 use Rattle.am_group.specs.declared.plan.RacePlan.{RacePlan}
+use Rattle.am_group.specs.Addressed.{is_for}
 use Rattle.am_group.specs.Deliveries.{name_of}
 use Rattle.am_group.specs.Journals.{letters_of, letter_at}
 use Rattle.std.specs.List.{flat_map}
@@ -245,6 +246,12 @@ lands plan name seen before m n a by l what outcome letters low beyond_ follows 
         next = c.0.next;
         turn = λ part. subst (λ (rs : List Record). is_turn (plan_by terms) rs item.event by ≡ true) (sym beyond_.is) (turns_stay (plan_by terms) seen more item.event by apart (turn part));
         stop = ap (has_stopped before) (first_name name low) ∙ still.runs;
+        hears = λ number e.
+            let h = still.hears number e in record {
+              letter = h.letter;
+              there = h.sent;
+              its = ap (is_for h.letter) (first_name name low) ∙ h.its;
+            };
       };
       node = c.0.node;
       order = c.1;

@@ -7,3 +7,4 @@ pub mod Nexts
 pub mod Acting
 pub mod Boxing
 pub mod Names
+pub mod Turning

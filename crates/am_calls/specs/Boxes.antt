@@ -1,5 +1,5 @@
 -- Node boxes as contracts see them, and what an act leaves.
-use Rattle.std.specs.Prelude.{◌≡◌, ℕ, ◌<◌, List, [], ◌∷◌, ◌++◌, length, Option, Some, None, Bool, true, false}
+use Rattle.std.specs.Prelude.{◌≡◌, ℕ, ◌<◌, List, [], ◌∷◌, ◌++◌, length, Option, Some, None, Bool, true, false, slice_index}
 use Rattle.atomic_table.specs.Seated.{TableId}
 use Rattle.am_core.specs.Cores.{IsInOrder}
 use Rattle.am_base.specs.declared.outcome.Outcome.{Outcome}
@@ -27,7 +27,10 @@ use Rattle.am_wire.specs.Passes.{Known}
 use Rattle.am_wire.specs.Seats.{Follows, GoesOn}
 use Rattle.am_wire.specs.Stops.{has_stopped}
 use Rattle.am_calls.specs.Told.{told}
-use Rattle.am_calls.specs.Turns.{cursor, last_heard, is_turn}
+use Rattle.am_calls.specs.Turns.{cursor, last_heard, is_waited, is_least, is_turn}
+use Rattle.am_pump.specs.declared.chooser.Choice.{Choice}
+use Rattle.am_pump.specs.declared.chooser.Choice.TheVariants as choice
+use Rattle.am_base.specs.Names.{place_of, has}
 use Rattle.am_calls.specs.Lawful.{IsLawful, is_of_race, plan_by, terms_of}
 use Rattle.am_calls.specs.Tags.{is_turn_part}
 use Rattle.am_calls.specs.declared.ready.Came.{Came}
@@ -149,3 +152,34 @@ pub record Looks (old new : Boxed) : Type 0 where
   pub name : new.name ≡ old.name
   pub closed : new.closed ≡ old.closed
   pub goes : GoesOn (Place old.name ∷ []) old.seen new.seen
+
+-- ---- turns
+
+-- the node of a name, by these records
+abbrev pub node_by : RacePlan → List Record → ℕ → Node
+node_by plan seen name = (told plan.founding seen).nodes name
+
+-- the least name that the node waits for and that has stopped
+abbrev pub GivesUp : RacePlan → List Record → ℕ → ℕ → Type 0
+GivesUp plan seen name other = (is_waited (node_by plan seen name) seen other ≡ true) × (is_least (node_by plan seen name) seen other ≡ true)
+
+-- the letter that a choice loses, or 0
+abbrev pub lost_in : Choice → ℕ
+lost_in choice.Tick = 0
+lost_in (choice.Lose number) = number
+lost_in (choice.Hear number) = 0
+lost_in (choice.Repeat number) = 0
+
+-- the letter that is heard, where one is
+abbrev pub AreHeard : List Record → ℕ → Act → Option Letter → Type 0
+AreHeard seen name a heard = (number : ℕ) → a ≡ act.Hear number → Hears seen name number heard
+
+-- the least name of both sets: that of no place below it is
+abbrev pub InBoth : List ℕ → List ℕ → ℕ → Type 0
+InBoth waited stopped place = (0 < slice_index waited place) × (slice_index stopped place ≡ slice_index waited place)
+
+pub record IsLeastOf (waited stopped : List ℕ) (name : ℕ) : Type 0 where
+  pub low : name < 256
+  pub first : has waited name ≡ true
+  pub second : has stopped name ≡ true
+  pub below : (place : ℕ) → place < place_of name → InBoth waited stopped place → ⊥

@@ -1,4 +1,4 @@
-ghost use Rattle.std.specs.Prelude.{◌≡◌, ◌||◌, ◌+◌, ◌<◌, ◌≤◌, [], ◌∷◌, ◌++◌, None, length, max, vec_len, vec_capacity, IfOk, IfErr, OnOk, OnErr, false};
+ghost use Rattle.std.specs.Prelude.{◌≡◌, ℕ, ◌||◌, ◌+◌, ◌<◌, ◌≤◌, [], ◌∷◌, ◌++◌, None, length, max, vec_len, vec_capacity, IfOk, IfErr, IfSome, IfNone, OnOk, OnErr, false};
 ghost use Rattle.std.specs.Option.{option_copied};
 ghost use Rattle.am_base.specs.declared.outcome.Outcome.TheVariants as said;
 ghost use Rattle.am_model.specs.Claims.{heard_by};
@@ -9,9 +9,9 @@ ghost use Rattle.am_wire.specs.declared.wire.WireRefusal.TheVariants as refusals
 ghost use Rattle.am_wire.specs.Seats.{GoesOn};
 ghost use Rattle.am_wire.specs.Passes.{Sees};
 ghost use Rattle.am_wire.specs.Stops.{is_stop, has_stopped};
-ghost use Rattle.am_calls.specs.Boxes.{what_of, Steps, MayAct, IsShareOf, IsTurn, Acted, IsRefused, Looks, refused};
-ghost use Rattle.am_calls.specs.Lawful.{terms_of};
-ghost use Rattle.am_calls.specs.Turns.{lost_by, unless_nought, or_nought};
+ghost use Rattle.am_calls.specs.Boxes.{what_of, Steps, MayAct, IsShareOf, IsTurn, Acted, IsRefused, Looks, refused, Hears, GivesUp, node_by, IsLeastOf, InBoth};
+ghost use Rattle.am_calls.specs.Lawful.{IsSent, terms_of};
+ghost use Rattle.am_calls.specs.Turns.{lost_by, unless_nought, or_nought, waits_in_vain};
 
 use crate::answer::Answer;
 use crate::caller::Hand;
@@ -203,8 +203,19 @@ fn blank(alloc: Global, name: Name, act: &Act, by: By) -> Record
 }
 
 /// The least name of both sets.
-fn least_of_both(waited: Names, stopped: Names) -> Option<Name> {
-    waited.minus(waited.minus(stopped)).lowest()
+fn least_of_both(waited: Names, stopped: Names) -> Option<Name>
+    ensures some { IfSome result (λ name. IsLeastOf waited stopped name) }
+    ensures none { IfNone result ((place : ℕ) → place < 16 → InBoth waited stopped place → ⊥) }
+    ensures places { length waited ≡ 16 }
+{
+    let _lives = waited.each_life();
+    for place in 0..16u8 {
+        let life = waited.life_at(place);
+        if 0 < life && stopped.life_at(place) == life {
+            return Some(Name::of(place, life).unwrap());
+        }
+    }
+    None
 }
 
 /// What asks at a call's end.
@@ -340,13 +351,31 @@ impl<N: Racing> NodeBox<N> {
         }
     }
 
-    /// A name that its ballot waits for and that has stopped, the least of them.
-    fn in_vain<R: Wait>(&mut self, rt: &R, wire: &Wire<RaceLaw>) -> Option<Name> {
+    /// The least name that its ballot waits for and that has stopped.
+    fn in_vain<R: Wait>(&mut self, rt: &R, wire: &Wire<RaceLaw>) -> Option<Name>
+        requires own { wire.now.id ≡ N.wire }
+        requires open_ { self.old.closed ≡ None }
+        ensures looks { Looks self.old self.new }
+        ensures some { IfSome result (GivesUp N.plan self.new.seen self.new.name) }
+        ensures none { IfNone result (waits_in_vain (node_by N.plan self.new.seen self.new.name) self.new.seen ≡ false) }
+    {
         let waited = self.node.waits_for();
-        if waited.len() == 0 {
-            return None;
-        }
-        least_of_both(waited, wire.stopped(rt, &mut self.pass))
+        waited.lowest()?;
+        let stopped = wire.stopped(rt, &mut self.pass);
+        least_of_both(waited, stopped)
+    }
+
+    /// A letter for its node.
+    fn letter<R: Wait>(&mut self, rt: &R, wire: &Wire<RaceLaw>, number: u32) -> Option<Letter>
+        requires own { wire.now.id ≡ N.wire }
+        requires open_ { self.old.closed ≡ None }
+        requires sent { IsSent self.old.seen self.old.name number }
+        ensures looks { Looks self.old self.new }
+        ensures hears { Hears self.new.seen self.new.name number result }
+    {
+        let letter = wire.read(rt, &mut self.pass, number)?;
+        let _bytes = letter.bytes();
+        Some(letter)
     }
 
     /// What a choice does.
@@ -354,9 +383,7 @@ impl<N: Racing> NodeBox<N> {
         let (letter, lost) = match choice {
             Choice::Tick => (None, 0),
             Choice::Lose(number) => (None, number),
-            Choice::Hear(number) | Choice::Repeat(number) => {
-                (wire.read(rt, &mut self.pass, number), 0)
-            }
+            Choice::Hear(number) | Choice::Repeat(number) => (self.letter(rt, wire, number), 0),
         };
         Turn {
             act: choice.act(),
