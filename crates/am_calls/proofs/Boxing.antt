@@ -93,7 +93,7 @@ pub record Beyond (seen before : List Record) (place caller : ℕ) : Type 0 wher
   pub place_ : All (λ r. place_of r.event.node ≢ place) more
   pub apart : All (IsApart place caller) more
 
-not_equal : (a b : ℕ) → (a == b) ≡ false → a ≢ b
+pub not_equal : (a b : ℕ) → (a == b) ≡ false → a ≢ b
 not_equal a b unlike same = true≢false (sym (eq-eqb a b same) ∙ unlike)
 
 pub beyond : (seen known before : List Record) (place caller : ℕ) → known ≡ seen → GoesOn (Place place ∷ []) seen before → GoesOn (Caller caller ∷ []) known before
@@ -267,7 +267,7 @@ map_last f [] r = refl
 map_last f (q ∷ records) r = ap (λ (ns : List ℕ). f q ∷ ns) (map_last f records r)
 
 -- the greatest of what the records of a place say, behind one of its records
-place_last : (f : Record → ℕ) (place : ℕ) (before : List Record) (r : Record) → (place_of r.event.node == place) ≡ true
+pub place_last : (f : Record → ℕ) (place : ℕ) (before : List Record) (r : Record) → (place_of r.event.node == place) ≡ true
     → greatest (map f (of_place place (before ++ r ∷ []))) ≡ max (greatest (map f (of_place place before))) (f r)
 place_last f place before r its =
     let split : of_place place (before ++ r ∷ []) ≡ of_place place before ++ r ∷ [] =

@@ -8,3 +8,4 @@ pub mod Acting
 pub mod Boxing
 pub mod Names
 pub mod Turning
+pub mod Finding

@@ -1,5 +1,5 @@
 -- What a turn finds: who is waited for in vain, and the letters for a name.
-use Rattle.std.proofs.Common.{◌≡◌, ◌≢◌, ℕ, zero, suc, ◌+◌, ◌-◌, ◌*◌, ◌/◌, ◌%◌, ◌<◌, ◌≤◌, max, List, [], ◌∷◌, ◌++◌, length, drop, Bool, true, false, true≢false, Option, Some, None, cond, sym, refl, ap, ◌∙◌, subst, arith, append_assoc, append-nil, eq-eqb, ne_eqb, map}
+use Rattle.std.proofs.Common.{◌≡◌, ◌≢◌, ◌⊎◌, inl, inr, ℕ, zero, suc, ◌+◌, ◌-◌, ◌*◌, ◌/◌, ◌%◌, ◌<◌, ◌≤◌, max, List, [], ◌∷◌, ◌++◌, length, drop, Bool, true, false, true≢false, Option, Some, None, cond, sym, refl, ap, ◌∙◌, subst, arith, append_assoc, append-nil, eq-eqb, ne_eqb, map}
 use Rattle.atomic_table.specs.Seated.{TableId}
 use Rattle.am_wire.specs.Passes.{Known}
 use Rattle.am_wire.specs.declared.wire.WireRefusal.{WireRefusal}
@@ -16,17 +16,23 @@ use Rattle.am_group.specs.declared.plan.RacePlan.{RacePlan}
 use Rattle.am_group.specs.Addressed.{is_for, first_for, next_for}
 use Rattle.am_group.specs.Deliveries.{name_of}
 use Rattle.am_group.specs.Journals.{letters_of, letter_at, item_at}
+use Rattle.am_core.proofs.Folds.{slice_get-drop}
 use Rattle.am_model.specs.Claims.{heard_by}
 use Rattle.am_model.specs.Ends.{IsEndOf}
 use Rattle.am_model.specs.Node.{Node}
 use Rattle.am_node.specs.Info.{waited_for}
 use Rattle.am_wire.specs.declared.rule.Terms.{Terms}
-use Rattle.am_wire.specs.Seats.{Follows}
+use Rattle.am_wire.specs.Seats.{Follows, StartsWith}
 use Rattle.am_wire.specs.Stops.{stopped_in, has_stopped}
 use Rattle.am_calls.specs.Tags.{of_place}
-use Rattle.am_calls.specs.Turns.{is_waited, is_least, waits_in_vain, greatest, last_heard, unless_nought}
+use Rattle.am_calls.specs.Turns.{is_waited, is_least, waits_in_vain, greatest, last_heard, unless_nought, or_nought}
 use Rattle.am_calls.specs.Lawful.{IsLawful, IsSent, is_of_race, terms_of}
-use Rattle.am_calls.specs.Boxes.{InBoth, IsLeastOf, IsBox, GivesUp, node_by}
+use Rattle.am_calls.specs.Boxes.{InBoth, IsLeastOf, IsBox, GivesUp, Hears, node_by}
+use Rattle.am_codec.specs.Limits.{IsPacket}
+use Rattle.am_wire.proofs.Views.{rest_of}
+use Rattle.std.proofs.lemmas.List.Elements.{filter-append}
+use Rattle.am_calls.proofs.Knows.{each_keeps}
+use Rattle.am_calls.proofs.Boxing.{place_last}
 use Rattle.am_calls.proofs.Names.{are_stopped}
 use Rattle.am_calls.proofs.Nexts.{item_more}
 
@@ -131,11 +137,6 @@ first_there (l ∷ letters) from name n e = by_first (is_for l name) refl e (λ 
         some_same a b same = ap or_this same
     by_first false its is rest = let r = rest is in (suc r.0, omega (arith, r.1), r.2)
 
-get_dropped : (letters : List Letter) (count k : ℕ) → slice_get (drop count letters) k ≡ slice_get letters (count + k)
-get_dropped letters zero k = ap (slice_get letters) (let e : k ≡ 0 + k = omega arith in e)
-get_dropped [] (suc count) k = refl
-get_dropped (l ∷ letters) (suc count) k = get_dropped letters count k
-
 -- the next letter for a name was sent to it
 pub ahead_is_sent : (seen : List Record) (name after n : ℕ) → next_for (letters_of seen) name after ≡ Some n → IsSent seen name n × (after < n)
 unfolding next_for
@@ -144,7 +145,7 @@ ahead_is_sent seen name after n e =
     let number : n ≡ suc (after + f.0) = omega (arith, f.1) in (
       record {
         letter = f.2.0;
-        there = ap (letter_at (letters_of seen)) number ∙ sym (get_dropped (letters_of seen) after f.0) ∙ f.2.1.0;
+        there = ap (letter_at (letters_of seen)) number ∙ sym (slice_get-drop after f.0 (letters_of seen)) ∙ f.2.1.0;
         its = f.2.1.1;
       },
       omega arith,
@@ -188,3 +189,113 @@ module _ (wire : TableId) (plan : RacePlan) (name : ℕ) (pass : Known) (m : Nod
 
   pub alone_by : lowest_of waited ≡ None → waits_in_vain (node_by plan pass.seen name) pass.seen ≡ false
   alone_by none = nobody_there (node_by plan pass.seen name) pass.seen waited its none
+
+-- ---- what was heard last
+
+abbrev is_nought_or : List Record → ℕ → ℕ → Type 0
+is_nought_or before name number = (number ≡ 0) ⊎ IsSent before name number
+
+abbrev LastSent : ℕ → List Record → Type 0
+LastSent name before = is_nought_or before name (greatest (map (λ r. heard_by r.event.act) (of_place name before)))
+
+higher : (before : List Record) (name a b : ℕ) → is_nought_or before name a → is_nought_or before name b → is_nought_or before name (max a b)
+higher before name a b p q = elim (order a b) [
+  | inl e ↦ subst (is_nought_or before name) (sym e) p
+  | inr e ↦ subst (is_nought_or before name) (sym e) q
+]
+  where
+    order : (x y : ℕ) → (max x y ≡ x) ⊎ (max x y ≡ y)
+    order zero y = inr (omega arith)
+    order (suc x) zero = inl (omega arith)
+    order (suc x) (suc y) = elim (order x y) [
+      | inl e ↦ inl (omega arith)
+      | inr e ↦ inr (omega arith)
+    ]
+
+still_sent : (before : List Record) (r : Record) (name number : ℕ) → is_nought_or before name number → is_nought_or (before ++ r ∷ []) name number
+still_sent before r name number p = elim p [
+  | inl e ↦ inl e
+  | inr s ↦ inr (sent_more before (r ∷ []) name number s)
+]
+
+heard_next : (terms : Terms) (before : List Record) (r : Record) → IsLawful terms before r → is_nought_or before (name_of r) (heard_by r.event.act)
+heard_next terms before r lawful = by_act r.event.act refl
+  where
+    by_act : (a : Act) → r.event.act ≡ a → is_nought_or before (name_of r) (heard_by r.event.act)
+    by_act (act.Hear number) e = inr (subst (IsSent before (name_of r)) (sym (ap heard_by e)) (lawful.hears number e))
+    by_act (act.Cut number keep) e = absurd (true≢false (sym lawful.act_ ∙ ap is_of_race e))
+    by_act (act.Send body) e = inl (ap heard_by e)
+    by_act (act.Done req) e = inl (ap heard_by e)
+    by_act act.Take e = inl (ap heard_by e)
+    by_act act.Join e = inl (ap heard_by e)
+    by_act act.State e = inl (ap heard_by e)
+    by_act act.Leave e = inl (ap heard_by e)
+    by_act (act.Reset least resilience) e = inl (ap heard_by e)
+    by_act (act.Ask round) e = inl (ap heard_by e)
+    by_act (act.GiveUp other) e = inl (ap heard_by e)
+    by_act act.Stop e = inl (ap heard_by e)
+    by_act act.Tick e = inl (ap heard_by e)
+    by_act act.Return e = inl (ap heard_by e)
+
+last_next : (terms : Terms) (name : ℕ) (before : List Record) (r : Record) → name < 16 → IsLawful terms before r → LastSent name before → LastSent name (before ++ r ∷ [])
+last_next terms name before r low lawful so_far = by_place (place_of r.event.node == name) refl
+  where
+    heard : Record → ℕ
+    heard q = heard_by q.event.act
+
+    by_place : (b : Bool) → (place_of r.event.node == name) ≡ b → LastSent name (before ++ r ∷ [])
+    by_place true here =
+        let first : name_of r ≡ name = ap (name_at (place_of r.event.node)) lawful.life ∙ (let e = eqb-true (place_of r.event.node) name here in omega arith) in
+        subst (is_nought_or (before ++ r ∷ []) name) (sym (place_last heard name before r here))
+        (higher (before ++ r ∷ []) name (greatest (map heard (of_place name before))) (heard r) (still_sent before r name _ so_far)
+        (still_sent before r name (heard r) (subst (λ (k : ℕ). is_nought_or before k (heard r)) first (heard_next terms before r lawful))))
+    by_place false there =
+        let same : of_place name (before ++ r ∷ []) ≡ of_place name before =
+        filter-append (λ (q : Record). place_of q.event.node == name) before (r ∷ []) ∙ ap (λ (b : Bool). of_place name before ++ cond b (r ∷ []) []) there ∙ append-nil (of_place name before)
+        in
+        subst (λ (rs : List Record). is_nought_or (before ++ r ∷ []) name (greatest (map heard rs))) (sym same) (still_sent before r name _ so_far)
+
+pub last_is_sent : (terms : Terms) (name number : ℕ) (before : List Record) → name < 16 → Follows (IsLawful terms) before → last_heard name before ≡ Some number → IsSent before name number
+last_is_sent terms name number before low follows e =
+    by_number (greatest (map (λ r. heard_by r.event.act) (of_place name before))) e
+    (each_keeps (LastSent name) (IsLawful terms) (λ done r lawful so_far. last_next terms name done r low lawful so_far) [] before (inl refl) follows)
+  where
+    by_number : (n : ℕ) → unless_nought n ≡ Some number → is_nought_or before name n → IsSent before name number
+    by_number zero is p = absurd (true≢false (ap is_none is))
+      where
+        is_none : Option ℕ → Bool
+        is_none None = true
+        is_none (Some k) = false
+    by_number (suc n) is p = elim p [
+      | inl z ↦ absurd (omega arith)
+      | inr s ↦ subst (IsSent before name) (ap or_nought is) s
+    ]
+
+-- ---- a letter that is read
+
+pub sent_by : (before after : List Record) (name number : ℕ) → StartsWith after before → IsSent before name number → IsSent after name number
+sent_by before after name number begins s =
+    subst (λ (rs : List Record). IsSent rs name number) (sym (rest_of after before begins)) (sent_more before (drop (length before) after) name number s)
+
+one_of : Option Letter → Letter → Letter
+one_of None other = other
+one_of (Some l) other = l
+
+pub not_there : (seen : List Record) (name number : ℕ) (found : Option Letter) → found ≡ letter_at (letters_of seen) number → IsSent seen name number → found ≡ None → ⊥
+not_there seen name number found is s none = true≢false (ap is_some (sym s.there ∙ sym is ∙ none))
+  where
+    is_some : Option Letter → Bool
+    is_some None = false
+    is_some (Some l) = true
+
+pub hears_it : (seen : List Record) (name number : ℕ) (found : Option Letter) (l : Letter) → found ≡ letter_at (letters_of seen) number → IsSent seen name number → found ≡ Some l
+    → IsPacket l.packet → Hears seen name number (Some l)
+unfolding one_of
+hears_it seen name number found l is s got packet =
+    let same : s.letter ≡ l = ap (λ (o : Option Letter). one_of o l) (sym s.there ∙ sym is ∙ got) in record {
+      letter = l;
+      is = refl;
+      sent = sym is ∙ got;
+      its = ap (λ (x : Letter). is_for x name) (sym same) ∙ s.its;
+      packet = packet;
+    }

@@ -1,4 +1,4 @@
-ghost use Rattle.std.specs.Prelude.{◌≡◌, ℕ, ◌||◌, ◌+◌, ◌<◌, ◌≤◌, [], ◌∷◌, ◌++◌, None, length, max, vec_len, vec_capacity, IfOk, IfErr, IfSome, IfNone, OnOk, OnErr, false};
+ghost use Rattle.std.specs.Prelude.{◌≡◌, ℕ, ◌||◌, ◌+◌, ◌<◌, ◌≤◌, [], ◌∷◌, ◌++◌, None, Some, length, max, vec_len, vec_capacity, IfOk, IfErr, IfSome, IfNone, OnOk, OnErr, false};
 ghost use Rattle.std.specs.Option.{option_copied};
 ghost use Rattle.am_base.specs.declared.outcome.Outcome.TheVariants as said;
 ghost use Rattle.am_model.specs.Claims.{heard_by};
@@ -365,17 +365,21 @@ impl<N: Racing> NodeBox<N> {
         least_of_both(waited, stopped)
     }
 
-    /// A letter for its node.
-    fn letter<R: Wait>(&mut self, rt: &R, wire: &Wire<RaceLaw>, number: u32) -> Option<Letter>
+    /// A letter that was sent to its node.
+    fn letter<R: Wait>(&mut self, rt: &R, wire: &Wire<RaceLaw>, number: u32) -> Letter
         requires own { wire.now.id ≡ N.wire }
         requires open_ { self.old.closed ≡ None }
         requires sent { IsSent self.old.seen self.old.name number }
         ensures looks { Looks self.old self.new }
-        ensures hears { Hears self.new.seen self.new.name number result }
+        ensures hears { Hears self.new.seen self.new.name number (Some result) }
     {
-        let letter = wire.read(rt, &mut self.pass, number)?;
-        let _bytes = letter.bytes();
-        Some(letter)
+        match wire.read(rt, &mut self.pass, number) {
+            Some(letter) => {
+                let _bytes = letter.bytes();
+                letter
+            }
+            None => unreachable!(),
+        }
     }
 
     /// What a choice does.
@@ -383,7 +387,9 @@ impl<N: Racing> NodeBox<N> {
         let (letter, lost) = match choice {
             Choice::Tick => (None, 0),
             Choice::Lose(number) => (None, number),
-            Choice::Hear(number) | Choice::Repeat(number) => (self.letter(rt, wire, number), 0),
+            Choice::Hear(number) | Choice::Repeat(number) => {
+                (Some(self.letter(rt, wire, number)), 0)
+            }
         };
         Turn {
             act: choice.act(),
