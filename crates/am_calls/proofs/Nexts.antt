@@ -67,7 +67,7 @@ pub or_none : (a b : Bool) → b ≡ false → (a || b) ≡ a
 or_none true b e = refl
 or_none false b e = e
 
-nothing_there : {A : Type 0} (x : A) → None ≡ Some x → ⊥
+pub nothing_there : {A : Type 0} (x : A) → None ≡ Some x → ⊥
 nothing_there {A = A} x same = true≢false (ap is_none same)
   where
     is_none : Option A → Bool

@@ -22,14 +22,19 @@ use Rattle.am_model.specs.Ends.{IsEndOf}
 use Rattle.am_model.specs.Node.{Node}
 use Rattle.am_node.specs.Info.{waited_for}
 use Rattle.am_wire.specs.declared.rule.Terms.{Terms}
-use Rattle.am_wire.specs.Seats.{Follows, StartsWith}
+use Rattle.am_wire.specs.Seats.{Follows, StartsWith, GoesOn}
 use Rattle.am_wire.specs.Stops.{stopped_in, has_stopped}
 use Rattle.am_calls.specs.Tags.{of_place}
 use Rattle.am_calls.specs.Turns.{is_waited, is_least, waits_in_vain, greatest, last_heard, unless_nought, or_nought}
 use Rattle.am_calls.specs.Lawful.{IsLawful, IsSent, is_of_race, terms_of}
-use Rattle.am_calls.specs.Boxes.{InBoth, IsLeastOf, IsBox, GivesUp, Hears, node_by}
+use Rattle.am_calls.specs.Boxes.{InBoth, IsLeastOf, IsBox, Boxed, Looks, GivesUp, Hears, heard_in, node_by}
+use Rattle.am_pump.specs.declared.chooser.Choice.{Choice}
+use Rattle.am_pump.specs.declared.chooser.Choice.TheVariants as choice
+use Rattle.am_pump.specs.Choices.{Luck, again, choice_of}
+use Rattle.am_wire.specs.declared.rule.Key.TheVariants.{Place}
 use Rattle.am_codec.specs.Limits.{IsPacket}
-use Rattle.am_wire.proofs.Views.{rest_of}
+use Rattle.am_wire.proofs.Views.{rest_of, goes_through}
+use Rattle.am_calls.proofs.Nexts.{nothing_there}
 use Rattle.std.proofs.lemmas.List.Elements.{filter-append}
 use Rattle.am_calls.proofs.Knows.{each_keeps}
 use Rattle.am_calls.proofs.Boxing.{place_last}
@@ -299,3 +304,30 @@ hears_it seen name number found l is s got packet =
       its = ap (λ (x : Letter). is_for x name) (sym same) ∙ s.its;
       packet = packet;
     }
+
+-- ---- a choice hears what was sent
+
+either_heard : (b c : Bool) (n number : ℕ) (last : Option ℕ) → heard_in (if b then choice.Lose n else if c then again n last else choice.Hear n) ≡ Some number
+    → (Some n ≡ Some number) ⊎ (last ≡ Some number)
+either_heard true c n number last e = absurd (nothing_there number e)
+either_heard false true n number None e = inl e
+either_heard false true n number (Some l) e = inr e
+either_heard false false n number last e = inl e
+
+pub choice_sent : (terms : Terms) (seen : List Record) (name far : ℕ) (luck : Luck) (ahead last : Option ℕ) → name < 16 → Follows (IsLawful terms) seen
+    → ahead ≡ next_for (letters_of seen) name far → last ≡ last_heard name seen → (said : Choice) → said ≡ choice_of luck ahead last → (number : ℕ) → heard_in said ≡ Some number
+    → IsSent seen name number
+choice_sent terms seen name far luck None last low follows next was said is number e = absurd (nothing_there number (ap heard_in (sym is) ∙ e))
+choice_sent terms seen name far luck (Some n) last low follows next was said is number e =
+    elim (either_heard _ _ n number last (ap heard_in (sym is) ∙ e)) [
+      | inl same ↦ (ahead_is_sent seen name far number (sym next ∙ same)).0
+      | inr again_ ↦ last_is_sent terms name number seen low follows (sym was ∙ again_)
+    ]
+
+pub looks_through : (b : Boxed) (name : ℕ) (seen middle : List Record) (closed : Option WireRefusal) (after : Boxed) → record { name = name; seen = seen; closed = closed } ≡ b
+    → GoesOn (Place name ∷ []) seen middle → Looks (record { name = name; seen = middle; closed = closed }) after → Looks b after
+looks_through b name seen middle closed after is goes looks = subst (λ (x : Boxed). Looks x after) is (record {
+  name = looks.name;
+  closed = looks.closed;
+  goes = goes_through (Place name ∷ []) (Place name ∷ []) seen middle after.seen (λ key h. h) goes looks.goes;
+})

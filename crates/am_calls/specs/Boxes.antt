@@ -14,7 +14,7 @@ use Rattle.am_group.specs.declared.event.By.{By}
 use Rattle.am_group.specs.declared.event.Event.{Event}
 use Rattle.am_group.specs.declared.event.Record.{Record}
 use Rattle.am_group.specs.declared.plan.RacePlan.{RacePlan}
-use Rattle.am_group.specs.Addressed.{is_for}
+use Rattle.am_group.specs.Addressed.{is_for, next_for}
 use Rattle.am_group.specs.Journals.{letters_of, letter_at}
 use Rattle.am_packet.specs.Boxes.{Letter}
 use Rattle.am_model.specs.Node.{Node}
@@ -31,6 +31,7 @@ use Rattle.am_calls.specs.Turns.{cursor, last_heard, is_waited, is_least, is_tur
 use Rattle.am_pump.specs.declared.chooser.Choice.{Choice}
 use Rattle.am_pump.specs.declared.chooser.Choice.TheVariants as choice
 use Rattle.am_base.specs.Names.{place_of, has}
+use Rattle.am_pump.specs.Choices.{Luck, choice_of, act_of}
 use Rattle.am_calls.specs.Lawful.{IsLawful, is_of_race, plan_by, terms_of}
 use Rattle.am_calls.specs.Tags.{is_turn_part}
 use Rattle.am_calls.specs.declared.ready.Came.{Came}
@@ -183,3 +184,26 @@ pub record IsLeastOf (waited stopped : List ℕ) (name : ℕ) : Type 0 where
   pub first : has waited name ≡ true
   pub second : has stopped name ≡ true
   pub below : (place : ℕ) → place < place_of name → InBoth waited stopped place → ⊥
+
+-- the letter that a choice hears
+abbrev pub heard_in : Choice → Option ℕ
+heard_in choice.Tick = None
+heard_in (choice.Lose number) = None
+heard_in (choice.Hear number) = Some number
+heard_in (choice.Repeat number) = Some number
+
+-- a choice was made by letters that were seen meanwhile
+pub record Picked (luck : Luck) (name : ℕ) (seen last : List Record) (a : Act) (lost : ℕ) : Type 0 where
+  pub two : List Record
+  pub first : GoesOn (Place name ∷ []) seen two
+  pub then_ : GoesOn (Place name ∷ []) two last
+  pub said : Choice
+  pub is : said ≡ choice_of luck (next_for (letters_of two) name (cursor name seen)) (last_heard name seen)
+  pub act_ : a ≡ act_of said
+  pub lost_ : lost ≡ lost_in said
+
+-- the acts that a choice may do
+abbrev pub is_turn_act : Act → Bool
+is_turn_act act.Tick = true
+is_turn_act (act.Hear number) = true
+is_turn_act _ = false

@@ -9,7 +9,10 @@ ghost use Rattle.am_wire.specs.declared.wire.WireRefusal.TheVariants as refusals
 ghost use Rattle.am_wire.specs.Seats.{GoesOn};
 ghost use Rattle.am_wire.specs.Passes.{Sees};
 ghost use Rattle.am_wire.specs.Stops.{is_stop, has_stopped};
-ghost use Rattle.am_calls.specs.Boxes.{what_of, Steps, MayAct, IsShareOf, IsTurn, Acted, IsRefused, Looks, refused, Hears, GivesUp, node_by, IsLeastOf, InBoth};
+ghost use Rattle.am_calls.specs.Boxes.{what_of, Steps, MayAct, IsShareOf, IsTurn, Acted, IsRefused, Looks, refused, Hears, GivesUp, node_by, IsLeastOf, InBoth, heard_in, lost_in, Picked, is_turn_act};
+ghost use Rattle.am_pump.specs.Choices.{act_of};
+ghost use Rattle.am_group.specs.declared.event.Act.TheVariants as acts;
+ghost use Rattle.std.specs.Prelude.{true};
 ghost use Rattle.am_calls.specs.Lawful.{IsSent, terms_of};
 ghost use Rattle.am_calls.specs.Turns.{lost_by, unless_nought, or_nought, waits_in_vain};
 
@@ -29,7 +32,7 @@ use am_letter::letter::Letter;
 use am_letter::out_box::OutBox;
 use am_node::info::Info;
 use am_node::node::Node;
-use am_pump::chooser::Choice;
+use am_pump::chooser::{Choice, Chooser};
 use am_wire::wire::{Pass, Share, Wire, WireRefusal};
 use std::alloc::Global;
 use std::marker::{Model, PhantomData};
@@ -382,20 +385,47 @@ impl<N: Racing> NodeBox<N> {
         }
     }
 
-    /// What a choice does.
-    fn chosen<R: Wait>(&mut self, rt: &R, wire: &Wire<RaceLaw>, choice: Choice) -> Turn {
-        let (letter, lost) = match choice {
-            Choice::Tick => (None, 0),
-            Choice::Lose(number) => (None, number),
-            Choice::Hear(number) | Choice::Repeat(number) => {
-                (Some(self.letter(rt, wire, number)), 0)
-            }
-        };
-        Turn {
-            act: choice.act(),
-            letter,
-            lost,
+    /// What a choice does, which hears only what was sent to the node.
+    fn chosen<R: Wait>(&mut self, rt: &R, wire: &Wire<RaceLaw>, choice: Choice) -> Turn
+        requires own { wire.now.id ≡ N.wire }
+        requires open_ { self.old.closed ≡ None }
+        requires sent { (number : ℕ) → heard_in choice ≡ Some number → IsSent self.old.seen self.old.name number }
+        ensures looks { Looks self.old self.new }
+        ensures act_ { result.act ≡ act_of choice }
+        ensures lost_ { result.lost ≡ lost_in choice }
+        ensures hears { (number : ℕ) → heard_in choice ≡ Some number → Hears self.new.seen self.new.name number result.letter }
+    {
+        match choice {
+            Choice::Tick => Turn {
+                act: Act::Tick,
+                letter: None,
+                lost: 0,
+            },
+            Choice::Lose(number) => Turn {
+                act: Act::Tick,
+                letter: None,
+                lost: number,
+            },
+            Choice::Hear(number) | Choice::Repeat(number) => Turn {
+                act: Act::Hear(number),
+                letter: Some(self.letter(rt, wire, number)),
+                lost: 0,
+            },
         }
+    }
+
+    /// What the chooser says by the letters for its node.
+    fn choose<R: Wait>(&mut self, rt: &R, wire: &Wire<RaceLaw>, chooser: &mut Chooser) -> Turn
+        requires own { wire.now.id ≡ N.wire }
+        requires open_ { self.old.closed ≡ None }
+        ensures looks { Looks self.old self.new }
+        ensures picked { Picked chooser.old self.old.name self.old.seen self.new.seen result.act result.lost }
+        ensures hears { (number : ℕ) → result.act ≡ acts.Hear number → Hears self.new.seen self.new.name number result.letter }
+        ensures turns { is_turn_act result.act ≡ true }
+    {
+        let ahead = wire.next_for(rt, &mut self.pass, self.name, self.cursor);
+        let choice = chooser.choose(ahead, self.last);
+        self.chosen(rt, wire, choice)
     }
 
     /// What its node does at a turn of a caller.
@@ -407,9 +437,7 @@ impl<N: Racing> NodeBox<N> {
                 lost: 0,
             };
         }
-        let ahead = wire.next_for(rt, &mut self.pass, self.name, self.cursor);
-        let choice = hand.chooser.choose(ahead, self.last);
-        self.chosen(rt, wire, choice)
+        self.choose(rt, wire, &mut hand.chooser)
     }
 
     fn is_ready(&self, call: &Call) -> bool {
