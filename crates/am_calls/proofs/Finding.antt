@@ -32,12 +32,20 @@ use Rattle.am_model.specs.Claims.{heard_by}
 use Rattle.am_calls.specs.Laws.{IsApart, IsLeft}
 use Rattle.am_calls.specs.Lawful.{IsLawful, plan_by, terms_of}
 use Rattle.am_calls.specs.Callings.{luck_after}
-use Rattle.am_calls.specs.Boxes.{node_by, GivesUp, lost_in}
+use Rattle.am_calls.specs.Boxes.{node_by, GivesUp, lost_in, Gave, Chose, Found, Picked, event_at, turn_by, Boxed, IsBox, IsShareOf, Looks}
+use Rattle.atomic_table.specs.Seated.{TableId}
+use Rattle.am_wire.specs.Passes.{Known, Sees}
+use Rattle.am_wire.specs.declared.rule.Key.{Key}
+use Rattle.am_wire.specs.declared.wire.WireRefusal.{WireRefusal}
+use Rattle.am_wire.specs.declared.rule.Key.TheVariants.{Place, Caller}
+use Rattle.am_wire.specs.Keys.{is_of, of_key}
+use Rattle.am_wire.specs.Seats.{GoesOn}
+use Rattle.am_wire.proofs.Views.{rest_of, goes_through}
 use Rattle.am_calls.proofs.Apart.{others_are_apart}
 use Rattle.am_calls.proofs.Knows.{knows, name_now}
 use Rattle.am_calls.proofs.Nexts.{nodes_stay, stopped_in_more, or_true}
 use Rattle.am_calls.proofs.Stays.{next_stays, first_apart}
-use Rattle.am_calls.proofs.Boxing.{Beyond}
+use Rattle.am_calls.proofs.Boxing.{Beyond, beyond, none_of, own_key, not_equal}
 use Rattle.am_calls.proofs.Turning.{ahead_is_sent}
 
 -- ---- what is known
@@ -126,13 +134,6 @@ pub record Chosen (plan : RacePlan) (name caller : ℕ) (seen one two : List Rec
   pub is : said ≡ choice_of (luck_after plan caller (words_drawn caller seen)) (next_for (letters_of two) name (cursor name seen)) (last_heard name seen)
   pub act_ : a ≡ act_of said
   pub lost_ : lost ≡ lost_in said
-
--- or a name is given up
-pub record Given (plan : RacePlan) (name : ℕ) (one : List Record) (a : Act) (lost : ℕ) : Type 0 where
-  pub other : ℕ
-  pub gives : GivesUp plan one name other
-  pub act_ : a ≡ act.GiveUp other
-  pub lost_ : lost ≡ 0
 
 -- ---- choices
 
@@ -237,7 +238,7 @@ module _ (plan : RacePlan) (name caller call : ℕ) (seen one two three : List R
       in
       subst (λ (k : ℕ). turns_at (plan_by (terms_of plan)) three w k e by ≡ true) (sym here) (both _ _ ready turn)
 
-  pub given_turn : (a : Act) (lost : ℕ) → Given plan name one a lost
+  pub given_turn : (a : Act) (lost : ℕ) → Gave plan name one a lost
       → is_turn (plan_by (terms_of plan)) three (record { node = name; act = a }) (record { caller = caller; call = call; part = Turn lost }) ≡ true
   given_turn a lost given =
       let m : Node = node_by plan one name in
@@ -312,3 +313,58 @@ module _ (plan : RacePlan) (name caller call : ℕ) (seen one two three : List R
           let its : x ≡ choice_of luck (Some n) (last_heard name seen) = is ∙ ap (λ (p : Option ℕ). choice_of luck p (last_heard name seen)) e in
           let high = (ahead_is_sent two name (cursor name seen) n e).1 in
           by_choice n e (omega arith) x its (ap is_tick its ∙ never_ticks _ _ n (last_heard name seen))
+
+-- ---- whatever was found
+
+far_of : (name : ℕ) (before after : List Record) → name < 16 → GoesOn (Place name ∷ []) before after → All (λ r. place_of r.event.node ≢ place_of name) (drop (length before) after)
+far_of name before after low goes = λ k d h.
+    let more : List Record = drop (length before) after in
+    let none = none_of (Place name) before more (ap (of_key (Place name)) (sym (rest_of after before goes.begins)) ∙ goes.own (Place name) (own_key (Place name))) in
+    not_equal (place_of (get_or more k d).event.node) (place_of name) (ap (λ (p : ℕ). place_of (get_or more k d).event.node == p) (let s : place_of name ≡ name = omega arith in s) ∙ none k d h)
+
+through : (name : ℕ) (a b c : List Record) → GoesOn (Place name ∷ []) a b → GoesOn (Place name ∷ []) b c → GoesOn (Place name ∷ []) a c
+through name a b c p q = goes_through (Place name ∷ []) (Place name ∷ []) a b c (λ key h. h) p q
+
+pub turn_found : (plan : RacePlan) (luck : Luck) (name caller call : ℕ) (seen last three : List Record) (a : Act) (lost : ℕ) → name < 16 → Follows (IsLawful (terms_of plan)) three
+    → Beyond seen three name caller → GoesOn (Place name ∷ []) seen last → GoesOn (Place name ∷ []) last three → luck ≡ luck_after plan caller (words_drawn caller seen)
+    → is_ready (node_by plan seen name) (own_of (of_call caller call seen)) ≡ false → Found plan luck name seen last a lost
+    → is_turn (plan_by (terms_of plan)) three (event_at name a) (turn_by caller call lost) ≡ true
+turn_found plan luck name caller call seen last three a lost low whole far first then_ is unready (inl gave) =
+    given_turn plan name caller call seen last last three low whole far (drop (length seen) last) (drop (length last) three) (rest_of last seen first.begins) (rest_of three last then_.begins)
+    (drop (length last) three) (rest_of three last then_.begins) (drop (length seen) last) (rest_of last seen first.begins) (far_of name last three low then_) unready a lost gave
+turn_found plan luck name caller call seen last three a lost low whole far first then_ is unready (inr chose) =
+    let one : List Record = chose.one in
+    let two : List Record = chose.picked.two in
+    let to_one : GoesOn (Place name ∷ []) one three = through name one last three (through name one two last chose.picked.first chose.picked.then_) then_ in
+    let to_two : GoesOn (Place name ∷ []) two three = through name two last three chose.picked.then_ then_ in
+    let in_two : GoesOn (Place name ∷ []) seen two = through name seen one two chose.first chose.picked.first in
+    let same : of_place name one ≡ of_place name seen = chose.first.own (Place name) (own_key (Place name)) in
+    chosen_turn plan name caller call seen one two three low whole far (drop (length seen) one) (drop (length one) three) (rest_of one seen chose.first.begins) (rest_of three one to_one.begins)
+    (drop (length two) three) (rest_of three two to_two.begins) (drop (length seen) two) (rest_of two seen in_two.begins) (far_of name one three low to_one) unready a lost chose.picked.said (record {
+      nobody = chose.nobody;
+      is = chose.picked.is ∙ ap (λ (l : Luck). choice_of l (next_for (letters_of two) name (cursor name one)) (last_heard name one)) is
+          ∙ ap (λ (k : ℕ). choice_of (luck_after plan caller (words_drawn caller seen)) (next_for (letters_of two) name k) (last_heard name one)) (ap (λ (rs : List Record). greatest (map passed rs)) same)
+          ∙ ap (choice_of (luck_after plan caller (words_drawn caller seen)) (next_for (letters_of two) name (cursor name seen)))
+          (ap (λ (rs : List Record). unless_nought (greatest (map (λ r. heard_by r.event.act) rs))) same);
+      act_ = chose.picked.act_;
+      lost_ = chose.picked.lost_;
+    })
+
+-- as a box finds it: a search, and then what the caller has seen, too
+pub turn_by_box : (wire : TableId) (plan : RacePlan) (name : ℕ) (pass pass' : Known) (m : Node) (reach : ℕ) (latest : Option ℕ) (stopped : Bool) (closed : Option WireRefusal) (b0 b1 : Boxed)
+    (share share' : Known) (luck : Luck) (caller call : ℕ) (a : Act) (lost : ℕ) → record { name = name; seen = pass.seen; closed = closed } ≡ b1
+    → IsBox wire plan name pass m reach latest stopped closed → Looks b0 b1 → Sees pass pass' → Follows (IsLawful pass.terms) pass'.seen → IsShareOf wire plan caller share
+    → share.seen ≡ b0.seen → Sees share share' → share'.seen ≡ pass'.seen → luck ≡ luck_after plan caller (words_drawn caller b0.seen)
+    → is_ready (node_by plan b0.seen b0.name) (own_of (of_call caller call b0.seen)) ≡ false → Found plan luck b0.name b0.seen b1.seen a lost
+    → is_turn (plan_by (terms_of plan)) pass'.seen (event_at b0.name a) (turn_by caller call lost) ≡ true
+turn_by_box wire plan name pass pass' m reach latest stopped closed b0 b1 share share' luck caller call a lost is box looks sees lawful its met shows both_ lucky unready found =
+    let three : List Record = pass'.seen in
+    let n_is : name ≡ b0.name = ap (λ (b : Boxed). b.name) is ∙ looks.name in
+    let s_is : pass.seen ≡ b1.seen = ap (λ (b : Boxed). b.seen) is in
+    let low : b0.name < 16 = subst (λ (n : ℕ). n < 16) n_is box.place in
+    let whole : Follows (IsLawful (terms_of plan)) three = subst (λ (t : Terms). Follows (IsLawful t) three) box.terms lawful in
+    let here : GoesOn (Place name ∷ []) pass.seen three = subst (λ (ks : List Key). GoesOn ks pass.seen three) box.keys sees.goes in
+    let then_ : GoesOn (Place b0.name ∷ []) b1.seen three = subst (λ (n : ℕ). GoesOn (Place n ∷ []) b1.seen three) n_is (subst (λ (rs : List Record). GoesOn (Place name ∷ []) rs three) s_is here) in
+    let told_ : GoesOn (Caller caller ∷ []) share.seen three = subst (GoesOn (Caller caller ∷ []) share.seen) both_ (subst (λ (ks : List Key). GoesOn ks share.seen share'.seen) its.keys shows.goes) in
+    turn_found plan luck b0.name caller call b0.seen b1.seen three a lost low whole
+    (beyond b0.seen share.seen three b0.name caller met (through b0.name b0.seen b1.seen three looks.goes then_) told_) looks.goes then_ lucky unready found

@@ -1,5 +1,5 @@
 -- Node boxes as contracts see them, and what an act leaves.
-use Rattle.std.specs.Prelude.{◌≡◌, ℕ, ◌<◌, List, [], ◌∷◌, ◌++◌, length, Option, Some, None, Bool, true, false, slice_index}
+use Rattle.std.specs.Prelude.{◌≡◌, ◌⊎◌, ℕ, ◌<◌, List, [], ◌∷◌, ◌++◌, length, Option, Some, None, Bool, true, false, slice_index}
 use Rattle.atomic_table.specs.Seated.{TableId}
 use Rattle.am_core.specs.Cores.{IsInOrder}
 use Rattle.am_base.specs.declared.outcome.Outcome.{Outcome}
@@ -11,6 +11,7 @@ use Rattle.am_codec.specs.Spelling.{spelling}
 use Rattle.am_group.specs.declared.event.Act.{Act}
 use Rattle.am_group.specs.declared.event.Act.TheVariants as act
 use Rattle.am_group.specs.declared.event.By.{By}
+use Rattle.am_group.specs.declared.event.Part.TheVariants.{Turn}
 use Rattle.am_group.specs.declared.event.Event.{Event}
 use Rattle.am_group.specs.declared.event.Record.{Record}
 use Rattle.am_group.specs.declared.plan.RacePlan.{RacePlan}
@@ -27,7 +28,7 @@ use Rattle.am_wire.specs.Passes.{Known}
 use Rattle.am_wire.specs.Seats.{Follows, GoesOn}
 use Rattle.am_wire.specs.Stops.{has_stopped}
 use Rattle.am_calls.specs.Told.{told}
-use Rattle.am_calls.specs.Turns.{cursor, last_heard, is_waited, is_least, is_turn}
+use Rattle.am_calls.specs.Turns.{cursor, last_heard, is_waited, is_least, waits_in_vain, is_turn}
 use Rattle.am_pump.specs.declared.chooser.Choice.{Choice}
 use Rattle.am_pump.specs.declared.chooser.Choice.TheVariants as choice
 use Rattle.am_base.specs.Names.{place_of, has}
@@ -207,3 +208,27 @@ abbrev pub is_turn_act : Act → Bool
 is_turn_act act.Tick = true
 is_turn_act (act.Hear number) = true
 is_turn_act _ = false
+
+-- a turn gives up the least name that is waited for and has stopped
+pub record Gave (plan : RacePlan) (name : ℕ) (seen : List Record) (a : Act) (lost : ℕ) : Type 0 where
+  pub other : ℕ
+  pub gives : GivesUp plan seen name other
+  pub act_ : a ≡ act.GiveUp other
+  pub lost_ : lost ≡ 0
+
+-- or nobody is waited for in vain, and the chooser says what is done
+pub record Chose (plan : RacePlan) (luck : Luck) (name : ℕ) (seen last : List Record) (a : Act) (lost : ℕ) : Type 0 where
+  pub one : List Record
+  pub first : GoesOn (Place name ∷ []) seen one
+  pub nobody : waits_in_vain (node_by plan one name) one ≡ false
+  pub picked : Picked luck name one last a lost
+
+abbrev pub Found : RacePlan → Luck → ℕ → List Record → List Record → Act → ℕ → Type 0
+Found plan luck name seen last a lost = Gave plan name last a lost ⊎ Chose plan luck name seen last a lost
+
+-- the event and the tag of a turn
+abbrev pub event_at : ℕ → Act → Event
+event_at name a = record { node = name; act = a }
+
+abbrev pub turn_by : ℕ → ℕ → ℕ → By
+turn_by caller call lost = record { caller = caller; call = call; part = Turn lost }

@@ -9,12 +9,15 @@ ghost use Rattle.am_wire.specs.declared.wire.WireRefusal.TheVariants as refusals
 ghost use Rattle.am_wire.specs.Seats.{GoesOn};
 ghost use Rattle.am_wire.specs.Passes.{Sees};
 ghost use Rattle.am_wire.specs.Stops.{is_stop, has_stopped};
-ghost use Rattle.am_calls.specs.Boxes.{what_of, Steps, MayAct, IsShareOf, IsTurn, Acted, IsRefused, Looks, refused, Hears, GivesUp, node_by, IsLeastOf, InBoth, heard_in, lost_in, Picked, is_turn_act};
+ghost use Rattle.am_calls.specs.Boxes.{what_of, Steps, MayAct, IsShareOf, IsTurn, Acted, IsRefused, Looks, refused, Hears, GivesUp, node_by, IsLeastOf, InBoth, heard_in, lost_in, Picked, is_turn_act, Found, event_at, turn_by};
+ghost use Rattle.am_calls.specs.Callings.{luck_after};
+ghost use Rattle.am_calls.specs.Ready.{is_ready};
+ghost use Rattle.am_calls.specs.Tags.{of_call, own_of};
 ghost use Rattle.am_pump.specs.Choices.{act_of};
 ghost use Rattle.am_group.specs.declared.event.Act.TheVariants as acts;
 ghost use Rattle.std.specs.Prelude.{true};
-ghost use Rattle.am_calls.specs.Lawful.{IsSent, terms_of};
-ghost use Rattle.am_calls.specs.Turns.{lost_by, unless_nought, or_nought, waits_in_vain};
+ghost use Rattle.am_calls.specs.Lawful.{IsSent, plan_by, terms_of};
+ghost use Rattle.am_calls.specs.Turns.{lost_by, unless_nought, or_nought, waits_in_vain, words_drawn, is_turn};
 
 use crate::answer::Answer;
 use crate::caller::Hand;
@@ -428,16 +431,50 @@ impl<N: Racing> NodeBox<N> {
         self.chosen(rt, wire, choice)
     }
 
-    /// What its node does at a turn of a caller.
-    fn turn<R: Wait>(&mut self, rt: &R, wire: &Wire<RaceLaw>, hand: &mut Hand) -> Turn {
-        if let Some(name) = self.in_vain(rt, wire) {
-            return Turn {
+    /// What its node does at a turn: it gives up the least name that it waits for and that has stopped, or does what the chooser
+    /// says.
+    fn find<R: Wait>(&mut self, rt: &R, wire: &Wire<RaceLaw>, chooser: &mut Chooser) -> Turn
+        requires own { wire.now.id ≡ N.wire }
+        requires open_ { self.old.closed ≡ None }
+        ensures looks { Looks self.old self.new }
+        ensures found { Found N.plan chooser.old self.old.name self.old.seen self.new.seen result.act result.lost }
+        ensures hears { (number : ℕ) → result.act ≡ acts.Hear number → Hears self.new.seen self.new.name number result.letter }
+    {
+        match self.in_vain(rt, wire) {
+            Some(name) => Turn {
                 act: Act::GiveUp(name),
                 letter: None,
                 lost: 0,
-            };
+            },
+            None => self.choose(rt, wire, chooser),
         }
-        self.choose(rt, wire, &mut hand.chooser)
+    }
+
+    /// What its node does at a turn of a caller's call, which isn't ready. Box and caller then see the same again.
+    fn turn<R: Wait>(
+        &mut self,
+        rt: &R,
+        wire: &Wire<RaceLaw>,
+        share: &mut Share,
+        chooser: &mut Chooser,
+        call: &Call,
+    ) -> Turn
+        requires own { wire.now.id ≡ N.wire }
+        requires open_ { self.old.closed ≡ None }
+        requires share { IsShareOf N.wire N.plan call.now.caller share.old }
+        requires met { share.old.seen ≡ self.old.seen }
+        requires luck { chooser.old ≡ luck_after N.plan call.now.caller (words_drawn call.now.caller self.old.seen) }
+        requires unready { is_ready (node_by N.plan self.old.seen self.old.name) (own_of (of_call call.now.caller call.now.number self.old.seen)) ≡ false }
+        ensures looks { Looks self.old self.new }
+        ensures share { Sees share.old share.new }
+        ensures met { share.new.seen ≡ self.new.seen }
+        ensures few { length self.new.seen ≤ 100000 }
+        ensures turn { is_turn (plan_by (terms_of N.plan)) self.new.seen (event_at self.old.name result.act) (turn_by call.now.caller call.now.number result.lost) ≡ true }
+        ensures hears { (number : ℕ) → result.act ≡ acts.Hear number → Hears self.new.seen self.new.name number result.letter }
+    {
+        let turn = self.find(rt, wire, chooser);
+        wire.meet(&mut self.pass, share);
+        turn
     }
 
     fn is_ready(&self, call: &Call) -> bool {
@@ -457,8 +494,7 @@ impl<N: Racing> NodeBox<N> {
         hand: &mut Hand,
         call: &Call,
     ) -> Result<Outcome, WireRefusal> {
-        let turn = self.turn(rt, wire, hand);
-        wire.meet(&mut self.pass, &mut hand.share);
+        let turn = self.turn(rt, wire, &mut hand.share, &mut hand.chooser, call);
         let by = By {
             caller: call.caller,
             call: call.number,
