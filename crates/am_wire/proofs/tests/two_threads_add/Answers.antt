@@ -1,4 +1,4 @@
-use Rattle.std.proofs.Common.{◌≡◌, ℕ, ◌+◌, ◌*◌, List, [], ◌∷◌, length, map, sym, ap, ◌∙◌, subst, arith}
+use Rattle.std.proofs.Common.{◌≡◌, ℕ, ◌+◌, ◌*◌, ◌<◌, List, [], ◌∷◌, length, map, sym, ap, ◌∙◌, subst, arith}
 use Rattle.std.specs.Prelude.{All}
 use Rattle.atomic_table.specs.Seated.{TableId}
 use Rattle.am_base.specs.Names.{place_of}
@@ -49,7 +49,7 @@ pub add_both-pass-requires-clause-first : goal.add_both-pass-requires-clause-fir
 add_both-pass-requires-clause-first g c =
     let p = places _ _ _ _ _ c.in_ok-wire.ensures.passes
     (given _ _ _ _ _ _ c.into_iter-passes.ensures.rest c.in-Some-Some.ensures.items c.in-Some-Some-2.ensures.items) in
-    let q = callers _ _ _ _ _ c.in_ok-wire.ensures.shares
+    let q = callers _ _ _ _ _ (c.in_ok-wire.ensures.shares ∙ ap (λ (n : ℕ). map (fresh c.in_ok-wire.wire.id c.in_ok-terms_of.field-0) (caller_keys n)) c.in_ok-terms_of.ensures)
     (given _ _ _ _ _ _ c.into_iter-shares.ensures.rest c.in-Some-Some.ensures'.items c.in-Some-Some-2.ensures'.items) in
     λ _. ready _ _ _ _ 0 0 c.in_ok-first.first p.0 q.0
     (ap place_of c.in_ok-first.ensures.place) c.in_ok-first.ensures.caller c.in_ok-first.ensures.few c.in_ok-first.ensures.life
@@ -58,7 +58,7 @@ pub add_both-pass-requires-clause-second : goal.add_both-pass-requires-clause-se
 add_both-pass-requires-clause-second g c =
     let p = places _ _ _ _ _ c.in_ok-wire.ensures.passes
     (given _ _ _ _ _ _ c.into_iter-passes.ensures.rest c.in-Some-Some.ensures.items c.in-Some-Some-2.ensures.items) in
-    let q = callers _ _ _ _ _ c.in_ok-wire.ensures.shares
+    let q = callers _ _ _ _ _ (c.in_ok-wire.ensures.shares ∙ ap (λ (n : ℕ). map (fresh c.in_ok-wire.wire.id c.in_ok-terms_of.field-0) (caller_keys n)) c.in_ok-terms_of.ensures)
     (given _ _ _ _ _ _ c.into_iter-shares.ensures.rest c.in-Some-Some.ensures'.items c.in-Some-Some-2.ensures'.items) in
     λ _. ready _ _ _ _ 1 1 c.in_ok-second.second p.1 q.1
     (ap place_of c.in_ok-second.ensures.place) c.in_ok-second.ensures.caller c.in_ok-second.ensures.few c.in_ok-second.ensures.life
