@@ -1,7 +1,6 @@
--- Every script keeps to the limits.
-use Rattle.std.proofs.Common.{◌≡◌, ℕ, ◌+◌, ◌*◌, ◌-◌, ◌/◌, ◌%◌, ◌<◌, ◌≤◌, List, [], ◌∷◌, length, get_or, set, Option, Some, None, Result, Ok, Err, Bool, true, false, is_some, ◌&&◌, nat_le, nat_lt, refl, subst, arith, cond, All, IfOk}
-use Rattle.std.specs.Option.{ok_or, option_map_or}
-use Rattle.std.specs.Prelude.{option_and_then}
+-- Every play keeps to the limits.
+use Rattle.std.proofs.Common.{◌≡◌, ℕ, ◌+◌, ◌*◌, ◌-◌, ◌/◌, ◌%◌, ◌<◌, ◌≤◌, List, [], ◌∷◌, length, get_or, set, Result, Ok, Err, true, is_some, ◌&&◌, nat_le, nat_lt, refl, subst, arith, cond, All}
+use Rattle.std.specs.Option.{ok_or}
 use Rattle.std.proofs.lemmas.Bool.{leb-true}
 use Rattle.std.proofs.lemmas.Grind.{common_steps}
 use Rattle.std.proofs.lemmas.List.Sums.{get_or-le-sum_by}
@@ -15,67 +14,29 @@ use Rattle.am_group.specs.declared.event.Act.TheVariants as act
 use Rattle.am_group.specs.declared.event.Event.{Event}
 use Rattle.serde_json.specs.Data.{Data, Items, no_items, item}
 use Rattle.serde_json.specs.Events.{items_len}
-use Rattle.serde_json.specs.Find.{as_array, as_object, as_number, as_u64}
+use Rattle.serde_json.specs.Find.{as_array, as_object}
 use Rattle.am_script.specs.declared.key.Key.{Key}
 use Rattle.am_script.specs.declared.key.Key.TheVariants as key
 use Rattle.am_script.specs.declared.kind.Kind.{Kind}
 use Rattle.am_script.specs.declared.kind.Kind.TheVariants.{Send, Done, Take, Join, State, Leave, Reset, Ask, GiveUp, Stop, Tick, Hear, Cut, Return}
 use Rattle.am_script.specs.declared.script.Script.{Script}
-use Rattle.am_script.specs.declared.script.Script.TheVariants.{Play}
-use Rattle.am_script.specs.declared.refusal.ScriptRefusal.{ScriptRefusal}
 use Rattle.am_script.specs.declared.refusal.ScriptRefusal.TheVariants.{BadValue}
-use Rattle.am_script.specs.Keys.{value_at, has_only}
-use Rattle.am_script.specs.Refusals.{Read, ◌>>=◌, Answers}
+use Rattle.am_script.specs.Keys.{has_only}
+use Rattle.am_script.specs.Refusals.{Read}
 use Rattle.am_script.specs.Values.{value_in, text_in, number_from, number_in, number_or, flag_or, are_pairs, bytes_in, body_from}
 use Rattle.am_script.specs.Events.{keys_of, kind_in, send_in, reset_in, give_up_in, cut_in, act_in, event_as, event_from, each_event, events_from}
-use Rattle.am_script.specs.Founders.{AreFounders}
+use Rattle.am_script.specs.Founders.{AreFounders, each_founder, founders_from, founding_in}
 use Rattle.am_script.specs.Limits.{IsCount, ActWithin, EventWithin, IsWithin, ScriptWithin}
-use Rattle.am_script.specs.Scripts.{play_keys, each_founder, founders_from, founding_in, parts_of_play, play_from, document_from, document_in, reading}
+use Rattle.am_script.specs.Scripts.{play_keys, parts_of_play, play_from}
+use Rattle.am_script.proofs.Steps.{same_ok, ok_then, if_ok, none_or, both, number_within, number_in_within, number_or_within}
 
--- ---- what is read was read step by step
-
-same_ok : {A : Type 0} (x y : A) → (let r : Read A = Ok x in r) ≡ Ok y → x ≡ y
-same_ok x y h = cc
-
-ok_then : {A B P : Type 0} (a : Read A) (f : A → Read B) (y : B) → (a >>= f) ≡ Ok y → ((x : A) → a ≡ Ok x → f x ≡ Ok y → P) → P
-ok_then (Ok x) f y h then = then x refl h
-ok_then (Err e) f y h then = cc
-
-if_ok : {A P : Type 0} (b : Bool) (a : Read A) (e : ScriptRefusal) (y : A) → cond b a (Err e) ≡ Ok y → (b ≡ true → a ≡ Ok y → P) → P
-if_ok true a e y h then = then refl h
-if_ok false a e y h then = cc
-
-none_or : {A P : Type 0} (b : Bool) (a : Read A) (e : ScriptRefusal) (y : A) → cond b (Err e) a ≡ Ok y → (a ≡ Ok y → P) → P
-none_or true a e y h then = cc
-none_or false a e y h then = then h
-
-both : (a b : Bool) → (a && b) ≡ true → (a ≡ true) × (b ≡ true)
-both true b h = (refl, h)
-both false b h = cc
-
--- ---- numbers and bodies
-
-number_within : (k : Key) (place least most : ℕ) (d : Data) (n : ℕ) → number_from k place least most d ≡ Ok n → (least ≤ n) × (n ≤ most)
-unfolding number_from
-number_within k place least most d n h = ok_then (ok_or (option_and_then as_u64 (as_number d)) (BadValue k place)) _ n h (λ found there told. if_ok (nat_le least found && nat_le found most) _ _ n told (λ fits is.
-    let tests = both _ _ fits in
-    subst (λ (m : ℕ). (least ≤ m) × (m ≤ most)) (same_ok found n is) (leb-true least found tests.0, leb-true found most tests.1)))
-
-number_in_within : (k : Key) (place least most : ℕ) (d : Data) (n : ℕ) → number_in k place least most d ≡ Ok n → (least ≤ n) × (n ≤ most)
-number_in_within k place least most d n h = ok_then (value_in k place d) _ n h (λ v there told. number_within k place least most v n told)
-
-number_or_at : (otherwise : ℕ) (k : Key) (place least most : ℕ) (found : Option Data) (n : ℕ) → least ≤ otherwise → otherwise ≤ most → option_map_or (number_from k place least most) found (Ok otherwise) ≡ Ok n → (least ≤ n) × (n ≤ most)
-number_or_at otherwise k place least most None n low high h = subst (λ (m : ℕ). (least ≤ m) × (m ≤ most)) (same_ok otherwise n h) (low, high)
-number_or_at otherwise k place least most (Some v) n low high h = number_within k place least most v n h
-
-number_or_within : (otherwise : ℕ) (k : Key) (place least most : ℕ) (d : Data) (n : ℕ) → least ≤ otherwise → otherwise ≤ most → number_or otherwise k place least most d ≡ Ok n → (least ≤ n) × (n ≤ most)
-number_or_within otherwise k place least most d n low high h = number_or_at otherwise k place least most (value_at k d) n low high h
+-- ---- bodies
 
 decoded_within : {E : Type 0} (place : ℕ) (decoded : Result (List ℕ) E) (bytes : List ℕ) → bytes_in place decoded ≡ Ok bytes → decoded ≡ Ok bytes
 decoded_within place (Ok found) bytes h = cc
 decoded_within place (Err e) bytes h = cc
 
-body_within : (place : ℕ) (text bytes : List ℕ) → body_from place text ≡ Ok bytes → length bytes ≤ 1024
+pub body_within : (place : ℕ) (text bytes : List ℕ) → body_from place text ≡ Ok bytes → length bytes ≤ 1024
 unfolding body_from
 body_within place text bytes h = if_ok (are_pairs text) _ _ bytes h (λ pairs told. if_ok (nat_le (length text / 2) 1024) _ _ bytes told (λ short is.
     let decoded = decode_of-ok text bytes (decoded_within place (decode_of text) bytes is) in
@@ -84,7 +45,7 @@ body_within place text bytes h = if_ok (are_pairs text) _ _ bytes h (λ pairs to
 
 -- ---- events
 
-act_as : (a b : Act) → (let r : Read Act = Ok a in r) ≡ Ok b → ActWithin a → ActWithin b
+pub act_as : (a b : Act) → (let r : Read Act = Ok a in r) ≡ Ok b → ActWithin a → ActWithin b
 act_as a b h within = subst (λ (x : Act). ActWithin x) (same_ok a b h) within
 
 send_within : (place : ℕ) (d : Data) (a : Act) → send_in place d ≡ Ok a → ActWithin a
@@ -114,7 +75,7 @@ unfolding cut_in
 cut_within place d a h = ok_then (number_in key.Packet place 1 2000000000 d) _ a h (λ packet there rest. ok_then (number_in key.Keep place 0 1152 d) _ a rest (λ keep told is.
     act_as (act.Cut packet keep) a is (count_within key.Packet place d packet there, (number_in_within key.Keep place 0 1152 d keep told).1)))
 
-act_within : (kind : Kind) (founding place : ℕ) (d : Data) (a : Act) → founding ≤ 15 → act_in kind founding place d ≡ Ok a → ActWithin a
+pub act_within : (kind : Kind) (founding place : ℕ) (d : Data) (a : Act) → founding ≤ 15 → act_in kind founding place d ≡ Ok a → ActWithin a
 unfolding act_in
 act_within Send founding place d a low h = send_within place d a h
 act_within Done founding place d a low h = ok_then (number_in key.Req place 1 2000000000 d) _ a h (λ n told is. act_as (act.Done n) a is (count_within key.Req place d n told))
@@ -204,7 +165,7 @@ founders_are d names h = ok_then (ok_or (as_array d) (BadValue key.Founders 0)) 
 
 -- ---- plays
 
-founding_within : (d : Data) (rules : Rules) → founding_in d ≡ Ok rules → MayFound rules
+pub founding_within : (d : Data) (rules : Rules) → founding_in d ≡ Ok rules → MayFound rules
 unfolding founding_in
 founding_within d rules h = ok_then (value_in key.Founders 0 d) _ rules h (λ v there rest. ok_then (founders_from v) _ rules rest (λ names named more.
     ok_then (number_or 0 key.Resilience 0 0 15 d) _ rules more (λ resilience kept later. ok_then (number_or 64 key.Window 0 1 1008 d) _ rules later (λ window wide last. ok_then (number_or 256 key.PbUpTo 0 0 1024 d) _ rules last (λ pb_up_to short is.
@@ -232,19 +193,6 @@ play_within d s h = ok_then (founding_in d) _ s h (λ founding founded rest. ok_
       each = events_within founding.resilience v events may.resilience_within listed;
     })))))
 
-document_within : (asked : Key) (d : Data) (s : Script) → document_from asked d ≡ Ok s → ScriptWithin s
-unfolding document_from play_from
-document_within asked d s h = if_ok (is_some (as_object d)) _ _ s h (λ is_one inner. ok_then (value_in asked 0 d) _ s inner (λ v there rest. if_ok (has_only (asked ∷ []) d) _ _ s rest (λ only told.
-    if_ok (is_some (as_object v)) _ _ s told (λ is_play parts. if_ok (has_only play_keys v) _ _ s parts (λ few whole. play_within v s whole)))))
-
-read_within : (asked : Key) (found : Option Data) (e : ScriptRefusal) (s : Script) → option_map_or (document_from asked) found (Err e) ≡ Ok s → ScriptWithin s
-read_within asked None e s h = cc
-read_within asked (Some d) e s h = document_within asked d s h
-
-pub script_within : (asked : Key) (bytes : List ℕ) (s : Script) → reading asked bytes ≡ Ok s → ScriptWithin s
-unfolding reading
-script_within asked bytes s h = read_within asked (document_in bytes) _ s h
-
-pub answer_within : (asked : Key) (d : Data) (r : Result Script ScriptRefusal) → Answers (document_from asked d) r → IfOk r ScriptWithin
-answer_within asked d (Ok s) is = document_within asked d s is
-answer_within asked d (Err e) is = tt
+pub play_from_within : (d : Data) (s : Script) → play_from d ≡ Ok s → ScriptWithin s
+unfolding play_from
+play_from_within d s h = if_ok (is_some (as_object d)) _ _ s h (λ is_play parts. if_ok (has_only play_keys d) _ _ s parts (λ few whole. play_within d s whole))

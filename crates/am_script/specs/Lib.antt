@@ -1,7 +1,8 @@
 pub mod Keys
 pub mod Refusals
 pub mod Values
-pub mod Events
 pub mod Founders
+pub mod Events
+pub mod Races
 pub mod Scripts
 pub mod Limits

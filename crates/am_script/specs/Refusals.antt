@@ -11,7 +11,7 @@ number_of (BadValue key place) = 4
 number_of (OutOfRange key place found least most) = 5
 number_of NoMemory = 6
 
--- the number of the event that is refused, or 0
+-- the number of the event or the call that is refused, or 0
 abbrev pub place_of : ScriptRefusal → ℕ
 place_of NotJson = 0
 place_of (Missing key place) = place

@@ -1,4 +1,4 @@
--- Values at keys of an object, each of its kind and within its limits. A place is the number of an event, or 0.
+-- Values at keys of an object, each of its kind and within its limits. A place is the number of an event or a call, or 0.
 use Rattle.std.specs.Prelude.{ℕ, ◌/◌, ◌%◌, ◌==◌, ◌&&◌, ◌||◌, nat_le, List, length, Bool, if◌then◌else◌, Result, Ok, Err, option_and_then}
 use Rattle.std.specs.List.{list_all}
 use Rattle.std.specs.Option.{option_map_or, ok_or}

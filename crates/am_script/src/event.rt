@@ -24,9 +24,9 @@ const MOST_BYTES: usize = 1024;
 /// The most bytes of a packet.
 const MOST_PACKET: u64 = 1152;
 
-/// The kind of an event.
+/// The kind of an event or a call.
 #[tactic(auto, unfolding(crate::specs::Events::kind_in))]
-fn kind(event: &Value, place: u64) -> Result<Kind, ScriptRefusal>
+pub fn kind(event: &Value, place: u64) -> Result<Kind, ScriptRefusal>
     ensures { result ≡ kind_in place (view event.now) }
 {
     let word = text_in(event, Key::Do, place)?;
@@ -136,9 +136,9 @@ fn cut(event: &Value, place: u64) -> Result<Act, ScriptRefusal>
     })
 }
 
-/// The act of an event of a kind.
+/// The act of an event or a call of a kind.
 #[tactic(auto, unfolding(crate::specs::Events::act_in))]
-fn act(
+pub fn act(
     alloc: Global,
     kind: Kind,
     event: &Value,

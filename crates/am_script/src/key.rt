@@ -1,7 +1,7 @@
 ghost use Rattle.std.specs.Prelude.{◌≡◌};
 ghost use Rattle.am_script.specs.Keys.{word_of};
 
-/// The keys of scripts, and `Top` for the whole document. Those of races aren't read yet.
+/// The keys of scripts, and `Top` for the whole document.
 #[derive(Clone, Copy, PartialEq, Eq, Debug)]
 pub enum Key {
     Top,

@@ -3,11 +3,15 @@
 
 mod event;
 mod fields;
+mod founding;
 pub mod key;
 mod kind;
 mod play;
+mod race;
 pub mod read;
 pub mod refusal;
 pub mod script;
+#[cfg(test)]
+mod race_tests;
 #[cfg(test)]
 mod tests;

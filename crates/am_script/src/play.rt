@@ -1,19 +1,16 @@
 ghost use Rattle.std.specs.Prelude.{◌≡◌, ◌≤◌};
 ghost use Rattle.serde_json.specs.View.{view, items_view};
-ghost use Rattle.am_base.specs.Names.{nobody};
 ghost use Rattle.am_script.specs.Refusals.{Answers};
 ghost use Rattle.am_script.specs.Events.{each_event, events_from};
-ghost use Rattle.am_script.specs.Scripts.{each_founder, founders_from, founding_in, parts_of_play, play_from};
+ghost use Rattle.am_script.specs.Scripts.{parts_of_play, play_from};
 
 use crate::event::event;
-use crate::fields::{flag_or, number, number_or, only, value_in};
+use crate::fields::{flag_or, only, value_in};
+use crate::founding::founding;
 use crate::key::Key;
 use crate::refusal::ScriptRefusal;
 use crate::script::Script;
-use am_base::founding::Founding;
 use am_base::items::Items;
-use am_base::name::Name;
-use am_base::names::Names;
 use am_group::event::Event;
 use serde_json::Value;
 use std::alloc::Global;
@@ -53,60 +50,6 @@ fn events(alloc: Global, value: &Value, founding: u8) -> Result<Items<Event>, Sc
         });
     };
     each_event(alloc, list.as_slice(), founding)
-}
-
-/// The names of places, each of which is new.
-fn each_founder(list: &[Value]) -> Result<Names, ScriptRefusal>
-    ensures { result ≡ each_founder nobody (items_view list.now) }
-{
-    let mut names = Names::empty();
-    for value in list {
-        let place = number(value, Key::Founders, 0, 0, 15)?;
-        let name = Name::of_byte(place as u8);
-        if names.has(name) {
-            return Err(ScriptRefusal::BadValue {
-                key: Key::Founders,
-                place: 0,
-            });
-        }
-        names = names.with(name);
-    }
-    Ok(names)
-}
-
-/// The founders: 1 to 16 places, each once.
-#[tactic(auto, using(crate::proofs::Json::items_len_view), unfolding(crate::specs::Scripts::founders_from))]
-fn founders(value: &Value) -> Result<Names, ScriptRefusal>
-    ensures { result ≡ founders_from (view value.now) }
-{
-    let Some(list) = value.as_array() else {
-        return Err(ScriptRefusal::BadValue {
-            key: Key::Founders,
-            place: 0,
-        });
-    };
-    if list.is_empty() || 16 < list.len() {
-        return Err(ScriptRefusal::OutOfRange {
-            key: Key::Founders,
-            place: 0,
-            found: list.len() as u64,
-            least: 1,
-            most: 16,
-        });
-    }
-    each_founder(list.as_slice())
-}
-
-/// How a group begins, by the keys of a play.
-#[tactic(auto, using(crate::proofs::Limits::founders_are), unfolding(crate::specs::Scripts::founding_in))]
-fn founding(value: &Value) -> Result<Founding, ScriptRefusal>
-    ensures { result ≡ founding_in (view value.now) }
-{
-    let founders = founders(value_in(value, Key::Founders, 0)?)?;
-    let resilience = number_or(0, value, Key::Resilience, 0, 0, 15)?;
-    let window = number_or(64, value, Key::Window, 0, 1, 1008)?;
-    let pb_up_to = number_or(256, value, Key::PbUpTo, 0, 0, 1024)?;
-    Ok(Founding::new(founders, resilience as u8, window as u16, pb_up_to as u16).unwrap())
 }
 
 /// A play's parts.

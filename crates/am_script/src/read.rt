@@ -2,21 +2,34 @@ ghost use Rattle.std.specs.Prelude.{◌≡◌, ◌≢◌, ◌<◌, length, Some,
 ghost use Rattle.serde_json.specs.View.{view};
 ghost use Rattle.am_script.specs.Refusals.{Answers};
 ghost use Rattle.am_script.specs.Limits.{ScriptWithin};
-ghost use Rattle.am_script.specs.Scripts.{document_in, document_from, reading};
+ghost use Rattle.am_script.specs.Scripts.{IsKind, IsOfKind, script_from, document_in, document_from, reading};
 
 use crate::fields::{only, value_in};
 use crate::key::Key;
 use crate::play::play;
+use crate::race::race;
 use crate::refusal::ScriptRefusal;
 use crate::script::Script;
 use serde_json::Value;
 use serde_json::error::Category;
 use std::alloc::Global;
 
+/// The script behind its key.
+#[tactic(auto, using(crate::proofs::Answered::others_are_plays))]
+fn script(alloc: Global, asked: Key, value: &Value) -> Result<Script, ScriptRefusal>
+    requires { IsKind asked }
+    ensures { Answers (script_from asked (view value.now)) result }
+{
+    if asked == Key::Race {
+        return Ok(Script::Race(race(alloc, value)?));
+    }
+    play(alloc, value)
+}
+
 /// The script of a document.
 #[tactic(auto, unfolding(crate::specs::Scripts::document_from))]
 fn document(alloc: Global, asked: Key, value: &Value) -> Result<Script, ScriptRefusal>
-    requires { asked ≡ Key.Play }
+    requires { IsKind asked }
     ensures { Answers (document_from asked (view value.now)) result }
 {
     if !value.is_object() {
@@ -29,7 +42,7 @@ fn document(alloc: Global, asked: Key, value: &Value) -> Result<Script, ScriptRe
     if !only(&[asked], value) {
         return Err(ScriptRefusal::Unknown { place: 0 });
     }
-    play(alloc, inner)
+    script(alloc, asked, inner)
 }
 
 /// The document that bytes are JSON of.
@@ -49,12 +62,13 @@ fn parsed(alloc: Global, bytes: &[u8]) -> Result<Value, ScriptRefusal>
     }
 }
 
-/// Reads a script of the key that is asked for, so far `play` (docs/PROTOCOL.md, "Scripts"). A refusal but NoMemory is the
-/// first cause that the bytes are no such script. There may be any number of events.
-#[tactic(auto, using(crate::proofs::Limits::answer_within), unfolding(crate::specs::Scripts::reading))]
+/// Reads a script of the kind that is asked for, `play` or `race` (docs/PROTOCOL.md, "Scripts"). A refusal but NoMemory is the
+/// first cause that the bytes are no such script. A play may have any number of events.
+#[tactic(auto, using(crate::proofs::Answered::answer_within, crate::proofs::Answered::answer_of_kind), unfolding(crate::specs::Scripts::reading))]
 pub fn read_script(alloc: Global, asked: Key, bytes: &[u8]) -> Result<Script, ScriptRefusal>
-    requires { asked ≡ Key.Play }
+    requires { IsKind asked }
     ensures ok { IfOk result (λ script. reading asked bytes.now ≡ Ok script) }
+    ensures kind { IfOk result (IsOfKind asked) }
     ensures within { IfOk result ScriptWithin }
     ensures refused { IfErr result (λ e. e ≢ ScriptRefusal.NoMemory → reading asked bytes.now ≡ Err e) }
     ensures memory { IfErr result (λ e. e ≡ ScriptRefusal.NoMemory → 0 < length bytes.now) }

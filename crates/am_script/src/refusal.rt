@@ -5,7 +5,8 @@ ghost use Rattle.am_script.specs.declared.refusal.ScriptRefusal.TheVariants.{NoM
 use crate::key::Key;
 use std::alloc::AllocError;
 
-/// Why bytes aren't a script, the first cause. A place is the number of an event, from 1, or 0 elsewhere.
+/// Why bytes aren't a script, the first cause. A place is the number of an event, or of a call over all threads of a race,
+/// from 1, or 0 elsewhere.
 #[derive(Clone, Copy, PartialEq, Eq, Debug)]
 pub enum ScriptRefusal {
     /// The bytes aren't JSON.
@@ -51,7 +52,7 @@ impl ScriptRefusal {
         }
     }
 
-    /// The number of the event that is refused, or 0.
+    /// The number of the event or the call that is refused, or 0.
     pub fn place(self) -> u64
         ensures { result ≡ place_of self }
     {

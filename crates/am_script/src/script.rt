@@ -1,6 +1,7 @@
 use am_base::founding::Founding;
 use am_base::items::Items;
 use am_group::event::Event;
+use am_group::plan::RacePlan;
 
 /// What a script says.
 #[derive(Drop)]
@@ -11,4 +12,6 @@ pub enum Script {
         events: Items<Event>,
         settle: bool,
     },
+    /// A race: threads with the calls that each makes, within the limits of docs/PROTOCOL.md ("Limits").
+    Race(RacePlan),
 }

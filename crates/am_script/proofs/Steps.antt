@@ -1,0 +1,48 @@
+-- What is read was read step by step; numbers are within their limits.
+use Rattle.std.proofs.Common.{◌≡◌, ℕ, ◌≤◌, Option, Some, None, Ok, Err, Bool, true, false, ◌&&◌, nat_le, refl, subst, cond}
+use Rattle.std.specs.Option.{ok_or, option_map_or}
+use Rattle.std.specs.Prelude.{option_and_then}
+use Rattle.std.proofs.lemmas.Bool.{leb-true}
+use Rattle.serde_json.specs.Data.{Data}
+use Rattle.serde_json.specs.Find.{as_number, as_u64}
+use Rattle.am_script.specs.declared.key.Key.{Key}
+use Rattle.am_script.specs.declared.refusal.ScriptRefusal.{ScriptRefusal}
+use Rattle.am_script.specs.declared.refusal.ScriptRefusal.TheVariants.{BadValue}
+use Rattle.am_script.specs.Keys.{value_at}
+use Rattle.am_script.specs.Refusals.{Read, ◌>>=◌}
+use Rattle.am_script.specs.Values.{value_in, number_from, number_in, number_or}
+
+pub same_ok : {A : Type 0} (x y : A) → (let r : Read A = Ok x in r) ≡ Ok y → x ≡ y
+same_ok x y h = cc
+
+pub ok_then : {A B P : Type 0} (a : Read A) (f : A → Read B) (y : B) → (a >>= f) ≡ Ok y → ((x : A) → a ≡ Ok x → f x ≡ Ok y → P) → P
+ok_then (Ok x) f y h then = then x refl h
+ok_then (Err e) f y h then = cc
+
+pub if_ok : {A P : Type 0} (b : Bool) (a : Read A) (e : ScriptRefusal) (y : A) → cond b a (Err e) ≡ Ok y → (b ≡ true → a ≡ Ok y → P) → P
+if_ok true a e y h then = then refl h
+if_ok false a e y h then = cc
+
+pub none_or : {A P : Type 0} (b : Bool) (a : Read A) (e : ScriptRefusal) (y : A) → cond b (Err e) a ≡ Ok y → (a ≡ Ok y → P) → P
+none_or true a e y h then = cc
+none_or false a e y h then = then h
+
+pub both : (a b : Bool) → (a && b) ≡ true → (a ≡ true) × (b ≡ true)
+both true b h = (refl, h)
+both false b h = cc
+
+pub number_within : (k : Key) (place least most : ℕ) (d : Data) (n : ℕ) → number_from k place least most d ≡ Ok n → (least ≤ n) × (n ≤ most)
+unfolding number_from
+number_within k place least most d n h = ok_then (ok_or (option_and_then as_u64 (as_number d)) (BadValue k place)) _ n h (λ found there told. if_ok (nat_le least found && nat_le found most) _ _ n told (λ fits is.
+    let tests = both _ _ fits in
+    subst (λ (m : ℕ). (least ≤ m) × (m ≤ most)) (same_ok found n is) (leb-true least found tests.0, leb-true found most tests.1)))
+
+pub number_in_within : (k : Key) (place least most : ℕ) (d : Data) (n : ℕ) → number_in k place least most d ≡ Ok n → (least ≤ n) × (n ≤ most)
+number_in_within k place least most d n h = ok_then (value_in k place d) _ n h (λ v there told. number_within k place least most v n told)
+
+number_or_at : (otherwise : ℕ) (k : Key) (place least most : ℕ) (found : Option Data) (n : ℕ) → least ≤ otherwise → otherwise ≤ most → option_map_or (number_from k place least most) found (Ok otherwise) ≡ Ok n → (least ≤ n) × (n ≤ most)
+number_or_at otherwise k place least most None n low high h = subst (λ (m : ℕ). (least ≤ m) × (m ≤ most)) (same_ok otherwise n h) (low, high)
+number_or_at otherwise k place least most (Some v) n low high h = number_within k place least most v n h
+
+pub number_or_within : (otherwise : ℕ) (k : Key) (place least most : ℕ) (d : Data) (n : ℕ) → least ≤ otherwise → otherwise ≤ most → number_or otherwise k place least most d ≡ Ok n → (least ≤ n) × (n ≤ most)
+number_or_within otherwise k place least most d n low high h = number_or_at otherwise k place least most (value_at k d) n low high h

@@ -1,0 +1,133 @@
+-- Races of scripts: threads, each with the calls that it makes at its node.
+use Rattle.std.specs.Prelude.{ℕ, ◌+◌, ◌*◌, ◌&&◌, nat_le, List, [], ◌∷◌, length, sum_by, Bool, true, false, if◌then◌else◌, is_some, Ok, Err}
+use Rattle.std.specs.Option.{ok_or}
+use Rattle.serde_json.specs.Data.{Data, Items, no_items, item}
+use Rattle.serde_json.specs.Events.{items_len}
+use Rattle.serde_json.specs.Find.{as_array, as_object}
+use Rattle.am_base.specs.Founding.{Rules}
+use Rattle.am_group.specs.declared.event.Act.{Act}
+use Rattle.am_group.specs.declared.plan.ThreadPlan.{ThreadPlan}
+use Rattle.am_group.specs.declared.plan.RacePlan.{RacePlan}
+use Rattle.am_script.specs.declared.key.Key.{Key}
+use Rattle.am_script.specs.declared.key.Key.TheVariants as key
+use Rattle.am_script.specs.declared.kind.Kind.{Kind}
+use Rattle.am_script.specs.declared.kind.Kind.TheVariants.{Send, Take, Join, Leave, Reset, Stop}
+use Rattle.am_script.specs.declared.refusal.ScriptRefusal.TheVariants.{Unknown, BadValue, OutOfRange}
+use Rattle.am_script.specs.Keys.{has_only}
+use Rattle.am_script.specs.Refusals.{Read, ◌>>=◌}
+use Rattle.am_script.specs.Values.{value_in, number_in, number_or}
+use Rattle.am_script.specs.Events.{kind_in, act_in}
+use Rattle.am_script.specs.Founders.{founding_in}
+
+-- ---- calls
+
+-- the kinds of events that a thread can call for
+abbrev pub is_call : Kind → Bool
+is_call Send = true
+is_call Take = true
+is_call Join = true
+is_call Leave = true
+is_call Reset = true
+is_call Stop = true
+is_call _ = false
+
+-- the keys of a call of a kind: the node is its thread's
+abbrev pub call_keys_of : Kind → List Key
+call_keys_of Send = key.Do ∷ key.Body ∷ []
+call_keys_of Reset = key.Do ∷ key.Least ∷ key.Resilience ∷ []
+call_keys_of _ = key.Do ∷ []
+
+-- the kind of a call, which is read before all else
+unfoldable pub call_kind_in : ℕ → Data → Read Kind
+call_kind_in place d = kind_in place d >>= λ kind. if is_call kind then Ok kind else Err (BadValue key.Do place)
+
+-- a call of a kind: first another key, then the act
+unfoldable pub call_as : Kind → ℕ → ℕ → Data → Read Act
+call_as kind founding place d = if has_only (call_keys_of kind) d then act_in kind founding place d else Err (Unknown place)
+
+-- a call
+unfoldable pub call_from : ℕ → ℕ → Data → Read Act
+call_from founding place d =
+    if is_some (as_object d)
+    then (call_kind_in place d >>= λ kind. call_as kind founding place d)
+    else Err (BadValue key.Calls place)
+
+-- calls in order, the first of which has this number
+abbrev pub each_call : ℕ → ℕ → Items → Read (List Act)
+each_call founding place no_items = Ok []
+each_call founding place (item d ds) =
+    call_from founding place d >>= λ call. each_call founding (place + 1) ds >>= λ calls. Ok (call ∷ calls)
+
+-- an array of any number of calls
+unfoldable pub calls_from : ℕ → ℕ → Data → Read (List Act)
+calls_from founding place d = ok_or (as_array d) (BadValue key.Calls 0) >>= each_call founding place
+
+-- ---- threads
+
+abbrev pub thread_keys : List Key
+thread_keys = key.Node ∷ key.Calls ∷ []
+
+-- a thread's parts, in the order of its keys
+unfoldable pub parts_of_thread : ℕ → ℕ → Data → Read ThreadPlan
+parts_of_thread founding place d = do
+  node ← number_in key.Node 0 0 15 d
+  v ← value_in key.Calls 0 d
+  calls ← calls_from founding place v
+  Ok (record { node = node; calls = calls })
+
+-- a thread, the first of whose calls has this number: an object, with no other key
+unfoldable pub thread_from : ℕ → ℕ → Data → Read ThreadPlan
+thread_from founding place d =
+    if is_some (as_object d)
+    then (if has_only thread_keys d then parts_of_thread founding place d else Err (Unknown 0))
+    else Err (BadValue key.Threads 0)
+
+-- threads in order: calls are counted over all of them
+abbrev pub each_thread : ℕ → ℕ → Items → Read (List ThreadPlan)
+each_thread founding place no_items = Ok []
+each_thread founding place (item d ds) =
+    thread_from founding place d >>= λ thread.
+    each_thread founding (place + length thread.calls) ds >>= λ threads. Ok (thread ∷ threads)
+
+-- 1 to 16 threads: first their number, then each in order
+unfoldable pub threads_from : ℕ → Data → Read (List ThreadPlan)
+threads_from founding d =
+    ok_or (as_array d) (BadValue key.Threads 0) >>= λ ds.
+    if nat_le 1 (items_len ds) && nat_le (items_len ds) 16 then each_thread founding 1 ds
+    else Err (OutOfRange key.Threads 0 (items_len ds) 1 16)
+
+-- ---- races
+
+-- how many calls threads have in all
+abbrev pub calls_of : List ThreadPlan → ℕ
+calls_of threads = sum_by (λ thread. length thread.calls) threads
+
+-- how many records a race can have: each call makes its turns, its act and its check
+abbrev pub records_of : RacePlan → ℕ
+records_of plan = calls_of plan.threads * (plan.turns + 2)
+
+-- a race with no more calls than there may be, and no more records
+unfoldable pub of_right_size : RacePlan → Read RacePlan
+of_right_size plan =
+    if nat_le (calls_of plan.threads) 1000
+    then (if nat_le (records_of plan) 100000 then Ok plan else Err (OutOfRange key.Threads 0 (records_of plan) 0 100000))
+    else Err (OutOfRange key.Threads 0 (calls_of plan.threads) 0 1000)
+
+abbrev pub race_keys : List Key
+race_keys = key.Founders ∷ key.Resilience ∷ key.Window ∷ key.PbUpTo ∷ key.Seed ∷ key.Loss ∷ key.Repeat ∷ key.Turns ∷ key.Threads ∷ []
+
+-- a race's parts, in the order of its keys
+unfoldable pub parts_of_race : Data → Read RacePlan
+parts_of_race d = do
+  founding ← founding_in d
+  seed ← number_in key.Seed 0 0 18446744073709551615 d
+  loss ← number_or 0 key.Loss 0 0 50 d
+  repeat ← number_or 0 key.Repeat 0 0 40 d
+  turns ← number_or 200 key.Turns 0 1 10000 d
+  v ← value_in key.Threads 0 d
+  threads ← threads_from founding.resilience v
+  of_right_size (record { founding = founding; seed_number = seed; loss = loss; repeat = repeat; turns = turns; threads = threads })
+
+-- a race: an object, with no other key
+unfoldable pub race_from : Data → Read RacePlan
+race_from d = if is_some (as_object d) then (if has_only race_keys d then parts_of_race d else Err (Unknown 0)) else Err (BadValue key.Race 0)

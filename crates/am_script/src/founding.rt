@@ -1,0 +1,66 @@
+ghost use Rattle.std.specs.Prelude.{◌≡◌};
+ghost use Rattle.serde_json.specs.View.{view, items_view};
+ghost use Rattle.am_base.specs.Names.{nobody};
+ghost use Rattle.am_script.specs.Founders.{each_founder, founders_from, founding_in};
+
+use crate::fields::{number, number_or, value_in};
+use crate::key::Key;
+use crate::refusal::ScriptRefusal;
+use am_base::founding::Founding;
+use am_base::name::Name;
+use am_base::names::Names;
+use serde_json::Value;
+
+/// The names of places, each of which is new.
+fn each_founder(list: &[Value]) -> Result<Names, ScriptRefusal>
+    ensures { result ≡ each_founder nobody (items_view list.now) }
+{
+    let mut names = Names::empty();
+    for value in list {
+        let place = number(value, Key::Founders, 0, 0, 15)?;
+        let name = Name::of_byte(place as u8);
+        if names.has(name) {
+            return Err(ScriptRefusal::BadValue {
+                key: Key::Founders,
+                place: 0,
+            });
+        }
+        names = names.with(name);
+    }
+    Ok(names)
+}
+
+/// The founders: 1 to 16 places, each once.
+#[tactic(auto, using(crate::proofs::Json::items_len_view), unfolding(crate::specs::Founders::founders_from))]
+fn founders(value: &Value) -> Result<Names, ScriptRefusal>
+    ensures { result ≡ founders_from (view value.now) }
+{
+    let Some(list) = value.as_array() else {
+        return Err(ScriptRefusal::BadValue {
+            key: Key::Founders,
+            place: 0,
+        });
+    };
+    if list.is_empty() || 16 < list.len() {
+        return Err(ScriptRefusal::OutOfRange {
+            key: Key::Founders,
+            place: 0,
+            found: list.len() as u64,
+            least: 1,
+            most: 16,
+        });
+    }
+    each_founder(list.as_slice())
+}
+
+/// How a group begins, by the keys that a play and a race both have. A refusal is the first cause that it says none.
+#[tactic(auto, using(crate::proofs::Limits::founders_are), unfolding(crate::specs::Founders::founding_in))]
+pub fn founding(value: &Value) -> Result<Founding, ScriptRefusal>
+    ensures { result ≡ founding_in (view value.now) }
+{
+    let founders = founders(value_in(value, Key::Founders, 0)?)?;
+    let resilience = number_or(0, value, Key::Resilience, 0, 0, 15)?;
+    let window = number_or(64, value, Key::Window, 0, 1, 1008)?;
+    let pb_up_to = number_or(256, value, Key::PbUpTo, 0, 0, 1024)?;
+    Ok(Founding::new(founders, resilience as u8, window as u16, pb_up_to as u16).unwrap())
+}
