@@ -1,4 +1,5 @@
 ghost use Rattle.std.specs.Prelude.{◌≡◌, ◌<◌, ◌≤◌, ◌+◌, length, true, false, None, IfOk, IfErr, IsOk, OnOk, OnErr, ◌↔◌};
+ghost use Rattle.am_base.specs.Most.{most_number};
 ghost use Rattle.am_sender.specs.Sends.{submit, collect, collect_outcome};
 ghost use Rattle.am_bodies.specs.Bodies.{keep_body};
 ghost use Rattle.am_model.specs.Group.{has_log};
@@ -68,7 +69,7 @@ pub fn keep_body(parts: &mut Parts, from: Name, req: u32, body: &Body)
 
 /// Queues a send and gives its request number. Busy exactly where four sends aren't collected.
 pub fn submit(parts: &mut Parts, body: Body) -> Result<u32, Busy>
-    requires last { parts.old.sender.last < 2000000000 }
+    requires last { parts.old.sender.last < most_number }
     requires member { is_member parts.old.status ≡ true }
     requires stays { parts.old.leaving ≡ false }
     ensures variant { IsOk result ↔ (length parts.old.sender.queue < 4) }

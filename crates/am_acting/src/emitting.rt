@@ -1,4 +1,5 @@
 ghost use Rattle.std.specs.Prelude.{◌≡◌, ◌<◌, ◌≤◌, ◌+◌, ◌&&◌, nat_lt, nat_le, [], length, true, Some, IsTrue, IfSome, is_some, option_map};
+ghost use Rattle.am_base.specs.Most.{most_number};
 ghost use Rattle.am_base.specs.declared.entry.Entry.TheVariants.{Data};
 ghost use Rattle.am_base.specs.Limits.{IsNumber};
 ghost use Rattle.am_base.specs.Lists.{top_of};
@@ -76,7 +77,7 @@ pub fn who(parts: &Parts) -> Name
 
 /// The number that the next entry gets.
 pub fn next_number(parts: &Parts) -> u32
-    requires { top_of parts.now.core.log < 2000000000 }
+    requires { top_of parts.now.core.log < most_number }
     ensures value { result ≡ top (node_of parts.now) + 1 }
     ensures within { IsNumber result }
 {
@@ -149,7 +150,7 @@ pub fn number_send(parts: &mut Parts, send: WaitingSend) -> Note
     requires new { (own_row (node_of parts.old)).last < send.req }
     requires room { length parts.old.core.log.entries < parts.old.core.rules.window + 15 }
     requires req { IsNumber send.req }
-    requires number { top_of parts.old.core.log < 2000000000 }
+    requires number { top_of parts.old.core.log < most_number }
     ensures node { node_of parts.new ≡ pushed (node_of parts.old) (Data parts.old.core.who send.req send.body) }
     ensures note { result ≡ note.Bcast (top (node_of parts.old) + 1) (Data parts.old.core.who send.req send.body) }
     ensures within { IsNoteWithin result }
@@ -170,7 +171,7 @@ pub fn number_send(parts: &mut Parts, send: WaitingSend) -> Note
 /// none waits, or where it wouldn't go out. It gives the answer back.
 pub fn emit(parts: &mut Parts, before: u32, answer: Outcome, out: &mut OutBox) -> Outcome
     requires empty { out.old ≡ [] }
-    requires number { top_of parts.old.core.log < 2000000000 }
+    requires number { top_of parts.old.core.log < most_number }
     ensures { Done before (emit (node_of parts.old) (waiting (node_of parts.old)) answer) result out.new (node_of parts.new) }
 {
     let Some(send) = next_send(parts) else {

@@ -1,4 +1,5 @@
 ghost use Rattle.std.specs.Prelude.{◌≡◌, ◌<◌, ◌≤◌, ◌+◌, ◌||◌, nat_lt, [], true, false, length, None};
+ghost use Rattle.am_base.specs.Most.{most_number};
 ghost use Rattle.am_base.specs.declared.entry.Entry.TheVariants.{Leave};
 ghost use Rattle.am_base.specs.declared.outcome.Outcome.TheVariants as said;
 ghost use Rattle.am_base.specs.Names.{size};
@@ -89,7 +90,7 @@ pub fn depart(parts: &mut Parts)
     requires alone { size (others (node_of parts.old)) ≡ 0 }
     requires idle { waiting (node_of parts.old) ≡ None }
     requires room { length parts.old.core.log.entries < parts.old.core.rules.window + 15 }
-    requires number { top_of parts.old.core.log < 2000000000 }
+    requires number { top_of parts.old.core.log < most_number }
     ensures end { IsEndOf (record (refresh_at_end (pushed (node_of parts.old) (Leave parts.old.core.who))) { status = status.Departed }) (node_of parts.new) }
     ensures alone { size (others (refresh_at_end (pushed (node_of parts.old) (Leave parts.old.core.who)))) ≡ 0 }
 {
@@ -105,7 +106,7 @@ pub fn depart(parts: &mut Parts)
 pub fn go_on_leaving(parts: &mut Parts, before: u32, answer: Outcome, out: &mut OutBox) -> Outcome
     requires empty { out.old ≡ [] }
     requires idle { waiting (node_of parts.old) ≡ None }
-    requires number { top_of parts.old.core.log < 2000000000 }
+    requires number { top_of parts.old.core.log < most_number }
     ensures { Done before (go (quiet (node_of parts.old) answer)) result out.new (node_of parts.new) }
 {
     let others = others(parts);
@@ -127,7 +128,7 @@ pub fn go_on_leaving(parts: &mut Parts, before: u32, answer: Outcome, out: &mut 
 /// A member begins to leave, unless it is leaving already, or has unsettled sends or an unfinished ballot.
 fn leave_now(parts: &mut Parts, before: u32, out: &mut OutBox) -> Outcome
     requires empty { out.old ≡ [] }
-    requires number { top_of parts.old.core.log < 2000000000 }
+    requires number { top_of parts.old.core.log < most_number }
     ensures { Done before (leave_now (node_of parts.old)) result out.new (node_of parts.new) }
 {
     if is_leaving(parts) {
@@ -146,7 +147,7 @@ fn leave_now(parts: &mut Parts, before: u32, out: &mut OutBox) -> Outcome
 /// Asked, Departed as the last member, or Held where that one has no room.
 pub fn on_leave(parts: &mut Parts, out: &mut OutBox) -> Outcome
     requires empty { out.old ≡ [] }
-    requires number { top_of parts.old.core.log < 2000000000 }
+    requires number { top_of parts.old.core.log < most_number }
     ensures { Does leave_row (node_of parts.old) result out.new (node_of parts.new) }
 {
     let before = parts.accepted();

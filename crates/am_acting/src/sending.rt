@@ -1,4 +1,5 @@
 ghost use Rattle.std.specs.Prelude.{◌≡◌, ◌<◌, []};
+ghost use Rattle.am_base.specs.Most.{most_number};
 ghost use Rattle.am_base.specs.Lists.{top_of};
 ghost use Rattle.am_model.specs.Calls.{send_row, done_row};
 ghost use Rattle.am_model.specs.Ends.{Does};
@@ -16,8 +17,8 @@ use am_letter::out_box::OutBox;
 /// aren't collected; else Queued with its request, and where no send waits before it, it is emitted.
 pub fn on_send(parts: &mut Parts, body: Body, out: &mut OutBox) -> Outcome
     requires empty { out.old ≡ [] }
-    requires number { top_of parts.old.core.log < 2000000000 }
-    requires last { parts.old.sender.last < 2000000000 }
+    requires number { top_of parts.old.core.log < most_number }
+    requires last { parts.old.sender.last < most_number }
     ensures { Does (λ m. send_row m body) (node_of parts.old) result out.new (node_of parts.new) }
 {
     let before = parts.accepted();

@@ -1,4 +1,5 @@
 ghost use Rattle.std.specs.Prelude.{◌≡◌, ◌==◌, ◌<◌, ◌≤◌, [], true, false, None};
+ghost use Rattle.am_base.specs.Most.{most_number};
 ghost use Rattle.am_base.specs.declared.outcome.Outcome.TheVariants as said;
 ghost use Rattle.am_base.specs.Lists.{top_of};
 ghost use Rattle.am_model.specs.Node.{waiting, is_sequencer, top};
@@ -138,7 +139,7 @@ fn would_emit_waiting(parts: &Parts) -> bool
 /// An acting member goes on leaving, or hands in its send, or reports.
 fn tick_member(parts: &mut Parts, before: u32, out: &mut OutBox) -> Outcome
     requires empty { out.old ≡ [] }
-    requires number { top_of parts.old.core.log < 2000000000 }
+    requires number { top_of parts.old.core.log < most_number }
     ensures { Done before (tick_member (node_of parts.old)) result out.new (node_of parts.new) }
 {
     if is_leaving(parts) {
@@ -201,7 +202,7 @@ fn poll_leaving(parts: &mut Parts, before: u32, out: &mut OutBox) -> Outcome
     requires empty { out.old ≡ [] }
     requires leads { is_sequencer (node_of parts.old) ≡ true }
     requires idle { waiting (node_of parts.old) ≡ None }
-    requires number { top_of parts.old.core.log < 2000000000 }
+    requires number { top_of parts.old.core.log < most_number }
     ensures { Done before (go (polled (quiet (node_of parts.old) said.Ticked))) result out.new (node_of parts.new) }
 {
     let others = others(parts);
@@ -233,7 +234,7 @@ fn put_off(parts: &Parts, req: u32) -> Outcome
 fn tick_sequencer(parts: &mut Parts, before: u32, out: &mut OutBox) -> Outcome
     requires empty { out.old ≡ [] }
     requires leads { is_sequencer (node_of parts.old) ≡ true }
-    requires number { top_of parts.old.core.log < 2000000000 }
+    requires number { top_of parts.old.core.log < most_number }
     ensures { Done before (tick_sequencer (node_of parts.old)) result out.new (node_of parts.new) }
 {
     if is_leaving(parts) {
@@ -257,7 +258,7 @@ fn tick_sequencer(parts: &mut Parts, before: u32, out: &mut OutBox) -> Outcome
 /// The tick of a member without an unfinished ballot.
 fn tick_acting(parts: &mut Parts, before: u32, out: &mut OutBox) -> Outcome
     requires empty { out.old ≡ [] }
-    requires number { top_of parts.old.core.log < 2000000000 }
+    requires number { top_of parts.old.core.log < most_number }
     ensures { Done before (tick_acting (node_of parts.old)) result out.new (node_of parts.new) }
 {
     if !parts.acts() {
@@ -272,7 +273,7 @@ fn tick_acting(parts: &mut Parts, before: u32, out: &mut OutBox) -> Outcome
 /// The tick of a member.
 fn tick_with(parts: &mut Parts, before: u32, out: &mut OutBox) -> Outcome
     requires empty { out.old ≡ [] }
-    requires number { top_of parts.old.core.log < 2000000000 }
+    requires number { top_of parts.old.core.log < most_number }
     ensures { Done before (tick_with (node_of parts.old) (node_of parts.old).ballot) result out.new (node_of parts.new) }
 {
     let Some(again) = unfinished(parts) else {
@@ -287,7 +288,7 @@ fn tick_with(parts: &mut Parts, before: u32, out: &mut OutBox) -> Outcome
 /// the send says otherwise.
 pub fn on_tick(parts: &mut Parts, out: &mut OutBox) -> Outcome
     requires empty { out.old ≡ [] }
-    requires number { top_of parts.old.core.log < 2000000000 }
+    requires number { top_of parts.old.core.log < most_number }
     ensures { Does tick_row (node_of parts.old) result out.new (node_of parts.new) }
 {
     let before = parts.accepted();

@@ -1,5 +1,6 @@
 ghost use Rattle.std.specs.Prelude.{◌≡◌, ◌<◌, ◌≤◌, ◌+◌, nat_lt, length};
 ghost use Rattle.std.specs.Option.{option_copied};
+ghost use Rattle.am_base.specs.Most.{most_number};
 ghost use Rattle.am_base.specs.Lists.{entry_at};
 ghost use Rattle.am_packet.specs.Boxes.{with_letter};
 ghost use Rattle.am_fronts.specs.Reports.{reports_of};
@@ -73,7 +74,7 @@ fn viewed_at(parts: &Parts, number: u32) -> Names
 /// The number of the last View.
 fn view_number(parts: &Parts) -> u32
     ensures value { result ≡ (told (node_of parts.now)).view_number }
-    ensures within { result ≤ 2000000000 }
+    ensures within { result ≤ most_number }
 {
     parts.core.log.view_number()
 }

@@ -1,5 +1,6 @@
 -- What may found a group.
 use Rattle.std.specs.Prelude.{ℕ, ◌<◌, ◌≤◌, List, slice_index, EachIndex}
+use Rattle.am_base.specs.Most.{most_window, most_body}
 use Rattle.am_base.specs.Names.{IsSet, size}
 
 -- how a group begins: its founders, the resilience of their view, the window, the greatest body that goes by the sequencer
@@ -16,5 +17,5 @@ pub record MayFound (r : Rules) : Type 0 where
   pub first_lives : EachIndex r.founders (λ place. slice_index r.founders place ≤ 1)
   pub resilience_within : r.resilience ≤ 15
   pub window_least : 0 < r.window
-  pub window_most : r.window ≤ 1008
-  pub pb_up_to_within : r.pb_up_to ≤ 1024
+  pub window_most : r.window ≤ most_window
+  pub pb_up_to_within : r.pb_up_to ≤ most_body

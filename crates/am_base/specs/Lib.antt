@@ -1,3 +1,4 @@
+pub mod Most
 pub mod Names
 pub mod Stamps
 pub mod Founding
@@ -5,3 +6,4 @@ pub mod Lists
 pub mod Fronts
 pub mod Votes
 pub mod Limits
+pub mod Outcomes

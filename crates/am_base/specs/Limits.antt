@@ -1,5 +1,6 @@
 -- The limits of the numbers that a group's data and packets carry.
 use Rattle.std.specs.Prelude.{◌≡◌, ℕ, ◌<◌, ◌≤◌, length, slice_index_or}
+use Rattle.am_base.specs.Most.{most_number}
 use Rattle.am_base.specs.declared.image.Row.{Row}
 use Rattle.am_base.specs.declared.image.Report.{Report}
 use Rattle.am_base.specs.declared.image.Vote.{Vote}
@@ -11,7 +12,7 @@ use Rattle.am_base.specs.Lists.{blank_row}
 
 -- numbers of entries, rounds and requests
 abbrev pub IsNumber : ℕ → Type 0
-IsNumber n = n ≤ 2000000000
+IsNumber n = n ≤ most_number
 
 abbrev pub IsStamp : Stamp → Type 0
 IsStamp stamp = IsNumber stamp.round

@@ -1,11 +1,13 @@
 ghost use Rattle.std.specs.Prelude.{◌≡◌, ◌≤◌, ◌↔◌, ◌+◌, ◌++◌, [], length, IsSome, IfSome};
+ghost use Rattle.am_base.specs.Most.{most_body, most_packet};
 
+use crate::limits::{MOST_BODY, MOST_PACKET};
 use arrayvec::ArrayVec;
 use std::marker::Model;
 
 /// The body of a send: 0 to 1,024 bytes. Contracts see it as its bytes.
 #[derive(Drop, Clone, Debug)]
-pub struct Body(ArrayVec<u8, 1024>);
+pub struct Body(ArrayVec<u8, MOST_BODY>);
 
 impl Model for Body {
     ghost use Rattle.std.specs.Prelude.{ℕ, List, ◌≤◌, length};
@@ -14,7 +16,7 @@ impl Model for Body {
 
     ghost view = { λ b. b.0.items };
 
-    ghost invariant = { λ b. length b.0.items ≤ 1024 };
+    ghost invariant = { λ b. length b.0.items ≤ most_body };
 }
 
 impl Default for Body {
@@ -28,7 +30,7 @@ impl Default for Body {
 impl Body {
     /// The body of these bytes; None exactly where there are more than 1,024.
     pub fn of(bytes: &[u8]) -> Option<Body>
-        ensures variant { IsSome result ↔ (length bytes.now ≤ 1024) }
+        ensures variant { IsSome result ↔ (length bytes.now ≤ most_body) }
         ensures value { IfSome result (λ b. b ≡ bytes.now) }
     {
         let mut body = ArrayVec::new();
@@ -41,7 +43,7 @@ impl Body {
     /// Its bytes.
     pub fn bytes(&self) -> &[u8]
         ensures value { result.now ≡ self.now }
-        ensures fits { length result.now ≤ 1024 }
+        ensures fits { length result.now ≤ most_body }
     {
         self.0.as_slice()
     }
@@ -56,7 +58,7 @@ impl Body {
 
 /// The bytes of a packet: at most 1,152. Contracts see it as its bytes.
 #[derive(Drop, Clone, Debug)]
-pub struct PacketBytes(ArrayVec<u8, 1152>);
+pub struct PacketBytes(ArrayVec<u8, MOST_PACKET>);
 
 impl Model for PacketBytes {
     ghost use Rattle.std.specs.Prelude.{ℕ, List, ◌≤◌, length};
@@ -65,7 +67,7 @@ impl Model for PacketBytes {
 
     ghost view = { λ b. b.0.items };
 
-    ghost invariant = { λ b. length b.0.items ≤ 1152 };
+    ghost invariant = { λ b. length b.0.items ≤ most_packet };
 }
 
 impl Default for PacketBytes {
@@ -79,7 +81,7 @@ impl Default for PacketBytes {
 impl PacketBytes {
     /// These bytes; None exactly where there are more than 1,152.
     pub fn of(bytes: &[u8]) -> Option<PacketBytes>
-        ensures variant { IsSome result ↔ (length bytes.now ≤ 1152) }
+        ensures variant { IsSome result ↔ (length bytes.now ≤ most_packet) }
         ensures value { IfSome result (λ b. b ≡ bytes.now) }
     {
         let mut packet = ArrayVec::new();
@@ -92,7 +94,7 @@ impl PacketBytes {
     /// The bytes.
     pub fn bytes(&self) -> &[u8]
         ensures value { result.now ≡ self.now }
-        ensures fits { length result.now ≤ 1152 }
+        ensures fits { length result.now ≤ most_packet }
     {
         self.0.as_slice()
     }
@@ -106,7 +108,7 @@ impl PacketBytes {
 
     /// Adds bytes at the end.
     pub fn extend(&mut self, bytes: &[u8])
-        requires { length self.old + length bytes.now ≤ 1152 }
+        requires { length self.old + length bytes.now ≤ most_packet }
         ensures { self.new ≡ self.old ++ bytes.now }
     {
         let _ = self.0.try_extend_from_slice(bytes);

@@ -39,7 +39,7 @@ impl Founding {
             && resilience <= MOST_RESILIENCE
             && 0 < window
             && window <= MOST_WINDOW
-            && pb_up_to <= MOST_BODY
+            && usize::from(pb_up_to) <= MOST_BODY
         {
             return Some(Founding {
                 founders,

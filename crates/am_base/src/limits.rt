@@ -10,7 +10,10 @@ pub const MOST_RESILIENCE: u8 = 15;
 pub const MOST_WINDOW: u16 = 1_008;
 
 /// How many bytes a body has at most.
-pub const MOST_BODY: u16 = 1_024;
+pub const MOST_BODY: usize = 1_024;
 
 /// How many bytes a packet has at most.
-pub const MOST_PACKET: u16 = 1_152;
+pub const MOST_PACKET: usize = 1_152;
+
+/// How many events a run has at most.
+pub const MOST_EVENTS: usize = 100_000;

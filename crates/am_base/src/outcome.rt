@@ -1,12 +1,14 @@
 ghost use Rattle.std.specs.Prelude.{◌≡◌};
 
+use crate::boxed::Boxed;
 use crate::entry::Entry;
 use crate::name::{Name, Stamp};
 use crate::names::Names;
 
-/// What came of a call, a tick, a hearing, or of an event of the world (docs/PROTOCOL.md, "Outcomes").
+/// What came of a call, a tick, a hearing, or of an event of the world (docs/PROTOCOL.md, "Outcomes"). An entry that was
+/// given out is kept as `E` says.
 #[derive(Drop, Clone, Debug)]
-pub enum Outcome {
+pub enum Outcome<E = Entry> {
     /// The send has this request number.
     Queued { req: u32 },
     /// So many sends aren't collected, or aren't settled.
@@ -18,7 +20,7 @@ pub enum Outcome {
     /// There is no such send, or no such ballot.
     Unknown,
     /// The application was given this entry.
-    Took { number: u32, entry: Entry },
+    Took { number: u32, entry: E },
     /// Nothing more is accepted.
     Empty,
     /// The ask went out.
@@ -119,9 +121,19 @@ pub enum Outcome {
     Returned { life: u8 },
 }
 
+/// An outcome as a journal keeps it: small, with its entry apart.
+pub type KeptOutcome = Outcome<Boxed<Entry>>;
+
 impl Outcome {
     /// The same outcome. It takes no memory.
     pub fn copied(&self) -> Outcome
+        ensures { result ≡ self.now }
+    {
+        self.clone().unwrap()
+    }
+
+    /// The same outcome, whose entry goes where another was. It takes no memory.
+    pub fn kept_in(&self, mut spare: Boxed<Entry>) -> KeptOutcome
         ensures { result ≡ self.now }
     {
         match self {
@@ -133,10 +145,13 @@ impl Outcome {
                 number: *number,
             },
             Outcome::Unknown => Outcome::Unknown,
-            Outcome::Took { number, entry } => Outcome::Took {
-                number: *number,
-                entry: entry.copied(),
-            },
+            Outcome::Took { number, entry } => {
+                spare.set(entry.copied());
+                Outcome::Took {
+                    number: *number,
+                    entry: spare,
+                }
+            }
             Outcome::Empty => Outcome::Empty,
             Outcome::Asked => Outcome::Asked,
             Outcome::Joined { number } => Outcome::Joined { number: *number },

@@ -4,7 +4,6 @@
 ghost use Rattle.am_codec.specs.Limits.{IsWithin};
 
 use am_base::body::PacketBytes;
-use am_base::boxed::Boxed;
 use am_base::founding::Founding;
 use am_base::items::Items;
 use am_base::name::{Name, Stamp};
@@ -91,7 +90,7 @@ fn journal_of(alloc: Global, founding: &Founding, records: u32) -> Result<Journa
                 call: 0,
                 part: Part::Call,
             },
-            outcome: Boxed::of(alloc, Outcome::Ticked)?,
+            outcome: Outcome::Ticked,
             packets,
         };
         if journal.records().len() < 100000 && item.packets.as_slice().len() <= 24 {

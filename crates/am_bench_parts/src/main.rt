@@ -2,6 +2,7 @@
 #![tactic(auto)]
 
 ghost use Rattle.std.specs.Prelude.{◌≡◌, ◌+◌, ◌≤◌, IfOk};
+ghost use Rattle.am_base.specs.Most.{most_window};
 ghost use Rattle.am_base.specs.Limits.{IsEntry};
 
 use am_base::body::Body;
@@ -59,7 +60,7 @@ fn push(history: &mut History, room: u32, entry: Entry) -> bool
 }
 
 fn founded(alloc: Global, window: u16, resilience: u8) -> Result<History, AllocError>
-    requires window { (1 ≤ window) × (window ≤ 1008) }
+    requires window { (1 ≤ window) × (window ≤ most_window) }
     requires resilience { resilience ≤ 15 }
     ensures { IfOk result (λ history. history.capacity ≡ window + 15) }
 {
@@ -170,7 +171,7 @@ fn measure(
     body: &Body,
     timed: bool,
 ) -> io::Result<()>
-    requires { (1 ≤ window) × (window ≤ 1008) }
+    requires { (1 ≤ window) × (window ≤ most_window) }
 {
     let room = u32::from(window) + 15;
     let mut history = founded(rt.alloc(), window, 15)?;

@@ -3,6 +3,7 @@ use Rattle.std.proofs.Common.{◌≡◌, ℕ, ◌+◌, ◌^◌, ◌<◌, ◌≤�
 use Rattle.std.specs.Prelude.{nat_le}
 use Rattle.std.proofs.lemmas.Bool.{leb-true, le-leb, eqb-true}
 use Rattle.std.proofs.lemmas.List.{drop-drop, drop_more, drop_all, get_or-drop, append-nil}
+use Rattle.am_base.specs.Most.{most_number}
 use Rattle.byteorder.specs.Endian.{big_bytes, big_number}
 use Rattle.byteorder.specs.Numbers.{big_number-reads_back}
 use Rattle.am_base.specs.declared.name.Stamp.{Stamp}
@@ -56,10 +57,10 @@ byte_takes bytes at next e lt = record { here = rw e (drop_more bytes at 0 lt) }
 pub number_takes : (bytes : List ℕ) (at next n : ℕ) → next ≡ at + 4 → IsBytes bytes → next ≤ length bytes → number_at bytes at ≡ Ok n → Takes bytes at (big_bytes 4 n) next × IsNumber n
 unfolding number_at
 number_takes bytes at next n e fits long read =
-    let test = passed (nat_le (big_number 4 (drop at bytes)) 2000000000) (Ok (big_number 4 (drop at bytes))) (BadField at) n read in
+    let test = passed (nat_le (big_number 4 (drop at bytes)) most_number) (Ok (big_number 4 (drop at bytes))) (BadField at) n read in
     let is : big_number 4 (drop at bytes) ≡ n = ok_is (big_number 4 (drop at bytes)) n test.1 in
     let here : drop at bytes ≡ big_bytes 4 (big_number 4 (drop at bytes)) ++ drop next bytes = rw e (number_front 4 at bytes (omega arith) fits) in
-    (record { here = here ∙ ap (λ v. big_bytes 4 v ++ drop next bytes) is }, rw (← is) (leb-true (big_number 4 (drop at bytes)) 2000000000 test.0))
+    (record { here = here ∙ ap (λ v. big_bytes 4 v ++ drop next bytes) is }, rw (← is) (leb-true (big_number 4 (drop at bytes)) most_number test.0))
 
 pub report_takes : (bytes : List ℕ) (at next : ℕ) (report : Report) → next ≡ at + 8 → IsBytes bytes → next ≤ length bytes → report_at bytes at ≡ Ok report → Takes bytes at (report_bytes report) next × IsReport report
 unfolding report_at
@@ -132,7 +133,7 @@ value k n bytes rest at h lt = ap (λ xs. big_number k xs) h ∙ big_number-read
 
 pub number_again : (bytes rest : List ℕ) (at n : ℕ) → drop at bytes ≡ big_bytes 4 n ++ rest → IsNumber n → number_at bytes at ≡ Ok n
 unfolding number_at
-number_again bytes rest at n h within = rw (value 4 n bytes rest at h (omega arith), le-leb n 2000000000 within) refl
+number_again bytes rest at n h within = rw (value 4 n bytes rest at h (omega arith), le-leb n most_number within) refl
 
 pub report_again : (bytes rest : List ℕ) (at : ℕ) (report : Report) → drop at bytes ≡ report_bytes report ++ rest → IsReport report → report_at bytes at ≡ Ok report
 unfolding report_at

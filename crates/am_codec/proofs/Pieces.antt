@@ -1,6 +1,7 @@
 -- Bytes that are written piece by piece.
 use Rattle.std.proofs.Common.{◌≡◌, ℕ, ◌+◌, ◌*◌, ◌<◌, ◌≤◌, List, [], ◌∷◌, ◌++◌, length, take, get_or, refl, sym, ap, ◌∙◌, append_assoc, length-append, arith}
 use Rattle.std.proofs.lemmas.List.{append-nil, length-take, take_more}
+use Rattle.am_base.specs.Most.{most_packet}
 use Rattle.am_base.specs.declared.image.Row.{Row}
 use Rattle.am_codec.specs.Spelling.{row_bytes, rows_bytes}
 
@@ -38,7 +39,7 @@ pub more_rows : (rows : List Row) (d : Row) (i : ℕ) (old middle new : List ℕ
 more_rows rows d i old middle new lt before now = rw (take_more rows i d lt, rows_bytes-append (take i rows) (get_or rows i d)) (after old middle new (rows_bytes (take i rows)) (row_bytes (get_or rows i d)) now before)
 
 -- so many rows leave room for another
-pub room : (rows : List Row) (i : ℕ) (old middle : List ℕ) → i < 16 → middle ≡ old ++ rows_bytes (take i rows) → length old + 208 ≤ 1152 → length middle + 13 ≤ 1152
+pub room : (rows : List Row) (i : ℕ) (old middle : List ℕ) → i < 16 → middle ≡ old ++ rows_bytes (take i rows) → length old + 208 ≤ most_packet → length middle + 13 ≤ most_packet
 room rows i old middle lt before h =
     let long = length-append old (rows_bytes (take i rows)) in
     let each = length-rows_bytes (take i rows) in

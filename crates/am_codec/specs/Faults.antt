@@ -1,5 +1,6 @@
 -- Which field of a packet is wrong: each field with a limit at its offset, in the order in which they are looked at.
 use Rattle.std.specs.Prelude.{ℕ, zero, suc, ◌+◌, List, [], ◌∷◌, ◌++◌, length, drop, Bool, false, not, ◌==◌, ◌&&◌, ◌||◌, nat_le, if◌then◌else◌, Option, Some, None, slice_index}
+use Rattle.am_base.specs.Most.{most_number}
 use Rattle.byteorder.specs.Endian.{big_number}
 use Rattle.am_base.specs.Names.{are_parts}
 use Rattle.am_codec.specs.declared.kind.Kind.{Kind}
@@ -20,7 +21,7 @@ first_wrong [] = None
 first_wrong (f ∷ fs) = if f.right then first_wrong fs else Some f.at
 
 abbrev pub number_field : List ℕ → ℕ → Field
-number_field bytes at = field at (nat_le (big_number 4 (drop at bytes)) 2000000000)
+number_field bytes at = field at (nat_le (big_number 4 (drop at bytes)) most_number)
 
 abbrev pub report_fields : List ℕ → ℕ → List Field
 report_fields bytes at = number_field bytes at ∷ number_field bytes (at + 4) ∷ []

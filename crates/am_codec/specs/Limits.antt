@@ -1,5 +1,6 @@
 -- Which packets have a spelling.
 use Rattle.std.specs.Prelude.{◌≡◌, ◌≤◌, length}
+use Rattle.am_base.specs.Most.{most_body}
 use Rattle.am_base.specs.declared.entry.Entry.{Entry}
 use Rattle.am_base.specs.declared.entry.Entry.TheVariants.{Data, Join, Leave, View}
 use Rattle.am_base.specs.Limits.{IsNumber, IsReport, IsImage, IsVote, IsEntry}
@@ -31,14 +32,14 @@ IsWithin (packets.HandOver sender stamp) = IsNumber stamp.round
 -- what the parts' types keep: a body has at most 1,024 bytes, a set has a life or 0 for each of sixteen places, and an
 -- image sixteen rows
 abbrev pub HasEntryParts : Entry → Type 0
-HasEntryParts (Data from req body) = length body ≤ 1024
+HasEntryParts (Data from req body) = length body ≤ most_body
 HasEntryParts (Join name) = Unit {0}
 HasEntryParts (Leave name) = Unit {0}
 HasEntryParts (View stamp members resilience) = IsSet members
 
 unfoldable pub HasParts : Packet → Type 0
-HasParts (packets.Request sender stamp report req body) = length body ≤ 1024
-HasParts (packets.Spread sender stamp report req body) = length body ≤ 1024
+HasParts (packets.Request sender stamp report req body) = length body ≤ most_body
+HasParts (packets.Spread sender stamp report req body) = length body ≤ most_body
 HasParts (packets.Bcast sender stamp base acc number entry) = HasEntryParts entry
 HasParts (packets.Welcome sender stamp base join image) = length image.rows ≡ 16
 HasParts (packets.Vote sender stamp vote) = IsSet vote.members

@@ -1,5 +1,6 @@
 -- What bytes spell, or the first cause that they are no packet.
 use Rattle.std.specs.Prelude.{ℕ, zero, suc, ◌+◌, List, [], ◌∷◌, length, drop, min, Bool, true, false, not, ◌==◌, ◌&&◌, nat_lt, nat_le, if◌then◌else◌, Option, Some, None, Result, Ok, Err, slice_index}
+use Rattle.am_base.specs.Most.{most_number}
 use Rattle.byteorder.specs.Endian.{big_number}
 use Rattle.am_base.specs.declared.name.Stamp.{Stamp}
 use Rattle.am_base.specs.declared.image.Row.{Row}
@@ -27,7 +28,7 @@ abbrev pub ◌>>=◌ : {A B : Type 0} → Read A → (A → Read B) → Read B
 
 -- the number in the four bytes from a place on, which has its limit
 unfoldable pub number_at : List ℕ → ℕ → Read ℕ
-number_at bytes at = if nat_le (big_number 4 (drop at bytes)) 2000000000 then Ok (big_number 4 (drop at bytes)) else Err (BadField at)
+number_at bytes at = if nat_le (big_number 4 (drop at bytes)) most_number then Ok (big_number 4 (drop at bytes)) else Err (BadField at)
 
 unfoldable pub report_at : List ℕ → ℕ → Read Report
 report_at bytes at = do

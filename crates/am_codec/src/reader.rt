@@ -1,4 +1,5 @@
 ghost use Rattle.std.specs.Prelude.{◌≡◌, ℕ, ◌+◌, ◌≤◌, ◌<◌, ◌≢◌, ◌↔◌, false, length, drop, Some, None, Ok, Err, IfOk, OnOk, IfErr, slice_index};
+ghost use Rattle.am_base.specs.Most.{most_body};
 ghost use Rattle.am_packet.specs.declared.packet.Packet.{Packet};
 ghost use Rattle.am_packet.specs.declared.packet.Packet.TheVariants as packets;
 ghost use Rattle.am_codec.specs.declared.kind.Kind.TheVariants as kinds;
@@ -15,16 +16,13 @@ use crate::refusal::PacketRefusal;
 use am_base::body::Body;
 use am_base::entry::Entry;
 use am_base::image::{Image, Report, Row, Vote};
+use am_base::limits::{MOST_BODY, MOST_NUMBER, MOST_RESILIENCE};
 use am_base::name::{Name, Stamp};
 use am_base::names::Names;
 use am_packet::packet::Packet;
 use byteorder::{BigEndian, ByteOrder};
 
 const VERSION: u8 = 3;
-
-const MOST_NUMBER: u32 = 2_000_000_000;
-
-const MOST_RESILIENCE: u8 = 15;
 
 #[tactic(auto, unfolding(crate::specs::Reading::number_at))]
 fn number(bytes: &[u8], at: u32) -> Result<u32, PacketRefusal>
@@ -185,7 +183,7 @@ fn vote(bytes: &[u8], at: u32) -> Result<Vote, PacketRefusal>
 
 fn body(bytes: &[u8], at: u32) -> Body
     requires least { at ≤ length bytes.now }
-    requires most { length bytes.now ≤ at + 1024 }
+    requires most { length bytes.now ≤ at + most_body }
     ensures { result ≡ drop at bytes.now }
 {
     Body::of(&bytes[at as usize..]).unwrap()
@@ -198,7 +196,7 @@ fn data(bytes: &[u8], at: u32) -> Result<Entry, PacketRefusal>
     ensures { result ≡ data_at bytes.now at }
 {
     let at_body = at + 6;
-    if bytes.len() < at_body as usize || at_body as usize + 1024 < bytes.len() {
+    if bytes.len() < at_body as usize || at_body as usize + MOST_BODY < bytes.len() {
         return Err(PacketRefusal::BadField { at: 10 });
     }
     let req = number(bytes, at + 2)?;

@@ -1,4 +1,5 @@
 ghost use Rattle.std.specs.Prelude.{◌≡◌, ◌+◌, ◌≤◌, ◌<◌, ◌++◌, ◌∷◌, [], length};
+ghost use Rattle.am_base.specs.Most.{most_body, most_packet};
 ghost use Rattle.byteorder.specs.Endian.{big_bytes};
 ghost use Rattle.am_base.specs.Names.{IsSet};
 ghost use Rattle.am_codec.specs.Limits.{IsWithin, IsPacket, HasParts, HasEntryParts};
@@ -15,14 +16,14 @@ use byteorder::{BigEndian, ByteOrder};
 const VERSION: u8 = 3;
 
 fn put_byte(into: &mut PacketBytes, byte: u8)
-    requires { length into.old < 1152 }
+    requires { length into.old < most_packet }
     ensures { into.new ≡ into.old ++ byte ∷ [] }
 {
     into.extend(&[byte]);
 }
 
 fn put_short(into: &mut PacketBytes, number: u16)
-    requires { length into.old + 2 ≤ 1152 }
+    requires { length into.old + 2 ≤ most_packet }
     ensures { into.new ≡ into.old ++ big_bytes 2 number }
 {
     let mut bytes = [0; 2];
@@ -31,7 +32,7 @@ fn put_short(into: &mut PacketBytes, number: u16)
 }
 
 fn put_number(into: &mut PacketBytes, number: u32)
-    requires { length into.old + 4 ≤ 1152 }
+    requires { length into.old + 4 ≤ most_packet }
     ensures { into.new ≡ into.old ++ big_bytes 4 number }
 {
     let mut bytes = [0; 4];
@@ -40,7 +41,7 @@ fn put_number(into: &mut PacketBytes, number: u32)
 }
 
 fn put_long(into: &mut PacketBytes, number: u64)
-    requires { length into.old + 8 ≤ 1152 }
+    requires { length into.old + 8 ≤ most_packet }
     ensures { into.new ≡ into.old ++ big_bytes 8 number }
 {
     let mut bytes = [0; 8];
@@ -49,7 +50,7 @@ fn put_long(into: &mut PacketBytes, number: u64)
 }
 
 fn put_flag(into: &mut PacketBytes, flag: bool)
-    requires { length into.old < 1152 }
+    requires { length into.old < most_packet }
     ensures { into.new ≡ into.old ++ flag_byte flag ∷ [] }
 {
     if flag {
@@ -60,7 +61,7 @@ fn put_flag(into: &mut PacketBytes, flag: bool)
 }
 
 fn put_stamp(into: &mut PacketBytes, stamp: Stamp)
-    requires { length into.old + 5 ≤ 1152 }
+    requires { length into.old + 5 ≤ most_packet }
     ensures { into.new ≡ into.old ++ stamp_bytes stamp }
 {
     put_number(into, stamp.round);
@@ -68,7 +69,7 @@ fn put_stamp(into: &mut PacketBytes, stamp: Stamp)
 }
 
 fn put_report(into: &mut PacketBytes, report: Report)
-    requires { length into.old + 8 ≤ 1152 }
+    requires { length into.old + 8 ≤ most_packet }
     ensures { into.new ≡ into.old ++ report_bytes report }
 {
     put_number(into, report.stored);
@@ -76,7 +77,7 @@ fn put_report(into: &mut PacketBytes, report: Report)
 }
 
 fn put_set(into: &mut PacketBytes, set: Names)
-    requires { length into.old + 10 ≤ 1152 }
+    requires { length into.old + 10 ≤ most_packet }
     ensures { into.new ≡ into.old ++ set_bytes set }
 {
     put_short(into, set.mask());
@@ -84,7 +85,7 @@ fn put_set(into: &mut PacketBytes, set: Names)
 }
 
 fn put_row(into: &mut PacketBytes, row: Row)
-    requires { length into.old + 13 ≤ 1152 }
+    requires { length into.old + 13 ≤ most_packet }
     ensures { into.new ≡ into.old ++ row_bytes row }
 {
     put_byte(into, row.life);
@@ -94,7 +95,7 @@ fn put_row(into: &mut PacketBytes, row: Row)
 }
 
 fn put_rows(into: &mut PacketBytes, rows: &[Row; 16])
-    requires { length into.old + 208 ≤ 1152 }
+    requires { length into.old + 208 ≤ most_packet }
     ensures { into.new ≡ into.old ++ rows_bytes rows.now }
 {
     for row in rows {
@@ -103,7 +104,7 @@ fn put_rows(into: &mut PacketBytes, rows: &[Row; 16])
 }
 
 fn put_image(into: &mut PacketBytes, image: &Image)
-    requires { length into.old + 218 ≤ 1152 }
+    requires { length into.old + 218 ≤ most_packet }
     ensures { into.new ≡ into.old ++ image_bytes image.now }
 {
     put_stamp(into, image.view);
@@ -129,7 +130,7 @@ fn image_len(image: &Image) -> usize
 }
 
 fn put_vote(into: &mut PacketBytes, vote: Vote)
-    requires { length into.old + 23 ≤ 1152 }
+    requires { length into.old + 23 ≤ most_packet }
     ensures { into.new ≡ into.old ++ vote_bytes vote }
 {
     put_stamp(into, vote.view);
@@ -194,7 +195,7 @@ fn put_entry(into: &mut PacketBytes, entry: &Entry)
 
 fn body_len(body: &Body) -> usize
     ensures value { result ≡ length body.now }
-    ensures fits { result ≤ 1024 }
+    ensures fits { result ≤ most_body }
 {
     body.bytes().len()
 }
@@ -237,7 +238,7 @@ fn put_send(into: &mut PacketBytes, report: Report, req: u32, body: &Body)
 }
 
 fn put_numbers(into: &mut PacketBytes, first: u32, second: u32, third: u32)
-    requires { length into.old + 12 ≤ 1152 }
+    requires { length into.old + 12 ≤ most_packet }
     ensures { into.new ≡ into.old ++ (big_bytes 4 first ++ big_bytes 4 second ++ big_bytes 4 third) }
 {
     put_number(into, first);
@@ -246,7 +247,7 @@ fn put_numbers(into: &mut PacketBytes, first: u32, second: u32, third: u32)
 }
 
 fn put_two(into: &mut PacketBytes, first: u32, second: u32)
-    requires { length into.old + 8 ≤ 1152 }
+    requires { length into.old + 8 ≤ most_packet }
     ensures { into.new ≡ into.old ++ (big_bytes 4 first ++ big_bytes 4 second) }
 {
     put_number(into, first);
@@ -426,7 +427,7 @@ fn stamp(packet: &Packet) -> Stamp
 }
 
 fn put_header(into: &mut PacketBytes, kind: u8, sender: Name, stamp: Stamp, total: u16)
-    requires { length into.old + 12 ≤ 1152 }
+    requires { length into.old + 12 ≤ most_packet }
     ensures { into.new ≡ into.old ++ header kind sender stamp total }
 {
     into.extend(&[b'A', b'G', VERSION, kind, sender.get()]);

@@ -6,6 +6,7 @@ use Rattle.std.proofs.lemmas.Option.{slice_get_within, get_or_from_slice_get}
 use Rattle.std.proofs.lemmas.Bool.Decides.{nat_tests}
 use Rattle.std.proofs.Math.Seq.{take-add, take-length}
 use Rattle.std.proofs.Math.Nat.{sub_self}
+use Rattle.am_base.specs.Most.{most_number}
 use Rattle.am_base.specs.declared.entry.Entry.{Entry}
 use Rattle.am_base.specs.Lists.{fold, after, fits, AllFit, Log, top_of, image_at, entry_at, told_by, with_entry}
 use Rattle.am_base.specs.Limits.{IsImage, IsEntry}
@@ -151,7 +152,7 @@ above-above log a b low le high =
     λ k. record { start = b; image = i k; entries = es k }
 
 -- what a history keeps, with an entry more and with some let go
-pub kept-push : (log : Log) (capacity : ℕ) (e : Entry) → IsKept log capacity → fits (told_by log) e ≡ true → length log.entries < capacity → IsEntry e → top_of log < 2000000000 → IsKept (with_entry log e) capacity
+pub kept-push : (log : Log) (capacity : ℕ) (e : Entry) → IsKept log capacity → fits (told_by log) e ≡ true → length log.entries < capacity → IsEntry e → top_of log < most_number → IsKept (with_entry log e) capacity
 kept-push log capacity e is fit room within numbers =
     let more = length-append log.entries (e ∷ []) in
     record {

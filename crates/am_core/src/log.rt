@@ -1,5 +1,6 @@
 ghost use Rattle.std.specs.Prelude.{◌≡◌, ℕ, ◌≤◌, ◌<◌, true, [], length};
 ghost use Rattle.std.specs.Option.{option_copied, IfSome};
+ghost use Rattle.am_base.specs.Most.{most_number};
 ghost use Rattle.am_base.specs.Lists as lists;
 ghost use Rattle.am_base.specs.Lists.{top_of, entry_at, members_at, told_by, with_entry, fits, at_place, row_of};
 ghost use Rattle.am_base.specs.Limits.{IsStamp, IsNumber, IsRow, IsImage, IsEntry};
@@ -77,7 +78,7 @@ pub trait Log {
         requires fits { fits (told_by (list self.old)) entry ≡ true }
         requires room { length (list self.old).entries < capacity self.old }
         requires entry { IsEntry entry }
-        requires number { top_of (list self.old) < 2000000000 }
+        requires number { top_of (list self.old) < most_number }
         ensures list { list self.new ≡ with_entry (list self.old) entry }
         ensures capacity { capacity self.new ≡ capacity self.old };
 

@@ -1,4 +1,5 @@
 ghost use Rattle.std.specs.Prelude.{◌≡◌, ◌≤◌};
+ghost use Rattle.am_base.specs.Most.{most_number};
 
 use crate::log::Log;
 use am_base::entry::Entry;
@@ -91,7 +92,7 @@ impl<L: Log> Core<L> {
         requires fits { fits (told_by self.old.log) entry ≡ true }
         requires room { length self.old.log.entries < self.old.rules.window + 15 }
         requires entry { IsEntry entry }
-        requires number { top_of self.old.log < 2000000000 }
+        requires number { top_of self.old.log < most_number }
         ensures value { self.new ≡ record self.old { log = with_entry self.old.log entry } }
         ensures adds { Adds entry self.old self.new }
         ensures order { IsInOrder self.new }

@@ -3,6 +3,7 @@ use Rattle.std.proofs.Common.{◌≡◌, ℕ, zero, suc, ◌+◌, ◌-◌, ◌<�
 use Rattle.std.specs.List.{range_with_len}
 use Rattle.std.proofs.lemmas.List.FromFn.{length-map-range_with_len, map-range_with_len_more}
 use Rattle.std.proofs.lemmas.List.Concat.{flat_map-append}
+use Rattle.am_base.specs.Most.{most_events}
 use Rattle.am_group.specs.declared.event.Record.{Record}
 use Rattle.am_group.specs.declared.journal.Place.{Place}
 use Rattle.am_group.specs.Journals.{letters_of, letter_of, ArePlaces, places_of}
@@ -52,7 +53,7 @@ below_or k n = grind arith
 pub letters_more : (records : List Record) (r : Record) → letters_of (records ++ r ∷ []) ≡ letters_of records ++ r.packets
 letters_more records r = flat_map-append (λ (x : Record). x.packets) records (r ∷ []) ∙ ap (λ ls. letters_of records ++ ls) (append-nil r.packets)
 
-pub places_more : (records : List Record) (places : List Place) (r : Record) → ArePlaces records places → length r.packets ≤ 24 → length records < 100000 → ArePlaces (records ++ r ∷ []) (places ++ places_of (length records) (length r.packets))
+pub places_more : (records : List Record) (places : List Place) (r : Record) → ArePlaces records places → length r.packets ≤ 24 → length records < most_events → ArePlaces (records ++ r ∷ []) (places ++ places_of (length records) (length r.packets))
 places_more records places r ok few more_records =
     let number = length records in
     let many = length r.packets in

@@ -2,6 +2,7 @@
 -- no ballot. Its three steps are to append an entry, to admit a name at a number, and to take the next entry of a name.
 use Rattle.std.specs.Prelude.{◌≡◌, ℕ, ◌+◌, ◌-◌, ◌≤◌, List, [], ◌∷◌, ◌++◌, length, map, Option, Some, None, if◌then◌else◌, slice_get, slice_set, slice_index_or}
 use Rattle.std.specs.List.{range_with_len}
+use Rattle.am_base.specs.Most.{most_number}
 use Rattle.am_base.specs.declared.entry.Entry.{Entry}
 use Rattle.am_base.specs.declared.entry.Entry.TheVariants.{View}
 use Rattle.am_base.specs.declared.name.Stamp.{Stamp}
@@ -46,7 +47,7 @@ moved fronts name (Some taken) = slice_set fronts name (Some taken.0)
 
 -- each front is within the list
 pub record AreFronts (entries : List Entry) (fronts : List (Option ℕ)) : Type 0 where
-  pub few : length entries ≤ 2000000000
+  pub few : length entries ≤ most_number
   pub names : length fronts ≡ 256
   pub within : (name front : ℕ) → slice_get fronts name ≡ Some (Some front) → front ≤ length entries
 

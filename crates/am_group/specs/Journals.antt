@@ -1,6 +1,7 @@
 -- A journal: what happened in a group, record by record, and its letters by number.
 use Rattle.std.specs.Prelude.{◌≡◌, ℕ, zero, suc, ◌+◌, ◌*◌, ◌<◌, ◌≤◌, List, length, map, Option, Some, None, slice_get, Bool, ◌&&◌, nat_lt, nat_le}
 use Rattle.std.specs.List.{flat_map, range_with_len}
+use Rattle.am_base.specs.Most.{most_events}
 use Rattle.am_base.specs.Founding.{Rules}
 use Rattle.am_packet.specs.Boxes.{Letter}
 use Rattle.am_group.specs.declared.event.Record.{Record}
@@ -29,7 +30,7 @@ pub record ArePlaces (records : List Record) (places : List Place) : Type 0 wher
   pub count : length places ≡ length (letters_of records)
   pub each : (k : ℕ) (p : Place) → slice_get places k ≡ Some p → (p.number < length records) × (letter_of (slice_get records p.number) p.index ≡ slice_get (letters_of records) k)
   pub few : length places ≤ 24 * length records
-  pub short : length records ≤ 100000
+  pub short : length records ≤ most_events
 
 -- what happened since a founding, and whether there is room for one record more
 pub record History : Type 0 where

@@ -23,8 +23,8 @@ pub fn given_to(item: &Record, node: Name) -> Option<(u32, &Entry)>
     if !is_of(item, node) {
         return None;
     }
-    match item.outcome.get() {
-        Outcome::Took { number, entry } => Some((*number, entry)),
+    match &item.outcome {
+        Outcome::Took { number, entry } => Some((*number, entry.get())),
         _ => None,
     }
 }

@@ -1,4 +1,5 @@
 ghost use Rattle.std.specs.Prelude.{◌≡◌, ◌+◌, ◌-◌, ◌<◌, ◌≤◌, [], ◌∷◌, length, OnOk, OnErr, IsOk, IfOk, is_ok, if◌then◌else◌, Some, None, option_map};
+ghost use Rattle.am_base.specs.Most.{most_number};
 ghost use Rattle.am_base.specs.Names.{has};
 ghost use Rattle.am_group.specs.Groups.{appended, admitted, moved, next_of, founders_view, founders_fronts, stamp_for};
 
@@ -98,7 +99,7 @@ impl Group {
 
     /// Adds an entry at the end of the list. It is Ok where there is room. Without memory the group stays as it was.
     pub fn append(&mut self, entry: Entry) -> Result<(), NoMemory>
-        requires { length self.old.entries < 2000000000 }
+        requires { length self.old.entries < most_number }
         ensures entries { self.new.entries ≡ (if is_ok result then appended self.old.entries entry else self.old.entries) }
         ensures fronts { self.new.fronts ≡ self.old.fronts }
         ensures succeeds { 0 < self.old.room → IsOk result }

@@ -1,5 +1,6 @@
 ghost use Rattle.std.specs.Prelude.{◌≡◌, ◌+◌, ◌*◌, ◌<◌, ◌≤◌, ◌++◌, ◌∷◌, [], length, OnOk, true, vec_len, vec_capacity, slice_get};
 ghost use Rattle.std.specs.Option.{option_copied};
+ghost use Rattle.am_base.specs.Most.{most_events};
 ghost use Rattle.am_group.specs.Journals.{letters_of, letter_at, letter_of, item_at, places_of};
 
 use crate::event::Record;
@@ -60,7 +61,7 @@ impl Journal {
     pub fn records(&self) -> &[Record]
         ensures value { result.now ≡ self.now.records }
         ensures few { length (letters_of result.now) ≤ 24 * length result.now }
-        ensures short { length result.now ≤ 100000 }
+        ensures short { length result.now ≤ most_events }
     {
         self.records.as_slice()
     }
@@ -78,7 +79,7 @@ impl Journal {
     /// Adds a record at the end. It takes no memory.
     pub fn push(&mut self, item: Record)
         requires room { self.old.has_room ≡ true }
-        requires few { length self.old.records < 100000 }
+        requires few { length self.old.records < most_events }
         requires letters { length item.packets ≤ 24 }
         ensures founding { self.new.founding ≡ self.old.founding }
         ensures records { self.new.records ≡ self.old.records ++ item ∷ [] }

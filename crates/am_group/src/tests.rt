@@ -10,7 +10,7 @@ use am_base::founding::Founding;
 use am_base::items::Items;
 use am_base::name::{Name, Stamp};
 use am_base::names::Names;
-use am_base::outcome::Outcome;
+use am_base::outcome::{KeptOutcome, Outcome};
 use am_letter::letter::Letter;
 use am_packet::packet::Packet;
 use std::alloc::Global;
@@ -32,7 +32,7 @@ fn invite_to(to: Names) -> Letter {
     Letter::of(to, &invite)
 }
 
-fn record_of(alloc: Global, node: u8, outcome: Outcome, to: &[u16]) -> Result<Record, Fail> {
+fn record_of(alloc: Global, node: u8, outcome: KeptOutcome, to: &[u16]) -> Result<Record, Fail> {
     let mut packets = Items::new(alloc);
     for mask in to {
         packets.push(invite_to(Names::of_mask(*mask)))?;
@@ -48,7 +48,7 @@ fn record_of(alloc: Global, node: u8, outcome: Outcome, to: &[u16]) -> Result<Re
             call: 0,
             part: Part::Call,
         },
-        outcome: Boxed::of(alloc, outcome)?,
+        outcome,
         packets,
     })
 }
@@ -152,7 +152,7 @@ fn a_name_has_its_deliveries(rt: HostRuntime) -> Result<(), Fail> {
     for (node, number) in [(1, 1), (0, 1), (1, 2)] {
         let outcome = Outcome::Took {
             number,
-            entry: sent.copied(),
+            entry: Boxed::of(alloc, sent.copied())?,
         };
         records.push(record_of(alloc, node, outcome, &[])?)?;
     }

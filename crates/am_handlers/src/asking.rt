@@ -1,4 +1,5 @@
 ghost use Rattle.std.specs.Prelude.{◌≡◌, ◌==◌, ◌≤◌, ◌<◌, ◌+◌, length, IsTrue};
+ghost use Rattle.am_base.specs.Most.{most_number};
 ghost use Rattle.am_base.specs.declared.outcome.Outcome.TheVariants as said;
 ghost use Rattle.am_base.specs.Limits.{IsNumber, IsRow};
 ghost use Rattle.am_model.specs.Node.{top, has_room, report_fits};
@@ -31,7 +32,7 @@ pub fn held(parts: &Parts) -> Outcome
 
 /// The number that the next entry gets.
 pub fn next_number(parts: &Parts) -> u32
-    requires { top (node_of parts.now) < 2000000000 }
+    requires { top (node_of parts.now) < most_number }
     ensures value { result ≡ top (node_of parts.now) + 1 }
     ensures within { IsNumber result }
 {

@@ -1,4 +1,5 @@
 ghost use Rattle.std.specs.Prelude.{◌≡◌, true};
+ghost use Rattle.am_base.specs.Most.{most_number};
 ghost use Rattle.am_model.specs.Refresh.{is_data_of};
 ghost use Rattle.am_handlers.specs.Keeps.{node_with, NodeKeeps, IsSteady};
 
@@ -151,7 +152,7 @@ impl Parts {
         requires fits { fits (told (node_of self.old)) entry ≡ true }
         requires room { length self.old.core.log.entries < self.old.core.rules.window + 15 }
         requires entry { IsEntry entry }
-        requires number { top (node_of self.old) < 2000000000 }
+        requires number { top (node_of self.old) < most_number }
         requires keeps { NodeKeeps (pushed (node_of self.old) entry) }
         ensures node { node_of self.new ≡ pushed (node_of self.old) entry }
         ensures order { IsInOrder self.new.core }

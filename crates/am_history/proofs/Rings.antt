@@ -5,6 +5,7 @@ use Rattle.std.proofs.lemmas.List.Elements.{All-nil}
 use Rattle.std.proofs.lemmas.Option.{slice_get-map, slice_get_within, get_or_from_slice_get}
 use Rattle.std.proofs.lemmas.Bool.Decides.{nat_tests}
 use Rattle.std.proofs.Math.Nat.{eq-or-lt_of_le}
+use Rattle.am_base.specs.Most.{most_number}
 use Rattle.circular_buffer.proofs.Places.{slice_get-append_left, slice_get-append_right}
 use Rattle.am_base.specs.declared.entry.Entry.{Entry}
 use Rattle.am_base.specs.declared.image.Image.{Image}
@@ -17,7 +18,7 @@ use Rattle.am_history.specs.declared.history.Slot.{Slot}
 use Rattle.am_history.specs.Histories.{entries_of, list_of, HaveMembers, IsRing}
 
 -- a history without entries
-pub ring-begin : (base capacity : ℕ) (below up : Image) (slots : List Slot) → length slots ≡ 0 → up ≡ below → base ≤ 2000000000 → IsImage below → IsRing base below up slots capacity
+pub ring-begin : (base capacity : ℕ) (below up : Image) (slots : List Slot) → length slots ≡ 0 → up ≡ below → base ≤ most_number → IsImage below → IsRing base below up slots capacity
 unfolding fold AllFit
 ring-begin base capacity below up [] l e h is = record {
   told = e;
@@ -90,7 +91,7 @@ pushed_members list slots s have long members place slot get =
     (eq-or-lt_of_le low)
 
 -- one slot more
-pub ring-push : (base capacity : ℕ) (below up now : Image) (slots : List Slot) (s : Slot) → IsRing base below up slots capacity → now ≡ after up (base + length slots + 1) s.entry → s.members ≡ members_of now → fits up s.entry ≡ true → IsEntry s.entry → length slots < capacity → base + length slots < 2000000000 → IsRing base below now (slots ++ s ∷ []) capacity
+pub ring-push : (base capacity : ℕ) (below up now : Image) (slots : List Slot) (s : Slot) → IsRing base below up slots capacity → now ≡ after up (base + length slots + 1) s.entry → s.members ≡ members_of now → fits up s.entry ≡ true → IsEntry s.entry → length slots < capacity → base + length slots < most_number → IsRing base below now (slots ++ s ∷ []) capacity
 ring-push base capacity below up now slots s is next members fit within room numbers =
     let list = list_of base below slots in
     let e = list_push base below slots s in

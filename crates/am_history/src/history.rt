@@ -1,9 +1,11 @@
 ghost use Rattle.std.specs.Prelude.{◌≡◌, ◌+◌, ◌≤◌, ◌<◌, [], IfOk};
+ghost use Rattle.am_base.specs.Most.{most_window};
 ghost use Rattle.am_base.specs.Limits.{IsNumber, IsEntry};
 ghost use Rattle.am_base.specs.Lists.{blank};
 
 use am_base::entry::Entry;
 use am_base::image::{Image, Row};
+use am_base::limits::MOST_NUMBER;
 use am_base::name::{Name, Stamp};
 use am_base::names::Names;
 use am_core::log::Log;
@@ -52,7 +54,7 @@ impl History {
     /// A blank history with room for what the window asks for.
     #[tactic(auto, using(crate::proofs::Rings::ring_laws))]
     pub fn new(alloc: Global, window: u16) -> Result<History, AllocError>
-        requires { (1 ≤ window) × (window ≤ 1008) }
+        requires { (1 ≤ window) × (window ≤ most_window) }
         ensures list { IfOk result (λ history. history.list ≡ record { start = 0; image = blank; entries = [] }) }
         ensures capacity { IfOk result (λ history. history.capacity ≡ window + 15) }
     {
@@ -180,7 +182,7 @@ mod tests {
         requires entry { IsEntry entry }
         ensures { history.new.capacity ≡ 16 }
     {
-        if history.top() - history.base() >= 16 || history.top() >= 2_000_000_000 {
+        if history.top() - history.base() >= 16 || history.top() >= MOST_NUMBER {
             return false;
         }
         if !history.fits(&entry) {

@@ -1,4 +1,5 @@
 ghost use Rattle.std.specs.Prelude.{◌≡◌, ◌≢◌, ◌<◌, ◌≤◌, ◌+◌, [], length, true};
+ghost use Rattle.am_base.specs.Most.{most_number};
 ghost use Rattle.am_base.specs.declared.entry.Entry.TheVariants.{Join};
 ghost use Rattle.am_base.specs.Limits.{IsRow};
 ghost use Rattle.am_base.specs.Lists.{at_place, fits};
@@ -88,7 +89,7 @@ fn number_join(parts: &mut Parts, before: u32, from: Name, out: &mut OutBox) -> 
     requires other { from ≢ parts.old.core.who }
     requires fits { fits (told (node_of parts.old)) (Join from) ≡ true }
     requires room { length parts.old.core.log.entries < parts.old.core.rules.window + 15 }
-    requires number { top (node_of parts.old) < 2000000000 }
+    requires number { top (node_of parts.old) < most_number }
     requires empty { out.old ≡ [] }
     ensures { Done before (number_join (node_of parts.old) from) result out.new (node_of parts.new) }
 {
@@ -159,7 +160,7 @@ fn welcome_again(
 pub fn on_join_ask(parts: &mut Parts, from: Name, out: &mut OutBox) -> Outcome
     requires leads { is_sequencer (node_of parts.old) ≡ true }
     requires other { from ≢ parts.old.core.who }
-    requires number { top (node_of parts.old) < 2000000000 }
+    requires number { top (node_of parts.old) < most_number }
     requires empty { out.old ≡ [] }
     ensures { Does (λ m. join_ask_row m from) (node_of parts.old) result out.new (node_of parts.new) }
 {

@@ -1,4 +1,5 @@
 ghost use Rattle.std.specs.Prelude.{◌≡◌, ◌≢◌, ◌<◌, ◌≤◌, ◌+◌, [], length, true, false};
+ghost use Rattle.am_base.specs.Most.{most_number};
 ghost use Rattle.am_base.specs.Limits.{IsNumber};
 ghost use Rattle.am_fronts.specs.Reports.{reports_of};
 ghost use Rattle.am_model.specs.Node.{told, top, is_sequencer, only_name};
@@ -80,7 +81,7 @@ fn number_leave(parts: &mut Parts, before: u32, from: Name, out: &mut OutBox) ->
     requires leaver { has (members_of (told (node_of parts.old))) from ≡ true }
     requires other { from ≢ parts.old.core.who }
     requires room { length parts.old.core.log.entries < parts.old.core.rules.window + 15 }
-    requires number { top (node_of parts.old) < 2000000000 }
+    requires number { top (node_of parts.old) < most_number }
     requires empty { out.old ≡ [] }
     ensures { Done before (number_leave (node_of parts.old) from) result out.new (node_of parts.new) }
 {
@@ -117,7 +118,7 @@ fn asks_to_leave(parts: &mut Parts, before: u32, from: Name, out: &mut OutBox) -
     requires leads { is_sequencer (node_of parts.old) ≡ true }
     requires known { is_unknown (node_of parts.old) from ≡ false }
     requires other { from ≢ parts.old.core.who }
-    requires number { top (node_of parts.old) < 2000000000 }
+    requires number { top (node_of parts.old) < most_number }
     requires empty { out.old ≡ [] }
     ensures { Done before (asks_to_leave (node_of parts.old) from) result out.new (node_of parts.new) }
 {
@@ -145,7 +146,7 @@ pub fn on_leave_ask(
 ) -> Outcome
     requires leads { is_sequencer (node_of parts.old) ≡ true }
     requires other { from ≢ parts.old.core.who }
-    requires number { top (node_of parts.old) < 2000000000 }
+    requires number { top (node_of parts.old) < most_number }
     requires empty { out.old ≡ [] }
     ensures { Does (λ m. leave_ask_row m from stamp report) (node_of parts.old) result out.new (node_of parts.new) }
 {

@@ -2,6 +2,7 @@
 use Rattle.std.proofs.Common.{◌≡◌, ℕ, zero, suc, ◌-◌, ◌≤◌, nat_le, List, [], ◌∷◌, length, Option, Some, None, refl, subst, arith}
 use Rattle.std.specs.Prelude.{All}
 use Rattle.std.proofs.lemmas.List.Elements.{All-head, All-tail}
+use Rattle.am_base.specs.Most.{most_body}
 use Rattle.am_base.specs.declared.entry.Entry.{Entry}
 use Rattle.am_base.specs.declared.entry.Entry.TheVariants.{Data, Join, Leave, View}
 use Rattle.am_base.specs.declared.image.Report.{Report}
@@ -29,7 +30,7 @@ own_send_within : (b : Bounds) (n : Node) (req : ℕ) (body : List ℕ) → HasS
     → SendWithin b (record { req = req; body = body; number = None })
 own_send_within b n req body s h =
     let k = all_get (SendWithin b) n.sends.queue s.index s.send h.sends s.there in
-    record { req = subst (λ r. r ≤ b.requests) s.request k.req; body = subst (λ (x : List ℕ). length x ≤ 1024) s.body_ k.body }
+    record { req = subst (λ r. r ≤ b.requests) s.request k.req; body = subst (λ (x : List ℕ). length x ≤ most_body) s.body_ k.body }
 
 viewed_by_set : (b : Bounds) (o : Option Entry) → ((e : Entry) → o ≡ Some e → EntryWithin b e) → IsSet (viewed_by o)
 viewed_by_set b None h = is_nobody

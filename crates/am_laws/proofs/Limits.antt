@@ -5,6 +5,7 @@ use Rattle.std.specs.List.{range_with_len}
 use Rattle.std.proofs.lemmas.Bool.Decides.{nat_tests}
 use Rattle.std.proofs.lemmas.List.{length-map, length-set}
 use Rattle.std.proofs.lemmas.List.Elements.{All-head, All-tail, All-map, All-set, All-take, All-weaker, All-get_or, All-from_get_or, All-replicate}
+use Rattle.am_base.specs.Most.{most_number, most_body}
 use Rattle.am_base.specs.declared.entry.Entry.{Entry}
 use Rattle.am_base.specs.declared.entry.Entry.TheVariants.{Data, Join, Leave, View}
 use Rattle.am_base.specs.declared.image.Row.{Row}
@@ -62,7 +63,7 @@ pub record ImageWithin (b : Bounds) (image : Image) : Type 0 where
   pub resilience : image.resilience ≤ 15
 
 abbrev pub EntryWithin : Bounds → Entry → Type 0
-EntryWithin b (Data from req body) = (req ≤ b.requests) × (length body ≤ 1024)
+EntryWithin b (Data from req body) = (req ≤ b.requests) × (length body ≤ most_body)
 EntryWithin b (Join name) = name < 256
 EntryWithin b (Leave name) = Unit {0}
 EntryWithin b (View stamp names resilience) = (stamp.round ≤ b.rounds) × IsSet names × (resilience ≤ 15)
@@ -154,9 +155,9 @@ image_at_within b log number k h = fold_within b log.image log.start (take (numb
 
 -- bounds that are numbers
 pub record AreNumbers (b : Bounds) : Type 0 where
-  pub lists : b.lists ≤ 2000000000
-  pub rounds : b.rounds ≤ 2000000000
-  pub requests : b.requests ≤ 2000000000
+  pub lists : b.lists ≤ most_number
+  pub rounds : b.rounds ≤ most_number
+  pub requests : b.requests ≤ most_number
 
 pub is_entry : (b : Bounds) (e : Entry) → AreNumbers b → EntryWithin b e → IsEntry e × HasEntryParts e
 is_entry b (Data from req body) n h = let r = n.requests in let q = h.0 in (omega arith, h.1)

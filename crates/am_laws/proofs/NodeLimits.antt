@@ -4,12 +4,13 @@ use Rattle.std.specs.Prelude.{All}
 use Rattle.std.specs.List.{list_any}
 use Rattle.std.proofs.lemmas.Bool.Decides.{nat_tests}
 use Rattle.std.proofs.lemmas.List.Elements.{All-nil, All-cons, All-append, All-map, All-filter, All-drop, All-weaker}
+use Rattle.am_base.specs.Most.{most_body}
 use Rattle.am_base.specs.declared.entry.Entry.{Entry}
 use Rattle.am_base.specs.declared.entry.Entry.TheVariants.{Data, Join, Leave, View}
 use Rattle.am_base.specs.declared.image.Vote.{Vote}
 use Rattle.am_base.specs.declared.image.Report.{Report}
 use Rattle.am_base.specs.declared.name.Stamp.{Stamp}
-use Rattle.am_base.specs.declared.outcome.Outcome.{Outcome}
+use Rattle.am_base.specs.Outcomes.{Outcome}
 use Rattle.am_base.specs.declared.event.NodeEvent.TheVariants as does
 use Rattle.am_base.specs.Names.{IsSet}
 use Rattle.am_base.specs.Stamps.{stamp_lt}
@@ -37,10 +38,10 @@ use Rattle.am_laws.proofs.Limits.{ImageWithin, EntryWithin, image_more, entry_mo
 
 pub record SendWithin (b : Bounds) (s : OwnSend) : Type 0 where
   pub req : s.req ≤ b.requests
-  pub body : length s.body ≤ 1024
+  pub body : length s.body ≤ most_body
 
 abbrev pub KeptWithin : KeptBody → Type 0
-KeptWithin kept = length kept.body ≤ 1024
+KeptWithin kept = length kept.body ≤ most_body
 
 pub record VotesWithin (b : Bounds) (ballot : Ballot) : Type 0 where
   pub round : ballot.stamp.round ≤ b.rounds
@@ -61,8 +62,8 @@ pub record Within (b : Bounds) (m : Node) : Type 0 where
 -- ---- what a packet tells
 
 abbrev pub PacketWithin : Bounds → Packet → Type 0
-PacketWithin b (packet.Request s v report req body) = (req ≤ b.requests) × (length body ≤ 1024)
-PacketWithin b (packet.Spread s v report req body) = (req ≤ b.requests) × (length body ≤ 1024)
+PacketWithin b (packet.Request s v report req body) = (req ≤ b.requests) × (length body ≤ most_body)
+PacketWithin b (packet.Spread s v report req body) = (req ≤ b.requests) × (length body ≤ most_body)
 PacketWithin b (packet.Bcast s v base acc number e) = EntryWithin b e
 PacketWithin b (packet.Order s v base acc number from req) = req ≤ b.requests
 PacketWithin b (packet.Hold s v base high req) = req ≤ b.requests
@@ -76,7 +77,7 @@ PacketWithin b _ = Unit {0}
 pub record CauseWithin (b : Bounds) (c : Cause) : Type 0 where
   pub heard : (p : Packet) → c ≡ hears p → PacketWithin b p
   pub senders : (p : Packet) → c ≡ hears p → sender_of p < 256
-  pub called : (body : List ℕ) → c ≡ calls (does.Send body) → length body ≤ 1024
+  pub called : (body : List ℕ) → c ≡ calls (does.Send body) → length body ≤ most_body
 
 -- ---- wider bounds
 
@@ -128,7 +129,7 @@ pushed_within b m e is h = record {
 }
 
 send_brought : (b : Bounds) (c : Cause) (s : ℕ) (v : Stamp) (report : Report) (req : ℕ) (body : List ℕ) → BringsSend c s v report req body
-    → ((p : Packet) → c ≡ hears p → PacketWithin b p) → (req ≤ b.requests) × (length body ≤ 1024)
+    → ((p : Packet) → c ≡ hears p → PacketWithin b p) → (req ≤ b.requests) × (length body ≤ most_body)
 send_brought b c s v report req body (by_request s1 v1 report1 req1 body1) heard = heard (packet.Request s v report req body) refl
 send_brought b c s v report req body (by_spread s1 v1 report1 req1 body1) heard = heard (packet.Spread s v report req body) refl
 
@@ -149,7 +150,7 @@ numbered_within b c m e (asked_leave s v report is other known stays) from h = t
 
 abbrev OptionWithin : Option (List ℕ) → Type 0
 OptionWithin None = Unit {0}
-OptionWithin (Some body) = length body ≤ 1024
+OptionWithin (Some body) = length body ≤ most_body
 
 own_body_within : (b : Bounds) (m : Node) (from req : ℕ) (w : Option OwnSend) → ((s : OwnSend) → w ≡ Some s → SendWithin b s)
     → OptionWithin (own_body m from req w)
@@ -182,7 +183,7 @@ after_bodies bodies (Join name) h = h
 after_bodies bodies (Leave name) h = h
 after_bodies bodies (View stamp names resilience) h = h
 
-kept_within : (s req : ℕ) (body : List ℕ) (bodies : List KeptBody) → length body ≤ 1024 → All KeptWithin bodies → All KeptWithin (keep_body s req body bodies)
+kept_within : (s req : ℕ) (body : List ℕ) (bodies : List KeptBody) → length body ≤ most_body → All KeptWithin bodies → All KeptWithin (keep_body s req body bodies)
 kept_within s req body bodies low h = split (list_any (is_of s req) bodies)
     (λ t. rw t h)
     (λ f. rw f (All-append KeptWithin (if nat_le 16 (length bodies) then drop 1 bodies else bodies) _

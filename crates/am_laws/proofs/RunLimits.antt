@@ -3,6 +3,7 @@ use Rattle.std.proofs.Common.{◌≡◌, ℕ, ◌+◌, ◌<◌, ◌≤◌, ◌==
 use Rattle.std.specs.Prelude.{All}
 use Rattle.std.proofs.lemmas.Bool.Decides.{nat_tests}
 use Rattle.std.proofs.lemmas.List.Elements.{All-nil, All-cons, All-head, All-tail, All-append, All-weaker}
+use Rattle.am_base.specs.Most.{most_body}
 use Rattle.am_base.specs.declared.outcome.Outcome.TheVariants as said
 use Rattle.am_base.specs.declared.event.NodeEvent.TheVariants as does
 use Rattle.am_base.specs.Founding.{Rules, MayFound}
@@ -59,7 +60,7 @@ within_same b w v nodes letters h = record {
 was_sent : (w : World) (e : Event) (c : Cause) (p : Packet) → c ≡ hears p → IsCause w (actor w e) e.act c → WasSentTo w (actor w e) e.act p
 was_sent w e c p is cause = subst (IsCause w (actor w e) e.act) is cause
 
-called_within : (w : World) (a : Act) (body : List ℕ) → BodyWithin a → IsCall w a (does.Send body) → length body ≤ 1024
+called_within : (w : World) (a : Act) (body : List ℕ) → BodyWithin a → IsCall w a (does.Send body) → length body ≤ most_body
 called_within w a body h (event.send x) = h
 
 cause_within : (rules : Rules) (b : Bounds) (w : World) (e : Event) (c : Cause) → BodyWithin e.act → Limited rules b w → IsCause w (actor w e) e.act c

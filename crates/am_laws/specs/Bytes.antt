@@ -1,5 +1,6 @@
 -- That the run of packets is the run of bytes.
 use Rattle.std.specs.Prelude.{◌≡◌, ℕ, ◌≤◌, List, [], ◌∷◌, length, take, Some, Ok, All}
+use Rattle.am_base.specs.Most.{most_events, most_body}
 use Rattle.am_base.specs.declared.event.NodeEvent.TheVariants as does
 use Rattle.am_base.specs.Founding.{Rules, MayFound}
 use Rattle.am_base.specs.Names.{place_of}
@@ -16,14 +17,14 @@ use Rattle.am_model.specs.World.{World, start, current, heard, acts_as, run}
 
 -- a body that is sent has at most 1,024 bytes
 abbrev pub BodyWithin : Act → Type 0
-BodyWithin (act.Send body) = length body ≤ 1024
+BodyWithin (act.Send body) = length body ≤ most_body
 BodyWithin _ = Unit {0}
 
 -- a founding and at most 100,000 events, as scripts have them
 pub record IsShort (rules : Rules) (events : List Event) : Type 0 where
   pub founds : MayFound rules
   pub bodies : All (λ (e : Event). BodyWithin e.act) events
-  pub few : length events ≤ 100000
+  pub few : length events ≤ most_events
 
 -- each letter of such a run holds a packet within a packet's limits
 abbrev pub LettersArePackets : Type 0

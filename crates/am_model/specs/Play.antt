@@ -1,6 +1,6 @@
 -- The text that a play writes.
 use Rattle.std.specs.Prelude.{ℕ, ◌++◌, List, length, count_by, codes, decimal, Bool, true, false}
-use Rattle.am_base.specs.declared.outcome.Outcome.{Outcome}
+use Rattle.am_base.specs.Outcomes.{Outcome}
 use Rattle.am_base.specs.declared.outcome.Outcome.TheVariants as said
 use Rattle.am_base.specs.Founding.{Rules}
 use Rattle.am_group.specs.declared.event.Event.{Event}

@@ -1,3 +1,5 @@
+ghost use Rattle.am_base.specs.Most.{most_number};
+
 use crate::acting::on_event;
 use crate::founding;
 use crate::info::{self, BallotEnd, Info};
@@ -134,7 +136,7 @@ impl Node {
     /// The number of its last entry.
     pub fn top(&self) -> u32
         ensures value { result ≡ top (state_of self.now) }
-        ensures within { result ≤ 2000000000 }
+        ensures within { result ≤ most_number }
     {
         self.parts.core.log.top()
     }

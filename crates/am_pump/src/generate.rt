@@ -1,4 +1,5 @@
 ghost use Rattle.std.specs.Prelude.{◌≡◌, ◌<◌, length, IfOk, IfErr};
+ghost use Rattle.am_base.specs.Most.{most_events};
 ghost use Rattle.am_pump.specs.Generating.{generated_rules, generated};
 ghost use Rattle.am_world.specs.declared.world.WorldRefusal.TheVariants as refusals;
 
@@ -12,7 +13,7 @@ use std::alloc::Global;
 pub fn generate(alloc: Global, seed: u64, count: u32) -> Result<World, WorldRefusal>
     ensures world { IfOk result (λ world. world ≡ record { rules = generated_rules; events = generated seed count }) }
     ensures count { IfOk result (λ world. length world.events ≡ count) }
-    ensures spent { IfErr result (λ refusal. refusal ≡ refusals.Spent → 100000 < count) }
+    ensures spent { IfErr result (λ refusal. refusal ≡ refusals.Spent → most_events < count) }
 {
     let mut generator = Generator::new(alloc, seed)?;
     for _done in 0..count {

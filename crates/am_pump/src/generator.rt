@@ -1,4 +1,5 @@
 ghost use Rattle.std.specs.Prelude.{◌≡◌, ◌<◌, ◌≤◌};
+ghost use Rattle.am_base.specs.Most.{most_events};
 ghost use Rattle.am_model.specs.Play.{is_sent};
 ghost use Rattle.am_pump.specs.Choices.{draw, drawn};
 ghost use Rattle.am_pump.specs.Generating.{generated_rules, turn_of, counting};
@@ -141,7 +142,7 @@ impl Generator {
     fn sent_by(&self, place: u8) -> u32
         requires { place < 4 }
         ensures value { result ≡ sent_by (replay self.now.play) place }
-        ensures few { result ≤ 100000 }
+        ensures few { result ≤ most_events }
     {
         let _few = self.world.journal().records().len();
         self.sent[usize::from(place)]
@@ -193,7 +194,7 @@ impl Generator {
     fn happen(&mut self, place: u8, act: Act) -> Result<(), WorldRefusal>
         requires { place < 4 }
         ensures ok { OnOk result (self.new ≡ record self.old { play = after self.old.play (event_at place act) }) }
-        ensures spent { IfErr result (λ refusal. refusal ≡ refusals.Spent → length self.old.play.events ≡ 100000) }
+        ensures spent { IfErr result (λ refusal. refusal ≡ refusals.Spent → length self.old.play.events ≡ most_events) }
     {
         let sent = self.sent_by(place);
         let node = Name::of_byte(place);
@@ -207,7 +208,7 @@ impl Generator {
     #[tactic(auto, unfolding(crate::specs::Generating::driven))]
     pub fn step(&mut self) -> Result<(), WorldRefusal>
         ensures ok { OnOk result (self.new ≡ driven self.old) }
-        ensures spent { IfErr result (λ refusal. refusal ≡ refusals.Spent → length self.old.play.events ≡ 100000) }
+        ensures spent { IfErr result (λ refusal. refusal ≡ refusals.Spent → length self.old.play.events ≡ most_events) }
     {
         let place = draw(&mut self.words, 4) as u8;
         let turn = turn_of(draw(&mut self.words, 16));

@@ -26,7 +26,7 @@ pub fn push_record(
     write!(out, "{number} ")?;
     push_event(out, founding, &happened.event)?;
     out.push_str(" : ")?;
-    push_outcome(out, founding, happened.outcome.get())?;
+    push_outcome(out, founding, &happened.outcome)?;
     push_letters(
         out,
         happened.event.node.place(),

@@ -1,4 +1,5 @@
 ghost use Rattle.std.specs.Prelude.{◌≡◌, ◌≤◌, ◌<◌, ◌++◌, length, nat_lt, OnOk, IfOk, string_bytes};
+ghost use Rattle.am_base.specs.Most.{most_events};
 ghost use Rattle.am_group.specs.Deliveries.{given_to, deliveries};
 ghost use Rattle.am_group.specs.Journals.{letters_of};
 ghost use Rattle.am_model.specs.Text.{records_text, group_text, log_text, logs_text, play_text};
@@ -17,7 +18,7 @@ use std::alloc::Global;
 // Adds the lines of a run's events.
 #[tactic(auto, using(crate::proofs::Parts::lines), unfolding(am_model::specs::Text::records_text))]
 fn push_records(out: &mut String, founding: &Founding, records: &[Record]) -> Result<(), NoMemory>
-    requires events { length records.now ≤ 100000 }
+    requires events { length records.now ≤ most_events }
     requires letters { length (letters_of records.now) ≤ 2400000 }
     ensures { OnOk result (string_bytes out.new ≡ string_bytes out.old ++ records_text founding.now records.now) }
 {

@@ -13,19 +13,19 @@ use std::alloc::Global;
 fn is_took(item: &Record) -> bool
     ensures { result ≡ is_took item.now.outcome }
 {
-    matches!(item.outcome.get(), Outcome::Took { .. })
+    matches!(item.outcome, Outcome::Took { .. })
 }
 
 fn is_sent(item: &Record) -> bool
     ensures { result ≡ is_sent item.now.outcome }
 {
-    matches!(item.outcome.get(), Outcome::Sent { .. })
+    matches!(item.outcome, Outcome::Sent { .. })
 }
 
 fn is_held(item: &Record) -> bool
     ensures { result ≡ is_held item.now.outcome }
 {
-    matches!(item.outcome.get(), Outcome::Held { .. })
+    matches!(item.outcome, Outcome::Held { .. })
 }
 
 fn took(records: &[Record]) -> usize

@@ -1,9 +1,8 @@
-ghost use Rattle.std.specs.Prelude.{◌≡◌, IfOk};
+ghost use Rattle.std.specs.Prelude.{◌≡◌};
 
 use crate::lines::{push_empty_log, push_group_line, push_log_line, push_mark, push_record};
 use crate::play::play_text;
 use crate::summary::summary_text;
-use am_base::NoMemory;
 use am_base::body::Body;
 use am_base::boxed::Boxed;
 use am_base::entry::Entry;
@@ -11,12 +10,11 @@ use am_base::founding::Founding;
 use am_base::items::Items;
 use am_base::name::{Name, Stamp};
 use am_base::names::Names;
-use am_base::outcome::Outcome;
+use am_base::outcome::{KeptOutcome, Outcome};
 use am_group::event::{Act, By, Event, Part, Record};
 use am_group::journal::Journal;
 use am_letter::letter::Letter;
 use am_packet::packet::Packet;
-use std::alloc::Global;
 use std::test::Fail;
 
 fn set(names: &[u8]) -> Names {
@@ -50,16 +48,10 @@ fn invite_to(to: Names) -> Letter {
     Letter::of(to, &invite)
 }
 
-fn happened(
-    alloc: Global,
-    place: u8,
-    act: Act,
-    outcome: Outcome,
-    packets: Items<Letter>,
-) -> Result<Record, NoMemory>
-    ensures { IfOk result (λ r. r.packets ≡ packets) }
+fn happened(place: u8, act: Act, outcome: KeptOutcome, packets: Items<Letter>) -> Record
+    ensures { result.packets ≡ packets }
 {
-    Ok(Record {
+    Record {
         event: Event {
             node: Name::of_byte(place),
             act,
@@ -70,9 +62,9 @@ fn happened(
             call: 0,
             part: Part::Call,
         },
-        outcome: Boxed::of(alloc, outcome)?,
+        outcome,
         packets,
-    })
+    }
 }
 
 #[test]
@@ -85,11 +77,14 @@ fn events_without_letters(rt: HostRuntime) -> Result<(), Fail> {
             Act::Take,
             Outcome::Took {
                 number: 2,
-                entry: Entry::View {
-                    stamp: stamp(2, 0),
-                    members: set(&[0, 1, 2]),
-                    resilience: 1,
-                },
+                entry: Boxed::of(
+                    rt.alloc(),
+                    Entry::View {
+                        stamp: stamp(2, 0),
+                        members: set(&[0, 1, 2]),
+                        resilience: 1,
+                    },
+                )?,
             },
             "9 take 0 : took 2 view 2.0 0,1,2 r1\n",
         ),
@@ -145,7 +140,7 @@ fn events_without_letters(rt: HostRuntime) -> Result<(), Fail> {
             "4 hear 0 1 : occupied 1\n",
         ),
     ] {
-        let item = happened(rt.alloc(), place, act, outcome, Items::new(rt.alloc()))?;
+        let item = happened(place, act, outcome, Items::new(rt.alloc()));
         let mut out = String::new(rt.alloc());
         push_record(&mut out, &founding, number, 0, &item)?;
         assert_eq!(rt; out.as_str(), want);
@@ -199,7 +194,7 @@ fn events_with_letters(rt: HostRuntime) -> Result<(), Fail> {
         let mut packets = Items::new(rt.alloc());
         packets.push(letter.copied())?;
         packets.push(letter)?;
-        let item = happened(rt.alloc(), 0, act, outcome, packets)?;
+        let item = happened(0, act, outcome, packets);
         let mut out = String::new(rt.alloc());
         push_record(&mut out, &founding, 1, 3, &item)?;
         assert_eq!(rt; out.as_str(), want);
@@ -239,15 +234,15 @@ fn whole_text(rt: HostRuntime) -> Result<(), Fail> {
     };
     let took = Outcome::Took {
         number: 1,
-        entry: view.copied(),
+        entry: Boxed::of(rt.alloc(), view.copied())?,
     };
     let mut packets = Items::new(rt.alloc());
     packets.push(invite_to(set(&[1, 2])))?;
     let mut journal = Journal::new(rt.alloc(), &founding);
     journal.reserve()?;
-    journal.push(happened(rt.alloc(), 0, Act::Tick, Outcome::Ticked, packets)?);
+    journal.push(happened(0, Act::Tick, Outcome::Ticked, packets));
     journal.reserve()?;
-    journal.push(happened(rt.alloc(), 0, Act::Take, took, Items::new(rt.alloc()))?);
+    journal.push(happened(0, Act::Take, took, Items::new(rt.alloc())));
     let names = [Name::of_byte(0), Name::of_byte(17)];
     let group = [view];
     let text = play_text(rt.alloc(), &journal, &group, &names, Some(2))?;

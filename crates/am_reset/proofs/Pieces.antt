@@ -1,11 +1,12 @@
 -- What the rows of pieces and results come to.
 use Rattle.std.proofs.Common.{◌≡◌, ◌≢◌, ℕ, ◌+◌, ◌-◌, ◌<◌, ◌≤◌, max, Bool, true, false, not, ◌||◌, ◌&&◌, ◌==◌, if◌then◌else◌, List, Option, Some, None, refl, sym, ap, subst, ◌∙◌, arith}
 use Rattle.std.proofs.lemmas.Bool.Decides.{nat_tests}
+use Rattle.am_base.specs.Most.{most_number}
 use Rattle.am_base.specs.declared.name.Stamp.{Stamp}
 use Rattle.am_base.specs.declared.entry.Entry.{Entry}
 use Rattle.am_base.specs.declared.entry.Entry.TheVariants.{Data, Join, Leave, View}
 use Rattle.am_base.specs.declared.image.Image.{Image}
-use Rattle.am_base.specs.declared.outcome.Outcome.{Outcome}
+use Rattle.am_base.specs.Outcomes.{Outcome}
 use Rattle.am_base.specs.declared.outcome.Outcome.TheVariants as said
 use Rattle.am_base.specs.Limits.{IsEntry}
 use Rattle.am_base.specs.Names.{nobody}
@@ -57,7 +58,7 @@ not_past v in_ballot (View stamp names resilience) h = or_left (stamp_lt v stamp
 
 -- an entry that comes next may be stored
 pub may_store : (m : Node) (v : Stamp) (base number : ℕ) (e : Entry) (in_ballot : Bool) → IsInOrder m.core → has_log m.status ≡ true → v ≡ m.core.promise → acts m ≡ false
-    → ((b : Ballot) → m.ballot ≡ Some b → b.is_over ≡ true) → IsEntry e → top m < 2000000000 → ComesNext m v base number e in_ballot → MayStore m base e
+    → ((b : Ballot) → m.ballot ≡ Some b → b.is_over ≡ true) → IsEntry e → top m < most_number → ComesNext m v base number e in_ballot → MayStore m base e
 may_store m v base number e in_ballot order logged is idle over within room next = record {
   order = order;
   idle = idle;
@@ -101,7 +102,7 @@ ahead_pushed m v (Join name) ahead below = ap (λ (i : Image). stamp_lt i.view v
 ahead_pushed m v (Leave name) ahead below = ap (λ (i : Image). stamp_lt i.view v) (told-push m.core.log (Leave name)) ∙ ap (λ (s : Stamp). stamp_lt s v) (view_stays_leave (told m) (top m + 1) name) ∙ ahead
 
 -- it is still taken out once the entry is stored
-pub taken_pushed : (m n : Node) (b : Ballot) (v : Stamp) (e : Entry) → v ≡ m.core.promise → IsTakenOut m b → IsBelow v e → IsInOrder n.core → top n < 2000000000 → IsSteady (pushed m e) n → IsTakenOut n b
+pub taken_pushed : (m n : Node) (b : Ballot) (v : Stamp) (e : Entry) → v ≡ m.core.promise → IsTakenOut m b → IsBelow v e → IsInOrder n.core → top n < most_number → IsSteady (pushed m e) n → IsTakenOut n b
 taken_pushed m n b v e is taken below order room s =
     let own = taken.own in
     let stamp : b.stamp ≡ v = own.stamp taken.is_open ∙ sym is in
@@ -151,7 +152,7 @@ pub replies_plan : (m n : Node) (o : Outcome) (t : Telling) → IsEndOf m n → 
 replies_plan m n o t e = record { node = e; answer = λ x. refl; letters = λ x. refl; polls = refl; numbers = refl; departs = refl }
 
 pub may_view : (m : Node) (v : Stamp) (base number : ℕ) (names : List ℕ) (resilience : ℕ) → IsInOrder m.core → has_log m.status ≡ true → v ≡ m.core.promise → ((b : Ballot) → m.ballot ≡ Some b → b.is_over ≡ true)
-    → IsEntry (View v names resilience) → top m < 2000000000 → FollowsAsView m v base number names resilience → MayStore m base (View v names resilience)
+    → IsEntry (View v names resilience) → top m < most_number → FollowsAsView m v base number names resilience → MayStore m base (View v names resilience)
 may_view m v base number names resilience order logged is over within room next = record {
   order = order;
   idle = other_view m v is next.apart;

@@ -1,6 +1,7 @@
 -- What the parts of a node keep where the promise is raised, and where a ballot is taken out.
 use Rattle.std.proofs.Common.{◌≡◌, ◌≢◌, ℕ, ◌+◌, ◌<◌, ◌≤◌, min, nat_lt, Bool, true, false, ◌==◌, ◌&&◌, Option, Some, None, refl, sym, ap, subst, ◌∙◌, arith}
 use Rattle.std.specs.Option.{IfSome}
+use Rattle.am_base.specs.Most.{most_number}
 use Rattle.am_base.specs.declared.name.Stamp.{Stamp}
 use Rattle.am_base.specs.declared.outcome.Outcome.TheVariants.{Overtaken}
 use Rattle.am_base.specs.Stamps.{stamp_lt, stamp_eq}
@@ -153,7 +154,7 @@ next_higher m =
 abbrev pub next_node : Node → Node
 next_node m = record m { core = record (m.core) { promise = next_stamp m }; ballot = None }
 
-pub begins : (m : Node) (least resilience : ℕ) → IsInOrder m.core → NodeKeeps m → has_log m.status ≡ true → top m < 2000000000 → IsTakenOut (next_node m) (new_ballot (next_stamp m) least (min resilience 15))
+pub begins : (m : Node) (least resilience : ℕ) → IsInOrder m.core → NodeKeeps m → has_log m.status ≡ true → top m < most_number → IsTakenOut (next_node m) (new_ballot (next_stamp m) least (min resilience 15))
 begins m least resilience order keeps logged number = record {
   order = record { kept = order.kept; let_go = order.let_go; given = order.given; accepted = order.accepted };
   out = refl;

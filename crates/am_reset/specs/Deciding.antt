@@ -1,5 +1,6 @@
 -- What a coordinator has when it decides, and what a node has when it stores an entry of a view that it has promised.
 use Rattle.std.specs.Prelude.{◌≡◌, ℕ, ◌<◌, ◌≤◌, ◌+◌, ◌-◌, max, List, Some, None, true, false}
+use Rattle.am_base.specs.Most.{most_number}
 use Rattle.am_base.specs.declared.entry.Entry.{Entry}
 use Rattle.am_base.specs.declared.entry.Entry.TheVariants.{Data, Join, Leave, View}
 use Rattle.am_base.specs.declared.name.Stamp.{Stamp}
@@ -18,7 +19,7 @@ pub record IsTakenOut (m : Node) (b : Ballot) : Type 0 where
   pub out : m.ballot ≡ None
   pub own : IsOwnBallot m b
   pub is_open : b.is_over ≡ false
-  pub number : top m < 2000000000
+  pub number : top m < most_number
 
 -- these members of it may be a view, with the node itself among them
 pub record MayBeView (m : Node) (names : List ℕ) : Type 0 where
@@ -43,4 +44,4 @@ pub record MayStore (m : Node) (base : ℕ) (e : Entry) : Type 0 where
   pub up_to : IsUpTo m.core.promise e
   pub within : IsEntry e
   pub bound : top m + 1 - max m.core.base base ≤ m.core.rules.window + 15
-  pub number : top m < 2000000000
+  pub number : top m < most_number

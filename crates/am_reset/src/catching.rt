@@ -1,4 +1,5 @@
 ghost use Rattle.std.specs.Prelude.{◌≡◌, ◌≢◌, ◌<◌, ◌≤◌, ◌+◌, ◌==◌, ◌||◌, ◌&&◌, not, Option, Some, None, IfNone, IfSome, true, false, [], max};
+ghost use Rattle.am_base.specs.Most.{most_number};
 ghost use Rattle.am_base.specs.Limits.{IsStamp, IsEntry, IsNumber};
 ghost use Rattle.am_base.specs.Lists.{top_of, told_by, fits};
 ghost use Rattle.am_core.specs.Cores.{IsInOrder};
@@ -116,7 +117,7 @@ fn piece_promised(
     requires view { stamp_eq (view (node_of parts.old)) stamp ≡ false }
     requires over { (b : node.Ballot) → (node_of parts.old).ballot ≡ Some b → b.is_over ≡ true }
     requires entry { IsEntry entry.now }
-    requires number { top_of parts.old.core.log < 2000000000 }
+    requires number { top_of parts.old.core.log < most_number }
     ensures replies { Replies (piece_promised (node_of parts.old) from stamp base number entry.now) result.outcome result.telling (node_of parts.new) }
     ensures told { MayTell result.telling result.outcome }
 {
@@ -150,7 +151,7 @@ fn piece_in_ballot(
     requires ballot { IsTakenOut (node_of parts.old) (ballot_of ballot) }
     requires promise { stamp.now ≡ parts.old.core.promise }
     requires entry { IsEntry entry.now }
-    requires number { top_of parts.old.core.log + 1 < 2000000000 }
+    requires number { top_of parts.old.core.log + 1 < most_number }
     ensures replies { Replies (fetched (with_ballot (node_of parts.old) (Some (ballot_of ballot))) stamp.now base number entry.now true (fetched_for (ballot_of ballot))) result.outcome result.telling (node_of parts.new) }
     ensures told { MayTell result.telling result.outcome }
 {
@@ -190,7 +191,7 @@ fn piece_for(
     requires promise { stamp ≡ parts.old.core.promise }
     requires view { stamp_eq (view (node_of parts.old)) stamp ≡ false }
     requires entry { IsEntry entry.now }
-    requires number { top_of parts.old.core.log + 1 < 2000000000 }
+    requires number { top_of parts.old.core.log + 1 < most_number }
     ensures replies { Replies (piece_for (with_ballot (node_of parts.old) (Some (ballot_of ballot))) from stamp base number entry.now (Some (ballot_of ballot))) result.outcome result.telling (node_of parts.new) }
     ensures told { MayTell result.telling result.outcome }
 {
@@ -216,7 +217,7 @@ fn piece(
     requires order { IsInOrder parts.old.core }
     requires logged { has_log parts.old.status ≡ true }
     requires entry { IsEntry entry.now }
-    requires number { top_of parts.old.core.log + 1 < 2000000000 }
+    requires number { top_of parts.old.core.log + 1 < most_number }
     ensures replies { Replies (piece_row (node_of parts.old) from stamp base number entry.now) result.outcome result.telling (node_of parts.new) }
     ensures told { MayTell result.telling result.outcome }
 {
@@ -244,7 +245,7 @@ pub fn on_piece(
     requires empty { out.old ≡ [] }
     requires logged { has_log parts.old.status ≡ true }
     requires entry { IsEntry entry.now }
-    requires number { top_of parts.old.core.log + 1 < 2000000000 }
+    requires number { top_of parts.old.core.log + 1 < most_number }
     ensures { Does (λ m. piece_row m from stamp base number entry.now) (node_of parts.old) result out.new (node_of parts.new) }
 {
     let before = accepted_of(parts);
@@ -320,7 +321,7 @@ fn hears_result(
     requires promise { stamp.now ≡ parts.old.core.promise }
     requires other { stamp.now.by ≢ parts.old.core.who }
     requires within { IsEntry (Entry.View stamp.now members resilience) }
-    requires number { top_of parts.old.core.log < 2000000000 }
+    requires number { top_of parts.old.core.log < most_number }
     ensures replies { Replies (hears_result (node_of parts.old) from stamp.now base number members resilience) result.outcome result.telling (node_of parts.new) }
     ensures told { MayTell result.telling result.outcome }
 {
@@ -356,7 +357,7 @@ fn result_row(
     requires logged { has_log parts.old.status ≡ true }
     requires within { IsStamp stamp }
     requires resilience { resilience ≤ 15 }
-    requires number { top_of parts.old.core.log < 2000000000 }
+    requires number { top_of parts.old.core.log < most_number }
     ensures replies { Replies (result_row (node_of parts.old) from stamp base number members resilience) result.outcome result.telling (node_of parts.new) }
     ensures told { MayTell result.telling result.outcome }
 {
@@ -384,7 +385,7 @@ pub fn on_result(
     requires logged { has_log parts.old.status ≡ true }
     requires within { IsStamp stamp }
     requires resilience { resilience ≤ 15 }
-    requires number { top_of parts.old.core.log < 2000000000 }
+    requires number { top_of parts.old.core.log < most_number }
     ensures { Does (λ m. result_row m from stamp base number members resilience) (node_of parts.old) result out.new (node_of parts.new) }
 {
     let before = accepted_of(parts);

@@ -1,4 +1,5 @@
 ghost use Rattle.std.specs.Prelude.{◌≡◌, ◌<◌, ◌≤◌, ◌+◌, ◌-◌, max, nat_lt, Some, None, true, false, length, unwrap_or};
+ghost use Rattle.am_base.specs.Most.{most_number};
 ghost use Rattle.am_base.specs.Names.{has, size, names_of};
 ghost use Rattle.am_base.specs.Limits.{IsEntry};
 ghost use Rattle.am_base.specs.Lists.{fits, top_of, told_by};
@@ -40,7 +41,7 @@ fn push(parts: &mut Parts, entry: Entry)
     requires fits { fits (told_by parts.old.core.log) entry ≡ true }
     requires room { length parts.old.core.log.entries < parts.old.core.rules.window + 15 }
     requires entry { IsEntry entry }
-    requires number { top_of parts.old.core.log < 2000000000 }
+    requires number { top_of parts.old.core.log < most_number }
     requires keeps { NodeKeeps (pushed (node_of parts.old) entry) }
     ensures value { node_of parts.new ≡ pushed (node_of parts.old) entry }
     ensures changes { Changes (λ m. pushed m entry) (node_of parts.old) (node_of parts.new) }
@@ -106,7 +107,7 @@ fn crowded(parts: &Parts) -> Outcome
 
 /// The answer where the next entry is the view of these members.
 fn decided(parts: &Parts, names: Names) -> Outcome
-    requires { top_of parts.now.core.log < 2000000000 }
+    requires { top_of parts.now.core.log < most_number }
     ensures value { result ≡ Outcome.Decided (top_of parts.now.core.log + 1) names }
     ensures told { IsTold result }
 {

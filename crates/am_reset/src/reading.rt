@@ -1,4 +1,5 @@
 ghost use Rattle.std.specs.Prelude.{◌≡◌, ◌<◌, ◌≤◌, ◌+◌, ◌==◌, ◌&&◌, max, not, nat_lt, nat_le};
+ghost use Rattle.am_base.specs.Most.{most_number};
 ghost use Rattle.am_base.specs.Limits.{IsVote};
 ghost use Rattle.am_base.specs.Names.{has};
 ghost use Rattle.am_base.specs.Lists.{top_of, told_by};
@@ -74,7 +75,7 @@ pub fn accepted_of(parts: &Parts) -> u32
 /// The number of its last entry.
 pub fn last_of(parts: &Parts) -> u32
     ensures value { result ≡ top_of parts.now.core.log }
-    ensures within { result ≤ 2000000000 }
+    ensures within { result ≤ most_number }
     ensures order { IsInOrder parts.now.core }
 {
     parts.core.log.top()

@@ -1,4 +1,5 @@
 ghost use Rattle.std.specs.Prelude.{◌≡◌, ◌<◌, ◌≤◌, ◌+◌, ◌++◌, ◌∷◌, ◌||◌, ◌&&◌, ◌==◌, All, Some, [], length, min, nat_lt, slice_index_or};
+ghost use Rattle.am_base.specs.Most.{most_number};
 ghost use Rattle.am_base.specs.declared.entry.Entry.{Entry};
 ghost use Rattle.am_base.specs.Limits.{IsEntry, IsNumber};
 ghost use Rattle.am_base.specs.Lists.{top_of, entry_at};
@@ -44,7 +45,7 @@ fn copy_entry(parts: &Parts, number: u32, entries: &mut ArrayVec<Entry, 8>)
 fn last_served(parts: &Parts, stored: u32) -> u32
     requires { stored ≤ top_of parts.now.core.log }
     ensures value { result ≡ min (top_of parts.now.core.log) (stored + 8) }
-    ensures within { result ≤ 2000000000 }
+    ensures within { result ≤ most_number }
     ensures entries { All IsEntry parts.now.core.log.entries }
 {
     parts.core.log.top().min(stored + MOST_SERVED)
@@ -57,7 +58,7 @@ fn copies(parts: &Parts, stored: u32) -> ArrayVec<Entry, 8>
     requires high { stored ≤ top_of parts.now.core.log }
     ensures items { result.items ≡ served (node_of parts.now) stored }
     ensures within { All IsEntry result.items }
-    ensures numbers { stored + length result.items ≤ 2000000000 }
+    ensures numbers { stored + length result.items ≤ most_number }
 {
     let mut entries = ArrayVec::new();
     let last = last_served(parts, stored);
@@ -91,7 +92,7 @@ fn tell_pieces(parts: &Parts, to: Name, stored: u32, entries: &[Entry], out: &mu
     requires empty { out.old ≡ [] }
     requires few { length entries.now ≤ 8 }
     requires within { All IsEntry entries.now }
-    requires numbers { stored + length entries.now ≤ 2000000000 }
+    requires numbers { stored + length entries.now ≤ most_number }
     ensures letters { out.new ≡ put_all (piece_of (node_of parts.now)) (only_name to) (stored + 1) entries.now [] }
     ensures few { length out.new ≤ 8 }
 {

@@ -1,4 +1,5 @@
 ghost use Rattle.std.specs.Prelude.{◌≡◌, ◌≢◌, ◌<◌, ◌≤◌, ◌+◌, Some, None, IfSome, min, true, false, not, ◌||◌, option_map, []};
+ghost use Rattle.am_base.specs.Most.{most_number};
 ghost use Rattle.am_base.specs.Limits.{IsStamp};
 ghost use Rattle.am_base.specs.Lists.{top_of};
 ghost use Rattle.am_base.specs.Stamps.{stamp_lt};
@@ -139,7 +140,7 @@ fn voted_for(parts: &mut Parts, from: Name, stamp: Stamp, vote: &Vote, ballot: B
     requires order { IsInOrder parts.old.core }
     requires out { (node_of parts.old).ballot ≡ None }
     requires own { IsOwnBallot (node_of parts.old) (ballot_of ballot) }
-    requires number { top_of parts.old.core.log < 2000000000 }
+    requires number { top_of parts.old.core.log < most_number }
     requires other { from ≢ parts.old.core.who }
     ensures replies { Replies (voted_for (record (node_of parts.old) { ballot = Some (ballot_of ballot) }) from stamp vote.now (Some (ballot_of ballot))) result.outcome result.telling (node_of parts.new) }
     ensures told { MayTell result.telling result.outcome }
@@ -157,7 +158,7 @@ fn voted_for(parts: &mut Parts, from: Name, stamp: Stamp, vote: &Vote, ballot: B
 
 fn vote(parts: &mut Parts, from: Name, stamp: Stamp, vote: &Vote) -> Reply
     requires within { IsStamp stamp }
-    requires number { top_of parts.old.core.log < 2000000000 }
+    requires number { top_of parts.old.core.log < most_number }
     requires other { from ≢ parts.old.core.who }
     ensures replies { Replies (vote_row (node_of parts.old) from stamp vote.now) result.outcome result.telling (node_of parts.new) }
     ensures told { MayTell result.telling result.outcome }
@@ -198,7 +199,7 @@ fn give_up_of(parts: &mut Parts, name: Name, ballot: Ballot) -> Reply
     requires order { IsInOrder parts.old.core }
     requires out { (node_of parts.old).ballot ≡ None }
     requires own { IsOwnBallot (node_of parts.old) (ballot_of ballot) }
-    requires number { top_of parts.old.core.log < 2000000000 }
+    requires number { top_of parts.old.core.log < most_number }
     ensures replies { Replies (give_up_of (record (node_of parts.old) { ballot = Some (ballot_of ballot) }) name (Some (ballot_of ballot))) result.outcome result.telling (node_of parts.new) }
     ensures told { MayTell result.telling result.outcome }
 {
@@ -215,7 +216,7 @@ fn give_up_of(parts: &mut Parts, name: Name, ballot: Ballot) -> Reply
 
 fn give_up_row(parts: &mut Parts, name: Name) -> Reply
     requires order { IsInOrder parts.old.core }
-    requires number { top_of parts.old.core.log < 2000000000 }
+    requires number { top_of parts.old.core.log < most_number }
     ensures replies { Replies (give_up_row (node_of parts.old) name) result.outcome result.telling (node_of parts.new) }
     ensures told { MayTell result.telling result.outcome }
 {
@@ -227,7 +228,7 @@ fn give_up_row(parts: &mut Parts, name: Name) -> Reply
 
 /// The stamp of the next round of the node's own.
 fn next_stamp(parts: &Parts) -> Stamp
-    requires { parts.now.core.promise.round < 2000000000 }
+    requires { parts.now.core.promise.round < most_number }
     ensures value { result ≡ next_stamp (node_of parts.now) }
     ensures within { IsStamp result }
     ensures higher { stamp_lt result parts.now.core.promise ≡ false }
@@ -249,8 +250,8 @@ fn drop_ballot(parts: &mut Parts)
 /// A ballot begins in place of the last one.
 fn begin(parts: &mut Parts, least: u8, resilience: u8) -> Reply
     requires order { IsInOrder parts.old.core }
-    requires round { parts.old.core.promise.round < 2000000000 }
-    requires number { top_of parts.old.core.log < 2000000000 }
+    requires round { parts.old.core.promise.round < most_number }
+    requires number { top_of parts.old.core.log < most_number }
     requires logged { has_log parts.old.status ≡ true }
     ensures replies { Replies (begin (node_of parts.old) least resilience) result.outcome result.telling (node_of parts.new) }
     ensures told { MayTell result.telling result.outcome }
@@ -272,8 +273,8 @@ fn begin(parts: &mut Parts, least: u8, resilience: u8) -> Reply
 
 fn reset(parts: &mut Parts, least: u8, resilience: u8) -> Reply
     requires order { IsInOrder parts.old.core }
-    requires round { parts.old.core.promise.round < 2000000000 }
-    requires number { top_of parts.old.core.log < 2000000000 }
+    requires round { parts.old.core.promise.round < most_number }
+    requires number { top_of parts.old.core.log < most_number }
     ensures replies { Replies (reset_row (node_of parts.old) least resilience) result.outcome result.telling (node_of parts.new) }
     ensures told { MayTell result.telling result.outcome }
 {
@@ -334,7 +335,7 @@ pub fn on_vote(
     requires empty { out.old ≡ [] }
     requires within { IsStamp stamp }
     requires other { from ≢ parts.old.core.who }
-    requires number { top_of parts.old.core.log < 2000000000 }
+    requires number { top_of parts.old.core.log < most_number }
     ensures { Does (λ m. vote_row m from stamp shown.now) (node_of parts.old) result out.new (node_of parts.new) }
 {
     let before = accepted_of(parts);
@@ -346,7 +347,7 @@ pub fn on_vote(
 /// ballot comes to.
 pub fn on_give_up(parts: &mut Parts, name: Name, out: &mut OutBox) -> Outcome
     requires empty { out.old ≡ [] }
-    requires number { top_of parts.old.core.log < 2000000000 }
+    requires number { top_of parts.old.core.log < most_number }
     ensures { Does (λ m. give_up_row m name) (node_of parts.old) result out.new (node_of parts.new) }
 {
     let before = accepted_of(parts);
@@ -357,8 +358,8 @@ pub fn on_give_up(parts: &mut Parts, name: Name, out: &mut OutBox) -> Outcome
 /// A ballot is to begin for a view of at least so many members: NotMember or Leaving where it may not, else what it comes to.
 pub fn on_reset(parts: &mut Parts, least: u8, resilience: u8, out: &mut OutBox) -> Outcome
     requires empty { out.old ≡ [] }
-    requires round { parts.old.core.promise.round < 2000000000 }
-    requires number { top_of parts.old.core.log < 2000000000 }
+    requires round { parts.old.core.promise.round < most_number }
+    requires number { top_of parts.old.core.log < most_number }
     ensures { Does (λ m. reset_row m least resilience) (node_of parts.old) result out.new (node_of parts.new) }
 {
     let before = accepted_of(parts);
@@ -370,8 +371,8 @@ pub fn on_reset(parts: &mut Parts, least: u8, resilience: u8, out: &mut OutBox) 
 #[tactic(auto, unfolding(am_model::specs::Resets::hand_over_row))]
 pub fn on_hand_over(parts: &mut Parts, out: &mut OutBox) -> Outcome
     requires empty { out.old ≡ [] }
-    requires round { parts.old.core.promise.round < 2000000000 }
-    requires number { top_of parts.old.core.log < 2000000000 }
+    requires round { parts.old.core.promise.round < most_number }
+    requires number { top_of parts.old.core.log < most_number }
     ensures { Does (λ m. hand_over_row m) (node_of parts.old) result out.new (node_of parts.new) }
 {
     let resilience = parts.core.log.resilience();

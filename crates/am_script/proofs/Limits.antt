@@ -5,6 +5,7 @@ use Rattle.std.proofs.lemmas.Bool.{leb-true}
 use Rattle.std.proofs.lemmas.Grind.{common_steps}
 use Rattle.std.proofs.lemmas.List.Sums.{get_or-le-sum_by}
 use Rattle.std.proofs.lemmas.List.Elements.{All-cons}
+use Rattle.am_base.specs.Most.{most_number, most_window, most_body, most_packet}
 use Rattle.hex.specs.Hex.{decode_of}
 use Rattle.hex.proofs.HexLemmas.{decode_of-ok}
 use Rattle.am_base.specs.Names.{nobody, has, with_name, size, name_at}
@@ -36,11 +37,11 @@ decoded_within : {E : Type 0} (place : ℕ) (decoded : Result (List ℕ) E) (byt
 decoded_within place (Ok found) bytes h = cc
 decoded_within place (Err e) bytes h = cc
 
-pub body_within : (place : ℕ) (text bytes : List ℕ) → body_from place text ≡ Ok bytes → length bytes ≤ 1024
+pub body_within : (place : ℕ) (text bytes : List ℕ) → body_from place text ≡ Ok bytes → length bytes ≤ most_body
 unfolding body_from
-body_within place text bytes h = if_ok (are_pairs text) _ _ bytes h (λ pairs told. if_ok (nat_le (length text / 2) 1024) _ _ bytes told (λ short is.
+body_within place text bytes h = if_ok (are_pairs text) _ _ bytes h (λ pairs told. if_ok (nat_le (length text / 2) most_body) _ _ bytes told (λ short is.
     let decoded = decode_of-ok text bytes (decoded_within place (decode_of text) bytes is) in
-    let few = leb-true (length text / 2) 1024 short in
+    let few = leb-true (length text / 2) most_body short in
     omega (arith, few, decoded.2)))
 
 -- ---- events
@@ -67,28 +68,28 @@ give_up_within place d a h = ok_then (number_in key.Name place 0 15 d) _ a h (λ
     let lives = number_or_within 1 key.Life place 1 16 d life (omega arith) (omega arith) told in
     act_as (act.GiveUp (name_at seat life)) a is (omega (arith, low, lives))))
 
-count_within : (k : Key) (place : ℕ) (d : Data) (n : ℕ) → number_in k place 1 2000000000 d ≡ Ok n → IsCount n
-count_within k place d n h = let fits = number_in_within k place 1 2000000000 d n h in (omega (arith, fits.0), fits.1)
+count_within : (k : Key) (place : ℕ) (d : Data) (n : ℕ) → number_in k place 1 most_number d ≡ Ok n → IsCount n
+count_within k place d n h = let fits = number_in_within k place 1 most_number d n h in (omega (arith, fits.0), fits.1)
 
 cut_within : (place : ℕ) (d : Data) (a : Act) → cut_in place d ≡ Ok a → ActWithin a
 unfolding cut_in
-cut_within place d a h = ok_then (number_in key.Packet place 1 2000000000 d) _ a h (λ packet there rest. ok_then (number_in key.Keep place 0 1152 d) _ a rest (λ keep told is.
-    act_as (act.Cut packet keep) a is (count_within key.Packet place d packet there, (number_in_within key.Keep place 0 1152 d keep told).1)))
+cut_within place d a h = ok_then (number_in key.Packet place 1 most_number d) _ a h (λ packet there rest. ok_then (number_in key.Keep place 0 most_packet d) _ a rest (λ keep told is.
+    act_as (act.Cut packet keep) a is (count_within key.Packet place d packet there, (number_in_within key.Keep place 0 most_packet d keep told).1)))
 
 pub act_within : (kind : Kind) (founding place : ℕ) (d : Data) (a : Act) → founding ≤ 15 → act_in kind founding place d ≡ Ok a → ActWithin a
 unfolding act_in
 act_within Send founding place d a low h = send_within place d a h
-act_within Done founding place d a low h = ok_then (number_in key.Req place 1 2000000000 d) _ a h (λ n told is. act_as (act.Done n) a is (count_within key.Req place d n told))
+act_within Done founding place d a low h = ok_then (number_in key.Req place 1 most_number d) _ a h (λ n told is. act_as (act.Done n) a is (count_within key.Req place d n told))
 act_within Take founding place d a low h = act_as act.Take a h tt
 act_within Join founding place d a low h = act_as act.Join a h tt
 act_within State founding place d a low h = act_as act.State a h tt
 act_within Leave founding place d a low h = act_as act.Leave a h tt
 act_within Reset founding place d a low h = reset_within founding place d a low h
-act_within Ask founding place d a low h = ok_then (number_in key.Round place 1 2000000000 d) _ a h (λ n told is. act_as (act.Ask n) a is (count_within key.Round place d n told))
+act_within Ask founding place d a low h = ok_then (number_in key.Round place 1 most_number d) _ a h (λ n told is. act_as (act.Ask n) a is (count_within key.Round place d n told))
 act_within GiveUp founding place d a low h = give_up_within place d a h
 act_within Stop founding place d a low h = act_as act.Stop a h tt
 act_within Tick founding place d a low h = act_as act.Tick a h tt
-act_within Hear founding place d a low h = ok_then (number_in key.Packet place 1 2000000000 d) _ a h (λ n told is. act_as (act.Hear n) a is (count_within key.Packet place d n told))
+act_within Hear founding place d a low h = ok_then (number_in key.Packet place 1 most_number d) _ a h (λ n told is. act_as (act.Hear n) a is (count_within key.Packet place d n told))
 act_within Cut founding place d a low h = cut_within place d a h
 act_within Return founding place d a low h = act_as act.Return a h tt
 
@@ -168,11 +169,11 @@ founders_are d names h = ok_then (ok_or (as_array d) (BadValue key.Founders 0)) 
 pub founding_within : (d : Data) (rules : Rules) → founding_in d ≡ Ok rules → MayFound rules
 unfolding founding_in
 founding_within d rules h = ok_then (value_in key.Founders 0 d) _ rules h (λ v there rest. ok_then (founders_from v) _ rules rest (λ names named more.
-    ok_then (number_or 0 key.Resilience 0 0 15 d) _ rules more (λ resilience kept later. ok_then (number_or 64 key.Window 0 1 1008 d) _ rules later (λ window wide last. ok_then (number_or 256 key.PbUpTo 0 0 1024 d) _ rules last (λ pb_up_to short is.
+    ok_then (number_or 0 key.Resilience 0 0 15 d) _ rules more (λ resilience kept later. ok_then (number_or 64 key.Window 0 1 most_window d) _ rules later (λ window wide last. ok_then (number_or 256 key.PbUpTo 0 0 most_body d) _ rules last (λ pb_up_to short is.
     let are = founders_are v names named in
     let low = number_or_within 0 key.Resilience 0 0 15 d resilience (omega arith) (omega arith) kept in
-    let room = number_or_within 64 key.Window 0 1 1008 d window (omega arith) (omega arith) wide in
-    let bytes = number_or_within 256 key.PbUpTo 0 0 1024 d pb_up_to (omega arith) (omega arith) short in
+    let room = number_or_within 64 key.Window 0 1 most_window d window (omega arith) (omega arith) wide in
+    let bytes = number_or_within 256 key.PbUpTo 0 0 most_body d pb_up_to (omega arith) (omega arith) short in
     subst (λ (x : Rules). MayFound x) (same_ok _ rules is) (record {
       names = are.set;
       somebody = are.somebody;

@@ -3,6 +3,7 @@ use Rattle.std.proofs.Common.{◌≡◌, ℕ, suc, ◌+◌, ◌<◌, ◌≤◌, 
 use Rattle.std.specs.Option.{ok_or}
 use Rattle.std.proofs.lemmas.Bool.{leb-true}
 use Rattle.std.proofs.lemmas.List.Elements.{All-cons}
+use Rattle.am_base.specs.Most.{most_events}
 use Rattle.am_group.specs.declared.event.Act.{Act}
 use Rattle.am_group.specs.declared.event.Act.TheVariants as act
 use Rattle.am_group.specs.declared.plan.ThreadPlan.{ThreadPlan}
@@ -113,12 +114,12 @@ few_threads founding d threads low h = (threads_within founding d threads low h)
 record RightSize (plan found : RacePlan) : Type 0 where
   same : plan ≡ found
   calls : calls_of plan.threads ≤ 1000
-  records : records_of plan ≤ 100000
+  records : records_of plan ≤ most_events
 
 right_size : (plan found : RacePlan) → of_right_size plan ≡ Ok found → RightSize plan found
 unfolding of_right_size
-right_size plan found h = if_ok (nat_le (calls_of plan.threads) 1000) _ _ found h (λ few inner. if_ok (nat_le (records_of plan) 100000) _ _ found inner (λ short is.
-    record { same = same_ok plan found is; calls = leb-true (calls_of plan.threads) 1000 few; records = leb-true (records_of plan) 100000 short }))
+right_size plan found h = if_ok (nat_le (calls_of plan.threads) 1000) _ _ found h (λ few inner. if_ok (nat_le (records_of plan) most_events) _ _ found inner (λ short is.
+    record { same = same_ok plan found is; calls = leb-true (calls_of plan.threads) 1000 few; records = leb-true (records_of plan) most_events short }))
 
 race_parts_within : (d : Data) (plan : RacePlan) → parts_of_race d ≡ Ok plan → RaceWithin plan
 unfolding parts_of_race

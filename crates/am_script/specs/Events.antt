@@ -1,6 +1,7 @@
 -- Events of a script.
 use Rattle.std.specs.Prelude.{ℕ, ◌+◌, List, [], ◌∷◌, if◌then◌else◌, Option, Some, None, is_some, Ok, Err, codes, bytes_eq}
 use Rattle.std.specs.Option.{ok_or}
+use Rattle.am_base.specs.Most.{most_number, most_packet}
 use Rattle.serde_json.specs.Data.{Data, Items, no_items, item}
 use Rattle.serde_json.specs.Find.{as_array, as_object}
 use Rattle.am_base.specs.Names.{name_at}
@@ -79,24 +80,24 @@ give_up_in place d = do
 
 unfoldable pub cut_in : ℕ → Data → Read Act
 cut_in place d = do
-  packet ← number_in key.Packet place 1 2000000000 d
-  keep ← number_in key.Keep place 0 1152 d
+  packet ← number_in key.Packet place 1 most_number d
+  keep ← number_in key.Keep place 0 most_packet d
   Ok (act.Cut packet keep)
 
 -- the act of an event of a kind, of a founding of this resilience
 unfoldable pub act_in : Kind → ℕ → ℕ → Data → Read Act
 act_in Send founding place d = send_in place d
-act_in Done founding place d = number_in key.Req place 1 2000000000 d >>= λ req. Ok (act.Done req)
+act_in Done founding place d = number_in key.Req place 1 most_number d >>= λ req. Ok (act.Done req)
 act_in Take founding place d = Ok act.Take
 act_in Join founding place d = Ok act.Join
 act_in State founding place d = Ok act.State
 act_in Leave founding place d = Ok act.Leave
 act_in Reset founding place d = reset_in founding place d
-act_in Ask founding place d = number_in key.Round place 1 2000000000 d >>= λ round. Ok (act.Ask round)
+act_in Ask founding place d = number_in key.Round place 1 most_number d >>= λ round. Ok (act.Ask round)
 act_in GiveUp founding place d = give_up_in place d
 act_in Stop founding place d = Ok act.Stop
 act_in Tick founding place d = Ok act.Tick
-act_in Hear founding place d = number_in key.Packet place 1 2000000000 d >>= λ packet. Ok (act.Hear packet)
+act_in Hear founding place d = number_in key.Packet place 1 most_number d >>= λ packet. Ok (act.Hear packet)
 act_in Cut founding place d = cut_in place d
 act_in Return founding place d = Ok act.Return
 

@@ -1,6 +1,7 @@
 -- How a group begins: who may found it, and what a script says of it.
 use Rattle.std.specs.Prelude.{ℕ, ◌<◌, ◌≤◌, ◌&&◌, nat_le, List, slice_index, EachIndex, if◌then◌else◌, Ok, Err}
 use Rattle.std.specs.Option.{ok_or}
+use Rattle.am_base.specs.Most.{most_window, most_body}
 use Rattle.serde_json.specs.Data.{Data, Items, no_items, item}
 use Rattle.serde_json.specs.Events.{items_len}
 use Rattle.serde_json.specs.Find.{as_array}
@@ -37,6 +38,6 @@ founding_in d = do
   v ← value_in key.Founders 0 d
   founders ← founders_from v
   resilience ← number_or 0 key.Resilience 0 0 15 d
-  window ← number_or 64 key.Window 0 1 1008 d
-  pb_up_to ← number_or 256 key.PbUpTo 0 0 1024 d
+  window ← number_or 64 key.Window 0 1 most_window d
+  pb_up_to ← number_or 256 key.PbUpTo 0 0 most_body d
   Ok (record { founders = founders; resilience = resilience; window = window; pb_up_to = pb_up_to })

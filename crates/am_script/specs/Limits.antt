@@ -1,5 +1,6 @@
 -- What every script keeps to.
 use Rattle.std.specs.Prelude.{ℕ, ◌<◌, ◌≤◌, List, length, All}
+use Rattle.am_base.specs.Most.{most_number, most_events, most_body, most_packet}
 use Rattle.am_base.specs.Founding.{Rules, MayFound}
 use Rattle.am_group.specs.declared.event.Act.{Act}
 use Rattle.am_group.specs.declared.event.Act.TheVariants as act
@@ -12,16 +13,16 @@ use Rattle.am_script.specs.Races.{calls_of, records_of}
 
 -- the number of a request, a round or a packet
 abbrev pub IsCount : ℕ → Type 0
-IsCount n = (0 < n) × (n ≤ 2000000000)
+IsCount n = (0 < n) × (n ≤ most_number)
 
 abbrev pub ActWithin : Act → Type 0
-ActWithin (act.Send body) = length body ≤ 1024
+ActWithin (act.Send body) = length body ≤ most_body
 ActWithin (act.Done req) = IsCount req
 ActWithin (act.Reset least resilience) = (0 < least) × (least ≤ 16) × (resilience ≤ 15)
 ActWithin (act.Ask round) = IsCount round
 ActWithin (act.GiveUp name) = name < 256
 ActWithin (act.Hear packet) = IsCount packet
-ActWithin (act.Cut packet keep) = IsCount packet × (keep ≤ 1152)
+ActWithin (act.Cut packet keep) = IsCount packet × (keep ≤ most_packet)
 ActWithin other = Unit {0}
 
 -- the node of an event is its place's name of life 1
@@ -59,7 +60,7 @@ pub record RaceWithin (plan : RacePlan) : Type 0 where
   pub few_threads : length plan.threads ≤ 16
   pub each : All ThreadWithin plan.threads
   pub few_calls : calls_of plan.threads ≤ 1000
-  pub few_records : records_of plan ≤ 100000
+  pub few_records : records_of plan ≤ most_events
 
 abbrev pub ScriptWithin : Script → Type 0
 ScriptWithin (Play founding events settle) = IsWithin founding events

@@ -1,6 +1,7 @@
 -- Races of scripts: threads, each with the calls that it makes at its node.
 use Rattle.std.specs.Prelude.{ℕ, ◌+◌, ◌*◌, ◌&&◌, nat_le, List, [], ◌∷◌, length, sum_by, Bool, true, false, if◌then◌else◌, is_some, Ok, Err}
 use Rattle.std.specs.Option.{ok_or}
+use Rattle.am_base.specs.Most.{most_events}
 use Rattle.serde_json.specs.Data.{Data, Items, no_items, item}
 use Rattle.serde_json.specs.Events.{items_len}
 use Rattle.serde_json.specs.Find.{as_array, as_object}
@@ -110,7 +111,7 @@ records_of plan = calls_of plan.threads * (plan.turns + 2)
 unfoldable pub of_right_size : RacePlan → Read RacePlan
 of_right_size plan =
     if nat_le (calls_of plan.threads) 1000
-    then (if nat_le (records_of plan) 100000 then Ok plan else Err (OutOfRange key.Threads 0 (records_of plan) 0 100000))
+    then (if nat_le (records_of plan) most_events then Ok plan else Err (OutOfRange key.Threads 0 (records_of plan) 0 most_events))
     else Err (OutOfRange key.Threads 0 (calls_of plan.threads) 0 1000)
 
 abbrev pub race_keys : List Key

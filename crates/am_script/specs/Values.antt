@@ -2,6 +2,7 @@
 use Rattle.std.specs.Prelude.{ℕ, ◌/◌, ◌%◌, ◌==◌, ◌&&◌, ◌||◌, nat_le, List, length, Bool, if◌then◌else◌, Result, Ok, Err, option_and_then}
 use Rattle.std.specs.List.{list_all}
 use Rattle.std.specs.Option.{option_map_or, ok_or}
+use Rattle.am_base.specs.Most.{most_body}
 use Rattle.hex.specs.Hex.{decode_of}
 use Rattle.serde_json.specs.Data.{Data}
 use Rattle.serde_json.specs.Find.{as_bool, as_str, as_number, as_u64}
@@ -54,5 +55,5 @@ bytes_in place (Err e) = Err (BadValue Body place)
 unfoldable pub body_from : ℕ → List ℕ → Read (List ℕ)
 body_from place text =
     if are_pairs text
-    then (if nat_le (length text / 2) 1024 then bytes_in place (decode_of text) else Err (OutOfRange Body place (length text / 2) 0 1024))
+    then (if nat_le (length text / 2) most_body then bytes_in place (decode_of text) else Err (OutOfRange Body place (length text / 2) 0 most_body))
     else Err (BadValue Body place)

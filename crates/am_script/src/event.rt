@@ -1,5 +1,6 @@
 ghost use Rattle.std.specs.Prelude.{◌≡◌, ◌≤◌, ◌%◌, length};
 ghost use Rattle.std.specs.List.{list_all};
+ghost use Rattle.am_base.specs.Most.{most_number};
 ghost use Rattle.serde_json.specs.View.{view};
 ghost use Rattle.am_script.specs.Refusals.{Answers};
 ghost use Rattle.am_script.specs.Values.{is_digit, are_pairs, body_from, number_in};
@@ -10,19 +11,11 @@ use crate::key::Key;
 use crate::kind::Kind;
 use crate::refusal::ScriptRefusal;
 use am_base::body::Body;
+use am_base::limits::{MOST_BODY, MOST_NUMBER, MOST_PACKET};
 use am_base::name::Name;
 use am_group::event::{Act, Event};
 use serde_json::Value;
 use std::alloc::Global;
-
-/// The greatest number of a request, a round or a packet.
-const MOST_COUNT: u64 = 2_000_000_000;
-
-/// The most bytes of a body.
-const MOST_BYTES: usize = 1024;
-
-/// The most bytes of a packet.
-const MOST_PACKET: u64 = 1152;
 
 /// The kind of an event or a call.
 #[tactic(auto, unfolding(crate::specs::Events::kind_in))]
@@ -67,16 +60,16 @@ fn body(text: &str, place: u64) -> Result<Body, ScriptRefusal>
         return Err(refusal);
     }
     let pairs = text.len() / 2;
-    if MOST_BYTES < pairs {
+    if MOST_BODY < pairs {
         return Err(ScriptRefusal::OutOfRange {
             key: Key::Body,
             place,
             found: pairs as u64,
             least: 0,
-            most: MOST_BYTES as u64,
+            most: MOST_BODY as u64,
         });
     }
-    let mut bytes = [0u8; MOST_BYTES];
+    let mut bytes = [0u8; MOST_BODY];
     match hex::decode_to_slice(text, &mut bytes[..pairs]) {
         Ok(()) => Ok(Body::of(&bytes[..pairs]).unwrap()),
         Err(_) => Err(refusal),
@@ -85,9 +78,9 @@ fn body(text: &str, place: u64) -> Result<Body, ScriptRefusal>
 
 /// The number of a request, a round or a packet at a key of an event.
 fn count(event: &Value, key: Key, place: u64) -> Result<u32, ScriptRefusal>
-    ensures { result ≡ number_in key place 1 2000000000 (view event.now) }
+    ensures { result ≡ number_in key place 1 most_number (view event.now) }
 {
-    Ok(number_in(event, key, place, 1, MOST_COUNT)? as u32)
+    Ok(number_in(event, key, place, 1, u64::from(MOST_NUMBER))? as u32)
 }
 
 /// A send.
@@ -129,7 +122,7 @@ fn cut(event: &Value, place: u64) -> Result<Act, ScriptRefusal>
     ensures { result ≡ cut_in place (view event.now) }
 {
     let packet = count(event, Key::Packet, place)?;
-    let keep = number_in(event, Key::Keep, place, 0, MOST_PACKET)?;
+    let keep = number_in(event, Key::Keep, place, 0, MOST_PACKET as u64)?;
     Ok(Act::Cut {
         packet,
         keep: keep as u32,

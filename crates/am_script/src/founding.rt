@@ -7,6 +7,7 @@ use crate::fields::{number, number_or, value_in};
 use crate::key::Key;
 use crate::refusal::ScriptRefusal;
 use am_base::founding::Founding;
+use am_base::limits::{MOST_BODY, MOST_WINDOW};
 use am_base::name::Name;
 use am_base::names::Names;
 use serde_json::Value;
@@ -60,7 +61,7 @@ pub fn founding(value: &Value) -> Result<Founding, ScriptRefusal>
 {
     let founders = founders(value_in(value, Key::Founders, 0)?)?;
     let resilience = number_or(0, value, Key::Resilience, 0, 0, 15)?;
-    let window = number_or(64, value, Key::Window, 0, 1, 1008)?;
-    let pb_up_to = number_or(256, value, Key::PbUpTo, 0, 0, 1024)?;
+    let window = number_or(64, value, Key::Window, 0, 1, u64::from(MOST_WINDOW))?;
+    let pb_up_to = number_or(256, value, Key::PbUpTo, 0, 0, MOST_BODY as u64)?;
     Ok(Founding::new(founders, resilience as u8, window as u16, pb_up_to as u16).unwrap())
 }

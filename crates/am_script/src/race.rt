@@ -10,6 +10,7 @@ use crate::key::Key;
 use crate::kind::Kind;
 use crate::refusal::ScriptRefusal;
 use am_base::items::Items;
+use am_base::limits::MOST_EVENTS;
 use am_base::name::Name;
 use am_group::event::Act;
 use am_group::plan::{RacePlan, ThreadPlan};
@@ -34,9 +35,6 @@ const RACE_KEYS: [Key; 9] = [
 
 /// The most calls of a race.
 const MOST_CALLS: u64 = 1000;
-
-/// The most records that a race can have.
-const MOST_RECORDS: u64 = 100_000;
 
 /// The kind of a call.
 #[tactic(auto, unfolding(crate::specs::Races::call_kind_in))]
@@ -254,8 +252,8 @@ fn of_right_size(plan: RacePlan) -> Result<RacePlan, ScriptRefusal>
         return Err(too_many(calls, MOST_CALLS));
     }
     let records = calls * (u64::from(plan.turns) + 2);
-    if MOST_RECORDS < records {
-        return Err(too_many(records, MOST_RECORDS));
+    if (MOST_EVENTS as u64) < records {
+        return Err(too_many(records, MOST_EVENTS as u64));
     }
     Ok(plan)
 }

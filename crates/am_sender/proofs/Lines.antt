@@ -5,6 +5,7 @@ use Rattle.std.specs.Prelude.{IfSome}
 use Rattle.std.proofs.lemmas.Bool.Decides.{nat_tests}
 use Rattle.std.proofs.lemmas.List.{length-map, take-append-le}
 use Rattle.std.proofs.Math.Seq.{take-length}
+use Rattle.am_base.specs.Most.{most_number}
 use Rattle.am_sender.specs.declared.OwnSend.{OwnSend}
 use Rattle.am_sender.specs.Sends.{is_request, is_unsettled, settle_send, next_in, are_in_line, AreKept}
 
@@ -242,7 +243,7 @@ kept_settle last req number q later kept waits is =
     let few = kept.few in
     (record { few = omega arith; line = ap (are_in_line last) is ∙ line.line; limit = kept.limit }, ap (next_in last) is ∙ line.next)
 
-pub kept_push : (last : ℕ) (q later : List OwnSend) (n : OwnSend) → AreKept last q → length q < 4 → last < 2000000000 → is_unsettled n ≡ true → n.req ≡ last + 1 → later ≡ q ++ n ∷ [] → AreKept (last + 1) later × (next_in (last + 1) later ≡ next_in last q)
+pub kept_push : (last : ℕ) (q later : List OwnSend) (n : OwnSend) → AreKept last q → length q < 4 → last < most_number → is_unsettled n ≡ true → n.req ≡ last + 1 → later ≡ q ++ n ∷ [] → AreKept (last + 1) later × (next_in (last + 1) later ≡ next_in last q)
 kept_push last q later n kept few low un req is =
     let long : length later ≡ length q + 1 = ap length is ∙ length-append q (n ∷ []) in
     (record { few = omega arith; line = ap (are_in_line (last + 1)) is ∙ push_line last q n un req kept.line; limit = omega arith }, ap (next_in (last + 1)) is ∙ push_next last q n un req)
@@ -270,7 +271,7 @@ some_low (Some s) last req body low is =
     let most = low s refl in
     omega arith
 
-pub waiting_within : {B : Type 0} (last : ℕ) (q : List OwnSend) (body : B → List ℕ) (found : Option (ℕ × B)) → AreKept last q → option_map {U = ℕ × List ℕ} (λ send. (send.0, body send.1)) found ≡ option_map {U = ℕ × List ℕ} (λ send. (send.req, send.body)) (find is_unsettled q) → IfSome found (λ send. send.0 ≤ 2000000000)
+pub waiting_within : {B : Type 0} (last : ℕ) (q : List OwnSend) (body : B → List ℕ) (found : Option (ℕ × B)) → AreKept last q → option_map {U = ℕ × List ℕ} (λ send. (send.0, body send.1)) found ≡ option_map {U = ℕ × List ℕ} (λ send. (send.req, send.body)) (find is_unsettled q) → IfSome found (λ send. send.0 ≤ most_number)
 waiting_within last q body None kept is = tt
 waiting_within last q body (Some f) kept is =
     let limit = kept.limit in

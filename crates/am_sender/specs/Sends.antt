@@ -1,7 +1,8 @@
 -- A node's own sends, which are queued until they are collected.
 use Rattle.std.specs.Prelude.{◌≡◌, ℕ, ◌+◌, ◌≤◌, length, true, nat_lt, List, [], ◌∷◌, ◌++◌, map, filter, find, count_by, Option, Some, None, option_map, is_some, is_none, Bool, not, ◌==◌, ◌&&◌, if◌then◌else◌}
 use Rattle.std.specs.List.{list_any, list_all}
-use Rattle.am_base.specs.declared.outcome.Outcome.{Outcome}
+use Rattle.am_base.specs.Most.{most_number}
+use Rattle.am_base.specs.Outcomes.{Outcome}
 use Rattle.am_base.specs.declared.outcome.Outcome.TheVariants.{Unknown, Pending, Sent}
 use Rattle.am_sender.specs.declared.OwnSend.{OwnSend}
 
@@ -86,4 +87,4 @@ next_request sends = next_in sends.last sends.queue
 pub record AreKept (last : ℕ) (queue : List OwnSend) : Type 0 where
   pub few : length queue ≤ 4
   pub line : are_in_line last queue ≡ true
-  pub limit : last ≤ 2000000000
+  pub limit : last ≤ most_number

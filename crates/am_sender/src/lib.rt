@@ -3,6 +3,7 @@
 
 ghost use Rattle.std.specs.Prelude.{ℕ, List, find, map, IsTrue, ◌≡◌, ◌<◌, ◌≤◌, ◌+◌, length, OnOk, OnErr, IfOk, IfErr, IsOk, ◌↔◌, Some, IfSome, option_map};
 ghost use Rattle.std.specs.Option.{option_copied};
+ghost use Rattle.am_base.specs.Most.{most_number};
 ghost use Rattle.am_sender.specs.Sends.{no_sends, without_request, is_request, waiting_send, collected_of, unsettled, is_settled, settle_send, submit, settle, collect, collect_outcome, next_request, AreKept};
 
 use am_base::body::Body;
@@ -95,7 +96,7 @@ impl Sender {
     /// Queues a send and gives its request number, one more than the last. Busy exactly where four sends aren't
     /// collected; then nothing changes.
     pub fn submit(&mut self, body: Body) -> Result<u32, Busy>
-        requires { self.old.last < 2000000000 }
+        requires { self.old.last < most_number }
         ensures variant { IsOk result ↔ (length self.old.queue < 4) }
         ensures number { IfOk result (λ req. req ≡ self.old.last + 1) }
         ensures ok { OnOk result (self.new ≡ submit body self.old) }
@@ -129,7 +130,7 @@ impl Sender {
     /// The send that is sent next, the first that isn't settled; None exactly where there is none.
     pub fn waiting(&self) -> Option<(u32, &Body)>
         ensures value { option_map {U = ℕ × List ℕ} (λ send. (send.0, send.1.now)) result ≡ waiting_send self.now }
-        ensures within { IfSome result (λ send. send.0 ≤ 2000000000) }
+        ensures within { IfSome result (λ send. send.0 ≤ most_number) }
         ensures kept { AreKept self.now.last self.now.queue }
     {
         self.first_unsettled()

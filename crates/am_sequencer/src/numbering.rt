@@ -1,4 +1,5 @@
 ghost use Rattle.std.specs.Prelude.{◌≡◌, ◌<◌, ◌+◌, [], length, true, false};
+ghost use Rattle.am_base.specs.Most.{most_number};
 ghost use Rattle.am_base.specs.declared.entry.Entry.TheVariants.{Data};
 ghost use Rattle.am_base.specs.Limits.{IsNumber};
 ghost use Rattle.am_base.specs.Lists.{fits};
@@ -77,7 +78,7 @@ fn number_data(
     requires leads { is_sequencer (node_of parts.old) ≡ true }
     requires fits { fits (told (node_of parts.old)) (Data from req body.now) ≡ true }
     requires room { length parts.old.core.log.entries < parts.old.core.rules.window + 15 }
-    requires number { top (node_of parts.old) < 2000000000 }
+    requires number { top (node_of parts.old) < most_number }
     requires req { IsNumber req }
     requires empty { out.old ≡ [] }
     ensures { Done before (number_data (node_of parts.old) from req body.now by_order) result out.new (node_of parts.new) }
@@ -111,7 +112,7 @@ pub fn requested(
 ) -> Outcome
     requires leads { is_sequencer (node_of parts.old) ≡ true }
     requires known { is_unknown (node_of parts.old) from ≡ false }
-    requires number { top (node_of parts.old) < 2000000000 }
+    requires number { top (node_of parts.old) < most_number }
     requires req { IsNumber req }
     requires empty { out.old ≡ [] }
     ensures { Done before (requested (node_of parts.old) from req body.now by_order) result out.new (node_of parts.new) }

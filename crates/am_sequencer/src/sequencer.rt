@@ -1,4 +1,5 @@
 ghost use Rattle.std.specs.Prelude.{◌≡◌, ◌≢◌, ◌<◌, [], true};
+ghost use Rattle.am_base.specs.Most.{most_number};
 ghost use Rattle.am_base.specs.Limits.{IsNumber};
 ghost use Rattle.am_model.specs.Node.{top, is_sequencer};
 ghost use Rattle.am_model.specs.Sequencing.{ack_row, nack_row, request_row};
@@ -85,7 +86,7 @@ pub fn on_request(
 ) -> Outcome
     requires leads { is_sequencer (node_of parts.old) ≡ true }
     requires other { from ≢ parts.old.core.who }
-    requires number { top (node_of parts.old) < 2000000000 }
+    requires number { top (node_of parts.old) < most_number }
     requires req { IsNumber req }
     requires empty { out.old ≡ [] }
     ensures { Does (λ m. request_row m from report req body.now by_order) (node_of parts.old) result out.new (node_of parts.new) }

@@ -1,5 +1,6 @@
 -- How far a world has come with the events of a schedule.
 use Rattle.std.specs.Prelude.{◌≡◌, ℕ, ◌+◌, ◌<◌, List, [], ◌∷◌, ◌++◌, length, take, Bool, not, if◌then◌else◌}
+use Rattle.am_base.specs.Most.{most_events}
 use Rattle.am_packet.specs.Boxes.{Letter}
 use Rattle.am_group.specs.declared.event.Act.{Act}
 use Rattle.am_group.specs.declared.event.Event.{Event}
@@ -40,4 +41,4 @@ DidSome events old new = (count : ℕ) × Did (take count events) old new
 -- it did a beginning of them, and no more by this refusal: Spent where a run of all would have too many events
 pub record Stuck (events : List Event) (old new : Play) (refusal : WorldRefusal) : Type 0 where
   pub some : DidSome events old new
-  pub spent : refusal ≡ Spent → 100000 < length old.events + length events
+  pub spent : refusal ≡ Spent → most_events < length old.events + length events

@@ -1,5 +1,6 @@
 -- What a play does.
 use Rattle.std.specs.Prelude.{◌≡◌, ℕ, ◌<◌, ◌≤◌, List, ◌++◌, length, Bool, if◌then◌else◌}
+use Rattle.am_base.specs.Most.{most_events}
 use Rattle.am_base.specs.Founding.{Rules}
 use Rattle.am_group.specs.declared.event.Event.{Event}
 use Rattle.am_model.specs.World.{run}
@@ -12,8 +13,8 @@ done_of rules events settles = if settles then events ++ settle_events rules (ru
 
 -- the text of a run of this founding, of at most 100,000 events
 unfoldable pub IsRunText : Rules → List Event → Bool → List ℕ → Type 0
-IsRunText rules events settles text = (text ≡ text_of rules (done_of rules events settles)) × (length (done_of rules events settles) ≤ 100000)
+IsRunText rules events settles text = (text ≡ text_of rules (done_of rules events settles)) × (length (done_of rules events settles) ≤ most_events)
 
 -- its run would have more
 unfoldable pub IsLong : Rules → List Event → Bool → Type 0
-IsLong rules events settles = 100000 < length (done_of rules events settles)
+IsLong rules events settles = most_events < length (done_of rules events settles)

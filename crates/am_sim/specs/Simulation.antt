@@ -2,6 +2,7 @@
 use Rattle.std.specs.Prelude.{◌≡◌, ℕ, ◌≤◌, List, length, map, take, Option, Some, Ok, Err, Bool, if◌then◌else◌}
 use Rattle.std.specs.Borrow.{Bor}
 use Rattle.std.specs.Io.KnownBytes.{Appends}
+use Rattle.am_base.specs.Most.{most_events}
 use Rattle.am_base.specs.Founding.{Rules}
 use Rattle.am_group.specs.declared.event.Event.{Event}
 use Rattle.am_model.specs.World.{run}
@@ -44,7 +45,7 @@ pub record Played (bytes text : List ℕ) : Type 0 where
   pub settles : Bool
   pub script : reading key.Play bytes ≡ Ok (Play founding events settles)
   pub written : text ≡ script_text founding events settles
-  pub few : length (done_of founding events settles) ≤ 100000
+  pub few : length (done_of founding events settles) ≤ most_events
   pub bounded : Bounded founding (done_of founding events settles)
   pub sent : Sent founding (done_of founding events settles)
   pub unballoted : NoBallot (run founding (done_of founding events settles)) → HoldsUnballoted founding (done_of founding events settles)

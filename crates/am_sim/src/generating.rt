@@ -1,4 +1,5 @@
 ghost use Rattle.std.specs.Prelude.{◌≡◌, ◌≤◌, IfOk, length, string_bytes};
+ghost use Rattle.am_base.specs.Most.{most_events};
 ghost use Rattle.am_pump.specs.Generating.{generated_rules, generated};
 ghost use Rattle.am_sim.specs.Simulation.{Generated};
 
@@ -11,7 +12,7 @@ use std::alloc::Global;
 
 /// The group of two numbers, of which the second is at most 100,000.
 fn generated_world(alloc: Global, numbers: Numbers) -> Result<World, NoMemory>
-    requires { numbers.count ≤ 100000 }
+    requires { numbers.count ≤ most_events }
     ensures world { IfOk result (λ world. world ≡ record { rules = generated_rules; events = generated numbers.seed numbers.count }) }
     ensures count { IfOk result (λ world. length world.events ≡ numbers.count) }
 {
@@ -24,7 +25,7 @@ fn generated_world(alloc: Global, numbers: Numbers) -> Result<World, NoMemory>
 
 /// The summary of their run.
 pub fn summary_of_run(alloc: Global, numbers: Numbers) -> Result<String, NoMemory>
-    requires { numbers.count ≤ 100000 }
+    requires { numbers.count ≤ most_events }
     ensures { IfOk result (λ text. Generated numbers (string_bytes text)) }
 {
     let world = generated_world(alloc, numbers)?;

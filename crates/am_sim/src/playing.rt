@@ -1,4 +1,5 @@
 ghost use Rattle.std.specs.Prelude.{◌≡◌, ◌<◌, ◌≤◌, ◌+◌, ◌++◌, [], ◌∷◌, length, filter, if◌then◌else◌, OnOk, IfOk, IfErr, string_bytes};
+ghost use Rattle.am_base.specs.Most.{most_events};
 ghost use Rattle.am_base.specs.Votes.{all_names};
 ghost use Rattle.am_model.specs.Group.{has_log};
 ghost use Rattle.am_model.specs.Play.{text_of};
@@ -58,7 +59,7 @@ fn text_of_world(alloc: Global, world: &World) -> Result<String, NoMemory>
 /// A world does events in turn.
 fn do_events(world: &mut World, events: &[Event]) -> Result<(), WorldRefusal>
     ensures ok { OnOk result (world.new ≡ record world.old { events = world.old.events ++ events.now }) }
-    ensures err { IfErr result (λ e. e ≡ refusals.Spent → 100000 < length world.old.events + length events.now) }
+    ensures err { IfErr result (λ e. e ≡ refusals.Spent → most_events < length world.old.events + length events.now) }
 {
     for event in events {
         world.step(event)?;
@@ -76,8 +77,8 @@ fn played(
     settles: bool,
 ) -> Result<World, WorldRefusal>
     ensures ok { IfOk result (λ world. world ≡ record { rules = founding.now; events = done_of founding.now events.now settles }) }
-    ensures few { IfOk result (λ world. length (done_of founding.now events.now settles) ≤ 100000) }
-    ensures err { IfErr result (λ e. e ≡ refusals.Spent → 100000 < length (done_of founding.now events.now settles)) }
+    ensures few { IfOk result (λ world. length (done_of founding.now events.now settles) ≤ most_events) }
+    ensures err { IfErr result (λ e. e ≡ refusals.Spent → most_events < length (done_of founding.now events.now settles)) }
 {
     let mut world = World::new(alloc, founding)?;
     do_events(&mut world, events)?;

@@ -1,6 +1,7 @@
 -- Each step of a wire keeps its rule.
 use Rattle.std.proofs.Common.{◌≡◌, ◌≢◌, ◌⊎◌, ℕ, zero, suc, ◌+◌, ◌*◌, ◌%◌, ◌^◌, ◌<◌, ◌≤◌, Bool, cond, true, false, true≢false, eqb, List, [], ◌∷◌, ◌++◌, length, take, drop, map, set, sym, refl, ap, ◌∙◌, subst, inl, inr, arith, append-nil, length-append, ap₂, eq-eqb}
 use Rattle.std.specs.Prelude.{slice_index, All, if◌then◌else◌}
+use Rattle.am_base.specs.Most.{most_events}
 use mathlib.Core.Option.{Option, none, some, some-injective, some-ne-none}
 use lib.ListN.{get_elem?}
 use prog.Atomic.{either}
@@ -340,7 +341,7 @@ key_of_wire terms s k key id v at has = let t = stand_one key s.views id v at in
 pub record MayCount (me : Sat) (r : Record) : Type 0 where
   pub turn : me.0.turn ≡ true
   pub page : me.1 ≡ (0, record { founding = me.0.founding; records = me.0.seen ++ r ∷ [] }) ∷ []
-  pub room : length me.0.seen < 100000
+  pub room : length me.0.seen < most_events
   pub place : 0 < times (Place (place_of r.event.node)) me.0.keys
   pub caller : 0 < times (Caller r.by.caller) me.0.keys
   pub low : All (λ l. IsUpTo (2 * length me.0.seen + 3) l.packet) r.packets

@@ -1,5 +1,6 @@
 -- Wires and passes as contracts see them.
 use Rattle.std.specs.Prelude.{◌≡◌, ℕ, ◌+◌, ◌*◌, ◌<◌, ◌≤◌, List, [], ◌∷◌, ◌++◌, length, true, false, All, sum_by}
+use Rattle.am_base.specs.Most.{most_events}
 use Rattle.atomic_table.specs.Seated.{TableId}
 use Rattle.am_base.specs.Founding.{Rules}
 use Rattle.am_group.specs.declared.event.Record.{Record}
@@ -68,7 +69,7 @@ pub record IsReady (wire : TableId) (p q : Known) (item : Record) : Type 0 where
 -- the record was added to the journal, which both have then seen: what was there before went on from what each had seen
 pub record Committed (p q : Known) (item : Record) (count : ℕ) (p' q' : Known) : Type 0 where
   pub before : List Record
-  pub room : length before < 100000
+  pub room : length before < most_events
   pub number : count ≡ length before + 1
   pub pass : GoesOn p.keys p.seen before
   pub share : GoesOn q.keys q.seen before

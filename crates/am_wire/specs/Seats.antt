@@ -1,5 +1,6 @@
 -- The rule of the wire, and what its steps tell.
 use Rattle.std.specs.Prelude.{◌≡◌, ◌≢◌, ◌⊎◌, ℕ, ◌+◌, ◌*◌, ◌<◌, ◌≤◌, Bool, true, false, List, [], ◌∷◌, ◌++◌, length, take, drop, slice_index, nat_lt, if◌then◌else◌, All, sum_by}
+use Rattle.am_base.specs.Most.{most_events}
 use mathlib.Core.Option.{none, some}
 use lib.ListN.{get_elem?}
 use Rattle.atomic_table.specs.Table.{State, Me, Step}
@@ -98,7 +99,7 @@ pub record Stands (terms : Terms) (s : Shown) : Type 0 where
   pub log : List Record
   pub two : length s.words ≡ 2
   pub count : slice_index s.words 1 ≡ length log
-  pub most : length log ≤ 100000
+  pub most : length log ≤ most_events
   pub low : AreLow log
   pub callers : All (λ r. r.by.caller < terms.callers) log
   pub once : (key : Key) → standing key s.views ≡ (if is_key terms.callers key then 1 else 0)
@@ -125,7 +126,7 @@ pub record Takes (m m' : Sat) : Type 0 where
   pub turn : HasTurn m'
   pub keys : m'.0.keys ≡ m.0.keys
   pub goes : GoesOn m.0.keys m.0.seen m'.0.seen
-  pub most : length m'.0.seen ≤ 100000
+  pub most : length m'.0.seen ≤ most_events
   pub low : AreLow m'.0.seen
 
 abbrev pub took : Step Page → Sat → ℕ → Sat → Type 0

@@ -1,4 +1,5 @@
 ghost use Rattle.std.specs.Prelude.{◌≡◌, ◌<◌, ◌≤◌, ◌++◌, ◌∷◌, [], length, OnOk, OnErr, if◌then◌else◌};
+ghost use Rattle.am_base.specs.Most.{most_events};
 ghost use Rattle.am_group.specs.Addressed.{next_for};
 ghost use Rattle.am_group.specs.Journals.{letters_of, letter_at};
 ghost use Rattle.am_wire.specs.Stops.{is_stop, with_stop, stopped_in};
@@ -7,7 +8,7 @@ use am_base::NoMemory;
 use am_base::founding::Founding;
 use am_base::name::Name;
 use am_base::names::Names;
-use am_base::outcome::Outcome;
+use am_base::outcome::{KeptOutcome, Outcome};
 use am_group::event::Record;
 use am_group::journal::Journal;
 use am_letter::letter::Letter;
@@ -32,7 +33,7 @@ impl Model for Sheet {
     ghost invariant = { λ s. s.stopped ≡ stopped_in s.journal.records };
 }
 
-fn is_stop(outcome: &Outcome) -> bool
+fn is_stop(outcome: &KeptOutcome) -> bool
     ensures { result ≡ is_stop outcome.now }
 {
     match outcome {
@@ -44,7 +45,7 @@ fn is_stop(outcome: &Outcome) -> bool
 fn with_stop(stopped: Names, item: &Record) -> Names
     ensures { result ≡ with_stop stopped item.now }
 {
-    if !is_stop(item.outcome.get()) {
+    if !is_stop(&item.outcome) {
         return stopped;
     }
     match Name::of(item.event.node.place(), item.life) {
@@ -67,14 +68,14 @@ impl Sheet {
     /// How many records there are.
     pub fn len(&self) -> usize
         ensures value { result ≡ length self.now.records }
-        ensures few { result ≤ 100000 }
+        ensures few { result ≤ most_events }
     {
         self.journal.records().len()
     }
 
     /// Adds a record, or leaves all as it was where there is no memory.
     pub fn add(&mut self, item: Record) -> Result<(), NoMemory>
-        requires few { length self.old.records < 100000 }
+        requires few { length self.old.records < most_events }
         requires letters { length item.packets ≤ 24 }
         ensures founding { self.new.founding ≡ self.old.founding }
         ensures ok { OnOk result (self.new.records ≡ self.old.records ++ item ∷ []) }

@@ -5,7 +5,6 @@ ghost use Rattle.am_wire.specs.Seats.{IsUpTo};
 ghost use Rattle.am_wire.specs.Passes.{IsReady};
 
 use crate::wire::{Pass, Share, Wire, WireRefusal};
-use am_base::boxed::Boxed;
 use am_base::founding::Founding;
 use am_base::items::Items;
 use am_base::name::{Name, Stamp};
@@ -51,7 +50,7 @@ fn stop_at(alloc: Global, place: u8, caller: u32, to: u16) -> Result<Record, Fai
             call: 0,
             part: Part::Call,
         },
-        outcome: Boxed::of(alloc, Outcome::Stopped)?,
+        outcome: Outcome::Stopped,
         packets,
     })
 }

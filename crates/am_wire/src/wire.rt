@@ -1,4 +1,5 @@
 ghost use Rattle.std.specs.Prelude.{◌≡◌, ◌+◌, ◌*◌, ◌<◌, ◌≤◌, ◌↔◌, [], ◌∷◌, false, length, take, drop, map, All, IfOk, IfErr, IfSome, OnOk, OnErr};
+ghost use Rattle.am_base.specs.Most.{most_events};
 ghost use Rattle.am_base.specs.Names.{place_of};
 ghost use Rattle.am_group.specs.Addressed.{next_for};
 ghost use Rattle.am_group.specs.Journals.{letters_of, letter_at};
@@ -13,6 +14,7 @@ use crate::rule::{Count, FirstKey, Give, Look, OneJournal, Take, Terms, Together
 use crate::sheet::Sheet;
 use am_base::NoMemory;
 use am_base::founding::Founding;
+use am_base::limits::MOST_EVENTS;
 use am_base::name::Name;
 use am_base::names::Names;
 use am_group::event::Record;
@@ -23,9 +25,6 @@ use std::alloc::{AllocError, Global};
 use std::marker::Model;
 use std::sync::Wait;
 use std::{mem, thread};
-
-/// The most records that a journal has.
-const MOST_RECORDS: usize = 100_000;
 
 type TableSeat = Seat<Sheet, View>;
 
@@ -169,7 +168,7 @@ impl Wire {
     fn add(&self, seat: &mut TableSeat, item: Record) -> Result<u32, WireRefusal>
         requires own { seat.old.table_id ≡ self.now.id }
         requires turn { HasTurn seat.old.me }
-        requires most { length seat.old.me.0.seen ≤ 100000 }
+        requires most { length seat.old.me.0.seen ≤ most_events }
         requires place { 0 < times (Place (place_of item.event.node)) seat.old.me.0.keys }
         requires caller { 0 < times (Caller item.by.caller) seat.old.me.0.keys }
         requires few { length item.packets ≤ 24 }
@@ -177,13 +176,13 @@ impl Wire {
         ensures same { seat.new.table_id ≡ seat.old.table_id }
         ensures ok { OnOk result (Adds seat.old.me item seat.new.me) }
         ensures number { IfOk result (λ n. n ≡ length seat.old.me.0.seen + 1) }
-        ensures room { OnOk result (length seat.old.me.0.seen < 100000) }
+        ensures room { OnOk result (length seat.old.me.0.seen < most_events) }
         ensures err { OnErr result (seat.new.me ≡ seat.old.me) }
-        ensures spent { IfErr result (λ e. e ≡ refusals.Spent ↔ (length seat.old.me.0.seen ≡ 100000)) }
+        ensures spent { IfErr result (λ e. e ≡ refusals.Spent ↔ (length seat.old.me.0.seen ≡ most_events)) }
     {
         let sheet = seat.slot_mut(&self.table.shared, 0);
         let count = sheet.len();
-        if count >= MOST_RECORDS {
+        if count >= MOST_EVENTS {
             return Err(WireRefusal::Spent);
         }
         if sheet.add(item).is_err() {
@@ -282,7 +281,7 @@ impl Wire {
         ensures ok { IfOk result (λ n. Committed pass.old share.old item n pass.new share.new) }
         ensures err { OnErr result (Sees pass.old pass.new × Sees share.old share.new) }
         ensures both { share.new.seen ≡ pass.new.seen }
-        ensures spent { IfErr result (λ e. e ≡ refusals.Spent ↔ (length pass.new.seen ≡ 100000)) }
+        ensures spent { IfErr result (λ e. e ≡ refusals.Spent ↔ (length pass.new.seen ≡ most_events)) }
     {
         let mut seat = seat_in(&mut pass.badge);
         self.unite(&mut seat, seat_in(&mut share.badge));

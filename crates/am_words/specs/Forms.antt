@@ -4,6 +4,7 @@ use Rattle.std.specs.Cmp.Lexicographic.{pointwise}
 use Rattle.std.specs.List.{list_all}
 use Rattle.std.specs.Char.{is_ascii_digit}
 use Rattle.std.specs.Str.Parse.{digits_value}
+use Rattle.am_base.specs.Most.{most_events}
 use Rattle.am_words.specs.declared.form.Form.{Form}
 use Rattle.am_words.specs.declared.form.Form.TheVariants as form
 use Rattle.am_words.specs.declared.form.Numbers.{Numbers}
@@ -24,7 +25,7 @@ number_of text = if is_numeral text && nat_lt (digits_value 10 text) (2 ^ 64) th
 
 -- two numbers, of which the second is 1 to 100,000
 abbrev pub with_numbers : Option ℕ → Option ℕ → Option Numbers
-with_numbers (Some seed) (Some count) = if nat_le 1 count && nat_le count 100000 then Some (record { seed = seed; count = count }) else None
+with_numbers (Some seed) (Some count) = if nat_le 1 count && nat_le count most_events then Some (record { seed = seed; count = count }) else None
 with_numbers _ _ = None
 
 abbrev pub numbers_of : List ℕ → List ℕ → Option Numbers

@@ -1,7 +1,10 @@
 ghost use Rattle.std.specs.Prelude.{◌≡◌, ◌≤◌, [], ◌∷◌, map, IfSome};
 ghost use Rattle.std.specs.List.{list_all};
 ghost use Rattle.std.specs.Char.{is_ascii_digit};
+ghost use Rattle.am_base.specs.Most.{most_events};
 ghost use Rattle.am_words.specs.Forms.{form_of, number_of, numbers_of, has_options};
+
+use am_base::limits::MOST_EVENTS;
 
 /// The numbers of `gen`: the seed, and how many events there are, 1 to 100,000.
 #[derive(Clone, Copy, PartialEq, Eq, Debug)]
@@ -40,11 +43,11 @@ fn number_of(text: &str) -> Option<u64>
 /// The numbers that two texts write, of which the second is 1 to 100,000.
 pub(crate) fn numbers_of(seed: &str, count: &str) -> Option<Numbers>
     ensures value { result ≡ numbers_of seed.now count.now }
-    ensures few { IfSome result (λ numbers. numbers.count ≤ 100000) }
+    ensures few { IfSome result (λ numbers. numbers.count ≤ most_events) }
 {
     let seed = number_of(seed)?;
     let count = number_of(count)?;
-    if count < 1 || 100_000 < count {
+    if count < 1 || (MOST_EVENTS as u64) < count {
         return None;
     }
     Some(Numbers {

@@ -2,10 +2,11 @@
 use Rattle.std.proofs.Common.{◌≡◌, ℕ, ◌+◌, ◌-◌, ◌<◌, ◌≤◌, ◌==◌, max, Bool, true, false, if◌then◌else◌, List, [], ◌∷◌, ◌++◌, length, take, drop, Ok, Some, slice_get, slice_set, refl, sym, ap, ◌∙◌, subst, arith, length-append, length-drop}
 use Rattle.std.proofs.lemmas.List.{length-take, length-set, drop-drop}
 use Rattle.std.proofs.lemmas.Bool.Decides.{nat_tests}
+use Rattle.am_base.specs.Most.{most_events}
 use Rattle.am_base.specs.declared.entry.Entry.{Entry}
 use Rattle.am_base.specs.declared.image.Image.{Image}
 use Rattle.am_base.specs.declared.name.Stamp.{Stamp}
-use Rattle.am_base.specs.declared.outcome.Outcome.{Outcome}
+use Rattle.am_base.specs.Outcomes.{Outcome}
 use Rattle.am_base.specs.declared.event.NodeEvent.{NodeEvent}
 use Rattle.am_base.specs.Founding.{Rules}
 use Rattle.am_base.specs.Names.{place_of}
@@ -98,7 +99,7 @@ next_node : (w : model.World) (e : Event) (what : NodeEvent) → (next_world w e
 unfolding stepped
 next_node w e what = let same : (current w (place_of e.node) == current w (place_of e.node)) ≡ true = grind (arith, nat_tests) in rw same refl
 
-numbers_left : (events accepted : ℕ) (all m : protocol.Node) → events < 100000 → NodeNumbers events accepted all → IsEndOf all m → HasNumbersLeft m
+numbers_left : (events accepted : ℕ) (all m : protocol.Node) → events < most_events → NodeNumbers events accepted all → IsEndOf all m → HasNumbersLeft m
 numbers_left events accepted all m few lows is =
     let high = end_high all m is in
     let round = ap (λ (n : protocol.Node). n.core.promise.round) is.same in
@@ -123,7 +124,7 @@ next_low p e what n is end order =
     (omega arith, omega arith)
 
 pub ready_at : (p : Play) (first : Rules) (nodes : List Node) (lives : List ℕ) (flags : List Bool) (records : List Record) (group : List Entry) (e : Event) (what : NodeEvent) (name stored room : ℕ)
-    → play_of first records ≡ p → IsRun (play_of first records) nodes lives flags records group → length p.events < 100000
+    → play_of first records ≡ p → IsRun (play_of first records) nodes lives flags records group → length p.events < most_events
     → name ≡ current (replay p) (place_of e.node) → happens (replay p) e ≡ next_world (replay p) e what
     → stored ≡ length group → max (length p.events + 2) stored ≤ room → IsReadyAt nodes (place_of name) what stored room
 ready_at p first nodes lives flags records group e what name stored room view ok few here is all_stored has_room = λ n at.
@@ -191,7 +192,7 @@ unfolding stepped
 group_step w e what = refl
 
 pub act_goes_on : (p : Play) (first founding : Rules) (nodes more : List Node) (lives : List ℕ) (flags : List Bool) (records pushed : List Record) (group longer : List Entry) (e : Event) (what : NodeEvent) (outcome : Outcome) (letters : List Letter) (name : ℕ)
-    → play_of first records ≡ p → IsRun (play_of first records) nodes lives flags records group → length p.events < 100000
+    → play_of first records ≡ p → IsRun (play_of first records) nodes lives flags records group → length p.events < most_events
     → name ≡ current (replay p) (place_of e.node) → StepsAt nodes more group longer (place_of name) what outcome letters
     → IsRecorded (replay p) e outcome letters first founding records pushed → happens (replay p) e ≡ next_world (replay p) e what
     → IsRun (play_of founding pushed) more lives flags pushed longer × Answers p e outcome

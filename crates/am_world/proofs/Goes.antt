@@ -1,8 +1,9 @@
 -- A world goes on as its run.
 use Rattle.std.proofs.Common.{◌≡◌, ℕ, ◌+◌, ◌<◌, ◌≤◌, Bool, List, [], ◌∷◌, ◌++◌, length, map, refl, sym, ap, ◌∙◌, subst, arith, length-append, append-nil}
 use Rattle.std.proofs.lemmas.List.{map_push, length-map}
+use Rattle.am_base.specs.Most.{most_events}
 use Rattle.am_base.specs.declared.entry.Entry.{Entry}
-use Rattle.am_base.specs.declared.outcome.Outcome.{Outcome}
+use Rattle.am_base.specs.Outcomes.{Outcome}
 use Rattle.am_base.specs.Founding.{Rules, MayFound}
 use Rattle.am_base.specs.Names.{place_of, life_of}
 use Rattle.am_packet.specs.Boxes.{Letter}
@@ -55,7 +56,7 @@ pub record Follows (w v : model.World) (e : Event) (outcome : Outcome) (letters 
   pub letters_ : v.letters ≡ w.letters ++ letters
 
 pub goes_on : (p : Play) (first founding : Rules) (nodes more : List Node) (lives longer : List ℕ) (flags set : List Bool) (records pushed : List Record) (group grown : List Entry) (e : Event) (outcome : Outcome) (letters : List Letter) (v : model.World)
-    → play_of first records ≡ p → IsRun (play_of first records) nodes lives flags records group → length p.events < 100000
+    → play_of first records ≡ p → IsRun (play_of first records) nodes lives flags records group → length p.events < most_events
     → IsRecorded (replay p) e outcome letters first founding records pushed → Follows (replay p) v e outcome letters
     → AreNodes more v → AreLives longer v → AreFlags set v → grown ≡ v.group → length grown ≤ 2 + length p.events
     → IsRun (play_of founding pushed) more longer set pushed grown × Answers p e outcome
@@ -107,7 +108,7 @@ unfolding unchanged
 passes_group w e outcome = refl
 
 pub pass_goes_on : (p : Play) (first founding : Rules) (nodes : List Node) (lives : List ℕ) (flags : List Bool) (records pushed : List Record) (group : List Entry) (e : Event) (outcome : Outcome)
-    → play_of first records ≡ p → IsRun (play_of first records) nodes lives flags records group → length p.events < 100000
+    → play_of first records ≡ p → IsRun (play_of first records) nodes lives flags records group → length p.events < most_events
     → IsRecorded (replay p) e outcome [] first founding records pushed → happens (replay p) e ≡ unchanged (replay p) e outcome
     → IsRun (play_of founding pushed) nodes lives flags pushed group × Answers p e outcome
 pass_goes_on p first founding nodes lives flags records pushed group e outcome view ok few recorded is =
@@ -147,5 +148,5 @@ counted records = simp length-map
 pub as_many : (p : Play) (first : Rules) (records : List Record) → play_of first records ≡ p → length p.events ≡ length records
 as_many p first records view = ap (λ (q : Play). length q.events) (sym view) ∙ counted records
 
-pub few_of : (p : Play) (first : Rules) (nodes : List Node) (lives : List ℕ) (flags : List Bool) (records : List Record) (group : List Entry) → play_of first records ≡ p → IsRun (play_of first records) nodes lives flags records group → length p.events ≤ 100000
-few_of p first nodes lives flags records group view ok = subst (λ (q : Play). length q.events ≤ 100000) view ok.few
+pub few_of : (p : Play) (first : Rules) (nodes : List Node) (lives : List ℕ) (flags : List Bool) (records : List Record) (group : List Entry) → play_of first records ≡ p → IsRun (play_of first records) nodes lives flags records group → length p.events ≤ most_events
+few_of p first nodes lives flags records group view ok = subst (λ (q : Play). length q.events ≤ most_events) view ok.few

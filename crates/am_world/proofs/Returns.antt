@@ -2,6 +2,7 @@
 use Rattle.std.proofs.Common.{◌≡◌, ℕ, ◌+◌, ◌<◌, ◌≤◌, ◌==◌, ◌≢◌, Bool, true, false, if◌then◌else◌, List, [], ◌∷◌, ◌++◌, append-nil, length, Some, slice_get, slice_set, slice_index, refl, sym, ap, ◌∙◌, subst, arith}
 use Rattle.std.proofs.lemmas.List.{length-set}
 use Rattle.std.proofs.lemmas.Bool.Decides.{nat_tests}
+use Rattle.am_base.specs.Most.{most_events}
 use Rattle.am_base.specs.declared.entry.Entry.{Entry}
 use Rattle.am_base.specs.declared.outcome.Outcome.TheVariants as said
 use Rattle.am_base.specs.Founding.{Rules, MayFound}
@@ -73,7 +74,7 @@ flags_on w flags place within h =
     go false e = let f = flags_more w (current w place) flags within h in record { count = f.count; each = f.each }
 
 pub return_goes_on : (p : Play) (first founding : Rules) (nodes : List Node) (lives : List ℕ) (flags : List Bool) (records pushed : List Record) (group : List Entry) (e : Event) (name at also to stop_at life : ℕ) (n : Node)
-    → play_of first records ≡ p → IsRun (play_of first records) nodes lives flags records group → length p.events < 100000
+    → play_of first records ≡ p → IsRun (play_of first records) nodes lives flags records group → length p.events < most_events
     → name ≡ current (replay p) (place_of e.node) → at ≡ place_of name → also ≡ place_of name → stop_at ≡ name → life ≡ life_of name + 1 → life ≤ 16
     → to ≡ name_at (place_of name) life → state_of n ≡ stranger first to
     → IsRecorded (replay p) e (said.Returned life) [] first founding records pushed → happens (replay p) e ≡ answered (replay p) e (said.Returned life)

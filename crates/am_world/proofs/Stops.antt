@@ -3,6 +3,7 @@ use Rattle.std.proofs.Common.{◌≡◌, ℕ, zero, suc, ◌+◌, ◌<◌, ◌�
 use Rattle.std.specs.List.{list_any}
 use Rattle.std.proofs.lemmas.List.{length-set}
 use Rattle.std.proofs.lemmas.Bool.Decides.{nat_tests}
+use Rattle.am_base.specs.Most.{most_events}
 use Rattle.am_base.specs.declared.entry.Entry.{Entry}
 use Rattle.am_base.specs.declared.outcome.Outcome.TheVariants as said
 use Rattle.am_base.specs.Founding.{Rules}
@@ -66,7 +67,7 @@ pub name_within : (w : model.World) (lives : List ℕ) (place : ℕ) → place <
 name_within w lives place within h = let most = (h.within place within).1 in omega arith
 
 pub stop_goes_on : (p : Play) (first founding : Rules) (nodes : List Node) (lives : List ℕ) (flags : List Bool) (records pushed : List Record) (group : List Entry) (e : Event) (name at : ℕ)
-    → play_of first records ≡ p → IsRun (play_of first records) nodes lives flags records group → length p.events < 100000
+    → play_of first records ≡ p → IsRun (play_of first records) nodes lives flags records group → length p.events < most_events
     → name ≡ current (replay p) (place_of e.node) → at ≡ name
     → IsRecorded (replay p) e said.Stopped [] first founding records pushed → happens (replay p) e ≡ answered (replay p) e said.Stopped
     → IsRun (play_of founding pushed) nodes lives (slice_set flags at true) pushed group × Answers p e said.Stopped

@@ -1,7 +1,8 @@
 -- Which run of a group a world is.
 use Rattle.std.specs.Prelude.{◌≡◌, ℕ, ◌+◌, ◌<◌, ◌≤◌, List, [], ◌∷◌, ◌++◌, length, map, Some, Bool, false, slice_get, slice_index, slice_index_or}
+use Rattle.am_base.specs.Most.{most_events}
 use Rattle.am_base.specs.declared.entry.Entry.{Entry}
-use Rattle.am_base.specs.declared.outcome.Outcome.{Outcome}
+use Rattle.am_base.specs.Outcomes.{Outcome}
 use Rattle.am_base.specs.Founding.{Rules, MayFound}
 use Rattle.am_packet.specs.Boxes.{Letter}
 use Rattle.am_core.specs.Cores.{IsInOrder}
@@ -58,7 +59,7 @@ pub record Shows (w : model.World) (nodes : List Node) (lives : List ℕ) (flags
 
 pub record IsRun (p : Play) (nodes : List Node) (lives : List ℕ) (flags : List Bool) (records : List Record) (group : List Entry) : Type 0 where
   pub founded : MayFound p.rules
-  pub few : length p.events ≤ 100000
+  pub few : length p.events ≤ most_events
   pub short : length group ≤ 1 + length p.events
   pub shows : Shows (replay p) nodes lives flags records group
 

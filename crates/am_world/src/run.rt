@@ -1,4 +1,5 @@
 ghost use Rattle.std.specs.Prelude.{◌≡◌, ◌+◌, ◌<◌, ◌≤◌, ◌++◌, ◌↔◌, [], length, IfOk};
+ghost use Rattle.am_base.specs.Most.{most_events};
 ghost use Rattle.am_base.specs.Founding.{MayFound};
 ghost use Rattle.am_base.specs.Names.{has, name_at, life_of};
 ghost use Rattle.am_model.specs.World.{first_node, record_of, start, has_departed};
@@ -60,7 +61,7 @@ fn new_record(alloc: Global, event: &Event, life: u8, outcome: &Outcome) -> Resu
             call: 0,
             part: Part::Call,
         },
-        outcome: Boxed::of(alloc, outcome.copied())?,
+        outcome: outcome.kept_in(Boxed::of(alloc, Entry::default())?),
         packets: Items::new(alloc),
     })
 }
@@ -130,7 +131,7 @@ impl Run {
     /// How many events were done, 100,000 at most.
     pub fn events(&self) -> usize
         ensures value { result ≡ length self.now.events }
-        ensures few { result ≤ 100000 }
+        ensures few { result ≤ most_events }
     {
         self.journal.records().len()
     }
@@ -179,7 +180,7 @@ impl Run {
 
     /// Records an event that changes no node.
     fn pass(&mut self, event: &Event, name: Name, outcome: Outcome) -> Result<Outcome, NoMemory>
-        requires few { length self.old.events < 100000 }
+        requires few { length self.old.events < most_events }
         requires name { name ≡ current (replay self.old) (place_of event.now.node) }
         requires comes { happens (replay self.old) event.now ≡ unchanged (replay self.old) event.now outcome }
         ensures ok { OnOk result (self.new ≡ after self.old event.now) }
@@ -194,7 +195,7 @@ impl Run {
 
     /// Records that a name has stopped.
     fn stop(&mut self, event: &Event, name: Name) -> Result<Outcome, NoMemory>
-        requires few { length self.old.events < 100000 }
+        requires few { length self.old.events < most_events }
         requires name { name ≡ current (replay self.old) (place_of event.now.node) }
         requires comes { happens (replay self.old) event.now ≡ answered (replay self.old) event.now said.Stopped }
         ensures ok { OnOk result (self.new ≡ after self.old event.now) }
@@ -210,7 +211,7 @@ impl Run {
 
     /// A place goes on with its next life: the node of the one before is let go, and a fresh one takes its place.
     fn come_back(&mut self, event: &Event, name: Name, life: u8) -> Result<Outcome, NoMemory>
-        requires few { length self.old.events < 100000 }
+        requires few { length self.old.events < most_events }
         requires name { name ≡ current (replay self.old) (place_of event.now.node) }
         requires next { life ≡ life_of name + 1 }
         requires most { life ≤ 16 }
@@ -242,7 +243,7 @@ impl Run {
         name: Name,
         outcome: Outcome,
     ) -> Result<Outcome, NoMemory>
-        requires few { length self.old.events < 100000 }
+        requires few { length self.old.events < most_events }
         requires name { name ≡ current (replay self.old) (place_of event.now.node) }
         requires next { IsNextLife name outcome }
         requires comes { happens (replay self.old) event.now ≡ answered (replay self.old) event.now outcome }
@@ -259,7 +260,7 @@ impl Run {
 
     /// A name's node does a step.
     pub fn act(&mut self, event: &Event, name: Name, what: &NodeEvent) -> Result<Outcome, NoMemory>
-        requires few { length self.old.events < 100000 }
+        requires few { length self.old.events < most_events }
         requires name { name ≡ current (replay self.old) (place_of event.now.node) }
         requires comes { happens (replay self.old) event.now ≡ comes (replay self.old) event.now (Ok what.now) }
         ensures ok { OnOk result (self.new ≡ after self.old event.now) }
@@ -268,13 +269,14 @@ impl Run {
     {
         self.journal.reserve()?;
         let mut record = new_record(self.alloc, event, name.life(), &Outcome::Idle)?;
+        let spare = Boxed::of(self.alloc, Entry::default())?;
         let mut packets = Vec::with_capacity(self.alloc, 9)?;
         make_room(&mut self.group, self.journal.records().len() + 2)?;
         self.out.clear();
         let outcome = step_at(&mut self.nodes, name, what, &mut self.group, &mut self.out);
         copy_letters(self.out.letters(), &mut packets);
         packets.shrink_to_fit();
-        record.outcome.set(outcome.copied());
+        record.outcome = outcome.kept_in(spare);
         record.packets = Items::of(packets);
         self.journal.push(record);
         Ok(outcome)

@@ -1,4 +1,5 @@
 ghost use Rattle.std.specs.Prelude.{◌≡◌, ◌+◌, ◌<◌, ◌≤◌, ◌++◌, [], length, drop, if◌then◌else◌};
+ghost use Rattle.am_base.specs.Most.{most_number};
 ghost use Rattle.am_base.specs.Stamps.{stamp_eq};
 ghost use Rattle.am_model.specs.Group.{has_log};
 ghost use Rattle.am_model.specs.Node.{is_member};
@@ -140,7 +141,7 @@ fn store_views(
 /// The watcher is told how the group list goes on above a number.
 fn accept_above(watcher: &mut Watcher, group: &[Entry], known: usize)
     requires known { known ≤ length group.now }
-    requires few { length group.now ≤ 2000000000 }
+    requires few { length group.now ≤ most_number }
     ensures { watching_of watcher.new ≡ accepted (watching_of watcher.old) (known + 1) (drop known group.now) }
 {
     for index in known..group.len() {
@@ -160,7 +161,7 @@ pub fn note_step(
     requires room { HasRoom watcher.old }
     requires few { (watching_of watcher.old).count < 4294967295 }
     requires known { known ≤ length group.now }
-    requires short { length group.now ≤ 2000000000 }
+    requires short { length group.now ≤ most_number }
     ensures { watching_of watcher.new ≡ told_step (watching_of watcher.old) name (state_of node.now) what.now (known + 1) (drop known group.now) }
 {
     let before = watcher.standing(name);

@@ -1,4 +1,5 @@
 ghost use Rattle.std.specs.Prelude.{◌≡◌, ◌+◌, ◌≤◌, [], length, IfOk};
+ghost use Rattle.am_base.specs.Most.{most_events};
 ghost use Rattle.am_world.specs.Watched.{stops_by};
 ghost use Rattle.am_base.specs.Names.{place_of};
 
@@ -8,6 +9,7 @@ use am_base::NoMemory;
 use am_base::entry::Entry;
 use am_base::event::NodeEvent;
 use am_base::founding::Founding;
+use am_base::limits::MOST_EVENTS;
 use am_base::name::Name;
 use am_base::outcome::Outcome;
 use am_group::event::Event;
@@ -17,9 +19,6 @@ use am_node::node::Node;
 use am_watch::watcher::Watcher;
 use std::alloc::Global;
 use std::marker::Model;
-
-/// How many events a run has at most.
-pub const MOST_EVENTS: usize = 100_000;
 
 /// Why a world doesn't do an event.
 #[derive(Clone, Copy, PartialEq, Eq, Debug)]
@@ -165,7 +164,7 @@ impl World {
 
     /// An event that is no step of a node: a name has stopped, or nothing changed that is watched.
     fn answer(&mut self, event: &Event, name: Name, outcome: Outcome) -> Result<Outcome, NoMemory>
-        requires few { length self.old.events < 100000 }
+        requires few { length self.old.events < most_events }
         requires name { name ≡ current (replay self.old) (place_of event.now.node) }
         requires next { IsNextLife name outcome }
         requires comes { happens (replay self.old) event.now ≡ answered (replay self.old) event.now outcome }
@@ -186,7 +185,7 @@ impl World {
 
     /// A name's node does a step.
     fn act(&mut self, event: &Event, name: Name, what: &NodeEvent) -> Result<Outcome, NoMemory>
-        requires few { length self.old.events < 100000 }
+        requires few { length self.old.events < most_events }
         requires name { name ≡ current (replay self.old) (place_of event.now.node) }
         requires comes { happens (replay self.old) event.now ≡ comes (replay self.old) event.now (Ok what.now) }
         ensures ok { OnOk result (self.new ≡ after self.old event.now) }
@@ -211,7 +210,7 @@ impl World {
     pub fn step(&mut self, event: &Event) -> Result<Outcome, WorldRefusal>
         ensures ok { OnOk result (self.new ≡ after self.old event.now) }
         ensures outcome { IfOk result (λ o. Answers self.old event.now o) }
-        ensures spent { (result ≡ Err WorldRefusal.Spent) ↔ (length self.old.events ≡ 100000) }
+        ensures spent { (result ≡ Err WorldRefusal.Spent) ↔ (length self.old.events ≡ most_events) }
         ensures err { OnErr result (self.new ≡ self.old) }
     {
         if self.run.events() == MOST_EVENTS {

@@ -1,4 +1,5 @@
 use Rattle.std.proofs.Common.{rules, ◌≡◌, ℕ, List, ◌<◌, [], ◌∷◌, ◌++◌, length, sym, ap, ◌∙◌, arith}
+use Rattle.am_base.specs.Most.{most_events}
 use Rattle.atomic_table.specs.Table.{rest}
 use Rattle.am_group.specs.declared.event.Record.{Record}
 use Rattle.am_wire.specs.Stops.{Page}
@@ -43,7 +44,7 @@ fetch_add-requires c =
     let page = carries m c.args.item c.slot_mut-sheet.result.now c.add.new.self has held c.add.ensures.founding added in
     let same : length c.slot_mut-sheet.result.now.records ≡ length m.0.seen = ap length (held_records m c.slot_mut-sheet.result.now has held) in
     let found : c.len-count.result ≡ length c.slot_mut-sheet.result.now.records = c.len-count.ensures.value in
-    let below : c.len-count.result < 100000 = c.if-count-ge-MOST_RECORDS.false in (
+    let below : c.len-count.result < most_events = c.if-count-ge-MOST_EVENTS.false in (
       search rules,
       search rules,
       count_allows _ _ _ _ c.args.item (record {
