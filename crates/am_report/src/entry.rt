@@ -1,4 +1,5 @@
 ghost use Rattle.std.specs.Prelude.{◌≡◌, ◌++◌, OnOk, string_bytes};
+ghost use Rattle.std.specs.List.{flat_map};
 ghost use Rattle.am_model.specs.Text.{hex_byte, body_text, resilience_text, entry_text};
 
 use crate::name::{push_name, push_names, push_stamp};
@@ -14,19 +15,26 @@ fn push_byte(out: &mut String, byte: u8) -> Result<(), NoMemory>
     write!(out, "{byte:02x}")
 }
 
-/// Adds a body: two lower-case hexadecimal digits for each byte, or a dash.
+/// Adds two lower-case hexadecimal digits for each byte.
+pub fn push_bytes(out: &mut String, bytes: &[u8]) -> Result<(), NoMemory>
+    ensures { OnOk result (string_bytes out.new ≡ string_bytes out.old ++ flat_map hex_byte bytes.now) }
+{
+    for at in 0..bytes.len() {
+        push_byte(out, bytes[at])?;
+    }
+    Ok(())
+}
+
+/// Adds a body: its bytes, or a dash where there are none.
 #[tactic(auto, unfolding(am_model::specs::Text::body_text))]
 pub fn push_body(out: &mut String, body: &Body) -> Result<(), NoMemory>
     ensures { OnOk result (string_bytes out.new ≡ string_bytes out.old ++ body_text body.now) }
 {
     let bytes = body.bytes();
-    if bytes.len() == 0 {
+    if bytes.is_empty() {
         return out.push_str("-");
     }
-    for at in 0..bytes.len() {
-        push_byte(out, bytes[at])?;
-    }
-    Ok(())
+    push_bytes(out, bytes)
 }
 
 /// Adds a resilience, where it isn't the founding's.

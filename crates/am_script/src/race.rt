@@ -191,11 +191,7 @@ fn each_thread(
 
 /// The threads of a race: 1 to 16.
 #[tactic(auto, using(crate::proofs::Json::items_len_view), unfolding(crate::specs::Races::threads_from))]
-fn threads(
-    alloc: Global,
-    value: &Value,
-    founding: u8,
-) -> Result<Items<ThreadPlan>, ScriptRefusal>
+fn threads(alloc: Global, value: &Value, founding: u8) -> Result<Items<ThreadPlan>, ScriptRefusal>
     requires { founding ≤ 15 }
     ensures { Answers (threads_from founding (view value.now)) result }
 {

@@ -109,13 +109,10 @@ fn race_of(alloc: Global, threads: &str) -> Result<String, AllocError> {
 
 /// A race with so many turns and two threads, of which the first has one call, and the second has so many takes and
 /// one call more.
-fn long_race(
-    alloc: Global,
-    turns: u32,
-    takes: usize,
-    call: &str,
-) -> Result<String, AllocError> {
-    let mut text = format!(in alloc; r#"{{"race":{{"founders":[0],"seed":1,"turns":{turns},"threads":["#)?;
+fn long_race(alloc: Global, turns: u32, takes: usize, call: &str) -> Result<String, AllocError> {
+    let mut text = format!(in alloc;
+        r#"{{"race":{{"founders":[0],"seed":1,"turns":{turns},"threads":["#
+    )?;
     text.push_str(r#"{"node":0,"calls":[{"do":"stop"}]},{"node":0,"calls":["#)?;
     for _ in 0..takes {
         text.push_str(r#"{"do":"take"},"#)?;

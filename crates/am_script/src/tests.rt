@@ -121,11 +121,13 @@ fn play_of(alloc: Global, events: &str) -> Result<String, AllocError> {
 /// The play that bytes are.
 fn play_in(alloc: Global, bytes: &[u8]) -> Option<(Founding, Items<Event>, bool)> {
     match read_script(alloc, Key::Play, bytes) {
-        Ok(Script::Play {
-            founding,
-            events,
-            settle,
-        }) => Some((founding, events, settle)),
+        Ok(
+            Script::Play {
+                founding,
+                events,
+                settle,
+            },
+        ) => Some((founding, events, settle)),
         _ => None,
     }
 }

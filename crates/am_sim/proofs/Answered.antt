@@ -16,7 +16,7 @@ use Rattle.am_pump.specs.Generating.{generated_rules, generated}
 use Rattle.am_pump.proofs.Rules.{may_found}
 use Rattle.am_words.specs.declared.form.Numbers.{Numbers}
 use Rattle.am_script.specs.declared.script.Script.{Script}
-use Rattle.am_script.specs.declared.script.Script.TheVariants.{Play}
+use Rattle.am_script.specs.declared.script.Script.TheVariants.{Play, Race}
 use Rattle.am_script.specs.declared.key.Key.TheVariants as key
 use Rattle.am_script.specs.Scripts.{reading}
 use Rattle.am_script.specs.Limits.{ScriptWithin}
@@ -57,12 +57,16 @@ played_by bytes text (Play founding events settles) is within same =
       sent = sent_holds founding done may;
       unballoted = λ none. unballoted_holds founding done may none;
     }
+played_by bytes text (Race plan) is within same = absurd same
 
 -- why there is no text
 pub unplayed_by : (bytes : List ℕ) (script : Script) (e : Unplayed) → reading key.Play bytes ≡ Ok script → IsUnrun script e → IsUnplayed bytes e
 unplayed_by bytes (Play founding events settle) (unplayed.BadScript cause) is h = absurd h
 unplayed_by bytes (Play founding events settle) unplayed.Spent is h = (founding, events, settle, is, h)
 unplayed_by bytes (Play founding events settle) unplayed.NoMemory is h = tt
+unplayed_by bytes (Race plan) (unplayed.BadScript cause) is h = absurd h
+unplayed_by bytes (Race plan) unplayed.Spent is h = absurd h
+unplayed_by bytes (Race plan) unplayed.NoMemory is h = absurd h
 
 -- ---- a generated run
 

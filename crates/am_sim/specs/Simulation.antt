@@ -23,7 +23,7 @@ use Rattle.am_words.specs.declared.form.Form.{Form}
 use Rattle.am_words.specs.declared.form.Form.TheVariants as form
 use Rattle.am_words.specs.declared.form.Numbers.{Numbers}
 use Rattle.am_script.specs.declared.script.Script.{Script}
-use Rattle.am_script.specs.declared.script.Script.TheVariants.{Play}
+use Rattle.am_script.specs.declared.script.Script.TheVariants.{Play, Race}
 use Rattle.am_sim.specs.declared.simulate.Status.{Status}
 use Rattle.am_sim.specs.declared.simulate.Status.TheVariants.{Done, Usage, BadScript, TooLong, ReadFault, WriteFault, NoMemory, Spent}
 
@@ -123,12 +123,14 @@ IsScript bytes claim = (founding : Rules) × (events : List Event) × (settle : 
 abbrev pub IsSpent : List ℕ → Type 0
 IsSpent bytes = IsScript bytes IsLong
 
--- the text of what a script's run does
+-- the text of what a play's run does
 abbrev pub IsText : Script → List ℕ → Type 0
 IsText (Play founding events settles) text = IsRunText founding events settles text
+IsText (Race plan) text = ⊥
 
--- why a script isn't run
+-- why a play isn't run
 abbrev pub IsUnrun : Script → Unplayed → Type 0
+IsUnrun (Race plan) e = ⊥
 IsUnrun (Play founding events settles) (unplayed.BadScript cause) = ⊥
 IsUnrun (Play founding events settles) unplayed.Spent = IsLong founding events settles
 IsUnrun (Play founding events settles) unplayed.NoMemory = Unit {0}

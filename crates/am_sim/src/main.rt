@@ -3,6 +3,8 @@
 
 mod generating;
 mod playing;
+#[cfg(test)]
+mod script_tests;
 pub mod simulate;
 mod telling;
 

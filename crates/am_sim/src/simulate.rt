@@ -2,7 +2,7 @@ ghost use Rattle.std.specs.Prelude.{◌≡◌, ◌≢◌, ◌↔◌, ℕ, List, 
 ghost use Rattle.std.specs.Io.KnownBytes.{Appends};
 ghost use Rattle.am_io.specs.Outside.{ReadToEnd, GaveMore, GaveAtMost};
 ghost use Rattle.am_script.specs.declared.key.Key.TheVariants as key;
-ghost use Rattle.am_script.specs.Scripts.{reading};
+ghost use Rattle.am_script.specs.Scripts.{IsOfKind, reading};
 ghost use Rattle.am_sim.specs.declared.simulate.Unplayed.TheVariants as unplayed;
 ghost use Rattle.am_words.specs.declared.form.Form.TheVariants as form;
 ghost use Rattle.am_words.specs.Forms.{IsGen};
@@ -172,8 +172,9 @@ impl From<WorldRefusal> for Unplayed {
     }
 }
 
-/// The text of a script's run.
+/// The text of a play's run.
 fn text_of_script(alloc: Global, script: &Script) -> Result<String, Unplayed>
+    requires { IsOfKind key.Play script.now }
     ensures text { IfOk result (λ text. IsText script.now (string_bytes text)) }
     ensures unrun { IfErr result (λ e. IsUnrun script.now e) }
 {
@@ -186,6 +187,7 @@ fn text_of_script(alloc: Global, script: &Script) -> Result<String, Unplayed>
             let text = text_of_run(alloc, founding, events.as_slice(), *settle)?;
             Ok(text)
         }
+        Script::Race(_) => unreachable!(),
     }
 }
 

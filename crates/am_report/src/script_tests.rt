@@ -1,0 +1,106 @@
+use crate::script::script_text;
+use am_base::body::Body;
+use am_base::founding::Founding;
+use am_base::name::Name;
+use am_base::names::Names;
+use am_group::event::{Act, Event};
+use std::test::Fail;
+
+/// What is done at a name, and what stands of it in a script of a group whose resilience is 2.
+fn done() -> [(u8, Act, &'static str); 14] {
+    let kept = Act::Reset {
+        least: 3,
+        resilience: 2,
+    };
+    let asked = Act::Reset {
+        least: 16,
+        resilience: 0,
+    };
+    let cut = Act::Cut {
+        packet: 8,
+        keep: 1152,
+    };
+    [
+        (2, Act::Done(7), r#"{"do":"done","node":2,"req":7}"#),
+        (15, Act::Take, r#"{"do":"take","node":15}"#),
+        (3, Act::Join, r#"{"do":"join","node":3}"#),
+        (3, Act::State, r#"{"do":"state","node":3}"#),
+        (1, Act::Leave, r#"{"do":"leave","node":1}"#),
+        (1, kept, r#"{"do":"reset","least":3,"node":1}"#),
+        (
+            1,
+            asked,
+            r#"{"do":"reset","least":16,"node":1,"resilience":0}"#,
+        ),
+        (0, Act::Ask(9), r#"{"do":"ask","node":0,"round":9}"#),
+        (
+            0,
+            Act::GiveUp(Name::of_byte(4)),
+            r#"{"do":"giveup","name":4,"node":0}"#,
+        ),
+        (
+            0,
+            Act::GiveUp(Name::of_byte(244)),
+            r#"{"do":"giveup","life":16,"name":4,"node":0}"#,
+        ),
+        (4, Act::Stop, r#"{"do":"stop","node":4}"#),
+        (
+            6,
+            Act::Hear(2_000_000_000),
+            r#"{"do":"hear","node":6,"packet":2000000000}"#,
+        ),
+        (7, cut, r#"{"do":"cut","keep":1152,"node":7,"packet":8}"#),
+        (19, Act::Return, r#"{"do":"return","node":3}"#),
+    ]
+}
+
+fn founding(names: &[u8], resilience: u8, window: u16, pb_up_to: u16) -> Option<Founding> {
+    let mut founders = Names::empty();
+    for byte in names {
+        founders = founders.with(Name::of_byte(*byte));
+    }
+    Founding::new(founders, resilience, window, pb_up_to)
+}
+
+#[test]
+fn each_act_in_a_script(rt: HostRuntime) -> Result<(), Fail> {
+    let founding = founding(&[14, 0, 3], 2, 1008, 1024).ok_or("a founding")?;
+    for (byte, act, event) in done() {
+        let node = Name::of_byte(byte);
+        let events = [Event { node, act }];
+        let text = script_text(rt.alloc(), &founding, &events)?;
+        let tail = r#"],"founders":[0,3,14],"pb_up_to":1024,"resilience":2,"window":1008}}"#;
+        let wanted = format!(in rt.alloc(); r#"{{"play":{{"events":[{event}{tail}"#)?;
+        assert!(rt; text.as_str() == wanted.as_str(), "{event}");
+    }
+    Ok(())
+}
+
+#[test]
+fn sends_in_a_script(rt: HostRuntime) -> Result<(), Fail> {
+    let founding = founding(&[0], 0, 64, 256).ok_or("a founding")?;
+    let node = Name::of_byte(0);
+    let none = script_text(rt.alloc(), &founding, &[])?;
+    let empty =
+        r#"{"play":{"events":[],"founders":[0],"pb_up_to":256,"resilience":0,"window":64}}"#;
+    assert!(rt; none.as_str() == empty);
+    let events = [
+        Event {
+            node,
+            act: Act::send(rt.alloc(), Body::of(b"a").ok_or("a body")?)?,
+        },
+        Event {
+            node,
+            act: Act::Done(1),
+        },
+        Event {
+            node,
+            act: Act::send(rt.alloc(), Body::of(b"").ok_or("a body")?)?,
+        },
+    ];
+    let text = script_text(rt.alloc(), &founding, &events)?;
+    let wanted =
+        r#"{"play":{"events":[{"body":"61","do":"send","node":0},{"do":"done","node":0,"req":1},{"body":"","do":"send","node":0}],"founders":[0],"pb_up_to":256,"resilience":0,"window":64}}"#;
+    assert!(rt; text.as_str() == wanted);
+    Ok(())
+}
