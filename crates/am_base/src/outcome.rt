@@ -7,7 +7,7 @@ use crate::names::Names;
 
 /// What came of a call, a tick, a hearing, or of an event of the world (docs/PROTOCOL.md, "Outcomes"). An entry that was
 /// given out is kept as `E` says.
-#[derive(Drop, Clone, Debug)]
+#[derive(Drop, Debug)]
 pub enum Outcome<E = Entry> {
     /// The send has this request number.
     Queued { req: u32 },
@@ -121,22 +121,10 @@ pub enum Outcome<E = Entry> {
     Returned { life: u8 },
 }
 
-/// An outcome as a journal keeps it: small, with its entry apart.
-pub type KeptOutcome = Outcome<Boxed<Entry>>;
-
-impl Outcome {
-    /// The same outcome. It takes no memory.
-    pub fn copied(&self) -> Outcome
-        ensures { result ≡ self.now }
-    {
-        self.clone().unwrap()
-    }
-
-    /// The same outcome, whose entry goes where another was. It takes no memory.
-    pub fn kept_in(&self, mut spare: Boxed<Entry>) -> KeptOutcome
-        ensures { result ≡ self.now }
-    {
-        match self {
+// The same outcome, field by field, with what stands for an entry that was given out.
+macro_rules! same {
+    ($outcome:expr, $number:ident, $entry:ident => $took:expr) => {
+        match $outcome {
             Outcome::Queued { req } => Outcome::Queued { req: *req },
             Outcome::Busy { queued } => Outcome::Busy { queued: *queued },
             Outcome::Pending { req } => Outcome::Pending { req: *req },
@@ -145,13 +133,10 @@ impl Outcome {
                 number: *number,
             },
             Outcome::Unknown => Outcome::Unknown,
-            Outcome::Took { number, entry } => {
-                spare.set(entry.copied());
-                Outcome::Took {
-                    number: *number,
-                    entry: spare,
-                }
-            }
+            Outcome::Took {
+                number: $number,
+                entry: $entry,
+            } => $took,
             Outcome::Empty => Outcome::Empty,
             Outcome::Asked => Outcome::Asked,
             Outcome::Joined { number } => Outcome::Joined { number: *number },
@@ -224,5 +209,33 @@ impl Outcome {
             Outcome::NoLife => Outcome::NoLife,
             Outcome::Returned { life } => Outcome::Returned { life: *life },
         }
+    };
+}
+
+/// An outcome as a journal keeps it: small, with its entry apart.
+pub type KeptOutcome = Outcome<Boxed<Entry>>;
+
+impl Outcome {
+    /// The same outcome. It takes no memory.
+    pub fn copied(&self) -> Outcome
+        ensures { result ≡ self.now }
+    {
+        same!(self, number, entry => Outcome::Took {
+            number: *number,
+            entry: entry.copied(),
+        })
+    }
+
+    /// The same outcome, whose entry goes where another was. It takes no memory.
+    pub fn kept_in(&self, mut spare: Boxed<Entry>) -> KeptOutcome
+        ensures { result ≡ self.now }
+    {
+        same!(self, number, entry => {
+            spare.set(entry.copied());
+            Outcome::Took {
+                number: *number,
+                entry: spare,
+            }
+        })
     }
 }
