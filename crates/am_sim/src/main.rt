@@ -3,8 +3,6 @@
 
 mod generating;
 mod playing;
-#[cfg(test)]
-mod script_tests;
 pub mod simulate;
 mod telling;
 
@@ -48,3 +46,6 @@ fn main(rt: HostRuntime) -> ExitCode {
     let _ = tell(&rt, status);
     ExitCode::from(status.number())
 }
+
+#[cfg(test)]
+mod script_tests;
