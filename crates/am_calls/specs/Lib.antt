@@ -5,4 +5,5 @@ pub mod Ready
 pub mod Turns
 pub mod Callers
 pub mod Legal
+pub mod Plans
 pub mod Laws

@@ -2,4 +2,6 @@
 #![tactic(auto)]
 
 pub mod answer;
+pub mod gate;
 pub mod laws;
+pub mod race;
