@@ -1,6 +1,6 @@
 -- The end of a step, by what the parts tell.
 use Rattle.std.proofs.Common.{◌≡◌, ℕ, List, [], Bool, false, refl, sym, ◌∙◌, ap, subst}
-use Rattle.am_base.specs.Outcomes.{Outcome}
+use Rattle.am_base.specs.declared.outcome.Outcome.{Outcome}
 use Rattle.am_packet.specs.Boxes.{Letter, with_letter}
 use Rattle.am_model.specs.Node.{Node}
 use Rattle.am_model.specs.Emit.{Plan, finish}

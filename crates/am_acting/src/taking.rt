@@ -5,6 +5,7 @@ ghost use Rattle.am_model.specs.Ends.{Does};
 ghost use Rattle.am_handlers.specs.Parts.{node_of};
 
 use crate::changing::{is_member, set_taken};
+use am_base::boxed::Boxed;
 use am_base::entry::Entry;
 use am_base::outcome::Outcome;
 use am_core::log::Log;
@@ -13,7 +14,8 @@ use am_handlers::parts::Parts;
 use am_letter::out_box::OutBox;
 
 /// The entry after those that the application has taken, with its number; None exactly where all that is accepted is taken.
-fn next(parts: &Parts) -> Option<(u32, Entry)>
+/// It is put where a spare one was.
+fn next(parts: &Parts, mut spare: Boxed<Entry>) -> Option<(u32, Boxed<Entry>)>
     ensures none { IsNone result ↔ (parts.now.core.taken ≡ parts.now.core.acc) }
     ensures number { IfSome result (λ given. given.0 ≡ parts.now.core.taken + 1) }
     ensures accepted { IfSome result (λ given. given.0 ≤ parts.now.core.acc) }
@@ -23,12 +25,13 @@ fn next(parts: &Parts) -> Option<(u32, Entry)>
         return None;
     }
     let number = parts.core.taken + 1;
-    Some((number, parts.core.log.entry(number)?.copied()))
+    spare.set(parts.core.log.entry(number)?.copied());
+    Some((number, spare))
 }
 
 /// The application takes the next entry (docs/PROTOCOL.md, "Calls"). NotMember where the node is none; Empty where all that
-/// is accepted is taken; else Took.
-pub fn on_take(parts: &mut Parts, out: &mut OutBox) -> Outcome
+/// is accepted is taken; else Took, with the entry where the spare one was.
+pub fn on_take(parts: &mut Parts, spare: Boxed<Entry>, out: &mut OutBox) -> Outcome
     requires { out.old ≡ [] }
     ensures { Does take_row (node_of parts.old) result out.new (node_of parts.new) }
 {
@@ -36,7 +39,7 @@ pub fn on_take(parts: &mut Parts, out: &mut OutBox) -> Outcome
     if !is_member(parts) {
         return finish_quietly(parts, before, Outcome::NotMember, out);
     }
-    let Some((number, entry)) = next(parts) else {
+    let Some((number, entry)) = next(parts, spare) else {
         return finish_quietly(parts, before, Outcome::Empty, out);
     };
     set_taken(parts, number);

@@ -93,6 +93,8 @@ pub struct Ballot {
 }
 
 impl Model for Ballot {
+    ghost use Rattle.std.specs.Prelude.{◌≡◌, false};
+    ghost use Rattle.am_base.specs.Outcomes.{is_took};
     ghost use Rattle.am_ballots.specs.Kept.{Kept};
 
     ghost Value = { Kept };
@@ -106,10 +108,14 @@ impl Model for Ballot {
       answer = b.answer;
       is_over = b.is_over;
     } };
+
+    ghost invariant = { λ b. is_took b.answer ≡ false };
 }
 
 impl Ballot {
+    ghost use Rattle.std.specs.Prelude.{false};
     ghost use Rattle.am_base.specs.Names.{has, name_at, names_of, minus};
+    ghost use Rattle.am_base.specs.Outcomes.{is_took};
     ghost use Rattle.am_base.specs.Votes.{better_of, best_vote};
     ghost use Rattle.am_fronts.specs.Reports.{least_of};
     ghost use Rattle.am_model.specs.Node.{those, name_where};
@@ -155,7 +161,8 @@ impl Ballot {
 
     /// What was last decided on it, or how it ended; Asked where it was never looked at.
     pub fn answer(&self) -> &Outcome
-        ensures { result.now ≡ self.now.answer }
+        ensures value { result.now ≡ self.now.answer }
+        ensures plain { is_took result.now ≡ false }
     {
         &self.answer
     }
@@ -189,6 +196,7 @@ impl Ballot {
 
     /// The ballot goes on, and this was decided on it.
     pub fn go_on(&mut self, answer: &Outcome)
+        requires { is_took answer.now ≡ false }
         ensures { ballot_of self.new ≡ unfinished (ballot_of self.old) answer.now }
     {
         self.answer = answer.copied();
@@ -197,6 +205,7 @@ impl Ballot {
 
     /// The ballot ends with this.
     pub fn end(&mut self, answer: &Outcome)
+        requires { is_took answer.now ≡ false }
         ensures { ballot_of self.new ≡ finished (ballot_of self.old) answer.now }
     {
         self.answer = answer.copied();

@@ -1,6 +1,19 @@
--- What came of an event, with the entry that was given out.
-use Rattle.am_base.specs.declared.entry.Entry.{Entry}
-use Rattle.am_base.specs.declared.outcome.Outcome as said
+-- What outcomes say.
+use Rattle.std.specs.Prelude.{Bool, true, false}
+use Rattle.am_base.specs.declared.outcome.Outcome.{Outcome}
+use Rattle.am_base.specs.declared.outcome.Outcome.TheVariants as said
 
-abbrev pub Outcome : Type 0
-Outcome = said.Outcome Entry
+-- the application was given an entry
+abbrev pub is_took : Outcome → Bool
+is_took (said.Took number entry) = true
+is_took _ = false
+
+-- a send stands in the list
+abbrev pub is_sent : Outcome → Bool
+is_sent (said.Sent req number) = true
+is_sent _ = false
+
+-- there was no room
+abbrev pub is_held : Outcome → Bool
+is_held (said.Held base top) = true
+is_held _ = false

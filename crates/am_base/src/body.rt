@@ -11,6 +11,7 @@ pub struct Body(ArrayVec<u8, MOST_BODY>);
 
 impl Model for Body {
     ghost use Rattle.std.specs.Prelude.{ℕ, List, ◌≤◌, length};
+    ghost use Rattle.am_base.specs.Most.{most_body};
 
     ghost Value = { List ℕ };
 
@@ -62,6 +63,7 @@ pub struct PacketBytes(ArrayVec<u8, MOST_PACKET>);
 
 impl Model for PacketBytes {
     ghost use Rattle.std.specs.Prelude.{ℕ, List, ◌≤◌, length};
+    ghost use Rattle.am_base.specs.Most.{most_packet};
 
     ghost Value = { List ℕ };
 

@@ -1,11 +1,12 @@
 use crate::body::{Body, PacketBytes};
+use crate::boxed::Boxed;
 use crate::name::Name;
 
 /// What a node is asked to do, or hears (docs/PROTOCOL.md, "Steps of a node").
-#[derive(Drop, Clone, Debug)]
+#[derive(Drop, Debug)]
 pub enum NodeEvent {
     /// Sends a body to the group.
-    Send(Body),
+    Send(Boxed<Body>),
     /// Asks what came of a send.
     Done(u32),
     /// Takes the next accepted entry.
@@ -25,5 +26,5 @@ pub enum NodeEvent {
     /// Time passed.
     Tick,
     /// These bytes came. What spells no packet is refused.
-    Hear(PacketBytes),
+    Hear(Boxed<PacketBytes>),
 }

@@ -5,10 +5,9 @@ use crate::entry::Entry;
 use crate::name::{Name, Stamp};
 use crate::names::Names;
 
-/// What came of a call, a tick, a hearing, or of an event of the world (docs/PROTOCOL.md, "Outcomes"). An entry that was
-/// given out is kept as `E` says.
-#[derive(Drop, Clone, Debug)]
-pub enum Outcome<E = Entry> {
+/// What came of a call, a tick, a hearing, or of an event of the world (docs/PROTOCOL.md, "Outcomes").
+#[derive(Drop, Debug)]
+pub enum Outcome {
     /// The send has this request number.
     Queued { req: u32 },
     /// So many sends aren't collected, or aren't settled.
@@ -20,7 +19,7 @@ pub enum Outcome<E = Entry> {
     /// There is no such send, or no such ballot.
     Unknown,
     /// The application was given this entry.
-    Took { number: u32, entry: E },
+    Took { number: u32, entry: Boxed<Entry> },
     /// Nothing more is accepted.
     Empty,
     /// The ask went out.
@@ -121,19 +120,13 @@ pub enum Outcome<E = Entry> {
     Returned { life: u8 },
 }
 
-/// An outcome as a journal keeps it: small, with its entry apart.
-pub type KeptOutcome = Outcome<Boxed<Entry>>;
-
 impl Outcome {
-    /// The same outcome. It takes no memory.
-    pub fn copied(&self) -> Outcome
-        ensures { result ≡ self.now }
-    {
-        self.clone().unwrap()
-    }
+    ghost use Rattle.std.specs.Prelude.{false};
+    ghost use Rattle.am_base.specs.Outcomes.{is_took};
 
-    /// The same outcome, whose entry goes where another was. It takes no memory.
-    pub fn kept_in(&self, mut spare: Boxed<Entry>) -> KeptOutcome
+    /// The same outcome. It takes no memory, so it is none that gives an entry.
+    pub fn copied(&self) -> Outcome
+        requires { is_took self.now ≡ false }
         ensures { result ≡ self.now }
     {
         match self {
@@ -145,13 +138,7 @@ impl Outcome {
                 number: *number,
             },
             Outcome::Unknown => Outcome::Unknown,
-            Outcome::Took { number, entry } => {
-                spare.set(entry.copied());
-                Outcome::Took {
-                    number: *number,
-                    entry: spare,
-                }
-            }
+            Outcome::Took { .. } => unreachable!(),
             Outcome::Empty => Outcome::Empty,
             Outcome::Asked => Outcome::Asked,
             Outcome::Joined { number } => Outcome::Joined { number: *number },

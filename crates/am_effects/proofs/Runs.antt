@@ -1,6 +1,6 @@
 -- What is kept by each event is kept by each run.
 use Rattle.std.proofs.Common.{List, [], ◌∷◌}
-use Rattle.am_base.specs.Outcomes.{Outcome}
+use Rattle.am_base.specs.declared.outcome.Outcome.{Outcome}
 use Rattle.am_group.specs.declared.event.Event.{Event}
 use Rattle.am_model.specs.Node.{Node}
 use Rattle.am_model.specs.World.{World, happens, happen}

@@ -1,7 +1,7 @@
 -- The effect of the tick.
 use Rattle.std.proofs.Common.{◌≡◌, ◌==◌, ◌&&◌, nat_le, length, not, true, false, Option, Some, None, refl, sym, ap, ◌∙◌}
 use Rattle.am_base.specs.declared.name.Stamp.{Stamp}
-use Rattle.am_base.specs.Outcomes.{Outcome}
+use Rattle.am_base.specs.declared.outcome.Outcome.{Outcome}
 use Rattle.am_base.specs.declared.outcome.Outcome.TheVariants as said
 use Rattle.am_base.specs.declared.event.NodeEvent.TheVariants as does
 use Rattle.am_base.specs.declared.entry.Entry.TheVariants.{Data}

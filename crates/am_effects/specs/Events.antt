@@ -1,6 +1,6 @@
 -- What an event makes of a world: nothing, a stop, a return, or a step of the name that acts, with its effect.
 use Rattle.std.specs.Prelude.{◌≡◌, ℕ, ◌+◌, List, [], ◌∷◌, ◌++◌, Some, ◌||◌, ◌==◌, true, false}
-use Rattle.am_base.specs.Outcomes.{Outcome}
+use Rattle.am_base.specs.declared.outcome.Outcome.{Outcome}
 use Rattle.am_base.specs.declared.outcome.Outcome.TheVariants as said
 use Rattle.am_base.specs.declared.event.NodeEvent.{NodeEvent}
 use Rattle.am_base.specs.declared.event.NodeEvent.TheVariants as does

@@ -1,7 +1,7 @@
 -- Plans that are alike: the first comes to the node of the second with all of a list, and both say and send the same.
 use Rattle.std.proofs.Common.{◌≡◌, ℕ, Bool, true, false, not, ◌&&◌, ◌||◌, nat_lt, if◌then◌else◌, List, [], refl, sym, ◌∙◌, ap, subst}
 use Rattle.am_base.specs.declared.entry.Entry.{Entry}
-use Rattle.am_base.specs.Outcomes.{Outcome}
+use Rattle.am_base.specs.declared.outcome.Outcome.{Outcome}
 use Rattle.am_base.specs.Names.{without_name}
 use Rattle.am_base.specs.Lists.{Log, image_at, members_of, row_of, with_entry}
 use Rattle.am_core.specs.Kept.{IsEnd}

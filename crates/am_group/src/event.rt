@@ -6,7 +6,7 @@ use am_base::body::Body;
 use am_base::boxed::Boxed;
 use am_base::items::Items;
 use am_base::name::Name;
-use am_base::outcome::KeptOutcome;
+use am_base::outcome::Outcome;
 use am_letter::letter::Letter;
 use std::alloc::Global;
 
@@ -101,7 +101,7 @@ pub struct Record {
     /// The life of the place that acted, 1 to 16.
     pub life: u8,
     pub by: By,
-    pub outcome: KeptOutcome,
+    pub outcome: Outcome,
     /// The letters that went out, in their order.
     pub packets: Items<Letter>,
 }

@@ -10,7 +10,7 @@ use am_base::founding::Founding;
 use am_base::items::Items;
 use am_base::name::{Name, Stamp};
 use am_base::names::Names;
-use am_base::outcome::{KeptOutcome, Outcome};
+use am_base::outcome::Outcome;
 use am_letter::letter::Letter;
 use am_packet::packet::Packet;
 use std::alloc::Global;
@@ -32,7 +32,7 @@ fn invite_to(to: Names) -> Letter {
     Letter::of(to, &invite)
 }
 
-fn record_of(alloc: Global, node: u8, outcome: KeptOutcome, to: &[u16]) -> Result<Record, Fail> {
+fn record_of(alloc: Global, node: u8, outcome: Outcome, to: &[u16]) -> Result<Record, Fail> {
     let mut packets = Items::new(alloc);
     for mask in to {
         packets.push(invite_to(Names::of_mask(*mask)))?;

@@ -1,6 +1,6 @@
 -- A handler does its row, by what its parts do.
 use Rattle.std.proofs.Common.{◌≡◌, ℕ, List, false, sym, ◌∙◌, ap, subst}
-use Rattle.am_base.specs.Outcomes.{Outcome}
+use Rattle.am_base.specs.declared.outcome.Outcome.{Outcome}
 use Rattle.am_base.specs.Lists.{with_entry}
 use Rattle.am_core.specs.Cores.{CoreState, Keeps, Adds, trim_to}
 use Rattle.am_packet.specs.Boxes.{Letter}

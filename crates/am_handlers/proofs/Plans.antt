@@ -1,6 +1,6 @@
 -- Plans that are done.
 use Rattle.std.proofs.Common.{◌≡◌, ℕ, List, [], Bool, true, false, ◌&&◌, nat_lt, refl, sym, ◌∙◌, ap, subst}
-use Rattle.am_base.specs.Outcomes.{Outcome}
+use Rattle.am_base.specs.declared.outcome.Outcome.{Outcome}
 use Rattle.am_base.specs.Lists.{Log}
 use Rattle.am_core.specs.Cores.{IsInOrder}
 use Rattle.am_core.proofs.Ends.{end-top, end-told}

@@ -1,6 +1,6 @@
 -- A plan that is done.
 use Rattle.std.specs.Prelude.{◌≡◌, ℕ, List}
-use Rattle.am_base.specs.Outcomes.{Outcome}
+use Rattle.am_base.specs.declared.outcome.Outcome.{Outcome}
 use Rattle.am_packet.specs.Boxes.{Letter}
 use Rattle.am_model.specs.Node.{Node}
 use Rattle.am_model.specs.Emit.{Plan, finish}

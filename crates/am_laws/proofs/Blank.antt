@@ -1,6 +1,6 @@
 -- A node that has no list has a blank one.
 use Rattle.std.proofs.Common.{◌≡◌, ℕ, ◌<◌, ◌==◌, true, false, [], refl, sym, ap, ◌∙◌, subst, arith}
-use Rattle.am_base.specs.Outcomes.{Outcome}
+use Rattle.am_base.specs.declared.outcome.Outcome.{Outcome}
 use Rattle.am_base.specs.Founding.{Rules}
 use Rattle.am_base.specs.Names.{has}
 use Rattle.am_base.specs.Lists.{Log, blank, top_of}

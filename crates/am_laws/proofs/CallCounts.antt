@@ -3,7 +3,7 @@ use Rattle.std.proofs.Common.{◌≡◌, ℕ, ◌+◌, ◌<◌, ◌≤◌, ◌==
 use Rattle.std.proofs.lemmas.Bool.Decides.{nat_tests}
 use Rattle.am_base.specs.declared.entry.Entry.{Entry}
 use Rattle.am_base.specs.declared.entry.Entry.TheVariants.{Data, Leave}
-use Rattle.am_base.specs.Outcomes.{Outcome}
+use Rattle.am_base.specs.declared.outcome.Outcome.{Outcome}
 use Rattle.am_base.specs.declared.outcome.Outcome.TheVariants as said
 use Rattle.am_base.specs.Lists.{entry_at}
 use Rattle.am_sender.specs.declared.OwnSend.{OwnSend}

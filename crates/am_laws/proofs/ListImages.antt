@@ -1,7 +1,7 @@
 -- What a node's list begins with tells of nothing above its start.
 use Rattle.std.proofs.Common.{◌≡◌, sym, subst}
 use Rattle.am_base.specs.Lists.{Log}
-use Rattle.am_base.specs.Outcomes.{Outcome}
+use Rattle.am_base.specs.declared.outcome.Outcome.{Outcome}
 use Rattle.am_base.specs.declared.entry.Entry.TheVariants.{Leave}
 use Rattle.am_packet.specs.declared.packet.Packet.{Packet}
 use Rattle.am_packet.specs.declared.packet.Packet.TheVariants as packet

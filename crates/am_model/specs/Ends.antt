@@ -1,6 +1,6 @@
 -- What is kept of a node: the end of its list, from the base on. The code keeps that, and a step reads nothing below it.
 use Rattle.std.specs.Prelude.{◌≡◌, ℕ, ◌≤◌, List}
-use Rattle.am_base.specs.Outcomes.{Outcome}
+use Rattle.am_base.specs.declared.outcome.Outcome.{Outcome}
 use Rattle.am_base.specs.Lists.{Log, top_of}
 use Rattle.am_base.specs.declared.event.NodeEvent.{NodeEvent}
 use Rattle.am_packet.specs.Boxes.{Letter}

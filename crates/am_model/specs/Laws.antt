@@ -21,7 +21,7 @@ use Rattle.am_model.specs.Node.{Node, top, told, report_fits, has_room, is_seque
 use Rattle.am_model.specs.Emit.{Step}
 use Rattle.am_model.specs.Sequencing.{reported}
 use Rattle.am_model.specs.Hearing.{hears_as_sequencer}
-use Rattle.am_base.specs.Outcomes.{Outcome}
+use Rattle.am_base.specs.declared.outcome.Outcome.{Outcome}
 use Rattle.am_base.specs.declared.outcome.Outcome.TheVariants as said
 use Rattle.am_model.specs.World.{World, hear_cut, happen, run}
 use Rattle.am_model.specs.Lawful.{watched, broken_at, lawful_front}

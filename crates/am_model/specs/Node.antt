@@ -7,7 +7,7 @@ use Rattle.am_base.specs.declared.image.Vote.{Vote}
 use Rattle.am_base.specs.declared.name.Stamp.{Stamp}
 use Rattle.am_base.specs.declared.entry.Entry.{Entry}
 use Rattle.am_base.specs.declared.entry.Entry.TheVariants.{View}
-use Rattle.am_base.specs.Outcomes.{Outcome}
+use Rattle.am_base.specs.declared.outcome.Outcome.{Outcome}
 use Rattle.am_base.specs.Names.{nobody, by_place, name_at, has, with_name, without_name, lowest_of}
 use Rattle.am_base.specs.Stamps.{stamp_eq, no_stamp}
 use Rattle.am_base.specs.Founding.{Rules}

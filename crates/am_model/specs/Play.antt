@@ -1,7 +1,7 @@
 -- The text that a play writes.
-use Rattle.std.specs.Prelude.{ℕ, ◌++◌, List, length, count_by, codes, decimal, Bool, true, false}
-use Rattle.am_base.specs.Outcomes.{Outcome}
-use Rattle.am_base.specs.declared.outcome.Outcome.TheVariants as said
+use Rattle.std.specs.Prelude.{ℕ, ◌++◌, List, length, count_by, codes, decimal, Bool}
+use Rattle.am_base.specs.declared.outcome.Outcome.{Outcome}
+use Rattle.am_base.specs.Outcomes.{is_took, is_sent, is_held}
 use Rattle.am_base.specs.Founding.{Rules}
 use Rattle.am_group.specs.declared.event.Event.{Event}
 use Rattle.am_model.specs.Text.{newline, mark_line, play_text}
@@ -26,18 +26,6 @@ abbrev pub settled_text_of : Rules → List Event → List ℕ
 settled_text_of rules events = watched_text rules (settled rules (watched rules events))
 
 -- ---- the summary of a run
-
-abbrev pub is_took : Outcome → Bool
-is_took (said.Took number e) = true
-is_took _ = false
-
-abbrev pub is_sent : Outcome → Bool
-is_sent (said.Sent req number) = true
-is_sent _ = false
-
-abbrev pub is_held : Outcome → Bool
-is_held (said.Held base high) = true
-is_held _ = false
 
 -- a word, a number, and the end of the line
 abbrev pub count_line : List ℕ → ℕ → List ℕ

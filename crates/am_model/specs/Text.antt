@@ -7,7 +7,7 @@ use Rattle.am_base.specs.Names.{place_of, life_of, names_of, size}
 use Rattle.am_base.specs.declared.name.Stamp.{Stamp}
 use Rattle.am_base.specs.declared.entry.Entry.{Entry}
 use Rattle.am_base.specs.declared.entry.Entry.TheVariants as entries
-use Rattle.am_base.specs.Outcomes.{Outcome}
+use Rattle.am_base.specs.declared.outcome.Outcome.{Outcome}
 use Rattle.am_base.specs.declared.outcome.Outcome.TheVariants as said
 use Rattle.am_packet.specs.Boxes.{Letter}
 use Rattle.am_packet.specs.declared.packet.Packet.{Packet}

@@ -10,6 +10,8 @@ use am_acting::leaving::on_leave;
 use am_acting::sending::{on_done, on_send};
 use am_acting::taking::on_take;
 use am_acting::ticking::on_tick;
+use am_base::boxed::Boxed;
+use am_base::entry::Entry;
 use am_base::event::NodeEvent;
 use am_base::outcome::Outcome;
 use am_handlers::parts::Parts;
@@ -17,15 +19,15 @@ use am_letter::out_box::OutBox;
 use am_reset::voting::{on_ask, on_give_up, on_reset};
 
 /// What a node does where its application calls, where time passes, and where bytes come (docs/PROTOCOL.md, "Steps of a node").
-fn by_event(parts: &mut Parts, event: &NodeEvent, out: &mut OutBox) -> Outcome
+fn by_event(parts: &mut Parts, event: &NodeEvent, spare: Boxed<Entry>, out: &mut OutBox) -> Outcome
     requires numbers { HasNumbersLeft (node_of parts.old) }
     requires empty { out.old ≡ [] }
     ensures { Does (λ m. row m event.now) (node_of parts.old) result out.new (node_of parts.new) }
 {
     match event {
-        NodeEvent::Send(body) => on_send(parts, body.copied(), out),
+        NodeEvent::Send(body) => on_send(parts, body.get().copied(), out),
         NodeEvent::Done(req) => on_done(parts, *req, out),
-        NodeEvent::Take => on_take(parts, out),
+        NodeEvent::Take => on_take(parts, spare, out),
         NodeEvent::Join => on_join(parts, out),
         NodeEvent::State => on_state(parts, out),
         NodeEvent::Leave => on_leave(parts, out),
@@ -33,16 +35,21 @@ fn by_event(parts: &mut Parts, event: &NodeEvent, out: &mut OutBox) -> Outcome
         NodeEvent::Ask(round) => on_ask(parts, *round, out),
         NodeEvent::GiveUp(name) => on_give_up(parts, *name, out),
         NodeEvent::Tick => on_tick(parts, out),
-        NodeEvent::Hear(bytes) => on_bytes(parts, bytes.bytes(), out),
+        NodeEvent::Hear(bytes) => on_bytes(parts, bytes.get().bytes(), out),
     }
 }
 
 /// One step: the row of an event, of which at most nine letters come.
-pub fn on_event(parts: &mut Parts, event: &NodeEvent, out: &mut OutBox) -> Outcome
+pub fn on_event(
+    parts: &mut Parts,
+    event: &NodeEvent,
+    spare: Boxed<Entry>,
+    out: &mut OutBox,
+) -> Outcome
     requires numbers { HasNumbersLeft (node_of parts.old) }
     requires empty { out.old ≡ [] }
     ensures does { Does (λ m. row m event.now) (node_of parts.old) result out.new (node_of parts.new) }
     ensures few { length out.new ≤ 9 }
 {
-    by_event(parts, event, out)
+    by_event(parts, event, spare, out)
 }

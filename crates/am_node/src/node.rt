@@ -3,6 +3,7 @@ ghost use Rattle.am_base.specs.Most.{most_number};
 use crate::acting::on_event;
 use crate::founding;
 use crate::info::{self, BallotEnd, Info};
+use am_base::boxed::Boxed;
 use am_base::entry::Entry;
 use am_base::event::NodeEvent;
 use am_base::founding::Founding;
@@ -38,15 +39,15 @@ impl Node {
     ghost use Rattle.am_node.specs.Stands.{state_of};
 
     /// Does one step: answer, letters and next state are those of the table of steps (docs/PROTOCOL.md, "Steps of a
-    /// node"), for any event and any bytes. Bytes that spell no packet are refused by their cause. It takes no memory. The
-    /// out box must be empty, and no number of the node at its end.
-    pub fn step(&mut self, event: &NodeEvent, out: &mut OutBox) -> Outcome
+    /// node"), for any event and any bytes. Bytes that spell no packet are refused by their cause. It takes no memory: an
+    /// entry that is taken goes where the spare one was. The out box must be empty, and no number of the node at its end.
+    pub fn step(&mut self, event: &NodeEvent, spare: Boxed<Entry>, out: &mut OutBox) -> Outcome
         requires numbers { HasNumbersLeft (state_of self.old) }
         requires empty { out.old ≡ [] }
         ensures does { Does (λ m. row m event.now) (state_of self.old) result out.new (state_of self.new) }
         ensures few { length out.new ≤ 9 }
     {
-        on_event(&mut self.parts, event, out)
+        on_event(&mut self.parts, event, spare, out)
     }
 
     /// A founder of the group. It is an error where there is no memory.

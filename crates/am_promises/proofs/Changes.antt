@@ -1,7 +1,7 @@
 -- What each change keeps of a promise, and the stamps of letters.
 use Rattle.std.proofs.Common.{◌≡◌, ◌⊎◌, inl, inr, ℕ, List, refl, sym, ap, ◌∙◌, subst}
 use Rattle.am_base.specs.declared.name.Stamp.{Stamp}
-use Rattle.am_base.specs.Outcomes.{Outcome}
+use Rattle.am_base.specs.declared.outcome.Outcome.{Outcome}
 use Rattle.am_packet.specs.declared.packet.Packet.{Packet}
 use Rattle.am_codec.specs.Spelling.{sender_of, stamp_of}
 use Rattle.am_model.specs.Node.{Node, Ballot}

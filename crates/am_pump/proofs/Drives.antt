@@ -5,7 +5,7 @@ use Rattle.std.proofs.lemmas.List.Sums.{count_by-le-length}
 use Rattle.am_base.specs.Founding.{Rules}
 use Rattle.am_group.specs.declared.event.Act.{Act}
 use Rattle.am_model.specs.World.{World}
-use Rattle.am_model.specs.Play.{is_sent}
+use Rattle.am_base.specs.Outcomes.{is_sent}
 use Rattle.am_model.specs.Settle.{event_at}
 use Rattle.am_world.specs.Runs.{Play, after}
 use Rattle.am_pump.specs.Choices.{draw, drawn}

@@ -9,7 +9,7 @@ use Rattle.am_group.specs.declared.event.Act.TheVariants as act
 use Rattle.am_group.specs.declared.event.Event.{Event}
 use Rattle.am_group.specs.Addressed.{next_for}
 use Rattle.am_model.specs.World.{World}
-use Rattle.am_model.specs.Play.{is_sent}
+use Rattle.am_base.specs.Outcomes.{is_sent}
 use Rattle.am_model.specs.Settle.{event_at}
 use Rattle.am_world.specs.Runs.{Play, replay, after}
 use Rattle.am_pump.specs.Choices.{words_of, draw, drawn, Luck, choice_of, luck_after, act_of, progressed}

@@ -1,7 +1,7 @@
 ghost use Rattle.std.specs.Prelude.{◌≡◌, ◌<◌, ◌≤◌};
 ghost use Rattle.am_base.specs.Most.{most_events};
-ghost use Rattle.am_model.specs.Play.{is_sent};
 ghost use Rattle.am_pump.specs.Choices.{draw, drawn};
+ghost use Rattle.am_pump.specs.Counts.{ends_sent};
 ghost use Rattle.am_pump.specs.Generating.{generated_rules, turn_of, counting};
 
 use crate::chooser::Chooser;
@@ -12,7 +12,7 @@ use am_base::founding::Founding;
 use am_base::name::Name;
 use am_base::names::Names;
 use am_base::outcome::Outcome;
-use am_group::event::{Act, Event};
+use am_group::event::{Act, Event, Record};
 use am_world::world::{World, WorldRefusal};
 use rand_pcg::Lcg64Xsh32;
 use rand_pcg::rand_core::utils::NextWord;
@@ -75,11 +75,14 @@ fn counting(number: usize, size: usize) -> Body
     }
 }
 
-/// Whether a send was answered as sent.
-fn is_sent(outcome: &Outcome) -> bool
-    ensures { result ≡ is_sent outcome.now }
+/// Whether the last of the records tells that a send stands in the list.
+fn ends_sent(records: &[Record]) -> bool
+    ensures { result ≡ ends_sent records.now }
 {
-    matches!(outcome, Outcome::Sent { .. })
+    match records.last() {
+        Some(record) => matches!(record.outcome, Outcome::Sent { .. }),
+        None => false,
+    }
 }
 
 /// Places 0 to 3 found the group of a generated run.
@@ -198,8 +201,9 @@ impl Generator {
     {
         let sent = self.sent_by(place);
         let node = Name::of_byte(place);
-        let outcome = self.world.step(&Event { node, act })?;
-        self.sent[usize::from(place)] = sent + u32::from(is_sent(&outcome));
+        self.world.step(&Event { node, act })?;
+        let is_sent = ends_sent(self.world.journal().records());
+        self.sent[usize::from(place)] = sent + u32::from(is_sent);
         Ok(())
     }
 

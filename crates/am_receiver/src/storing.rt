@@ -1,6 +1,6 @@
 ghost use Rattle.std.specs.Prelude.{◌≡◌, ℕ, ◌+◌, ◌-◌, ◌≤◌, ◌<◌, ◌==◌, [], Some, true, false, nat_lt, take, count_by, ◌||◌, not, length};
 ghost use Rattle.std.specs.List.{list_any};
-ghost use Rattle.am_base.specs.Outcomes.{Outcome};
+ghost use Rattle.am_base.specs.declared.outcome.Outcome.{Outcome};
 ghost use Rattle.am_base.specs.Limits.{IsNumber, IsEntry};
 ghost use Rattle.am_base.specs.Lists.{fits};
 ghost use Rattle.am_base.specs.Names.{IsSet, names_of};

@@ -16,13 +16,17 @@ life_json name = if life_of name == 1 then [] else codes ",\"life\":" ++ decimal
 unfoldable pub resilience_json : Rules → ℕ → List ℕ
 resilience_json rules resilience = if resilience == rules.resilience then [] else codes ",\"resilience\":" ++ decimal resilience
 
--- an act's keys up to the node: its body, its word, and what else stands there
+-- the body of a send, which stands before its word
+unfoldable pub body_json : Act → List ℕ
+body_json (acts.Send body) = codes "\"body\":\"" ++ (flat_map hex_byte body ++ codes "\",")
+body_json act = []
+
+-- an act's keys between its word and the node
 unfoldable pub keys_before : Act → List ℕ
-keys_before (acts.Send body) = codes "\"body\":\"" ++ (flat_map hex_byte body ++ codes "\",\"do\":\"send\"")
-keys_before (acts.Reset least resilience) = codes "\"do\":\"reset\",\"least\":" ++ decimal least
-keys_before (acts.GiveUp name) = codes "\"do\":\"giveup\"" ++ (life_json name ++ (codes ",\"name\":" ++ decimal (place_of name)))
-keys_before (acts.Cut packet keep) = codes "\"do\":\"cut\",\"keep\":" ++ decimal keep
-keys_before act = codes "\"do\":\"" ++ (act_word act ++ codes "\"")
+keys_before (acts.Reset least resilience) = codes ",\"least\":" ++ decimal least
+keys_before (acts.GiveUp name) = life_json name ++ (codes ",\"name\":" ++ decimal (place_of name))
+keys_before (acts.Cut packet keep) = codes ",\"keep\":" ++ decimal keep
+keys_before act = []
 
 -- an act's keys behind the node
 unfoldable pub keys_behind : Rules → Act → List ℕ
@@ -33,24 +37,37 @@ keys_behind rules (acts.Hear packet) = codes ",\"packet\":" ++ decimal packet
 keys_behind rules (acts.Cut packet keep) = codes ",\"packet\":" ++ decimal packet
 keys_behind rules act = []
 
+-- an act's word, and what stands between it and the node
+unfoldable pub word_json : Act → List ℕ
+word_json act = codes "\"do\":\"" ++ (act_word act ++ (codes "\"" ++ keys_before act))
+
 unfoldable pub event_json : Rules → Event → List ℕ
 event_json rules event =
-    codes "{" ++ (keys_before event.act ++ (codes ",\"node\":" ++ (decimal (place_of event.node) ++ (keys_behind rules event.act ++ codes "}"))))
+    codes "{" ++ (body_json event.act ++ (word_json event.act ++ (codes ",\"node\":" ++ (decimal (place_of event.node) ++ (keys_behind rules event.act ++ codes "}")))))
 
 -- events with a comma before each
 abbrev pub others_json : Rules → List Event → List ℕ
 others_json rules events = flat_map (λ event. codes "," ++ event_json rules event) events
 
 -- events with commas between them
-unfoldable pub events_json : Rules → List Event → List ℕ
-events_json rules [] = []
-events_json rules (first ∷ others) = event_json rules first ++ others_json rules others
+unfoldable pub listed : Rules → List Event → List ℕ
+listed rules [] = []
+listed rules (first ∷ others) = event_json rules first ++ others_json rules others
 
--- how a group began, and what was done then. Founders have life 1, so that their names are their places
+unfoldable pub events_json : Rules → List Event → List ℕ
+events_json rules events = codes "\"events\":[" ++ (listed rules events ++ codes "]")
+
+-- founders have life 1, so that their names are their places
+unfoldable pub founders_json : Rules → List ℕ
+founders_json rules = codes "\"founders\":[" ++ (names_text rules.founders ++ codes "]")
+
+unfoldable pub numbers_json : Rules → List ℕ
+numbers_json rules =
+    codes "\"pb_up_to\":" ++ (decimal rules.pb_up_to
+    ++ (codes ",\"resilience\":" ++ (decimal rules.resilience
+    ++ (codes ",\"window\":" ++ decimal rules.window))))
+
+-- how a group began, and what was done then
 unfoldable pub script_text : Rules → List Event → List ℕ
 script_text rules events =
-    codes "{\"play\":{\"events\":[" ++ (events_json rules events
-    ++ (codes "],\"founders\":[" ++ (names_text rules.founders
-    ++ (codes "],\"pb_up_to\":" ++ (decimal rules.pb_up_to
-    ++ (codes ",\"resilience\":" ++ (decimal rules.resilience
-    ++ (codes ",\"window\":" ++ (decimal rules.window ++ codes "}}")))))))))
+    codes "{\"play\":{" ++ (events_json rules events ++ (codes "," ++ (founders_json rules ++ (codes "," ++ (numbers_json rules ++ codes "}}")))))

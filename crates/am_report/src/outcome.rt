@@ -5,11 +5,11 @@ use crate::entry::push_entry;
 use crate::name::{push_name, push_names, push_stamp};
 use am_base::NoMemory;
 use am_base::founding::Founding;
-use am_base::outcome::{KeptOutcome, Outcome};
+use am_base::outcome::Outcome;
 
 /// An outcome's word.
 #[tactic(auto, unfolding(am_model::specs::Text::outcome_word))]
-pub fn outcome_word(outcome: &KeptOutcome) -> &'static str
+pub fn outcome_word(outcome: &Outcome) -> &'static str
     ensures { result.now ≡ outcome_word outcome.now }
 {
     match outcome {
@@ -72,7 +72,7 @@ pub fn outcome_word(outcome: &KeptOutcome) -> &'static str
 }
 
 // Adds the numbers of an outcome that has nothing but numbers, with a blank before each.
-fn push_numbers(out: &mut String, outcome: &KeptOutcome) -> Result<(), NoMemory>
+fn push_numbers(out: &mut String, outcome: &Outcome) -> Result<(), NoMemory>
     ensures { OnOk result (string_bytes out.new ≡ string_bytes out.old ++ numbers_text (outcome_numbers outcome.now)) }
 {
     match outcome {
@@ -104,7 +104,7 @@ fn push_numbers(out: &mut String, outcome: &KeptOutcome) -> Result<(), NoMemory>
 
 // Adds what stands behind an outcome's word, with a blank before each part.
 #[tactic(auto, unfolding(am_model::specs::Text::outcome_parts))]
-fn push_parts(out: &mut String, founding: &Founding, outcome: &KeptOutcome) -> Result<(), NoMemory>
+fn push_parts(out: &mut String, founding: &Founding, outcome: &Outcome) -> Result<(), NoMemory>
     ensures { OnOk result (string_bytes out.new ≡ string_bytes out.old ++ outcome_parts founding.now outcome.now) }
 {
     match outcome {
@@ -155,7 +155,7 @@ fn push_parts(out: &mut String, founding: &Founding, outcome: &KeptOutcome) -> R
 pub fn push_outcome(
     out: &mut String,
     founding: &Founding,
-    outcome: &KeptOutcome,
+    outcome: &Outcome,
 ) -> Result<(), NoMemory>
     ensures { OnOk result (string_bytes out.new ≡ string_bytes out.old ++ outcome_text founding.now outcome.now) }
 {

@@ -1,5 +1,5 @@
 ghost use Rattle.std.specs.Prelude.{◌≡◌, ◌++◌, OnOk, IfOk, string_bytes};
-ghost use Rattle.am_report.specs.Schedules.{life_json, resilience_json, keys_before, keys_behind, event_json, others_json, events_json, script_text};
+ghost use Rattle.am_report.specs.Schedules.{life_json, resilience_json, body_json, keys_before, keys_behind, word_json, event_json, others_json, listed, events_json, founders_json, numbers_json, script_text};
 
 use crate::entry::push_bytes;
 use crate::event::act_word;
@@ -33,30 +33,46 @@ fn push_resilience(out: &mut String, founding: &Founding, resilience: u8) -> Res
     write!(out, ",\"resilience\":{resilience}")
 }
 
-// Adds an act's keys up to the node.
-#[tactic(auto, unfolding(crate::specs::Schedules::keys_before))]
-fn push_before(out: &mut String, act: &Act) -> Result<(), NoMemory>
-    ensures { OnOk result (string_bytes out.new ≡ string_bytes out.old ++ keys_before act.now) }
+// Adds the body of a send.
+#[tactic(auto, unfolding(crate::specs::Schedules::body_json))]
+fn push_body(out: &mut String, act: &Act) -> Result<(), NoMemory>
+    ensures { OnOk result (string_bytes out.new ≡ string_bytes out.old ++ body_json act.now) }
 {
     match act {
         Act::Send(body) => {
             out.push_str("\"body\":\"")?;
             push_bytes(out, body.get().bytes())?;
-            out.push_str("\",\"do\":\"send\"")
+            out.push_str("\",")
         }
-        Act::Reset { least, .. } => write!(out, "\"do\":\"reset\",\"least\":{least}"),
+        _ => Ok(()),
+    }
+}
+
+// Adds an act's keys between its word and the node.
+#[tactic(auto, unfolding(crate::specs::Schedules::keys_before))]
+fn push_before(out: &mut String, act: &Act) -> Result<(), NoMemory>
+    ensures { OnOk result (string_bytes out.new ≡ string_bytes out.old ++ keys_before act.now) }
+{
+    match act {
+        Act::Reset { least, .. } => write!(out, ",\"least\":{least}"),
         Act::GiveUp(name) => {
-            out.push_str("\"do\":\"giveup\"")?;
             push_life(out, *name)?;
             let place = name.place();
             write!(out, ",\"name\":{place}")
         }
-        Act::Cut { keep, .. } => write!(out, "\"do\":\"cut\",\"keep\":{keep}"),
-        _ => {
-            let word = act_word(act);
-            write!(out, "\"do\":\"{word}\"")
-        }
+        Act::Cut { keep, .. } => write!(out, ",\"keep\":{keep}"),
+        _ => Ok(()),
     }
+}
+
+// Adds an act's word, and what stands between it and the node.
+#[tactic(auto, unfolding(crate::specs::Schedules::word_json))]
+fn push_word(out: &mut String, act: &Act) -> Result<(), NoMemory>
+    ensures { OnOk result (string_bytes out.new ≡ string_bytes out.old ++ word_json act.now) }
+{
+    let word = act_word(act);
+    write!(out, "\"do\":\"{word}\"")?;
+    push_before(out, act)
 }
 
 // Adds an act's keys behind the node.
@@ -79,7 +95,8 @@ fn push_event(out: &mut String, founding: &Founding, event: &Event) -> Result<()
     ensures { OnOk result (string_bytes out.new ≡ string_bytes out.old ++ event_json founding.now event.now) }
 {
     out.push_str("{")?;
-    push_before(out, &event.act)?;
+    push_body(out, &event.act)?;
+    push_word(out, &event.act)?;
     let place = event.node.place();
     write!(out, ",\"node\":{place}")?;
     push_behind(out, founding, &event.act)?;
@@ -98,9 +115,9 @@ fn push_others(out: &mut String, founding: &Founding, events: &[Event]) -> Resul
 }
 
 // Adds events with commas between them.
-#[tactic(auto, unfolding(crate::specs::Schedules::events_json))]
-fn push_events(out: &mut String, founding: &Founding, events: &[Event]) -> Result<(), NoMemory>
-    ensures { OnOk result (string_bytes out.new ≡ string_bytes out.old ++ events_json founding.now events.now) }
+#[tactic(auto, unfolding(crate::specs::Schedules::listed))]
+fn push_listed(out: &mut String, founding: &Founding, events: &[Event]) -> Result<(), NoMemory>
+    ensures { OnOk result (string_bytes out.new ≡ string_bytes out.old ++ listed founding.now events.now) }
 {
     match events {
         [] => Ok(()),
@@ -111,6 +128,39 @@ fn push_events(out: &mut String, founding: &Founding, events: &[Event]) -> Resul
     }
 }
 
+// Adds the key of events.
+#[tactic(auto, unfolding(crate::specs::Schedules::events_json))]
+fn push_events(out: &mut String, founding: &Founding, events: &[Event]) -> Result<(), NoMemory>
+    ensures { OnOk result (string_bytes out.new ≡ string_bytes out.old ++ events_json founding.now events.now) }
+{
+    out.push_str("\"events\":[")?;
+    push_listed(out, founding, events)?;
+    out.push_str("]")
+}
+
+// Adds the key of founders.
+#[tactic(auto, unfolding(crate::specs::Schedules::founders_json))]
+fn push_founders(out: &mut String, founding: &Founding) -> Result<(), NoMemory>
+    ensures { OnOk result (string_bytes out.new ≡ string_bytes out.old ++ founders_json founding.now) }
+{
+    out.push_str("\"founders\":[")?;
+    push_names(out, founding.founders())?;
+    write!(out, "]")
+}
+
+// Adds the keys of a founding's numbers.
+#[tactic(auto, unfolding(crate::specs::Schedules::numbers_json))]
+fn push_numbers(out: &mut String, founding: &Founding) -> Result<(), NoMemory>
+    ensures { OnOk result (string_bytes out.new ≡ string_bytes out.old ++ numbers_json founding.now) }
+{
+    let pb_up_to = founding.pb_up_to();
+    let resilience = founding.resilience();
+    let window = founding.window();
+    write!(out, "\"pb_up_to\":{pb_up_to}")?;
+    write!(out, ",\"resilience\":{resilience}")?;
+    write!(out, ",\"window\":{window}")
+}
+
 /// What was done as a script: how the group began, and the events, in one line of JSON without its end, whose run is theirs
 /// (docs/PROTOCOL.md, "Scripts").
 #[tactic(auto, unfolding(crate::specs::Schedules::script_text))]
@@ -118,17 +168,12 @@ pub fn script_text(alloc: Global, founding: &Founding, events: &[Event]) -> Resu
     ensures { IfOk result (λ text. string_bytes text ≡ script_text founding.now events.now) }
 {
     let mut out = String::new(alloc);
-    out.push_str("{\"play\":{\"events\":[")?;
+    out.push_str("{\"play\":{")?;
     push_events(&mut out, founding, events)?;
-    out.push_str("],\"founders\":[")?;
-    push_names(&mut out, founding.founders())?;
-    let pb_up_to = founding.pb_up_to();
-    let resilience = founding.resilience();
-    let window = founding.window();
-    write!(&mut out, "],\"pb_up_to\":{pb_up_to}")?;
-    write!(
-        &mut out,
-        ",\"resilience\":{resilience},\"window\":{window}}}}}"
-    )?;
+    out.push_str(",")?;
+    push_founders(&mut out, founding)?;
+    out.push_str(",")?;
+    push_numbers(&mut out, founding)?;
+    out.push_str("}}")?;
     Ok(out)
 }

@@ -10,7 +10,7 @@ use am_base::founding::Founding;
 use am_base::items::Items;
 use am_base::name::{Name, Stamp};
 use am_base::names::Names;
-use am_base::outcome::{KeptOutcome, Outcome};
+use am_base::outcome::Outcome;
 use am_group::event::{Act, By, Event, Part, Record};
 use am_group::journal::Journal;
 use am_letter::letter::Letter;
@@ -48,7 +48,7 @@ fn invite_to(to: Names) -> Letter {
     Letter::of(to, &invite)
 }
 
-fn happened(place: u8, act: Act, outcome: KeptOutcome, packets: Items<Letter>) -> Record
+fn happened(place: u8, act: Act, outcome: Outcome, packets: Items<Letter>) -> Record
     ensures { result.packets ≡ packets }
 {
     Record {

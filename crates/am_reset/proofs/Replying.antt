@@ -2,7 +2,7 @@
 use Rattle.std.proofs.Common.{◌≡◌, ℕ, List, [], true, false, not, if◌then◌else◌, Option, refl, sym, ap, ◌∙◌}
 use Rattle.am_base.specs.declared.image.Image.{Image}
 use Rattle.am_base.specs.declared.image.Vote.{Vote}
-use Rattle.am_base.specs.Outcomes.{Outcome}
+use Rattle.am_base.specs.declared.outcome.Outcome.{Outcome}
 use Rattle.am_base.specs.declared.outcome.Outcome.TheVariants.{Decided, Fetching}
 use Rattle.am_base.specs.Lists.{Log}
 use Rattle.am_base.specs.Names.{nobody, without_name, minus}

@@ -1,6 +1,6 @@
 -- What a row of ballots answers and sends, before the end of its step.
 use Rattle.std.specs.Prelude.{◌≡◌, List, [], false, if◌then◌else◌}
-use Rattle.am_base.specs.Outcomes.{Outcome}
+use Rattle.am_base.specs.declared.outcome.Outcome.{Outcome}
 use Rattle.am_base.specs.declared.outcome.Outcome.TheVariants.{Decided}
 use Rattle.am_base.specs.Limits.{IsNumber}
 use Rattle.am_base.specs.Stamps.{stamp_eq}

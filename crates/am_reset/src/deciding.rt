@@ -1,4 +1,5 @@
 ghost use Rattle.std.specs.Prelude.{◌≡◌, ◌<◌, ◌≤◌, ◌+◌, ◌-◌, max, nat_lt, Some, None, true, false, length, unwrap_or};
+ghost use Rattle.am_base.specs.Outcomes.{is_took};
 ghost use Rattle.am_base.specs.Most.{most_number};
 ghost use Rattle.am_base.specs.Names.{has, size, names_of};
 ghost use Rattle.am_base.specs.Limits.{IsEntry};
@@ -64,7 +65,8 @@ pub fn store(parts: &mut Parts, base: u32, entry: &Entry)
 
 /// The ballot ends with this answer.
 fn close(parts: &mut Parts, ballot: Ballot, answer: Outcome) -> Outcome
-    requires { ballot.resilience ≤ 15 }
+    requires resilience { ballot.resilience ≤ 15 }
+    requires plain { is_took answer ≡ false }
     ensures node { node_of parts.new ≡ record (node_of parts.old) { ballot = Some (finished (ballot_of ballot) answer) } }
     ensures answer { result ≡ answer }
 {
@@ -78,6 +80,7 @@ fn close(parts: &mut Parts, ballot: Ballot, answer: Outcome) -> Outcome
 fn keep_on(parts: &mut Parts, ballot: Ballot, answer: Outcome) -> Outcome
     requires own { IsOwnBallot (node_of parts.old) (ballot_of ballot) }
     requires is_open { ballot.is_over ≡ false }
+    requires plain { is_took answer ≡ false }
     ensures node { node_of parts.new ≡ record (node_of parts.old) { ballot = Some (unfinished (ballot_of ballot) answer) } }
     ensures answer { result ≡ answer }
 {

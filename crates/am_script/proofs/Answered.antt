@@ -1,5 +1,5 @@
 -- Every script keeps to the limits, and is of the kind that is asked for.
-use Rattle.std.proofs.Common.{◌≡◌, ◌≢◌, [], ◌∷◌, Result, Ok, Err, is_some, refl, subst, IfOk}
+use Rattle.std.proofs.Common.{◌≡◌, ◌≢◌, [], ◌∷◌, Result, Ok, Err, false, is_some, refl, subst, IfOk}
 use Rattle.serde_json.specs.Data.{Data}
 use Rattle.serde_json.specs.Find.{as_object}
 use Rattle.am_script.specs.declared.key.Key.{Key}

@@ -226,7 +226,9 @@ fn calls_of(threads: &[ThreadPlan]) -> u64
 }
 
 /// The refusal of a count over all threads.
-fn too_many(found: u64, most: u64) -> ScriptRefusal {
+fn too_many(found: u64, most: u64) -> ScriptRefusal
+    ensures { result ≡ ScriptRefusal.OutOfRange Key.Threads 0 found 0 most }
+{
     ScriptRefusal::OutOfRange {
         key: Key::Threads,
         place: 0,

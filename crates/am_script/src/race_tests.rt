@@ -281,6 +281,7 @@ fn reads_defaults(rt: HostRuntime) -> Result<(), Fail> {
     let plan = race_in(rt.alloc(), text.as_str()).ok_or("a race")?;
     assert!(rt; plan.seed_number == 0 && plan.loss == 0 && plan.repeat == 0 && plan.turns == 200);
     assert!(rt; plan.founding.window() == 64 && plan.founding.pb_up_to() == 256);
-    assert!(rt; plan.threads.as_slice()[0].calls.as_slice().is_empty());
+    let thread = plan.threads.as_slice().first().ok_or("a thread")?;
+    assert!(rt; thread.calls.as_slice().is_empty());
     Ok(())
 }

@@ -2,8 +2,6 @@ use crate::key::Key;
 use crate::read::read_script;
 use crate::refusal::ScriptRefusal;
 use crate::script::Script;
-use am_base::founding::Founding;
-use am_base::items::Items;
 use am_group::event::{Act, Event};
 use std::alloc::{AllocError, Global};
 use std::test::Fail;
@@ -118,20 +116,6 @@ fn play_of(alloc: Global, events: &str) -> Result<String, AllocError> {
     format!(in alloc; "{head}{events}]}}}}")
 }
 
-/// The play that bytes are.
-fn play_in(alloc: Global, bytes: &[u8]) -> Option<(Founding, Items<Event>, bool)> {
-    match read_script(alloc, Key::Play, bytes) {
-        Ok(
-            Script::Play {
-                founding,
-                events,
-                settle,
-            },
-        ) => Some((founding, events, settle)),
-        _ => None,
-    }
-}
-
 /// A send of so many bytes.
 fn send_of(alloc: Global, bytes: usize) -> Result<String, AllocError> {
     let mut text = String::new(alloc);
@@ -229,8 +213,18 @@ fn is_wanted(at: usize, event: &Event) -> bool {
 #[test]
 fn reads_acts(rt: HostRuntime) -> Result<(), Fail> {
     let text = play_of(rt.alloc(), ACTS)?;
-    let (founding, events, settle) = play_in(rt.alloc(), text.as_bytes()).ok_or("a play")?;
-    assert!(rt; settle && founding.founders().mask() == 10 && founding.resilience() == 2);
+    let script = read_script(rt.alloc(), Key::Play, text.as_bytes())
+        .ok()
+        .ok_or("a script")?;
+    let Script::Play {
+        founding,
+        events,
+        settle,
+    } = &script
+    else {
+        return Err(Fail::from("it is a play"));
+    };
+    assert!(rt; *settle && founding.founders().mask() == 10 && founding.resilience() == 2);
     assert!(rt; founding.window() == 1008 && founding.pb_up_to() == 0);
     assert!(rt; events.as_slice().len() == 16);
     for (at, event) in events.as_slice().iter().enumerate() {
@@ -242,8 +236,18 @@ fn reads_acts(rt: HostRuntime) -> Result<(), Fail> {
 #[test]
 fn reads_defaults(rt: HostRuntime) -> Result<(), Fail> {
     let text = r#"{"play": {"founders": [0], "events": []}}"#;
-    let (founding, events, settle) = play_in(rt.alloc(), text.as_bytes()).ok_or("a play")?;
-    assert!(rt; !settle && events.as_slice().is_empty() && founding.resilience() == 0);
+    let script = read_script(rt.alloc(), Key::Play, text.as_bytes())
+        .ok()
+        .ok_or("a script")?;
+    let Script::Play {
+        founding,
+        events,
+        settle,
+    } = &script
+    else {
+        return Err(Fail::from("it is a play"));
+    };
+    assert!(rt; !*settle && events.as_slice().is_empty() && founding.resilience() == 0);
     assert!(rt; founding.window() == 64 && founding.pb_up_to() == 256);
     Ok(())
 }

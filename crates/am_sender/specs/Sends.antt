@@ -2,7 +2,7 @@
 use Rattle.std.specs.Prelude.{◌≡◌, ℕ, ◌+◌, ◌≤◌, length, true, nat_lt, List, [], ◌∷◌, ◌++◌, map, filter, find, count_by, Option, Some, None, option_map, is_some, is_none, Bool, not, ◌==◌, ◌&&◌, if◌then◌else◌}
 use Rattle.std.specs.List.{list_any, list_all}
 use Rattle.am_base.specs.Most.{most_number}
-use Rattle.am_base.specs.Outcomes.{Outcome}
+use Rattle.am_base.specs.declared.outcome.Outcome.{Outcome}
 use Rattle.am_base.specs.declared.outcome.Outcome.TheVariants.{Unknown, Pending, Sent}
 use Rattle.am_sender.specs.declared.OwnSend.{OwnSend}
 

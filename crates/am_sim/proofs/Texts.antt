@@ -8,7 +8,8 @@ use Rattle.am_model.specs.World.{World}
 use Rattle.am_model.specs.Group.{logs}
 use Rattle.am_model.specs.Lawful.{broken_at}
 use Rattle.am_model.specs.Text.{play_text, mark_line}
-use Rattle.am_model.specs.Play.{text_of, count_line, is_took, is_sent, is_held, summary_text_of}
+use Rattle.am_base.specs.Outcomes.{is_took, is_sent, is_held}
+use Rattle.am_model.specs.Play.{text_of, count_line, summary_text_of}
 use Rattle.am_model.proofs.Runs.{watched_is_run}
 use Rattle.am_group.specs.Journals.{letters_of}
 use Rattle.am_report.specs.Logs.{logs_for}

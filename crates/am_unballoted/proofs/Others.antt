@@ -6,7 +6,7 @@ use Rattle.am_base.specs.declared.name.Stamp.{Stamp}
 use Rattle.am_base.specs.declared.image.Image.{Image}
 use Rattle.am_base.specs.declared.entry.Entry.{Entry}
 use Rattle.am_base.specs.declared.entry.Entry.TheVariants.{Data, View}
-use Rattle.am_base.specs.Outcomes.{Outcome}
+use Rattle.am_base.specs.declared.outcome.Outcome.{Outcome}
 use Rattle.am_base.specs.Founding.{Rules}
 use Rattle.am_base.specs.Names.{has}
 use Rattle.am_core.specs.Cores.{CoreState, accept, pass_over}

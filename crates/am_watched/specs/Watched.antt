@@ -1,6 +1,6 @@
 -- What is kept along a run is what watching it gives: the laws of each kind of event, by the events of the run.
 use Rattle.std.specs.Prelude.{◌≡◌, ℕ, ◌+◌, List, [], ◌∷◌, ◌++◌, length, if◌then◌else◌, false}
-use Rattle.am_base.specs.Outcomes.{Outcome}
+use Rattle.am_base.specs.declared.outcome.Outcome.{Outcome}
 use Rattle.am_base.specs.Founding.{Rules, MayFound}
 use Rattle.am_group.specs.declared.event.Event.{Event}
 use Rattle.am_model.specs.Node.{Node}

@@ -8,7 +8,7 @@ use am_base::NoMemory;
 use am_base::founding::Founding;
 use am_base::name::Name;
 use am_base::names::Names;
-use am_base::outcome::{KeptOutcome, Outcome};
+use am_base::outcome::Outcome;
 use am_group::event::Record;
 use am_group::journal::Journal;
 use am_letter::letter::Letter;
@@ -33,7 +33,7 @@ impl Model for Sheet {
     ghost invariant = { λ s. s.stopped ≡ stopped_in s.journal.records };
 }
 
-fn is_stop(outcome: &KeptOutcome) -> bool
+fn is_stop(outcome: &Outcome) -> bool
     ensures { result ≡ is_stop outcome.now }
 {
     match outcome {

@@ -1,7 +1,7 @@
 -- What one event does to the nodes.
 use Rattle.std.specs.Prelude.{◌≡◌, ℕ, ◌≤◌, max, List, Some, slice_get, slice_set}
 use Rattle.am_base.specs.declared.entry.Entry.{Entry}
-use Rattle.am_base.specs.Outcomes.{Outcome}
+use Rattle.am_base.specs.declared.outcome.Outcome.{Outcome}
 use Rattle.am_base.specs.declared.event.NodeEvent.{NodeEvent}
 use Rattle.am_packet.specs.Boxes.{Letter}
 use Rattle.am_core.specs.Cores.{IsInOrder}

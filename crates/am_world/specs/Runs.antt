@@ -2,7 +2,7 @@
 use Rattle.std.specs.Prelude.{◌≡◌, ℕ, ◌+◌, ◌<◌, ◌≤◌, List, [], ◌∷◌, ◌++◌, length, map, Some, Bool, false, slice_get, slice_index, slice_index_or}
 use Rattle.am_base.specs.Most.{most_events}
 use Rattle.am_base.specs.declared.entry.Entry.{Entry}
-use Rattle.am_base.specs.Outcomes.{Outcome}
+use Rattle.am_base.specs.declared.outcome.Outcome.{Outcome}
 use Rattle.am_base.specs.Founding.{Rules, MayFound}
 use Rattle.am_packet.specs.Boxes.{Letter}
 use Rattle.am_core.specs.Cores.{IsInOrder}
@@ -74,3 +74,7 @@ the_record e life outcome letters = record { event = e; life = life; by = no_cal
 -- the event's record has this outcome
 abbrev pub Answers : Play → Event → Outcome → Type 0
 Answers p event outcome = (letters : List Letter) × ((replay (after p event)).records ≡ (replay p).records ++ record_of (replay p) event outcome letters ∷ [])
+
+-- exactly one record more, the event's
+abbrev pub IsOneMore : Play → Event → Type 0
+IsOneMore p event = (outcome : Outcome) × Answers p event outcome

@@ -1,5 +1,6 @@
 ghost use Rattle.std.specs.Prelude.{◌≡◌, ◌||◌, Some, OnOk, IfOk, length, take, Ok, Err};
 ghost use Rattle.std.specs.Option.{option_copied};
+ghost use Rattle.am_base.specs.declared.event.NodeEvent.TheVariants as does;
 ghost use Rattle.am_base.specs.Names.{life_of};
 ghost use Rattle.am_packet.specs.Boxes as boxes;
 ghost use Rattle.am_codec.specs.Limits.{IsPacket};
@@ -8,7 +9,9 @@ ghost use Rattle.am_group.specs.Journals.{letters_of, letter_at};
 ghost use Rattle.am_world.specs.Asked as asks;
 ghost use Rattle.am_world.specs.Asked.{flag_of, if_running, kept, SpellsPacket};
 
-use am_base::body::PacketBytes;
+use am_base::NoMemory;
+use am_base::body::{Body, PacketBytes};
+use am_base::boxed::Boxed;
 use am_base::event::NodeEvent;
 use am_base::name::Name;
 use am_base::outcome::Outcome;
@@ -16,6 +19,7 @@ use am_group::addressed::is_for;
 use am_group::event::Act;
 use am_group::journal::Journal;
 use am_letter::letter::Letter;
+use std::alloc::Global;
 
 /// Whether a name has stopped.
 pub fn is_stopped(stopped: &[bool; 256], name: Name) -> bool
@@ -49,24 +53,34 @@ fn kept(bytes: &PacketBytes, keep: Option<u32>) -> PacketBytes
 
 /// A name hears a letter, or only the first of its bytes.
 fn hears(
+    alloc: Global,
     letter: Option<&Letter>,
     keep: Option<u32>,
     name: Name,
     stopped: bool,
-) -> Result<NodeEvent, Outcome>
-    ensures value { result ≡ asks.hears keep name stopped (option_copied letter.entry) }
-    ensures packet { OnOk result ((l : boxes.Letter) → option_copied letter.entry ≡ Some l → IsPacket l.packet) }
+) -> Result<Result<NodeEvent, Outcome>, NoMemory>
+    ensures value { IfOk result (λ r. r ≡ asks.hears keep name stopped (option_copied letter.entry)) }
+    ensures packet { IfOk result (λ r. OnOk r ((l : boxes.Letter) → option_copied letter.entry ≡ Some l → IsPacket l.packet)) }
 {
     let Some(letter) = letter else {
-        return Err(Outcome::NoPacket);
+        return Ok(Err(Outcome::NoPacket));
     };
     if !is_for(letter, name) {
-        return Err(Outcome::NotAddressed);
+        return Ok(Err(Outcome::NotAddressed));
     }
     if stopped {
-        return Err(Outcome::IsStopped);
+        return Ok(Err(Outcome::IsStopped));
     }
-    Ok(NodeEvent::Hear(kept(letter.bytes(), keep)))
+    let bytes = Boxed::of(alloc, kept(letter.bytes(), keep))?;
+    Ok(Ok(NodeEvent::Hear(bytes)))
+}
+
+/// A name sends a body.
+fn sends(alloc: Global, body: &Body, stopped: bool) -> Result<Result<NodeEvent, Outcome>, NoMemory>
+    ensures { IfOk result (λ r. r ≡ if_running stopped (does.Send body.now)) }
+{
+    let body = Boxed::of(alloc, body.copied())?;
+    Ok(if_running(stopped, NodeEvent::Send(body)))
 }
 
 fn gives_up(stopped: &[bool; 256], name: Name, other: Name) -> Result<NodeEvent, Outcome>
@@ -105,18 +119,19 @@ fn returns(is_gone: bool, name: Name) -> Outcome
 
 /// What an act asks of a name's node, or how it is answered without one.
 pub fn asked(
+    alloc: Global,
     journal: &Journal,
     stopped: &[bool; 256],
     has_departed: bool,
     name: Name,
     act: &Act,
-) -> Result<NodeEvent, Outcome>
-    ensures value { result ≡ asks.asked (letters_of journal.now.records) stopped.now has_departed name act.now }
-    ensures packet { OnOk result (SpellsPacket (letters_of journal.now.records) act.now) }
+) -> Result<Result<NodeEvent, Outcome>, NoMemory>
+    ensures value { IfOk result (λ r. r ≡ asks.asked (letters_of journal.now.records) stopped.now has_departed name act.now) }
+    ensures packet { IfOk result (λ r. OnOk r (SpellsPacket (letters_of journal.now.records) act.now)) }
 {
     let is_stopped = is_stopped(stopped, name);
-    match act {
-        Act::Send(body) => if_running(is_stopped, NodeEvent::Send(body.get().copied())),
+    Ok(match act {
+        Act::Send(body) => sends(alloc, body.get(), is_stopped)?,
         Act::Done(req) => if_running(is_stopped, NodeEvent::Done(*req)),
         Act::Take => if_running(is_stopped, NodeEvent::Take),
         Act::Join => if_running(is_stopped, NodeEvent::Join),
@@ -133,10 +148,16 @@ pub fn asked(
         Act::GiveUp(other) => gives_up(stopped, name, *other),
         Act::Stop => Err(stops(is_stopped)),
         Act::Tick => if_running(is_stopped, NodeEvent::Tick),
-        Act::Hear(number) => hears(journal.packet(*number), None, name, is_stopped),
+        Act::Hear(number) => hears(alloc, journal.packet(*number), None, name, is_stopped)?,
         Act::Cut { packet, keep } => {
-            hears(journal.packet(*packet), Some(*keep), name, is_stopped)
+            hears(
+                alloc,
+                journal.packet(*packet),
+                Some(*keep),
+                name,
+                is_stopped,
+            )?
         }
         Act::Return => Err(returns(is_stopped || has_departed, name)),
-    }
+    })
 }

@@ -8,6 +8,7 @@ ghost use Rattle.am_node.specs.Stands.{state_of};
 ghost use Rattle.am_world.specs.Moves.{IsReady, IsReadyAt, StepsAt};
 
 use am_base::NoMemory;
+use am_base::boxed::Boxed;
 use am_base::entry::Entry;
 use am_base::event::NodeEvent;
 use am_base::name::Name;
@@ -64,7 +65,13 @@ fn grow(group: &mut Vec<Entry>, node: &Node)
 }
 
 /// A node does a step, and the group list grows by it.
-fn step_node(node: &mut Node, what: &NodeEvent, group: &mut Vec<Entry>, out: &mut OutBox) -> Outcome
+fn step_node(
+    node: &mut Node,
+    what: &NodeEvent,
+    spare: Boxed<Entry>,
+    group: &mut Vec<Entry>,
+    out: &mut OutBox,
+) -> Outcome
     requires ready { IsReady (state_of node.old) what.now (vec_len group.old) (vec_capacity group.old) }
     requires empty { out.old ≡ [] }
     ensures does { Does (λ k. row k what.now) (state_of node.old) result out.new (state_of node.new) }
@@ -72,7 +79,7 @@ fn step_node(node: &mut Node, what: &NodeEvent, group: &mut Vec<Entry>, out: &mu
     ensures few { length out.new ≤ 9 }
     ensures grows { group.new.items ≡ group_after group.old.items (state_of node.new) }
 {
-    let outcome = node.step(what, out);
+    let outcome = node.step(what, spare, out);
     let _accepted = node.accepted();
     grow(group, node);
     outcome
@@ -83,6 +90,7 @@ pub fn step_at(
     nodes: &mut [Node],
     name: Name,
     what: &NodeEvent,
+    spare: Boxed<Entry>,
     group: &mut Vec<Entry>,
     out: &mut OutBox,
 ) -> Outcome
@@ -92,5 +100,11 @@ pub fn step_at(
     ensures steps { StepsAt nodes.old nodes.new group.old.items group.new.items (place_of name) what.now result out.new }
     ensures few { length out.new ≤ 9 }
 {
-    step_node(&mut nodes[usize::from(name.place())], what, group, out)
+    step_node(
+        &mut nodes[usize::from(name.place())],
+        what,
+        spare,
+        group,
+        out,
+    )
 }

@@ -50,8 +50,8 @@ fn sixteen(alloc: Global, founding: &Founding) -> Result<Vec<Node>, NoMemory>
 }
 
 /// The record of an event of which this outcome came, and no letter.
-fn new_record(alloc: Global, event: &Event, life: u8, outcome: &Outcome) -> Result<Record, NoMemory>
-    ensures { IfOk result (λ r. r ≡ the_record event.now life outcome.now []) }
+fn new_record(alloc: Global, event: &Event, life: u8, outcome: Outcome) -> Result<Record, NoMemory>
+    ensures { IfOk result (λ r. r ≡ the_record event.now life outcome []) }
 {
     Ok(Record {
         event: event.copied()?,
@@ -61,7 +61,7 @@ fn new_record(alloc: Global, event: &Event, life: u8, outcome: &Outcome) -> Resu
             call: 0,
             part: Part::Call,
         },
-        outcome: outcome.kept_in(Boxed::of(alloc, Entry::default())?),
+        outcome,
         packets: Items::new(alloc),
     })
 }
@@ -105,7 +105,7 @@ impl Run {
     ghost use Rattle.am_base.specs.declared.outcome.Outcome.TheVariants as said;
     ghost use Rattle.am_group.specs.Journals.{letters_of};
     ghost use Rattle.am_model.specs.World.{current, is_stopped, unchanged, happens};
-    ghost use Rattle.am_world.specs.Runs.{after, Answers, replay};
+    ghost use Rattle.am_world.specs.Runs.{after, replay, IsOneMore};
     ghost use Rattle.am_world.specs.Asked.{answered, comes, IsNextLife};
 
     /// The group of a founding, to which nothing has happened.
@@ -179,50 +179,49 @@ impl Run {
     }
 
     /// Records an event that changes no node.
-    fn pass(&mut self, event: &Event, name: Name, outcome: Outcome) -> Result<Outcome, NoMemory>
+    fn pass(&mut self, event: &Event, name: Name, outcome: Outcome) -> Result<(), NoMemory>
         requires few { length self.old.events < most_events }
         requires name { name ≡ current (replay self.old) (place_of event.now.node) }
         requires comes { happens (replay self.old) event.now ≡ unchanged (replay self.old) event.now outcome }
         ensures ok { OnOk result (self.new ≡ after self.old event.now) }
-        ensures outcome { IfOk result (λ o. Answers self.old event.now o) }
+        ensures one { OnOk result (IsOneMore self.old event.now) }
         ensures err { OnErr result (self.new ≡ self.old) }
     {
         self.journal.reserve()?;
-        let record = new_record(self.alloc, event, name.life(), &outcome)?;
+        let record = new_record(self.alloc, event, name.life(), outcome)?;
         self.journal.push(record);
-        Ok(outcome)
+        Ok(())
     }
 
     /// Records that a name has stopped.
-    fn stop(&mut self, event: &Event, name: Name) -> Result<Outcome, NoMemory>
+    fn stop(&mut self, event: &Event, name: Name) -> Result<(), NoMemory>
         requires few { length self.old.events < most_events }
         requires name { name ≡ current (replay self.old) (place_of event.now.node) }
         requires comes { happens (replay self.old) event.now ≡ answered (replay self.old) event.now said.Stopped }
         ensures ok { OnOk result (self.new ≡ after self.old event.now) }
-        ensures outcome { IfOk result (λ o. Answers self.old event.now o) }
+        ensures one { OnOk result (IsOneMore self.old event.now) }
         ensures err { OnErr result (self.new ≡ self.old) }
     {
         self.journal.reserve()?;
-        let record = new_record(self.alloc, event, name.life(), &Outcome::Stopped)?;
+        let record = new_record(self.alloc, event, name.life(), Outcome::Stopped)?;
         self.stopped[usize::from(name.get())] = true;
         self.journal.push(record);
-        Ok(Outcome::Stopped)
+        Ok(())
     }
 
     /// A place goes on with its next life: the node of the one before is let go, and a fresh one takes its place.
-    fn come_back(&mut self, event: &Event, name: Name, life: u8) -> Result<Outcome, NoMemory>
+    fn come_back(&mut self, event: &Event, name: Name, life: u8) -> Result<(), NoMemory>
         requires few { length self.old.events < most_events }
         requires name { name ≡ current (replay self.old) (place_of event.now.node) }
         requires next { life ≡ life_of name + 1 }
         requires most { life ≤ 16 }
         requires comes { happens (replay self.old) event.now ≡ answered (replay self.old) event.now (said.Returned life) }
         ensures ok { OnOk result (self.new ≡ after self.old event.now) }
-        ensures outcome { IfOk result (λ o. Answers self.old event.now o) }
+        ensures one { OnOk result (IsOneMore self.old event.now) }
         ensures err { OnErr result (self.new ≡ self.old) }
     {
         self.journal.reserve()?;
-        let outcome = Outcome::Returned { life };
-        let record = new_record(self.alloc, event, name.life(), &outcome)?;
+        let record = new_record(self.alloc, event, name.life(), Outcome::Returned { life })?;
         let place = name.place();
         let fresh = Node::stranger(
             self.alloc,
@@ -233,22 +232,17 @@ impl Run {
         self.lives[usize::from(place)] = life;
         self.stopped[usize::from(name.get())] = true;
         self.journal.push(record);
-        Ok(outcome)
+        Ok(())
     }
 
     /// Records an event that is no step of a node.
-    pub fn answer(
-        &mut self,
-        event: &Event,
-        name: Name,
-        outcome: Outcome,
-    ) -> Result<Outcome, NoMemory>
+    pub fn answer(&mut self, event: &Event, name: Name, outcome: Outcome) -> Result<(), NoMemory>
         requires few { length self.old.events < most_events }
         requires name { name ≡ current (replay self.old) (place_of event.now.node) }
         requires next { IsNextLife name outcome }
         requires comes { happens (replay self.old) event.now ≡ answered (replay self.old) event.now outcome }
         ensures ok { OnOk result (self.new ≡ after self.old event.now) }
-        ensures outcome { IfOk result (λ o. Answers self.old event.now o) }
+        ensures one { OnOk result (IsOneMore self.old event.now) }
         ensures err { OnErr result (self.new ≡ self.old) }
     {
         match outcome {
@@ -259,37 +253,50 @@ impl Run {
     }
 
     /// A name's node does a step.
-    pub fn act(&mut self, event: &Event, name: Name, what: &NodeEvent) -> Result<Outcome, NoMemory>
+    pub fn act(&mut self, event: &Event, name: Name, what: &NodeEvent) -> Result<(), NoMemory>
         requires few { length self.old.events < most_events }
         requires name { name ≡ current (replay self.old) (place_of event.now.node) }
         requires comes { happens (replay self.old) event.now ≡ comes (replay self.old) event.now (Ok what.now) }
         ensures ok { OnOk result (self.new ≡ after self.old event.now) }
-        ensures outcome { IfOk result (λ o. Answers self.old event.now o) }
+        ensures one { OnOk result (IsOneMore self.old event.now) }
         ensures err { OnErr result (self.new ≡ self.old) }
     {
         self.journal.reserve()?;
-        let mut record = new_record(self.alloc, event, name.life(), &Outcome::Idle)?;
+        let mut record = new_record(self.alloc, event, name.life(), Outcome::Idle)?;
         let spare = Boxed::of(self.alloc, Entry::default())?;
         let mut packets = Vec::with_capacity(self.alloc, 9)?;
         make_room(&mut self.group, self.journal.records().len() + 2)?;
         self.out.clear();
-        let outcome = step_at(&mut self.nodes, name, what, &mut self.group, &mut self.out);
+        record.outcome = step_at(
+            &mut self.nodes,
+            name,
+            what,
+            spare,
+            &mut self.group,
+            &mut self.out,
+        );
         copy_letters(self.out.letters(), &mut packets);
         packets.shrink_to_fit();
-        record.outcome = outcome.kept_in(spare);
         record.packets = Items::of(packets);
         self.journal.push(record);
-        Ok(outcome)
+        Ok(())
     }
 
     /// What an event asks of its name's node, or how it is answered without one.
-    pub fn asked(&self, event: &Event) -> Result<NodeEvent, Outcome>
-        ensures comes { happens (replay self.now) event.now ≡ comes (replay self.now) event.now result }
-        ensures next { IfErr result (λ o. IsNextLife (current (replay self.now) (place_of event.now.node)) o) }
+    pub fn asked(&self, event: &Event) -> Result<Result<NodeEvent, Outcome>, NoMemory>
+        ensures comes { IfOk result (λ r. happens (replay self.now) event.now ≡ comes (replay self.now) event.now r) }
+        ensures next { IfOk result (λ r. IfErr r (λ o. IsNextLife (current (replay self.now) (place_of event.now.node)) o)) }
     {
         let name = self.name_at(event.node);
         let has_departed = has_departed(self.node(event.node).status());
-        asked(&self.journal, &self.stopped, has_departed, name, &event.act)
+        asked(
+            self.alloc,
+            &self.journal,
+            &self.stopped,
+            has_departed,
+            name,
+            &event.act,
+        )
     }
 
     /// Whether a name has stopped, by a Stop or because its place has a greater life.

@@ -8,12 +8,15 @@ use am_group::event::{Act, Event};
 use std::process::Abort;
 use std::test::*;
 
-fn does(world: &mut World, place: u8, act: Act) -> Result<Outcome, Fail> {
+/// What comes of an act of a place.
+fn does(world: &mut World, place: u8, act: Act) -> Result<(&'static str, u8), Fail> {
     let event = Event {
         node: Name::of_byte(place),
         act,
     };
-    Ok(world.step(&event)?)
+    world.step(&event)?;
+    let record = world.journal().records().last().ok_or("a record")?;
+    Ok(word(&record.outcome))
 }
 
 fn word(outcome: &Outcome) -> (&'static str, u8) {
@@ -49,8 +52,7 @@ fn what_no_node_does_is_answered(rt: HostRuntime) -> Result<(), Fail> {
         (0, Act::Return, ("returned", 2)),
         (0, Act::Return, ("running", 2)),
     ] {
-        let outcome = does(&mut world, place, act)?;
-        assert_eq!(rt; word(&outcome), wanted);
+        assert_eq!(rt; does(&mut world, place, act)?, wanted);
     }
     assert_eq!(rt; world.group().len(), 1);
     let lives = world.journal().records();
@@ -68,14 +70,14 @@ fn a_place_has_sixteen_lives(rt: HostRuntime) -> Result<(), Fail> {
     let mut world = two_founders(&rt)?;
     for life in 2..17u8 {
         let outcome = does(&mut world, 1, Act::Stop)?;
-        assert_eq!(rt; word(&outcome), ("stopped", 0));
+        assert_eq!(rt; outcome, ("stopped", 0));
         let outcome = does(&mut world, 1, Act::Return)?;
-        assert_eq!(rt; word(&outcome), ("returned", life));
+        assert_eq!(rt; outcome, ("returned", life));
     }
     let outcome = does(&mut world, 1, Act::Stop)?;
-    assert_eq!(rt; word(&outcome), ("stopped", 0));
+    assert_eq!(rt; outcome, ("stopped", 0));
     let outcome = does(&mut world, 1, Act::Return)?;
-    assert_eq!(rt; word(&outcome), ("no-life", 0));
+    assert_eq!(rt; outcome, ("no-life", 0));
     assert_eq!(rt; world.name_at(Name::of_byte(1)).life(), 16);
     Ok(())
 }

@@ -80,7 +80,7 @@ impl World {
     ghost use Rattle.am_model.specs.Ends.{IsEndOf};
     ghost use Rattle.am_node.specs.Info.{info_of};
     ghost use Rattle.am_node.specs.Stands.{state_of};
-    ghost use Rattle.am_world.specs.Runs.{after, Answers, replay};
+    ghost use Rattle.am_world.specs.Runs.{after, replay, IsOneMore};
     ghost use Rattle.am_world.specs.Asked.{answered, comes, IsNextLife};
 
     /// The group of a founding, to which nothing has happened.
@@ -163,38 +163,38 @@ impl World {
     }
 
     /// An event that is no step of a node: a name has stopped, or nothing changed that is watched.
-    fn answer(&mut self, event: &Event, name: Name, outcome: Outcome) -> Result<Outcome, NoMemory>
+    fn answer(&mut self, event: &Event, name: Name, outcome: Outcome) -> Result<(), NoMemory>
         requires few { length self.old.events < most_events }
         requires name { name ≡ current (replay self.old) (place_of event.now.node) }
         requires next { IsNextLife name outcome }
         requires comes { happens (replay self.old) event.now ≡ answered (replay self.old) event.now outcome }
         ensures ok { OnOk result (self.new ≡ after self.old event.now) }
-        ensures outcome { IfOk result (λ o. Answers self.old event.now o) }
+        ensures one { OnOk result (IsOneMore self.old event.now) }
         ensures err { OnErr result (self.new ≡ self.old) }
     {
         self.watcher.reserve()?;
         let stops = stops_by(self.run.is_stopped(name), &outcome);
-        let outcome = self.run.answer(event, name, outcome)?;
+        self.run.answer(event, name, outcome)?;
         if stops {
             self.watcher.stop(name);
         } else {
             self.watcher.pass();
         }
-        Ok(outcome)
+        Ok(())
     }
 
     /// A name's node does a step.
-    fn act(&mut self, event: &Event, name: Name, what: &NodeEvent) -> Result<Outcome, NoMemory>
+    fn act(&mut self, event: &Event, name: Name, what: &NodeEvent) -> Result<(), NoMemory>
         requires few { length self.old.events < most_events }
         requires name { name ≡ current (replay self.old) (place_of event.now.node) }
         requires comes { happens (replay self.old) event.now ≡ comes (replay self.old) event.now (Ok what.now) }
         ensures ok { OnOk result (self.new ≡ after self.old event.now) }
-        ensures outcome { IfOk result (λ o. Answers self.old event.now o) }
+        ensures one { OnOk result (IsOneMore self.old event.now) }
         ensures err { OnErr result (self.new ≡ self.old) }
     {
         self.watcher.reserve()?;
         let known = self.run.group().len();
-        let outcome = self.run.act(event, name, what)?;
+        self.run.act(event, name, what)?;
         note_step(
             &mut self.watcher,
             name,
@@ -203,13 +203,13 @@ impl World {
             self.run.group(),
             known,
         );
-        Ok(outcome)
+        Ok(())
     }
 
     /// Does an event. After a refusal all is as it was. It is Spent exactly where 100,000 events were done.
-    pub fn step(&mut self, event: &Event) -> Result<Outcome, WorldRefusal>
+    pub fn step(&mut self, event: &Event) -> Result<(), WorldRefusal>
         ensures ok { OnOk result (self.new ≡ after self.old event.now) }
-        ensures outcome { IfOk result (λ o. Answers self.old event.now o) }
+        ensures one { OnOk result (IsOneMore self.old event.now) }
         ensures spent { (result ≡ Err WorldRefusal.Spent) ↔ (length self.old.events ≡ most_events) }
         ensures err { OnErr result (self.new ≡ self.old) }
     {
@@ -217,9 +217,10 @@ impl World {
             return Err(WorldRefusal::Spent);
         }
         let name = self.run.name_at(event.node);
-        match self.run.asked(event) {
-            Ok(what) => Ok(self.act(event, name, &what)?),
-            Err(outcome) => Ok(self.answer(event, name, outcome)?),
+        match self.run.asked(event)? {
+            Ok(what) => self.act(event, name, &what)?,
+            Err(outcome) => self.answer(event, name, outcome)?,
         }
+        Ok(())
     }
 }

@@ -1,6 +1,6 @@
 use Rattle.std.proofs.Common.{sym, ap, ◌∙◌, subst, arith}
 use Rattle.am_base.specs.declared.image.Row.{Row}
-use Rattle.am_base.specs.Outcomes.{Outcome}
+use Rattle.am_base.specs.declared.outcome.Outcome.{Outcome}
 use Rattle.am_model.specs.Node.{told}
 use Rattle.am_model.specs.Emit.{Plan, polling}
 use Rattle.am_handlers.specs.Parts.{node_of}

@@ -1,7 +1,7 @@
 use Rattle.std.proofs.Common.{◌≡◌, ℕ, List, refl, sym, ap, subst}
 use Rattle.am_base.specs.declared.event.NodeEvent.{NodeEvent}
 use Rattle.am_base.specs.declared.event.NodeEvent.TheVariants.{Send, Done, Take, Join, State, Leave, Reset, Ask, GiveUp, Tick, Hear}
-use Rattle.am_base.specs.Outcomes.{Outcome}
+use Rattle.am_base.specs.declared.outcome.Outcome.{Outcome}
 use Rattle.am_packet.specs.Boxes.{Letter}
 use Rattle.am_codec.specs.Reading.{reading}
 use Rattle.am_model.specs.Node.{Node}

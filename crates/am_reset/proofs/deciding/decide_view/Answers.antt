@@ -1,5 +1,5 @@
 use Rattle.std.proofs.Common.{sym, ap, ◌∙◌, Some}
-use Rattle.am_base.specs.Outcomes.{Outcome}
+use Rattle.am_base.specs.declared.outcome.Outcome.{Outcome}
 use Rattle.am_handlers.specs.Parts.{node_of}
 use Rattle.am_ballots.specs.Kept.{ballot_of}
 use Rattle.am_model.specs.Ballots.{finished}

@@ -3,7 +3,7 @@ use Rattle.std.proofs.lemmas.Bool.Decides.{nat_tests}
 use Rattle.am_base.specs.declared.entry.Entry.{Entry}
 use Rattle.am_base.specs.declared.entry.Entry.TheVariants.{View}
 use Rattle.am_base.specs.declared.name.Stamp.{Stamp}
-use Rattle.am_base.specs.Outcomes.{Outcome}
+use Rattle.am_base.specs.declared.outcome.Outcome.{Outcome}
 use Rattle.am_base.specs.Lists.{fits}
 use Rattle.am_base.specs.Names.{size, has}
 use Rattle.am_base.specs.Stamps.{stamp_lt}
