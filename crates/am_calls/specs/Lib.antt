@@ -6,4 +6,7 @@ pub mod Turns
 pub mod Callers
 pub mod Legal
 pub mod Plans
+pub mod Lawful
+pub mod Callings
+pub mod Boxes
 pub mod Laws
