@@ -4,6 +4,8 @@
 
 mod generating;
 mod playing;
+#[cfg(test)]
+mod race_tests;
 mod racing;
 #[cfg(test)]
 mod script_tests;

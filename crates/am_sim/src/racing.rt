@@ -49,11 +49,7 @@ fn events_of_race<R: Threads + Wait + Sync, G: Gate + Sync>(
 }
 
 /// The text of the run of at most 100,000 events.
-fn text_of_events(
-    alloc: Global,
-    founding: &Founding,
-    events: &[Event],
-) -> Result<String, NoMemory>
+fn text_of_events(alloc: Global, founding: &Founding, events: &[Event]) -> Result<String, NoMemory>
     requires { length events.now ≤ most_events }
     ensures { IfOk result (λ text. string_bytes text ≡ text_of founding.now events.now) }
 {

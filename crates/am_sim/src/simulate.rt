@@ -224,14 +224,14 @@ fn race_script<R: Threads + Wait + Sync, S: Source, K: Sink, G: Gate + Sync>(
     };
     let text = match race_answer(rt, alloc, gate, bytes.as_slice()) {
         Ok(text) => text,
-        Err(Unplayed::BadScript(cause)) => return Status::BadScript(cause),
+        Err(Unplayed::BadScript(why)) => return Status::BadScript(why),
         Err(Unplayed::Spent) => unreachable!(),
         Err(Unplayed::NoMemory) => return Status::NoMemory,
     };
-    match write_all(sink, text.as_bytes()) {
-        Ok(()) => Status::Done,
-        Err(_) => Status::WriteFault,
+    if write_all(sink, text.as_bytes()).is_err() {
+        return Status::WriteFault;
     }
+    Status::Done
 }
 
 /// The plan of the race that bytes are.
@@ -382,7 +382,9 @@ mod tests {
         for (words, input, reads, writes, size, status, written) in CALLS {
             let mut source = MemSource::new(input.as_bytes(), reads, 16);
             let mut sink = MemSink::new(rt.alloc(), writes, 20, size)?;
-            assert!(rt; simulate(&rt, rt.alloc(), &NoGate, words, &mut source, &mut sink) == status);
+            assert!(rt;
+                simulate(&rt, rt.alloc(), &NoGate, words, &mut source, &mut sink) == status
+            );
             assert!(rt; sink.bytes() == written.as_bytes());
         }
         Ok(())
