@@ -1,3 +1,4 @@
 mod Bodies
 pub mod Drives
 pub mod Rules
+pub mod Sends

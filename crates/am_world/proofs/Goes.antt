@@ -17,12 +17,17 @@ use Rattle.am_model.specs.Node as protocol
 use Rattle.am_model.specs.Ends.{IsEndOf}
 use Rattle.am_model.specs.declared.status.Status.{Status}
 use Rattle.am_base.specs.declared.event.NodeEvent.{NodeEvent}
-use Rattle.std.specs.Prelude.{Result, OnOk}
+use Rattle.std.specs.Prelude.{Result, Ok, Err, OnOk, IfOk}
 use Rattle.am_model.proofs.Runs.{runs_go_on}
 use Rattle.am_node.specs.declared.node.Node.{Node}
 use Rattle.am_world.specs.Runs.{Play, replay, after, AreNodes, AreLives, AreFlags, Shows, IsRun, play_of, the_record, Answers}
 use Rattle.am_world.specs.Asked.{asked, comes, SpellsPacket}
 use Rattle.am_world.proofs.Comes.{life_now, happens_comes}
+
+-- what holds of a value by two facts of it
+pub if_both : {A E : Type 0} (r : Result A E) (P Q S : A → Type 0) → ((x : A) → P x → Q x → S x) → IfOk r P → IfOk r Q → IfOk r S
+if_both (Ok x) P Q S f p q = f x p q
+if_both (Err e) P Q S f p q = p
 
 -- the run of one event more
 pub replay_after : (p : Play) (event : Event) → replay (after p event) ≡ happens (replay p) event

@@ -1,4 +1,4 @@
-use Rattle.std.proofs.Common.{◌≡◌, ℕ, List, refl, sym, ap, subst}
+use Rattle.std.proofs.Common.{◌≡◌, ℕ, List, refl, sym, ap, ◌∙◌, subst}
 use Rattle.am_base.specs.declared.event.NodeEvent.{NodeEvent}
 use Rattle.am_base.specs.declared.event.NodeEvent.TheVariants.{Send, Done, Take, Join, State, Leave, Reset, Ask, GiveUp, Tick, Hear}
 use Rattle.am_base.specs.declared.outcome.Outcome.{Outcome}
@@ -21,7 +21,7 @@ pub returns-in-Send : goal.returns-in-Send
 unfolding row
 returns-in-Send c =
     let old = node_of c.args.parts.now in
-    does_as old _ c.args.event.now (Send c.in-Send.body) (send_row old c.copied.result) _ _ c.in-Send.is (ap (send_row old) (sym c.copied.ensures)) c.on_send.ensures
+    does_as old _ c.args.event.now (Send c.in-Send.body) (send_row old c.copied.result) _ _ c.in-Send.is (ap (send_row old) (sym (c.copied.ensures ∙ c.get.ensures))) c.on_send.ensures
 
 pub returns-in-Done : goal.returns-in-Done
 unfolding row
@@ -81,4 +81,4 @@ pub returns-in-Hear : goal.returns-in-Hear
 unfolding row
 returns-in-Hear c =
     let old = node_of c.args.parts.now in
-    does_as old _ c.args.event.now (Hear c.in-Hear.bytes) (read_row old (reading c.bytes.result.now)) _ _ c.in-Hear.is (ap (λ (bs : List ℕ). read_row old (reading bs)) (sym c.bytes.ensures.value)) c.on_bytes.ensures
+    does_as old _ c.args.event.now (Hear c.in-Hear.bytes) (read_row old (reading c.bytes.result.now)) _ _ c.in-Hear.is (ap (λ (bs : List ℕ). read_row old (reading bs)) (sym (c.bytes.ensures.value ∙ c.get-in-Hear.ensures))) c.on_bytes.ensures

@@ -16,7 +16,7 @@ returns-clause-ok c =
     let at = c.draw-place.ensures.value ∙ ap (λ (d : Drive). draw d.words 4) back in
     let turns = c.turn_of-turn.ensures ∙ ap turn_of (c.draw.ensures.value ∙ ap (λ (w : Lcg). draw w 16) c.draw-place.ensures.drawn)
     ∙ ap (λ (d : Drive). turn_of (draw (drawn d.words) 16)) back in
-    on_ok_weaker c.happen.result (step_is c.args.self.now _ c.act-act.new.self c.happen.new.self c.draw-place.result c.turn_of-turn.result c.act-act.result mid at turns c.act-act.ensures.act c.act-act.ensures.turned)
+    on_ok_weaker c.happen.result (step_is c.args.self.now _ c.act.new.self c.happen.new.self c.draw-place.result c.turn_of-turn.result c.in_ok-act.act mid at turns c.in_ok-act.ensures.act c.act.ensures.turned)
     c.happen.ensures.ok
 
 pub returns-clause-spent : goal.returns-clause-spent
@@ -25,5 +25,5 @@ returns-clause-spent c =
     let back = c.self.view_is in
     let mid = ap (λ (w : Lcg). record { play = c.self.inside.world; words = w; luck = c.self.inside.chooser; progress = c.self.inside.progress }) words
     ∙ ap (λ (d : Drive). record d { words = drawn (drawn d.words) }) back in
-    let same = same_play c.args.self.now _ c.act-act.new.self c.draw-place.result c.turn_of-turn.result mid c.act-act.ensures.turned in
+    let same = same_play c.args.self.now _ c.act.new.self c.draw-place.result c.turn_of-turn.result mid c.act.ensures.turned in
     IfErr-weaker c.happen.result _ _ (λ refusal spent is. ap (λ (p : Play). length p.events) (sym same) ∙ spent is) c.happen.ensures.spent

@@ -13,17 +13,16 @@ made c =
     let w = c.self.inside in
     let p = c.args.self.now in
     let living = living_at p w.journal.founding w.nodes.items w.lives w.stopped w.journal.records w.group.items c.self.view_is c.self.invariant in
-    let record_is = c.new_record.ensures in
     let named = rw c.unwrap.ensures at c.of.ensures.value in
     let place = c.place-place.ensures.value in
     return_goes_on p w.journal.founding c.push.new.self.founding w.nodes.items w.lives w.stopped w.journal.records c.push.new.self.records w.group.items c.args.event.now c.args.name c.from.result c.from-2.result c.unwrap.result c.from-3.result c.args.life c.in_ok-fresh.fresh
     c.self.view_is c.self.invariant c.requires.few c.requires.name (c.from.ensures ∙ place) (c.from-2.ensures ∙ place) (c.from-3.ensures ∙ c.get.ensures.value) c.requires.next c.requires.most
     (named ∙ ap (λ k. name_at k c.args.life) place) (c.in_ok-fresh.ensures ∙ ap (λ r. stranger r c.unwrap.result) (c.founding.ensures ∙ c.reserve.ensures.founding))
-    (recorded (replay p) c.args.event.now (said.Returned c.args.life) [] w.lives c.args.name c.life.result c.new_record.result w.journal.founding c.push.new.self.founding w.journal.records c.reserve.new.self.records c.push.new.self.records living c.requires.name c.life.ensures.value (rw c.new.ensures.items at record_is) (c.push.ensures.founding ∙ c.reserve.ensures.founding) c.reserve.ensures.records c.push.ensures.records)
+    (recorded (replay p) c.args.event.now (said.Returned c.args.life) [] w.lives c.args.name c.life.result c.in_ok-record.record w.journal.founding c.push.new.self.founding w.journal.records c.reserve.new.self.records c.push.new.self.records living c.requires.name c.life.ensures.value c.in_ok-record.ensures (c.push.ensures.founding ∙ c.reserve.ensures.founding) c.reserve.ensures.records c.push.ensures.records)
     c.requires.comes
 
 pub invariant_of-self-2 : goal.invariant_of-self-2
 invariant_of-self-2 c = (made c).0
 
-pub returns-clause-outcome : goal.returns-clause-outcome
-returns-clause-outcome c = (made c).1
+pub returns-clause-one : goal.returns-clause-one
+returns-clause-one c = (said.Returned c.args.life, (made c).1)

@@ -26,7 +26,7 @@ note_step-requires-clause-known c =
     let is = subst (λ (q : Play). happens (replay q) e ≡ comes (replay q) e (Ok c.args.what.now)) (sym c.self.view_is) c.requires.comes in
     let more = group_longer p e c.args.what.now is in
     let before = ap length c.group-known.ensures.value in
-    let now = ap length (c.group.ensures.value ∙ ap (λ (q : Play). (replay q).group) c.in_ok-outcome.ensures.ok) in
+    let now = ap length (c.group.ensures.value ∙ ap (λ (q : Play). (replay q).group) c.in_ok-act.ensures.ok) in
     omega arith
 
 pub invariant_of-self-2 : goal.invariant_of-self-2
@@ -35,7 +35,7 @@ invariant_of-self-2 c =
     let p = c.self.inside.run in
     let k = watching_of c.reserve.new.self in
     let m = state_of c.node.result.now in
-    let made = c.in_ok-outcome.ensures.ok in
+    let made = c.in_ok-act.ensures.ok in
     let kept = subst (IsWatched p) (sym c.reserve.ensures.same) c.self.invariant in
     let here = subst (λ (q : Play). c.args.name ≡ current (replay q) (place_of e.node)) (sym c.self.view_is) c.requires.name in
     let is = subst (λ (q : Play). happens (replay q) e ≡ comes (replay q) e (Ok c.args.what.now)) (sym c.self.view_is) c.requires.comes in
