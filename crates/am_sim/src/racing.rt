@@ -1,4 +1,6 @@
-ghost use Rattle.std.specs.Prelude.{◌≡◌, ◌++◌, IfOk, string_bytes};
+ghost use Rattle.std.specs.Prelude.{◌≡◌, ◌≤◌, ◌++◌, List, length, IfOk, string_bytes};
+ghost use Rattle.am_base.specs.Most.{most_events};
+ghost use Rattle.am_group.specs.declared.event.Record.{Record};
 ghost use Rattle.am_model.specs.Text.{newline};
 ghost use Rattle.am_model.specs.Play.{text_of};
 ghost use Rattle.am_report.specs.Schedules.{script_text};
@@ -14,7 +16,6 @@ use am_calls::race::race;
 use am_group::event::{Event, Record};
 use am_group::plan::RacePlan;
 use am_report::script::script_text;
-use am_wire::wire::WireRefusal;
 use am_world::world::WorldRefusal;
 use std::alloc::Global;
 use std::sync::Wait;
@@ -32,6 +33,7 @@ fn events_of(alloc: Global, records: &[Record]) -> Result<Items<Event>, NoMemory
 }
 
 /// What was done in a race. The journal that it left is let go, since the run of these events keeps one of its own.
+#[tactic(auto, using(crate::proofs::Racing::may_race))]
 fn events_of_race<R: Threads + Wait + Sync, G: Gate + Sync>(
     rt: &R,
     alloc: Global,
@@ -41,11 +43,10 @@ fn events_of_race<R: Threads + Wait + Sync, G: Gate + Sync>(
     requires { RaceWithin plan.now }
     ensures { IfOk result (λ events. (journal : List Record) × IsRaced plan.now journal × (events ≡ events_of journal)) }
 {
-    match race(rt, alloc, plan, gate) {
-        Ok(journal) => events_of(alloc, journal.records()),
-        Err(WireRefusal::NoMemory) => Err(NoMemory),
-        Err(WireRefusal::Spent) => unreachable!(),
-    }
+    let Ok(journal) = race(rt, alloc, plan, gate) else {
+        return Err(NoMemory);
+    };
+    events_of(alloc, journal.records())
 }
 
 /// The text of the run of at most 100,000 events.
