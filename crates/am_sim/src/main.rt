@@ -4,11 +4,7 @@
 
 mod generating;
 mod playing;
-#[cfg(test)]
-mod race_tests;
 mod racing;
-#[cfg(test)]
-mod script_tests;
 pub mod simulate;
 mod telling;
 
@@ -65,3 +61,8 @@ fn main(rt: HostRuntime) -> ExitCode {
     let _ = tell(&rt, status);
     ExitCode::from(status.number())
 }
+
+#[cfg(test)]
+mod race_tests;
+#[cfg(test)]
+mod script_tests;
