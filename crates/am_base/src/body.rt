@@ -53,12 +53,12 @@ impl Body {
     pub fn copied(&self) -> Body
         ensures { result ≡ self.now }
     {
-        self.clone().unwrap()
+        Body::of(self.bytes()).unwrap()
     }
 }
 
 /// The bytes of a packet: at most 1,152. Contracts see it as its bytes.
-#[derive(Drop, Clone, Debug)]
+#[derive(Drop, Debug)]
 pub struct PacketBytes(ArrayVec<u8, MOST_PACKET>);
 
 impl Model for PacketBytes {
@@ -120,6 +120,8 @@ impl PacketBytes {
     pub fn copied(&self) -> PacketBytes
         ensures { result ≡ self.now }
     {
-        self.clone().unwrap()
+        let mut copy = PacketBytes::default();
+        copy.extend(self.bytes());
+        copy
     }
 }

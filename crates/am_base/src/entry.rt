@@ -5,7 +5,7 @@ use crate::name::{Name, Stamp};
 use crate::names::Names;
 
 /// An entry of a group's list (docs/PROTOCOL.md, "The list").
-#[derive(Drop, Clone, Debug)]
+#[derive(Drop, Debug)]
 pub enum Entry {
     /// A send of a member: its request number, from 1, and its body.
     Data {
@@ -40,6 +40,23 @@ impl Entry {
     pub fn copied(&self) -> Entry
         ensures { result ≡ self.now }
     {
-        self.clone().unwrap()
+        match self {
+            Entry::Data { from, req, body } => Entry::Data {
+                from: *from,
+                req: *req,
+                body: body.copied(),
+            },
+            Entry::Join(name) => Entry::Join(*name),
+            Entry::Leave(name) => Entry::Leave(*name),
+            Entry::View {
+                stamp,
+                members,
+                resilience,
+            } => Entry::View {
+                stamp: *stamp,
+                members: *members,
+                resilience: *resilience,
+            },
+        }
     }
 }

@@ -19,7 +19,7 @@ const KIND_AT: usize = 3;
 
 /// The bytes of a packet with its addressees: the names in a set, or every life of their places. Contracts see it as the
 /// packet that its bytes spell, with these addressees (docs/PROTOCOL.md, "Letters").
-#[derive(Drop, Clone, Debug)]
+#[derive(Drop, Debug)]
 pub struct Letter {
     to: Names,
     any: bool,

@@ -9,7 +9,7 @@ use am_base::names::Names;
 
 /// What nodes tell each other (docs/PROTOCOL.md, "Packets"). Each has its sender and a stamp. Numbers, rounds and
 /// requests are at most 2,000,000,000.
-#[derive(Drop, Clone, Debug)]
+#[derive(Drop, Debug)]
 pub enum Packet {
     /// A send for the sequencer to number.
     Request {

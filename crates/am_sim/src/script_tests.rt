@@ -28,15 +28,14 @@ const ROOM: usize = 4096;
 
 /// What is written of a script; None where there is no memory, or the text is none.
 fn written_back(alloc: Global, text: &str) -> Option<String> {
-    match read_script(alloc, Key::Play, text.as_bytes()) {
-        Ok(
-            Script::Play {
-                founding,
-                events,
-                ..
-            },
-        ) => script_text(alloc, &founding, events.as_slice()).ok(),
-        _ => None,
+    let script = read_script(alloc, Key::Play, text.as_bytes()).ok()?;
+    match &script {
+        Script::Play {
+            founding,
+            events,
+            ..
+        } => script_text(alloc, founding, events.as_slice()).ok(),
+        Script::Race(_) => None,
     }
 }
 
