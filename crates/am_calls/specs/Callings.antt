@@ -1,6 +1,7 @@
 -- Callers as contracts see them, and what a blocking call leaves.
-use Rattle.std.specs.Prelude.{◌≡◌, ℕ, ◌+◌, ◌≤◌, ◌<◌, List, [], ◌∷◌, ◌++◌, length, Option, Some, None, All, Bool, true, ◌==◌, Unit}
+use Rattle.std.specs.Prelude.{◌≡◌, ℕ, ◌+◌, ◌≤◌, ◌<◌, List, [], ◌∷◌, ◌++◌, length, Option, Some, None, All, Bool, true, ◌==◌}
 use Rattle.std.specs.List.{list_all}
+use Rattle.am_base.specs.Most.{most_events}
 use Rattle.atomic_table.specs.Seated.{TableId}
 use Rattle.am_base.specs.Names.{place_of}
 use Rattle.am_group.specs.declared.event.Act.{Act}
@@ -46,7 +47,7 @@ pub record HasMade (plan : RacePlan) (number calls : ℕ) (seen : List Record) :
 -- an answer goes by the records of its call: Stopped by its node's Stop, Spent by the journal's length, NoMemory by nothing
 abbrev pub IsAnswer : ℕ → List Record → List Record → ℕ → Answer → Type 0
 IsAnswer turns mine seen node answer.Stopped = has_stopped seen (place_of node) ≡ true
-IsAnswer turns mine seen node answer.Spent = length seen ≡ 100000
+IsAnswer turns mine seen node answer.Spent = length seen ≡ most_events
 IsAnswer turns mine seen node answer.NoMemory = Unit {0}
 IsAnswer turns mine seen node other = answer_of turns mine ≡ Some other
 

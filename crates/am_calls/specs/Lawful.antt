@@ -1,5 +1,8 @@
 -- Which record may come next in the journal of a race.
-use Rattle.std.specs.Prelude.{◌≡◌, ℕ, List, [], length, Bool, true, false}
+use Rattle.std.specs.Prelude.{◌≡◌, ℕ, List, [], length, Some, Bool, true, false}
+use Rattle.am_packet.specs.Boxes.{Letter}
+use Rattle.am_group.specs.Addressed.{is_for}
+use Rattle.am_group.specs.Journals.{letters_of, letter_at}
 use Rattle.am_group.specs.declared.event.Act.{Act}
 use Rattle.am_group.specs.declared.event.Act.TheVariants as act
 use Rattle.am_group.specs.declared.event.Record.{Record}
@@ -25,10 +28,17 @@ is_of_race (act.Cut packet keep) = false
 is_of_race act.Return = false
 is_of_race _ = true
 
--- a record of its place's first life, which is what its event gives, a turn of its call where it is one, and not of a name that has stopped
+-- a letter was sent, and is for a name
+pub record IsSent (before : List Record) (name number : ℕ) : Type 0 where
+  pub letter : Letter
+  pub there : letter_at (letters_of before) number ≡ Some letter
+  pub its : is_for letter name ≡ true
+
+-- a record of its place's first life, which is what its event gives; it hears what was sent to it, is a turn of its call where it is one, and isn't of a name that has stopped
 pub record IsLawful (terms : Terms) (before : List Record) (r : Record) : Type 0 where
   pub life : r.life ≡ 1
   pub act_ : is_of_race r.event.act ≡ true
   pub next : IsNext terms.founding before r
   pub turn : is_turn_part r.by.part ≡ true → is_turn (plan_by terms) before r.event r.by ≡ true
   pub stop : has_stopped before (name_of r) ≡ false
+  pub hears : (number : ℕ) → r.event.act ≡ act.Hear number → IsSent before (name_of r) number

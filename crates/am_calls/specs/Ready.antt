@@ -16,14 +16,19 @@ use Rattle.am_node.specs.declared.info.BallotEnd.{BallotEnd}
 use Rattle.am_node.specs.declared.info.BallotEnd.TheVariants.{Going, Ended}
 use Rattle.am_node.specs.Info.{ballot_end}
 
--- the round of the ballot whose Invite went out
-abbrev pub round_of : Packet → ℕ → ℕ
-round_of (packets.Invite sender stamp) other = stamp.round
-round_of _ other = other
+-- the round of an Invite
+abbrev pub invited : Packet → Option ℕ
+invited (packets.Invite sender stamp) = Some stamp.round
+invited _ = None
 
+abbrev pub or_else_round : Option ℕ → ℕ → ℕ
+or_else_round None other = other
+or_else_round (Some round) other = round
+
+-- the round of the ballot whose Invite went out
 abbrev pub round_in : List Letter → ℕ
 round_in [] = 0
-round_in (letter ∷ letters) = round_of letter.packet (round_in letters)
+round_in (letter ∷ letters) = or_else_round (invited letter.packet) (round_in letters)
 
 abbrev pub is_ended : Option BallotEnd → Bool
 is_ended None = false

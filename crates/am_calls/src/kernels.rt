@@ -206,7 +206,7 @@ impl<'g, N: Racing, G: Gate> Kernels<'g, N, G> {
     }
 
     fn made<R: Wait>(&self, rt: &R, caller: &mut Caller<N>, node: Name, act: &Act) -> Answer {
-        let mut call = Call {
+        let call = Call {
             caller: caller.number,
             number: caller.calls,
             act,
@@ -222,8 +222,13 @@ impl<'g, N: Racing, G: Gate> Kernels<'g, N, G> {
         if let Some(answer) = own_answer(act, &came.outcome) {
             return answer;
         }
-        call.came = Some(&came);
-        self.go_on(rt, caller, node, &call, request_in(&came.outcome))
+        let behind = Call {
+            caller: call.caller,
+            number: call.number,
+            act,
+            came: Some(&came),
+        };
+        self.go_on(rt, caller, node, &behind, request_in(&came.outcome))
     }
 
     /// Makes a call, which is the caller's next planned one, and answers by its records (docs/PROTOCOL.md, "Races"). It ends

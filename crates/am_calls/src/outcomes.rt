@@ -100,7 +100,7 @@ fn take_answer(outcome: &Outcome) -> Option<Answer>
     match outcome {
         Outcome::Took { number, entry } => Some(Answer::Took {
             number: *number,
-            entry: entry.copied(),
+            entry: entry.get().copied(),
         }),
         Outcome::NotMember => Some(Answer::NotMember),
         _ => None,
@@ -117,6 +117,7 @@ fn stop_answer(outcome: &Outcome) -> Option<Answer>
 }
 
 /// What the outcome of a call's own act answers; None where the call goes on.
+#[tactic(auto, unfolding(crate::specs::Answers::own_answer))]
 pub fn own_answer(act: &Act, outcome: &Outcome) -> Option<Answer>
     ensures { result ≡ own_answer act.now outcome.now }
 {
@@ -132,6 +133,7 @@ pub fn own_answer(act: &Act, outcome: &Outcome) -> Option<Answer>
 }
 
 /// What the outcome of the check at a call's end answers; None where it tells none.
+#[tactic(auto, unfolding(crate::specs::Answers::end_answer))]
 pub fn end_answer(act: &Act, outcome: &Outcome) -> Option<Answer>
     ensures { result ≡ end_answer act.now outcome.now }
 {

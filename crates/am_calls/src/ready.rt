@@ -2,7 +2,7 @@ ghost use Rattle.std.specs.Prelude.{◌≡◌};
 ghost use Rattle.am_model.specs.Group.{has_log};
 ghost use Rattle.am_model.specs.World.{has_departed};
 ghost use Rattle.am_node.specs.Stands.{state_of};
-ghost use Rattle.am_calls.specs.Ready.{round_of, round_in, is_ended, is_sent, is_ready_after, may_take};
+ghost use Rattle.am_calls.specs.Ready.{invited, round_in, is_ended, is_sent, is_ready_after, may_take};
 
 use am_base::outcome::Outcome;
 use am_group::event::Act;
@@ -19,12 +19,13 @@ pub struct Came {
     pub round: u32,
 }
 
-fn round_of(packet: &Packet, other: u32) -> u32
-    ensures { result ≡ round_of packet.now other }
+/// The round of a packet that is an Invite.
+fn invited(packet: &Packet) -> Option<u32>
+    ensures { result ≡ invited packet.now }
 {
     match packet {
-        Packet::Invite { stamp, .. } => stamp.round,
-        _ => other,
+        Packet::Invite { stamp, .. } => Some(stamp.round),
+        _ => None,
     }
 }
 
@@ -32,11 +33,12 @@ fn round_of(packet: &Packet, other: u32) -> u32
 pub fn round_in(letters: &[Letter]) -> u32
     ensures { result ≡ round_in letters.now }
 {
-    let mut round = 0;
-    for letter in letters.iter().rev() {
-        round = round_of(&letter.packet(), round);
+    for letter in letters {
+        if let Some(round) = invited(&letter.packet()) {
+            return round;
+        }
     }
-    round
+    0
 }
 
 fn has_log(status: Status) -> bool

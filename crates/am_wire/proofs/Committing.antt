@@ -2,6 +2,7 @@
 use Rattle.std.proofs.Common.{◌≡◌, ℕ, ◌+◌, ◌*◌, ◌<◌, Bool, true, false, List, [], ◌∷◌, ◌++◌, length, take, drop, Result, Ok, Err, IfOk, OnOk, OnErr, sym, refl, ap, ◌∙◌, subst, arith, eq-eqb}
 use Rattle.std.specs.Prelude.{All, if◌then◌else◌}
 use Rattle.std.proofs.lemmas.List.{length-take}
+use Rattle.am_base.specs.Most.{most_events}
 use Rattle.atomic_table.specs.Seated.{TableId}
 use Rattle.am_group.specs.declared.event.Record.{Record}
 use Rattle.am_wire.specs.declared.rule.Key.{Key}
@@ -140,7 +141,7 @@ pub record Badges (p q : Known) (m o : Sat) (mine theirs : TableId) (views other
 
 pub committed : (next : Terms → List Record → Record → Type 0) (p q : Known) (t : Sat) (item : Record) (answer : Result ℕ WireRefusal) (a m o : Sat) (mine theirs : TableId) (views others : List View)
     → Holds next p q t → After t item answer a → Leaves p q a m o → Badges p q m o mine theirs views others → IfOk answer (λ n. n ≡ length t.0.seen + 1)
-    → OnOk answer (length t.0.seen < 100000)
+    → OnOk answer (length t.0.seen < most_events)
     → IfOk answer (λ n. Committed (next p.terms) p q item n (known_by mine views) (known_by theirs others))
 committed next p q t item (Ok n) a m o mine theirs views others holds later left badges number room = record {
   before = t.0.seen;

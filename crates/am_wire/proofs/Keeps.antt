@@ -1,11 +1,12 @@
 -- Each step of a wire keeps its rule.
 use Rattle.std.proofs.Common.{◌≡◌, ◌≢◌, ◌⊎◌, ℕ, zero, suc, ◌+◌, ◌*◌, ◌%◌, ◌^◌, ◌<◌, ◌≤◌, Bool, cond, true, false, true≢false, eqb, List, [], ◌∷◌, ◌++◌, length, take, drop, map, set, sym, refl, ap, ◌∙◌, subst, inl, inr, arith, append-nil, append_assoc, length-append, ap₂, eq-eqb}
 use Rattle.std.specs.Prelude.{slice_index, All, if◌then◌else◌}
+use Rattle.am_base.specs.Most.{most_events}
 use mathlib.Core.Option.{Option, none, some, some-injective, some-ne-none}
 use lib.ListN.{get_elem?}
 use prog.Atomic.{either}
 use Rattle.std.proofs.lemmas.Bool.{ltb-true, lt-ltb, eqb-true}
-use Rattle.std.proofs.lemmas.List.{take-append-drop}
+use Rattle.std.proofs.lemmas.List.{take-append-drop, length-take}
 use Rattle.std.proofs.Math.Nat.{mod-lt}
 use Rattle.std.proofs.Math.Seq.{take-append_seam, drop-append_seam}
 use Rattle.std.proofs.lemmas.List.Elements.{All-append}
@@ -329,11 +330,11 @@ follows_first next log seen begins each before rest r e =
 
 -- a journal of which each record comes next, and one that comes next behind it
 pub follows_more : (next : List Record → Record → Type 0) (log : List Record) (r : Record) → Follows next log → next log r → Follows next (log ++ r ∷ [])
-follows_more next log r each its before rest q e = behind rest e
+follows_more next log r each its before others q e = behind others e
   where
     last_two : (rest : List Record) (x : Record) → (more : List Record) × ((y : Record) × (x ∷ rest ≡ more ++ y ∷ []))
-    last_two [] x = ([], x, refl)
-    last_two (z ∷ rest) x = let m = last_two rest z in (x ∷ m.0, m.1.0, ap (λ (l : List Record). x ∷ l) m.1.1)
+    last_two [] x = ([], (x, refl))
+    last_two (z ∷ rest) x = let m = last_two rest z in (x ∷ m.0, (m.1.0, ap (λ (l : List Record). x ∷ l) m.1.1))
 
     behind : (rest : List Record) → log ++ r ∷ [] ≡ before ++ q ∷ rest → next before q
     behind [] is = let s = snoc_same log before r q is in subst (λ (l : List Record). next l q) s.0 (subst (next log) s.1 its)
@@ -359,7 +360,7 @@ key_of_wire next terms s k key id v at has = let t = stand_one key s.views id v 
 pub record MayCount (next : Terms → List Record → Record → Type 0) (me : Sat) (r : Record) : Type 0 where
   pub turn : me.0.turn ≡ true
   pub page : me.1 ≡ (0, record { founding = me.0.terms.founding; records = me.0.seen ++ r ∷ [] }) ∷ []
-  pub room : length me.0.seen < 100000
+  pub room : length me.0.seen < most_events
   pub place : 0 < times (Place (place_of r.event.node)) me.0.keys
   pub caller : 0 < times (Caller r.by.caller) me.0.keys
   pub lawful : next me.0.terms me.0.seen r
@@ -441,6 +442,9 @@ count_allows next terms slots id me r may s k len at small =
 
 -- ---- looking
 
+no_longer : (log seen : List Record) → StartsWith log seen → length log ≤ most_events → length seen ≤ most_events
+no_longer log seen begins most = omega (arith, length-take (length seen) log, ap length begins)
+
 pub look_allows : (next : Terms → List Record → Record → Type 0) (terms : Terms) (slots id : ℕ) (me : Sat) → me.0.turn ≡ false → me.1 ≡ []
     → Allows (Stands next terms) slots id me 1 (λ n. n) (looked next (step slots 1 0 0 none) me)
 look_allows next terms slots id me off empty s k len at small =
@@ -468,6 +472,7 @@ look_allows next terms slots id me off empty s k len at small =
         same = ap (λ (c : List (ℕ × Page)). (new, c)) empty;
         goes = mine.older;
         lawful = λ keyed. subst (λ (t : Terms). Follows (next t) me.0.seen) (sym (mine.founded keyed)) (follows_first (next terms) k.log me.0.seen mine.goes.begins k.lawful);
+        few = no_longer k.log me.0.seen mine.goes.begins k.most;
       },
     )
 
@@ -641,6 +646,7 @@ unites_after next v w m' keyed l = subst (Unites next v w) (sym l.same) (record 
   idle = record { turn = refl; older = refl; empty = refl };
   terms = refl;
   lawful = l.lawful (both_keyed v.keys w.keys keyed);
+  few = l.few;
   keys = refl;
   seen = refl;
   mine = l.goes 0 (sight_of v) (omega arith);

@@ -1,5 +1,6 @@
 -- What a pass tells of its seat.
-use Rattle.std.proofs.Common.{◌≡◌, ◌<◌, false, List, [], ◌∷◌, ◌++◌, length, take, drop, sym, refl, ap, ◌∙◌, subst, arith, length-append}
+use Rattle.std.proofs.Common.{◌≡◌, ◌<◌, ◌≤◌, false, List, [], ◌∷◌, ◌++◌, length, take, drop, sym, refl, ap, ◌∙◌, subst, arith, length-append}
+use Rattle.am_base.specs.Most.{most_events}
 use Rattle.atomic_table.specs.Seated.{TableId}
 use Rattle.am_wire.specs.declared.rule.Terms.{Terms}
 use Rattle.am_wire.specs.declared.rule.View.{View}
@@ -85,6 +86,7 @@ pub record Meets (next : Terms → List Record → Record → Type 0) (p q : Kno
   pub keyed : (0 < length m.0.keys) × (0 < length o.0.keys)
   pub terms : (m.0.terms ≡ p.terms) × (o.0.terms ≡ q.terms)
   pub lawful : Follows (next p.terms) m.0.seen
+  pub few : length m.0.seen ≤ most_events
   pub keys : (m.0.keys ≡ p.keys) × (o.0.keys ≡ q.keys)
   pub goes : GoesOn p.keys p.seen m.0.seen × GoesOn q.keys q.seen o.0.seen
   pub longer : m.0.seen ≡ longer p.seen q.seen
@@ -102,6 +104,7 @@ meets next p q id other s r u m o sits its agree one unites parts =
       keyed = (subst (λ (ks : List Key). 0 < length ks) (sym m_keys) sits.keyed, subst (λ (ks : List Key). 0 < length ks) (sym o_keys) its.keyed);
       terms = (parts.terms ∙ terms, parts.other_terms ∙ terms ∙ sym agree);
       lawful = subst (Follows (next p.terms)) (sym parts.seen) (subst (λ (x : Terms). Follows (next x) u.0.seen) terms unites.lawful);
+      few = subst (λ (rs : List Record). length rs ≤ most_events) (sym parts.seen) unites.few;
       keys = (m_keys ∙ sym sits.keys, o_keys ∙ sym its.keys);
       goes = (
         goes_at s.0.keys p.keys s.0.seen p.seen u.0.seen m.0.seen (sym sits.keys) (sym sits.seen) (sym parts.seen) unites.mine,

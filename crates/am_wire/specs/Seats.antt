@@ -1,5 +1,6 @@
 -- The rule of the wire, and what its steps tell.
 use Rattle.std.specs.Prelude.{◌≡◌, ◌≢◌, ◌⊎◌, ℕ, ◌+◌, ◌*◌, ◌<◌, ◌≤◌, Bool, true, false, List, [], ◌∷◌, ◌++◌, length, take, drop, slice_index, nat_lt, if◌then◌else◌, All, sum_by}
+use Rattle.am_base.specs.Most.{most_events}
 use mathlib.Core.Option.{none, some}
 use lib.ListN.{get_elem?}
 use Rattle.atomic_table.specs.Table.{State, Me, Step}
@@ -83,7 +84,7 @@ pub record Stands (next : Terms → List Record → Record → Type 0) (terms : 
   pub log : List Record
   pub two : length s.words ≡ 2
   pub count : slice_index s.words 1 ≡ length log
-  pub most : length log ≤ 100000
+  pub most : length log ≤ most_events
   pub lawful : Follows (next terms) log
   pub callers : All (λ r. r.by.caller < terms.callers) log
   pub once : (key : Key) → standing key s.views ≡ (if is_key terms.callers key then 1 else 0)
@@ -110,7 +111,7 @@ pub record Takes (next : Terms → List Record → Record → Type 0) (m m' : Sa
   pub turn : HasTurn m'
   pub keys : m'.0.keys ≡ m.0.keys
   pub goes : GoesOn m.0.keys m.0.seen m'.0.seen
-  pub most : length m'.0.seen ≤ 100000
+  pub most : length m'.0.seen ≤ most_events
   pub terms : m'.0.terms ≡ m.0.terms
   pub lawful : Follows (next m'.0.terms) m'.0.seen
 
@@ -133,6 +134,7 @@ pub record Looks (next : Terms → List Record → Record → Type 0) (m m' : Sa
   pub same : m' ≡ (view m.0.terms m.0.keys m.0.seen [] false, [])
   pub goes : All (λ o. GoesOn o.keys o.seen m.0.seen) m.0.older
   pub lawful : 0 < length m.0.keys → Follows (next m.0.terms) m.0.seen
+  pub few : length m.0.seen ≤ most_events
 
 abbrev pub looked : (Terms → List Record → Record → Type 0) → Step Page → Sat → ℕ → Sat → Type 0
 looked next st m n m' = Looks next m m'
@@ -142,6 +144,7 @@ pub record Unites (next : Terms → List Record → Record → Type 0) (v w : Vi
   pub idle : IsIdle m
   pub terms : m.0.terms ≡ v.terms
   pub lawful : Follows (next m.0.terms) m.0.seen
+  pub few : length m.0.seen ≤ most_events
   pub keys : m.0.keys ≡ w.keys ++ v.keys
   pub seen : m.0.seen ≡ longer v.seen w.seen
   pub mine : GoesOn v.keys v.seen m.0.seen

@@ -1,4 +1,5 @@
 ghost use Rattle.std.specs.Prelude.{◌≡◌, ◌+◌, ◌*◌, ◌<◌, ◌≤◌, ◌↔◌, [], ◌∷◌, false, length, take, drop, map, All, IfOk, IfErr, IfSome, OnOk, OnErr};
+ghost use Rattle.am_base.specs.Most.{most_events};
 ghost use Rattle.am_base.specs.Names.{place_of};
 ghost use Rattle.am_group.specs.Addressed.{next_for};
 ghost use Rattle.am_group.specs.Journals.{letters_of, letter_at};
@@ -12,6 +13,7 @@ ghost use Rattle.am_wire.specs.Passes.{Rests, HasAll, Sees, Joined, IsReady, Com
 use crate::rule::{Count, FirstKey, Give, Law, Look, OneJournal, Take, Terms, Together, View};
 use crate::sheet::Sheet;
 use am_base::NoMemory;
+use am_base::limits::MOST_EVENTS;
 use am_base::name::Name;
 use am_base::names::Names;
 use am_group::event::Record;
@@ -22,9 +24,6 @@ use std::alloc::{AllocError, Global};
 use std::marker::Model;
 use std::sync::Wait;
 use std::{mem, thread};
-
-/// The most records that a journal has.
-const MOST_RECORDS: usize = 100_000;
 
 type TableSeat = Seat<Sheet, View>;
 
@@ -164,7 +163,7 @@ impl<L: Law> Wire<L> {
     fn add(&self, seat: &mut TableSeat, item: Record) -> Result<u32, WireRefusal>
         requires own { seat.old.table_id ≡ self.now.id }
         requires turn { HasTurn seat.old.me }
-        requires most { length seat.old.me.0.seen ≤ 100000 }
+        requires most { length seat.old.me.0.seen ≤ most_events }
         requires place { 0 < times (Place (place_of item.event.node)) seat.old.me.0.keys }
         requires caller { 0 < times (Caller item.by.caller) seat.old.me.0.keys }
         requires few { length item.packets ≤ 24 }
@@ -172,13 +171,13 @@ impl<L: Law> Wire<L> {
         ensures same { seat.new.table_id ≡ seat.old.table_id }
         ensures ok { OnOk result (Adds seat.old.me item seat.new.me) }
         ensures number { IfOk result (λ n. n ≡ length seat.old.me.0.seen + 1) }
-        ensures room { OnOk result (length seat.old.me.0.seen < 100000) }
+        ensures room { OnOk result (length seat.old.me.0.seen < most_events) }
         ensures err { OnErr result (seat.new.me ≡ seat.old.me) }
-        ensures spent { IfErr result (λ e. e ≡ refusals.Spent ↔ (length seat.old.me.0.seen ≡ 100000)) }
+        ensures spent { IfErr result (λ e. e ≡ refusals.Spent ↔ (length seat.old.me.0.seen ≡ most_events)) }
     {
         let sheet = seat.slot_mut(&self.table.shared, 0);
         let count = sheet.len();
-        if count >= MOST_RECORDS {
+        if count >= MOST_EVENTS {
             return Err(WireRefusal::Spent);
         }
         if sheet.add(item).is_err() {
@@ -254,6 +253,7 @@ impl<L: Law> Wire<L> {
         ensures longer { pass.new.seen ≡ longer pass.old.seen share.old.seen }
         ensures lawful { Follows (L.next pass.old.terms) pass.new.seen }
         ensures both { share.new.seen ≡ pass.new.seen }
+        ensures few { length pass.new.seen ≤ most_events }
     {
         let mut seat = seat_in(&mut pass.badge);
         self.unite(&mut seat, seat_in(&mut share.badge));
@@ -276,7 +276,7 @@ impl<L: Law> Wire<L> {
         ensures err { OnErr result (Sees pass.old pass.new × Sees share.old share.new) }
         ensures lawful { Follows (L.next pass.old.terms) pass.new.seen }
         ensures both { share.new.seen ≡ pass.new.seen }
-        ensures spent { IfErr result (λ e. e ≡ refusals.Spent ↔ (length pass.new.seen ≡ 100000)) }
+        ensures spent { IfErr result (λ e. e ≡ refusals.Spent ↔ (length pass.new.seen ≡ most_events)) }
     {
         let mut seat = seat_in(&mut pass.badge);
         self.unite(&mut seat, seat_in(&mut share.badge));

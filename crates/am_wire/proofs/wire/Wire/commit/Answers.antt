@@ -37,4 +37,4 @@ returns-clause-err g c = let l = left g c in refused _ _ _ _ _ _ _ _ _ _ _ _ _ l
 pub returns-clause-lawful : goal.returns-clause-lawful
 returns-clause-lawful g c =
     let l = left g c in
-    lawful_then _ _ _ _ _ _ _ _ _ _ l.holds l.later l.seats l.badges.one.0 (next_then _ _ _ _ _ l.holds c.requires.ready.next_)
+    lawful_then _ _ _ _ _ _ _ _ _ _ _ l.holds l.later l.seats l.badges.one.0 (next_then _ _ _ _ _ l.holds c.requires.ready.next_)

@@ -8,10 +8,10 @@ use Rattle.am_wire.proofs.Dealt.{sixteen, so_many, enough, take_callers}
 use Rattle.am_wire.proofs.wire.Wire.start.Goals as goal
 
 pub deal-requires-clause-count : goal.deal-requires-clause-count
-deal-requires-clause-count g c = subst (λ (ks : List Key). 16 ≤ length ks) (sym (ap (λ (m : Sat). m.0.keys) c.in_ok-wire.ensures.seat.1)) (enough c.args.terms.now.callers)
+deal-requires-clause-count g c = λ _ _. subst (λ (ks : List Key). 16 ≤ length ks) (sym (ap (λ (m : Sat). m.0.keys) c.in_ok-wire.ensures.seat.1)) (enough c.args.terms.now.callers)
 
 pub deal-requires-2-clause-count : goal.deal-requires-2-clause-count
-deal-requires-2-clause-count g c =
+deal-requires-2-clause-count g c = λ _ _.
     let left : c.deal.new.seat.me.0.keys ≡ caller_keys c.args.terms.now.callers =
     c.in_ok-passes.ensures.keys ∙ ap (λ (m : Sat). drop 16 m.0.keys) c.in_ok-wire.ensures.seat.1 ∙ (sixteen c.args.terms.now.callers).1
     in
