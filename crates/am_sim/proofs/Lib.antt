@@ -1,4 +1,4 @@
 mod Answered
 mod Names
 mod Texts
-mod Racing
+mod Raced

@@ -33,7 +33,7 @@ fn events_of(alloc: Global, records: &[Record]) -> Result<Items<Event>, NoMemory
 }
 
 /// What was done in a race. The journal that it left is let go, since the run of these events keeps one of its own.
-#[tactic(auto, using(crate::proofs::Racing::may_race))]
+#[tactic(auto, using(crate::proofs::Raced::may_race))]
 fn events_of_race<R: Threads + Wait + Sync, G: Gate + Sync>(
     rt: &R,
     alloc: Global,
