@@ -9,3 +9,7 @@ pub mod Boxing
 pub mod Names
 pub mod Turning
 pub mod Finding
+pub mod Finishing
+pub mod Counting
+pub mod Playing
+pub mod Joined

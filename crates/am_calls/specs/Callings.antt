@@ -57,4 +57,6 @@ pub record Called (plan : RacePlan) (node : ℕ) (old new : Calling) (its : Answ
   pub begins : StartsWith new.seen old.seen
   pub others : of_caller old.number new.seen ≡ of_caller old.number old.seen ++ of_call old.number old.calls new.seen
   pub place : list_all (λ r. place_of r.event.node == place_of node) (of_call old.number old.calls new.seen) ≡ true
+  pub most : length (of_call old.number old.calls new.seen) ≤ plan.turns + 2
+  pub spent : its ≡ answer.Spent → length (of_call old.number old.calls new.seen) ≤ plan.turns + 1
   pub answer_ : IsAnswer plan.turns (of_call old.number old.calls new.seen) new.seen node its

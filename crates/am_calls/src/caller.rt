@@ -1,7 +1,7 @@
 ghost use Rattle.std.specs.Prelude.{◌≡◌, ◌<◌, [], ◌∷◌};
 ghost use Rattle.am_wire.specs.declared.rule.Key.TheVariants.{Caller as CallerKey};
 ghost use Rattle.am_wire.specs.Passes.{fresh};
-ghost use Rattle.am_calls.specs.Callings.{IsHand, luck_after};
+ghost use Rattle.am_calls.specs.Callings.{HasMade, luck_after};
 ghost use Rattle.am_calls.specs.Lawful.{terms_of};
 
 use crate::naming::Racing;
@@ -24,7 +24,11 @@ pub struct Hand {
 
 impl Hand {
     /// The hand of a caller that has drawn no word.
-    fn new(plan: &RacePlan, number: u32, share: Share) -> Hand {
+    fn new(plan: &RacePlan, number: u32, share: Share) -> Hand
+        ensures share { result.share ≡ share }
+        ensures chooser { result.chooser ≡ luck_after plan.now number 0 }
+        ensures drawn { result.drawn ≡ 0 }
+    {
         Hand {
             share,
             chooser: Chooser::new(plan.seed_number, u64::from(number), plan.loss, plan.repeat),
@@ -87,6 +91,16 @@ impl<N: Racing> Caller<N> {
         ensures { result ≡ self.now.number }
     {
         self.number
+    }
+
+    /// Its share alone.
+    pub fn into_share(self) -> Share
+        ensures own { result.wire ≡ N.wire }
+        ensures keys { result.keys ≡ CallerKey self.number ∷ [] }
+        ensures seen { result.seen ≡ self.seen }
+        ensures planned { HasMade N.plan self.number self.calls self.seen }
+    {
+        self.hand.share
     }
 
     /// How many calls it has made.

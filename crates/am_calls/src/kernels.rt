@@ -1,13 +1,21 @@
-ghost use Rattle.std.specs.Prelude.{◌≡◌, ◌+◌, ◌<◌, Some, slice_get, IfOk, vec_len, map};
+ghost use Rattle.std.specs.Prelude.{◌≡◌, ◌+◌, ◌<◌, ◌≤◌, [], ◌∷◌, Some, slice_get, IfOk, vec_len, map, length, All};
+ghost use Rattle.std.specs.List.{range_with_len};
 ghost use Rattle.am_base.specs.Names.{place_of};
 ghost use Rattle.am_group.specs.declared.event.Act.TheVariants as acts;
+ghost use Rattle.am_model.specs.World.{first_node};
+ghost use Rattle.am_node.specs.Stands.{state_of};
+ghost use Rattle.am_wire.specs.declared.rule.Key.TheVariants.{Place};
+ghost use Rattle.am_wire.specs.Keys.{place_keys, caller_keys};
+ghost use Rattle.am_wire.specs.Passes.{fresh};
 ghost use Rattle.am_calls.specs.Callings.{Called};
 ghost use Rattle.am_calls.specs.Lawful.{terms_of};
 ghost use Rattle.am_calls.specs.Legal.{IsLegalWithTags};
 ghost use Rattle.am_calls.specs.Plans.{calls_of};
+ghost use Rattle.am_calls.specs.Ran.{fresh_callers, numbers_of, EndsFor, HasPlaces, IsIn};
 
 use crate::answer::Answer;
 use crate::caller::Caller;
+use crate::dealing::{all_places, boxes_of, callers_of, with_callers};
 use crate::gate::Gate;
 use crate::naming::{RaceLaw, Racing};
 use crate::node_box::{Call, Looked, NodeBox};
@@ -41,14 +49,6 @@ pub struct Kernels<'g, N: Racing, G: Gate> {
     ghost sixteen: { vec_len boxes ≡ 16 },
 }
 
-/// A founder, or a name that no one has seen.
-fn first_node(alloc: Global, name: Name, founding: &Founding) -> Result<Node, NoMemory> {
-    if founding.founders().has(name) {
-        return Node::founder(alloc, name, founding);
-    }
-    Node::stranger(alloc, name, founding)
-}
-
 /// The sequencer's last refusal of a call's request, if there was one.
 fn put_off(req: u32, outcome: &Outcome) -> Option<Answer> {
     match outcome {
@@ -73,34 +73,6 @@ fn answer_at_end(act: &Act, outcome: &Outcome) -> Option<Answer> {
     end_answer(act, outcome)
 }
 
-/// The boxes of the sixteen places, each with its pass.
-fn boxes_of<N: Racing>(
-    alloc: Global,
-    founding: &Founding,
-    passes: Vec<Pass>,
-) -> Result<Vec<Mutex<NodeBox<N>>>, NoMemory> {
-    let mut boxes = Vec::with_capacity(alloc, 16)?;
-    for (place, pass) in passes.into_iter().enumerate() {
-        let name = Name::of_byte(place as u8 % 16);
-        let node = first_node(alloc, name, founding)?;
-        boxes.push(Mutex::new(NodeBox::new(name, node, pass)))?;
-    }
-    Ok(boxes)
-}
-
-/// A caller for each share.
-fn callers_of<N: Racing>(
-    alloc: Global,
-    plan: &RacePlan,
-    shares: Vec<Share>,
-) -> Result<Vec<Caller<N>>, NoMemory> {
-    let mut callers = Vec::with_capacity(alloc, shares.len())?;
-    for (number, share) in shares.into_iter().enumerate() {
-        callers.push(Caller::new(plan, number as u32, share))?;
-    }
-    Ok(callers)
-}
-
 impl<'g, N: Racing, G: Gate> Kernels<'g, N, G> {
     /// The nodes of a plan's founding, to which nothing has happened, and a caller for each of its threads. The wire, its
     /// passes and its shares are fresh.
@@ -111,7 +83,14 @@ impl<'g, N: Racing, G: Gate> Kernels<'g, N, G> {
         wire: Wire<RaceLaw>,
         passes: Vec<Pass>,
         shares: Vec<Share>,
-    ) -> Result<(Kernels<'g, N, G>, Vec<Caller<N>>), NoMemory> {
+    ) -> Result<(Kernels<'g, N, G>, Vec<Caller<N>>), NoMemory>
+        requires plan { plan.now ≡ N.plan }
+        requires few { length N.plan.threads ≤ 16 }
+        requires wire { wire ≡ record { id = N.wire; terms = terms_of N.plan } }
+        requires passes { passes.items ≡ map (fresh N.wire (terms_of N.plan)) place_keys }
+        requires shares { shares.items ≡ map (fresh N.wire (terms_of N.plan)) (caller_keys (length N.plan.threads)) }
+        ensures { IfOk result (λ r. r.1.items ≡ fresh_callers (length N.plan.threads)) }
+    {
         let boxes = boxes_of(alloc, &plan.founding, passes)?;
         let callers = callers_of(alloc, plan, shares)?;
         let kernels = Kernels {
@@ -315,20 +294,17 @@ impl<'g, N: Racing, G: Gate> Kernels<'g, N, G> {
         unreachable!()
     }
 
-    /// Ends a race: the journal that its callers leave.
-    pub fn finish<R: Wait>(self, rt: &R, callers: Vec<Caller<N>>) -> Journal {
+    /// Ends a race, to which all its callers are handed in: the journal that they leave.
+    pub fn finish<R: Wait>(self, rt: &R, callers: Vec<Caller<N>>) -> Journal
+        requires callers { numbers_of callers.items ≡ range_with_len 0 (length N.plan.threads) }
+        ensures founding { result.founding ≡ N.plan.founding }
+        ensures legal { IsLegalWithTags N.plan (calls_of N.plan) result.records }
+        ensures ends { All (EndsFor result.records) callers.items }
+        ensures callers { All (λ r. r.by.caller < length N.plan.threads) result.records }
+    {
         let Kernels { wire, boxes, .. } = self;
-        let mut boxes = boxes.into_iter();
-        let mut pass = match boxes.next() {
-            Some(first) => first.into_inner().into_pass(),
-            None => unreachable!(),
-        };
-        for other in boxes {
-            wire.join(&mut pass, other.into_inner().into_pass());
-        }
-        for caller in callers {
-            wire.join(&mut pass, caller.hand.share);
-        }
+        let pass = all_places(rt, &wire, boxes);
+        let pass = with_callers(&wire, pass, callers);
         wire.close(pass)
     }
 }

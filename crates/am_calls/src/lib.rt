@@ -3,6 +3,7 @@
 
 pub mod answer;
 pub mod caller;
+mod dealing;
 pub mod gate;
 pub mod kernels;
 pub mod laws;

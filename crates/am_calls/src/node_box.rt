@@ -2,12 +2,13 @@ ghost use Rattle.std.specs.Prelude.{◌≡◌, ℕ, ◌||◌, ◌+◌, ◌<◌, 
 ghost use Rattle.std.specs.Option.{option_copied};
 ghost use Rattle.am_base.specs.declared.outcome.Outcome.TheVariants as said;
 ghost use Rattle.am_model.specs.Claims.{heard_by};
+ghost use Rattle.am_model.specs.World.{first_node};
 ghost use Rattle.am_node.specs.Nodes.{HasNumbersLeft};
 ghost use Rattle.am_node.specs.Stands.{state_of};
 ghost use Rattle.am_wire.specs.declared.rule.Key.TheVariants.{Place};
 ghost use Rattle.am_wire.specs.declared.wire.WireRefusal.TheVariants as refusals;
 ghost use Rattle.am_wire.specs.Seats.{GoesOn};
-ghost use Rattle.am_wire.specs.Passes.{Sees};
+ghost use Rattle.am_wire.specs.Passes.{Sees, fresh};
 ghost use Rattle.am_wire.specs.Stops.{is_stop, has_stopped};
 ghost use Rattle.am_calls.specs.Boxes.{what_of, Steps, MayAct, IsShareOf, IsTurn, Acted, IsRefused, Looks, refused, Hears, GivesUp, node_by, IsLeastOf, InBoth};
 ghost use Rattle.am_calls.specs.Lawful.{IsSent, terms_of};
@@ -240,7 +241,12 @@ fn copy_letters(letters: &[Letter], into: &mut Vec<Letter>)
 
 impl<N: Racing> NodeBox<N> {
     /// The box of a node to which nothing has happened.
-    pub fn new(name: Name, node: Node, pass: Pass) -> NodeBox<N> {
+    pub fn new(name: Name, node: Node, pass: Pass) -> NodeBox<N>
+        requires place { name < 16 }
+        requires node { state_of node ≡ first_node N.plan.founding name }
+        requires pass { pass ≡ fresh N.wire (terms_of N.plan) (Place name) }
+        ensures { result ≡ record { name = name; seen = []; closed = None } }
+    {
         NodeBox {
             name,
             node,
@@ -262,7 +268,12 @@ impl<N: Racing> NodeBox<N> {
     }
 
     /// Its pass alone.
-    pub fn into_pass(self) -> Pass {
+    pub fn into_pass(self) -> Pass
+        ensures own { result.wire ≡ N.wire }
+        ensures terms { result.terms ≡ terms_of N.plan }
+        ensures keys { result.keys ≡ Place self.name ∷ [] }
+        ensures seen { result.seen ≡ self.seen }
+    {
         self.pass
     }
 

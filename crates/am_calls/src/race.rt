@@ -1,9 +1,10 @@
-ghost use Rattle.std.specs.Prelude.{◌≡◌, ◌<◌, IfOk, IfErr, map, length};
+ghost use Rattle.std.specs.Prelude.{◌≡◌, ◌≤◌, IfOk, IfErr, Some, map, length, slice_get, All};
 ghost use Rattle.am_calls.specs.Lawful.{terms_of};
 ghost use Rattle.am_calls.specs.Legal.{IsLegalWithTags};
 ghost use Rattle.am_calls.specs.Plans.{calls_of, MayRace, ArePlayed};
 ghost use Rattle.am_wire.specs.Keys.{place_keys, caller_keys};
 ghost use Rattle.am_wire.specs.Passes.{fresh};
+ghost use Rattle.am_calls.specs.Ran.{fresh_caller, fresh_callers, numbers_of, HasRun, refusal_in, ends_thread, first_refusal};
 ghost use Rattle.am_wire.specs.declared.wire.WireRefusal.TheVariants as refusals;
 
 use crate::answer::Answer;
@@ -11,6 +12,7 @@ use crate::caller::Caller;
 use crate::gate::Gate;
 use crate::kernels::Kernels;
 use crate::naming::{RaceLaw, Racing};
+use am_base::NoMemory;
 use am_group::journal::Journal;
 use am_group::plan::{RacePlan, ThreadPlan};
 use am_wire::Terms;
@@ -29,7 +31,9 @@ struct Ran<N: Racing> {
 }
 
 /// The refusal that an answer is, if it is one.
-fn refusal_of(answer: &Answer) -> Option<WireRefusal> {
+fn refusal_of(answer: &Answer) -> Option<WireRefusal>
+    ensures { result ≡ refusal_in answer.now }
+{
     match answer {
         Answer::NoMemory => Some(WireRefusal::NoMemory),
         Answer::Spent => Some(WireRefusal::Spent),
@@ -38,7 +42,9 @@ fn refusal_of(answer: &Answer) -> Option<WireRefusal> {
 }
 
 /// Whether a thread ends with this answer.
-fn is_last(answer: &Answer) -> bool {
+fn is_last(answer: &Answer) -> bool
+    ensures { result ≡ ends_thread answer.now }
+{
     matches!(
         answer,
         Answer::Late { .. }
@@ -55,7 +61,13 @@ fn play<R: Wait, N: Racing, G: Gate>(
     kernels: &Kernels<N, G>,
     thread: &ThreadPlan,
     mut caller: Caller<N>,
-) -> Ran<N> {
+) -> Ran<N>
+    requires fresh { caller ≡ fresh_caller caller.number }
+    requires its { slice_get N.plan.threads caller.number ≡ Some thread.now }
+    requires few { length thread.now.calls ≤ 100000 }
+    ensures number { result.caller.number ≡ caller.number }
+    ensures ran { HasRun N.plan result.caller result.refusal }
+{
     for act in thread.calls.as_slice() {
         let answer = kernels.make(rt, &mut caller, thread.node, act);
         if is_last(&answer) {
@@ -75,7 +87,13 @@ fn run<R: Wait, N: Racing, G: Gate>(
     kernels: &Kernels<N, G>,
     threads: &[ThreadPlan],
     caller: Caller<N>,
-) -> Ran<N> {
+) -> Ran<N>
+    requires plan { MayRace N.plan }
+    requires threads { threads.now ≡ N.plan.threads }
+    requires fresh { caller ≡ fresh_caller caller.number }
+    ensures number { result.caller.number ≡ caller.number }
+    ensures ran { HasRun N.plan result.caller result.refusal }
+{
     match threads.get(caller.number() as usize) {
         Some(thread) => play(rt, kernels, thread, caller),
         None => Ran {
@@ -83,6 +101,39 @@ fn run<R: Wait, N: Racing, G: Gate>(
             refusal: None,
         },
     }
+}
+
+/// Each caller makes the calls of its thread, in a thread of its own.
+fn all_run<R: Threads + Wait + Sync, N: Racing, G: Gate + Sync>(
+    rt: &R,
+    kernels: &Kernels<N, G>,
+    threads: &[ThreadPlan],
+    callers: Vec<Caller<N>>,
+) -> Result<Vec<Ran<N>>, NoMemory>
+    requires plan { MayRace N.plan }
+    requires threads { threads.now ≡ N.plan.threads }
+    requires fresh { callers.items ≡ fresh_callers (length N.plan.threads) }
+    ensures numbers { IfOk result (λ ran. map (λ r. r.caller.number) ran.items ≡ numbers_of callers.items) }
+    ensures ran { IfOk result (λ ran. All (λ r. HasRun N.plan r.caller r.refusal) ran.items) }
+{
+    thread::map_vec(rt, callers, &|caller| run(rt, kernels, threads, caller))
+}
+
+/// The callers, and a refusal that ended one, if one did.
+fn apart<N: Racing>(
+    alloc: Global,
+    ran: Vec<Ran<N>>,
+) -> Result<(Vec<Caller<N>>, Option<WireRefusal>), NoMemory>
+    ensures callers { IfOk result (λ r. r.0.items ≡ map (λ one. one.caller) ran.items) }
+    ensures refusal { IfOk result (λ r. r.1 ≡ first_refusal (map (λ one. one.refusal) ran.items)) }
+{
+    let mut callers = Vec::with_capacity(alloc, ran.len())?;
+    let mut refusal = None;
+    for one in ran {
+        refusal = refusal.or(one.refusal);
+        callers.push_reserved(one.caller);
+    }
+    Ok((callers, refusal))
 }
 
 /// The race of a plan, over a fresh wire of it.
@@ -95,26 +146,32 @@ fn race_over<R: Threads + Wait + Sync, N: Racing, G: Gate + Sync>(
     passes: Vec<Pass>,
     shares: Vec<Share>,
     _of: PhantomData<N>,
-) -> Result<Journal, WireRefusal> {
+) -> Result<Journal, WireRefusal>
+    requires plan { plan.now ≡ N.plan }
+    requires within { MayRace N.plan }
+    requires wire { wire ≡ record { id = N.wire; terms = terms_of N.plan } }
+    requires passes { passes.items ≡ map (fresh N.wire (terms_of N.plan)) place_keys }
+    requires shares { shares.items ≡ map (fresh N.wire (terms_of N.plan)) (caller_keys (length N.plan.threads)) }
+    ensures founding { IfOk result (λ journal. journal.founding ≡ N.plan.founding) }
+    ensures legal { IfOk result (λ journal. IsLegalWithTags N.plan (calls_of N.plan) journal.records) }
+    ensures played { IfOk result (λ journal. ArePlayed N.plan journal.records) }
+    ensures memory { IfErr result (λ refusal. refusal ≡ refusals.NoMemory) }
+{
     let Ok((kernels, callers)) = Kernels::<N, G>::start(alloc, plan, gate, wire, passes, shares)
     else {
         return Err(WireRefusal::NoMemory);
     };
-    let threads = plan.threads.as_slice();
-    let shared = &kernels;
-    let Ok(ran) = thread::map_vec(rt, callers, &|caller| run(rt, shared, threads, caller)) else {
+    let Ok(ran) = all_run(rt, &kernels, plan.threads.as_slice(), callers) else {
         return Err(WireRefusal::NoMemory);
     };
-    let Ok(mut callers) = Vec::with_capacity(alloc, ran.len()) else {
+    let Ok((callers, refusal)) = apart(alloc, ran) else {
         return Err(WireRefusal::NoMemory);
     };
-    for one in ran {
-        if let Some(refusal) = one.refusal {
-            return Err(refusal);
-        }
-        callers.push_reserved(one.caller);
+    let journal = kernels.finish(rt, callers);
+    match refusal {
+        Some(refusal) => Err(refusal),
+        None => Ok(journal),
     }
-    Ok(kernels.finish(rt, callers))
 }
 
 /// Does a race (docs/PROTOCOL.md, "Races"): a thread for each thread plan makes its calls, and the journal that they leave is
