@@ -1,5 +1,5 @@
 -- A journal has no more records than its callers' calls have room for.
-use Rattle.std.proofs.Common.{◌≡◌, ℕ, zero, suc, ◌+◌, ◌*◌, ◌<◌, ◌≤◌, List, [], ◌∷◌, length, Bool, true, false, true≢false, cond, Option, Some, None, sym, refl, ap, ◌∙◌, arith, eq-eqb, ne_eqb, slice_get}
+use Rattle.std.proofs.Common.{◌≡◌, ℕ, zero, suc, ◌+◌, ◌*◌, ◌<◌, ◌≤◌, List, [], ◌∷◌, length, Bool, true, false, true≢false, cond, Option, Some, None, sym, refl, ap, ◌∙◌, subst, arith, eq-eqb, ne_eqb, slice_get}
 use Rattle.std.specs.Prelude.{All, ◌==◌, sum_by}
 use Rattle.std.proofs.lemmas.List.Sums.{sum_by-cons}
 use Rattle.std.proofs.Math.Nat.{add-mul}
@@ -46,7 +46,8 @@ all_counted : (threads : List ThreadPlan) (journal : List Record) → All (λ r.
 unfolding counted
 all_counted threads [] all = omega arith
 all_counted threads (r ∷ rest) all =
-    let one = counts_it 0 threads r rest (omega arith) (all 0 r (omega arith)) in
+    let below : r.by.caller < length threads = all 0 r (omega arith) in
+    let one = counts_it 0 threads r rest (omega arith) (omega arith) in
     let more = all_counted threads rest (λ k d h. all (suc k) d (omega arith)) in
     omega arith
 
@@ -115,4 +116,8 @@ pub one_lacks : (each : ℕ) (threads : List ThreadPlan) (journal : List Record)
     → slice_get threads caller ≡ Some t → length (of_caller caller journal) < length t.calls * each
     → length journal < sum_by (λ (u : ThreadPlan). length u.calls) threads * each
 unfolding AreFew room
-one_lacks each threads journal caller t all few is less = omega (arith, all_counted threads journal all, fewer each 0 caller t threads journal few is less)
+one_lacks each threads journal caller t all few is less =
+    let from_none : (i : ℕ) → i ≡ 0 + i = λ i. omega arith in
+    omega (arith, all_counted threads journal all, fewer each 0 caller t threads journal
+    (λ i u at. subst (λ (n : ℕ). length (of_caller n journal) ≤ length u.calls * each) (from_none i) (few i u at)) is
+    (subst (λ (n : ℕ). length (of_caller n journal) < length t.calls * each) (from_none caller) less))

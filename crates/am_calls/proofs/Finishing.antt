@@ -35,9 +35,10 @@ unfolding are_calls is_receive
 none_called turns number [] = refl
 none_called turns number (planned ∷ calls) = both_hold (if is_take planned then true else true) (are_calls turns (number + 1) calls []) (either_way (is_take planned)) (none_called turns (number + 1) calls)
 
-pub fresh_luck : (plan : RacePlan) (number : ℕ) (luck : Luck) → luck ≡ record { words = words_of plan.seed_number number; loss = plan.loss; repeat = plan.repeat } → luck ≡ luck_after plan number 0
+pub fresh_luck : (plan : RacePlan) (number stream : ℕ) (luck : Luck) → stream ≡ number → luck ≡ record { words = words_of plan.seed_number stream; loss = plan.loss; repeat = plan.repeat }
+    → luck ≡ luck_after plan number 0
 unfolding later
-fresh_luck plan number luck is = is
+fresh_luck plan number stream luck same is = is ∙ ap (λ (n : ℕ). luck_after plan n 0) same
 
 pub fresh_hand : (wire : TableId) (plan plan' : RacePlan) (number drawn : ℕ) (share its : Known) (luck : Luck) → plan' ≡ plan → its ≡ share → share ≡ fresh wire (terms_of plan) (Caller number)
     → luck ≡ luck_after plan' number 0 → drawn ≡ 0 → IsHand wire plan number its luck drawn × HasMade plan number 0 its.seen

@@ -25,6 +25,10 @@ same_is (Caller a) (Caller b) e = ap Caller (eqb-true a b e)
 same_is (Place a) (Caller b) e = absurd (true≢false (sym e))
 same_is (Caller a) (Place b) e = absurd (true≢false (sym e))
 
+none_if : (b : Bool) → b ≡ false → ◌≡◌ {A = ℕ} (cond b 1 0) 0
+none_if false e = refl
+none_if true e = absurd (true≢false e)
+
 only_key : (key own : Key) → 0 < times key (own ∷ []) → key ≡ own
 only_key key own has = by_test (same_key key own) refl
   where
@@ -32,7 +36,7 @@ only_key key own has = by_test (same_key key own) refl
     by_test true e = same_is key own e
     by_test false e =
         let c = times_cons key own [] in
-        let o : cond (same_key key own) 1 0 ≡ 0 = ap (λ (b : Bool). cond b 1 0) e in
+        let o = none_if (same_key key own) e in
         let z : times key [] ≡ 0 = refl in
         absurd (omega arith)
 
@@ -97,7 +101,7 @@ in_more plan p q p' (x ∷ callers) c all j its seen made (suc k) d h = in_more 
 pub ends_for : (plan : RacePlan) (p : Known) (c : Calling) → IsIn plan p c → EndsFor p.seen c
 ends_for plan p c is = record { begins = is.goes.begins; own = is.goes.own (Caller c.number) (own_key (Caller c.number)) }
 
-nobody : Calling
+abbrev pub nobody : Calling
 nobody = record { number = 0; calls = 0; seen = [] }
 
 -- the caller of each number is there

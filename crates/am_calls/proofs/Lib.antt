@@ -13,3 +13,4 @@ pub mod Finishing
 pub mod Counting
 pub mod Playing
 pub mod Joined
+pub mod Raced

@@ -38,12 +38,13 @@ right_of false b e = absurd (true≢false (sym e))
 its_call : (caller call : ℕ) (seen : List Record) → IsOf call (of_call caller call seen)
 unfolding IsOf
 its_call caller call [] = λ k d h. absurd (omega arith)
-its_call caller call (r ∷ rest) = by_test ((r.by.caller == caller) && (r.by.call == call)) refl
+its_call caller call (r ∷ rest) = by_test (its_call caller call rest) ((r.by.caller == caller) && (r.by.call == call)) refl
   where
-    by_test : (b : Bool) → ((r.by.caller == caller) && (r.by.call == call)) ≡ b → All (λ (q : Record). (q.by.call == call) ≡ true) (cond b (r ∷ of_call caller call rest) (of_call caller call rest))
-    by_test false e = its_call caller call rest
-    by_test true e zero d h = right_of (r.by.caller == caller) (r.by.call == call) e
-    by_test true e (suc k) d h = its_call caller call rest k d (omega arith)
+    by_test : All (λ (q : Record). (q.by.call == call) ≡ true) (of_call caller call rest) → (b : Bool) → ((r.by.caller == caller) && (r.by.call == call)) ≡ b
+        → All (λ (q : Record). (q.by.call == call) ≡ true) (cond b (r ∷ of_call caller call rest) (of_call caller call rest))
+    by_test behind false e = behind
+    by_test behind true e zero d h = right_of (r.by.caller == caller) (r.by.call == call) e
+    by_test behind true e (suc k) d h = behind k d (omega arith)
 
 prefix_is : (call : ℕ) (mine more : List Record) → IsOf call mine → All (λ r. call + 1 ≤ r.by.call) more → prefix_len (λ (r : Record). r.by.call == call) (mine ++ more) ≡ length mine
 unfolding IsOf
@@ -121,7 +122,7 @@ none_played plan thread c fresh =
     subst (λ (k : Calling). Plays plan thread c.number 0 k) (sym fresh)
     (record { number_ = refl; calls = refl; most = omega arith; place = refl; goes = λ stopped more all h. h })
 
-two_hold : (a b : Bool) → a ≡ true → b ≡ true → (a && b) ≡ true
+pub two_hold : (a b : Bool) → a ≡ true → b ≡ true → (a && b) ≡ true
 two_hold true b p q = q
 two_hold false b p q = absurd (true≢false (sym p))
 

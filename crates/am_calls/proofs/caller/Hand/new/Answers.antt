@@ -1,5 +1,6 @@
 use Rattle.std.proofs.Common.{◌≡◌, ◌∙◌, ap}
 use Rattle.am_calls.proofs.Finishing.{fresh_luck}
+use Rattle.am_calls.proofs.Raced.{only_memory}
 use Rattle.am_calls.proofs.Counting.{one_lacks}
 use Rattle.am_calls.proofs.Playing.{plays_on}
 use Rattle.am_calls.proofs.Joined.{has_all}
@@ -7,4 +8,4 @@ use Rattle.am_calls.proofs.Finishing.{legal_with_tags}
 use Rattle.am_calls.proofs.caller.Hand.new.Goals as goal
 
 pub returns-clause-chooser : goal.returns-clause-chooser
-returns-clause-chooser c = fresh_luck c.args.plan.now c.args.number c.new.result c.new.ensures
+returns-clause-chooser c = fresh_luck c.args.plan.now c.args.number c.from.result c.new.result c.from.ensures c.new.ensures
