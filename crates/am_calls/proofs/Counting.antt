@@ -118,6 +118,10 @@ pub one_lacks : (each : ℕ) (threads : List ThreadPlan) (journal : List Record)
 unfolding AreFew room
 one_lacks each threads journal caller t all few is less =
     let from_none : (i : ℕ) → i ≡ 0 + i = λ i. omega arith in
-    omega (arith, all_counted threads journal all, fewer each 0 caller t threads journal
-    (λ i u at. subst (λ (n : ℕ). length (of_caller n journal) ≤ length u.calls * each) (from_none i) (few i u at)) is
-    (subst (λ (n : ℕ). length (of_caller n journal) < length t.calls * each) (from_none caller) less))
+    omega (
+      arith,
+      all_counted threads journal all,
+      fewer each 0 caller t threads journal
+          (λ i u at. subst (λ (n : ℕ). length (of_caller n journal) ≤ length u.calls * each) (from_none i) (few i u at)) is
+          (subst (λ (n : ℕ). length (of_caller n journal) < length t.calls * each) (from_none caller) less),
+    )

@@ -104,6 +104,9 @@ ends_for plan p c is = record { begins = is.goes.begins; own = is.goes.own (Call
 abbrev pub nobody : Calling
 nobody = record { number = 0; calls = 0; seen = [] }
 
+none_more : (i : ℕ) → 0 + i ≡ i
+none_more i = omega arith
+
 -- the caller of each number is there
 pub caller_at : (count caller : ℕ) (callers : List Calling) → numbers_of callers ≡ range_with_len 0 count → caller < count
     → (caller < length callers) × ((get_or callers caller nobody).number ≡ caller)
@@ -112,7 +115,7 @@ caller_at count caller callers is below =
     let a = length-map callers (λ (c : Calling). c.number) in
     let b = length-range_with_len 0 count in
     let there : caller < length callers = omega arith in
-    (there, sym (get_or-map (λ (c : Calling). c.number) callers caller nobody 0 there) ∙ ap (λ (l : List ℕ). get_or l caller 0) is ∙ get_or-range_with_len 0 count caller 0 below)
+    (there, sym (get_or-map (λ (c : Calling). c.number) callers caller nobody 0 there) ∙ ap (λ (l : List ℕ). get_or l caller 0) is ∙ get_or-range_with_len 0 count caller 0 below ∙ none_more caller)
 
 pub has_all : (plan : RacePlan) (count : ℕ) (p : Known) (callers : List Calling) → HasPlaces 16 p → All (IsIn plan p) callers → numbers_of callers ≡ range_with_len 0 count → HasAll count p.keys
 has_all plan count p callers places all is (Place place) low = places place (ltb-true place 16 low)

@@ -42,9 +42,9 @@ its_call caller call (r ∷ rest) = by_test (its_call caller call rest) ((r.by.c
   where
     by_test : All (λ (q : Record). (q.by.call == call) ≡ true) (of_call caller call rest) → (b : Bool) → ((r.by.caller == caller) && (r.by.call == call)) ≡ b
         → All (λ (q : Record). (q.by.call == call) ≡ true) (cond b (r ∷ of_call caller call rest) (of_call caller call rest))
-    by_test behind false e = behind
-    by_test behind true e zero d h = right_of (r.by.caller == caller) (r.by.call == call) e
-    by_test behind true e (suc k) d h = behind k d (omega arith)
+    by_test others false e k d h = others k d h
+    by_test others true e zero d h = right_of (r.by.caller == caller) (r.by.call == call) e
+    by_test others true e (suc k) d h = others k d (omega arith)
 
 prefix_is : (call : ℕ) (mine more : List Record) → IsOf call mine → All (λ r. call + 1 ≤ r.by.call) more → prefix_len (λ (r : Record). r.by.call == call) (mine ++ more) ≡ length mine
 unfolding IsOf

@@ -48,15 +48,18 @@ as_long journal c ends =
 -- ---- all callers
 
 -- a caller of a number has run, and the journal has its records
-record Did (plan : RacePlan) (journal : List Record) (number : ℕ) (refusal : Option WireRefusal) : Type 0 where
-  c : Calling
-  number_ : c.number ≡ number
-  ends : EndsFor journal c
-  ran : HasRun plan c refusal
+pub record Did (plan : RacePlan) (journal : List Record) (number : ℕ) (refusal : Option WireRefusal) : Type 0 where
+  pub c : Calling
+  pub number_ : c.number ≡ number
+  pub ends : EndsFor journal c
+  pub ran : HasRun plan c refusal
 
 -- each caller did, with these refusals
-AllDid : RacePlan → List Record → List (Option WireRefusal) → Type 0
+pub AllDid : RacePlan → List Record → List (Option WireRefusal) → Type 0
 AllDid plan journal each = (length each ≡ length plan.threads) × ((i : ℕ) → i < length plan.threads → Did plan journal i (get_or each i None))
+
+none_more : (i : ℕ) → 0 + i ≡ i
+none_more i = omega arith
 
 all_did_from : {X : Type 0} (call : X → Calling) (refused : X → Option WireRefusal) (plan : RacePlan) (journal : List Record) (d : X) (xs : List X)
     → numbers_of (map call xs) ≡ range_with_len 0 (length plan.threads) → All (λ x. HasRun plan (call x) (refused x)) xs → All (EndsFor journal) (map call xs)
@@ -80,7 +83,7 @@ all_did_from call refused plan journal d xs numbers ran ends = (length-map xs re
         let is : get_or (map call xs) i (call d) ≡ call (get_or xs i d) = get_or-map call xs i d (call d) here in record {
           c = call (get_or xs i d);
           number_ = ap (λ (c : Calling). c.number) (sym is) ∙ sym (get_or-map (λ (c : Calling). c.number) (map call xs) i (call d) 0 there)
-              ∙ ap (λ (l : List ℕ). get_or l i 0) numbers ∙ get_or-range_with_len 0 (length plan.threads) i 0 below;
+              ∙ ap (λ (l : List ℕ). get_or l i 0) numbers ∙ get_or-range_with_len 0 (length plan.threads) i 0 below ∙ none_more i;
           ends = subst (EndsFor journal) is (ends i (call d) there);
           ran = subst (HasRun plan (call (get_or xs i d))) (sym (get_or-map refused xs i d None here)) (ran i d here);
         }
@@ -112,7 +115,7 @@ unfolding AllDid
 are_played plan journal each all none caller thread is =
     ⊎_elim
     (λ (t : (x : ThreadPlan) × (caller < length plan.threads) × (slice_get plan.threads caller ≡ Some x) × (get_or plan.threads caller x ≡ x)).
-    let did = all.1 caller t.1.0 in
+    let did = all.1 caller t.1 in
     subst (λ (n : ℕ). is_played plan.turns thread n journal ≡ true) did.number_
     (played_in plan.turns thread journal did.c did.ends (did.ran.played (none_at each caller none) thread (ap (slice_get plan.threads) did.number_ ∙ is))))
     (λ (past : (length plan.threads ≤ caller) × (slice_get plan.threads caller ≡ None)). absurd (nothing (sym past.1 ∙ is)))
@@ -132,7 +135,7 @@ refused_at [] r e = absurd (true≢false (sym (ap is_some e)))
     is_some : Option WireRefusal → Bool
     is_some None = false
     is_some (Some x) = true
-refused_at (None ∷ each) r e = let found = refused_at each r e in (suc found.0, omega (arith, found.1.0), found.1.1)
+refused_at (None ∷ each) r e = let found = refused_at each r e in (suc found.0, omega (arith, found.1), found.2)
 refused_at (Some x ∷ each) r e = (0, omega arith, e)
 
 few_of : (plan : RacePlan) (journal : List Record) (i : ℕ) (refusal : Option WireRefusal) (t : ThreadPlan) → Did plan journal i refusal → slice_get plan.threads i ≡ Some t
@@ -166,7 +169,7 @@ spent_never plan journal each i t may all did is below spent =
 
     there : (j : ℕ) (u : ThreadPlan) → slice_get plan.threads j ≡ Some u → j < length plan.threads
     there j u at =
-        ⊎_elim (λ (k : (x : ThreadPlan) × (j < length plan.threads) × (slice_get plan.threads j ≡ Some x) × (get_or plan.threads j x ≡ x)). k.1.0)
+        ⊎_elim (λ (k : (x : ThreadPlan) × (j < length plan.threads) × (slice_get plan.threads j ≡ Some x) × (get_or plan.threads j x ≡ x)). k.1)
         (λ (past : (length plan.threads ≤ j) × (slice_get plan.threads j ≡ None)). absurd (true≢false (ap is_there (sym at ∙ past.1)))) (slice_get_cases plan.threads j).1
 
 pub only_memory : (plan : RacePlan) (journal : List Record) (each : List (Option WireRefusal)) (r : WireRefusal) → MayRace plan → All (λ q. q.by.caller < length plan.threads) journal
@@ -175,7 +178,7 @@ unfolding AllDid
 only_memory plan journal each refusals.NoMemory may all did is = refl
 only_memory plan journal each refusals.Spent may all did is =
     let found = refused_at each refusals.Spent is in
-    let low : found.0 < length plan.threads = let a = found.1.0 in let b = did.0 in omega arith in
+    let low : found.0 < length plan.threads = let a = found.1 in let b = did.0 in omega arith in
     ⊎_elim (λ (k : (x : ThreadPlan) × (found.0 < length plan.threads) × (slice_get plan.threads found.0 ≡ Some x) × (get_or plan.threads found.0 x ≡ x)).
-    absurd (spent_never plan journal each found.0 k.0 may all did k.1.1.0 low found.1.1))
+    absurd (spent_never plan journal each found.0 k.0 may all did k.2 low found.2))
     (λ (past : (length plan.threads ≤ found.0) × (slice_get plan.threads found.0 ≡ None)). absurd (let a = past.0 in omega arith)) (slice_get_cases plan.threads found.0).1

@@ -105,7 +105,11 @@ pub fn all_places<R: Wait, N: Racing>(
 }
 
 /// The pass with the keys of the callers, too.
-pub fn with_callers<N: Racing>(wire: &Wire<RaceLaw>, mut pass: Pass, callers: Vec<Caller<N>>) -> Pass
+pub fn with_callers<N: Racing>(
+    wire: &Wire<RaceLaw>,
+    mut pass: Pass,
+    callers: Vec<Caller<N>>,
+) -> Pass
     requires own { (wire.now.id ≡ N.wire) × (pass.wire ≡ N.wire) }
     requires places { HasPlaces 16 pass }
     ensures own { result.wire ≡ N.wire }
@@ -117,4 +121,3 @@ pub fn with_callers<N: Racing>(wire: &Wire<RaceLaw>, mut pass: Pass, callers: Ve
     }
     pass
 }
-

@@ -1,10 +1,5 @@
-use Rattle.std.proofs.Common.{◌≡◌, ◌∙◌, ap}
+use Rattle.std.proofs.Common.{◌≡◌}
 use Rattle.am_calls.proofs.Finishing.{fresh_luck}
-use Rattle.am_calls.proofs.Raced.{only_memory}
-use Rattle.am_calls.proofs.Counting.{one_lacks}
-use Rattle.am_calls.proofs.Playing.{plays_on}
-use Rattle.am_calls.proofs.Joined.{has_all}
-use Rattle.am_calls.proofs.Finishing.{legal_with_tags}
 use Rattle.am_calls.proofs.caller.Hand.new.Goals as goal
 
 pub returns-clause-chooser : goal.returns-clause-chooser
