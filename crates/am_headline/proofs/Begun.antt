@@ -15,8 +15,8 @@ use Rattle.am_chain_moves.specs.Group.{Group, opening}
 use Rattle.am_chain_moves.specs.Runs as begun
 use Rattle.am_chain_moves.specs.Runs.{MayBegin, founded, first_choice, first_stamp}
 use Rattle.am_model.specs.Node.{lowest_or_first, founding_stamp}
-use Rattle.am_model.specs.World.{Decided, World, start, founders_decided, run}
-use Rattle.am_model.specs.Lawful.{Watch, watched, watch_start, broken_at}
+use Rattle.am_model.specs.World.{Decided, World, start, founders_decided, happen, run}
+use Rattle.am_model.specs.Lawful.{Watch, watch_all, watched, watch_start, broken_at}
 use Rattle.am_model.specs.Claims.{BecameComplete}
 use Rattle.am_model.proofs.Greatest.{split}
 use Rattle.am_laws.proofs.Founders.{first_founder}
@@ -99,9 +99,23 @@ split_last (e ∷ f ∷ es) (suc n) h =
     let long = r.3 in
     (e ∷ r.0, r.1, ap (λ l. e ∷ l) r.2, omega arith)
 
+only_in : (first d : Decided) (k : ℕ) → k < 1 → slice_index_or (first ∷ []) k d ≡ d → first ≡ d
+only_in first d zero low is = is
+only_in first d (suc k) low is = absurd (omega arith)
+
+-- the founders' view is the only one then
+only : (rules : Rules) (d : Decided) → BecameComplete rules [] d → founders_decided rules ≡ d
+unfolding happen
+only rules d (k, among, done) =
+    let low : length {A = Event} [] ≤ k = omega arith in
+    let none : take k [] ≡ [] = take_all k [] low in
+    let c = subst (λ (l : List Event). Contains (run rules l).views d) none among in
+    only_in (founders_decided rules) d c.0 c.1 c.2
+
 module _ (P : World → Group → Type 0) (keeps : KeptBy P) (moving : StepsMove) (rules : Rules) (may : MayFound rules)
     (begins : (t : Group) → Following rules (start rules) t → P (start rules) t) where
   held_none : Held P rules []
+  unfolding happen watch_all
   held_none =
       let s = start_follows rules may in
       let first = founders_decided rules in
@@ -117,19 +131,9 @@ module _ (P : World → Group → Type 0) (keeps : KeptBy P) (moving : StepsMove
           most = λ x done. (let was : (x == key first.stamp) ≡ true = ap (λ f. f x) (sym s.marks) ∙ done in
               let same : x ≡ key first.stamp = grind (arith, nat_tests) in omega arith);
         };
-        became = λ d c. (let same = only d c in ap (λ (x : Decided). s.to.views.complete (key x.stamp)) (sym same) ∙ is_marked);
+        became = λ d c. (let same = only rules d c in ap (λ (x : Decided). s.to.views.complete (key x.stamp)) (sym same) ∙ is_marked);
         is = begins s.to s.follows;
       }
-    where
-      only_in : (first d : Decided) (k : ℕ) → k < 1 → slice_index_or (first ∷ []) k d ≡ d → first ≡ d
-      only_in first d zero low is = is
-      only_in first d (suc k) low is = absurd (omega arith)
-
-      only : (d : Decided) → BecameComplete rules [] d → founders_decided rules ≡ d
-      only d (k, among, done) =
-          let none : take k [] ≡ [] = take_all k [] (omega arith) in
-          let c = subst (λ (l : List Event). Contains (run rules l).views d) none among in
-          only_in (founders_decided rules) d c.0 c.1 c.2
 
   held_of : (n : ℕ) (events : List Event) → length events ≡ n → broken_at rules events ≡ None → Held P rules events
   held_of zero events long whole = subst (Held P rules) (sym (none_of events long)) held_none

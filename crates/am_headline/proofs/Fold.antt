@@ -156,7 +156,7 @@ move_marks (departs i before may) = refl
 move_marks (closes i n leads leaving alone may) = refl
 move_marks (stops i) = refl
 
-moves_mark : {s t : Group} → Moves s t → t.views.complete ≡ s.views.complete
+pub moves_mark : {s t : Group} → Moves s t → t.views.complete ≡ s.views.complete
 moves_mark none = refl
 moves_mark (moves move ok rest) = moves_mark rest ∙ move_marks move
 
@@ -288,7 +288,7 @@ module _ (P : World → Group → Type 0) (keeps : KeptBy P) (moving : StepsMove
       }
 
   -- one event more
-  next : (events : List Event) (e : Event) → Held P rules events → broken_at rules (events ++ e ∷ []) ≡ None → Held P rules (events ++ e ∷ [])
+  pub next : (events : List Event) (e : Event) → Held P rules events → broken_at rules (events ++ e ∷ []) ≡ None → Held P rules (events ++ e ∷ [])
   next events e h whole =
       let w = run rules events in
       let all = events ++ e ∷ [] in

@@ -3,6 +3,7 @@ use Rattle.std.proofs.Common.{◌≡◌, ◌≢◌, ◌⊎◌, ⊎_elim, inl, in
 use Rattle.std.proofs.Common.{List, [], ◌∷◌, ◌++◌, map, filter, find, count_by, Option, Some, None, slice_get, refl, sym, ap, ◌∙◌, subst, arith}
 use Rattle.std.specs.Prelude.{All}
 use Rattle.std.proofs.lemmas.Bool.Decides.{nat_tests}
+use Rattle.std.proofs.lemmas.List.Sums.{sum_by-cons}
 use Rattle.std.proofs.lemmas.List.Elements.{All-push, All-filter, All-map, All-weaker}
 use Rattle.am_base.specs.declared.entry.Entry.{Entry}
 use Rattle.am_base.specs.declared.entry.Entry.TheVariants.{Data, Leave}
@@ -12,7 +13,6 @@ use Rattle.am_base.specs.declared.outcome.Outcome.{Outcome}
 use Rattle.am_base.specs.declared.outcome.Outcome.TheVariants as said
 use Rattle.am_core.specs.Cores.{accept, pass_over}
 use Rattle.am_fronts.specs.Refresh.{own_report, tell, go_on, let_go}
-use Rattle.am_fronts.proofs.ReportLaws.{count_cons}
 use Rattle.am_packet.specs.declared.packet.Packet.TheVariants as packet
 use Rattle.am_sender.specs.declared.OwnSend.{OwnSend}
 use Rattle.am_sender.specs.Sends as own
@@ -35,7 +35,7 @@ use Rattle.am_effects.proofs.Statuses.{logged, asking_log}
 use Rattle.am_unballoted.proofs.Chains.{front, Gave, nothing, took, began, at_least}
 use Rattle.am_unballoted.proofs.Changes.{Found, found_at}
 use Rattle.am_headline.proofs.Ways as kinds
-use Rattle.am_headline.proofs.Ways.{Alike, Kind, closed}
+use Rattle.am_headline.proofs.Ways.{Alike, Kind, closed, pushed_alike}
 
 -- ---- sends that are settled
 
@@ -162,14 +162,19 @@ member_stays status.Departed h = absurd (cc)
 
 -- ---- sends
 
+count_more : (s : OwnSend) (q : List OwnSend) → count_by own.is_unsettled (s ∷ q) ≡ (if own.is_unsettled s then 1 else 0) + count_by own.is_unsettled q
+count_more s q = sum_by-cons (λ x. if own.is_unsettled x then 1 else 0) s q
+
 none_waits : (queue : List OwnSend) → nat_lt 0 (count_by own.is_unsettled queue) ≡ false → find own.is_unsettled queue ≡ None
 none_waits [] h = refl
 none_waits (s ∷ q) h = split (own.is_unsettled s)
-    (λ t. absurd (let more = count_cons own.is_unsettled s q in let one : count_by own.is_unsettled (s ∷ q) ≡ 1 + count_by own.is_unsettled q = more ∙ rw t refl in
+    (λ t. absurd (let one : count_by own.is_unsettled (s ∷ q) ≡ 1 + count_by own.is_unsettled q = count_more s q
+    ∙ ap (λ (b : Bool). (if b then 1 else 0) + count_by own.is_unsettled q) t in
     let z : ⊥ = grind (arith, nat_tests) in z))
-    (λ f. let more = count_cons own.is_unsettled s q in
-    let same : count_by own.is_unsettled (s ∷ q) ≡ count_by own.is_unsettled q = more ∙ rw f refl in
-    rw f (none_waits q (ap (nat_lt 0) (sym same) ∙ h)))
+    (λ f. let same : count_by own.is_unsettled (s ∷ q) ≡ 0 + count_by own.is_unsettled q = count_more s q
+    ∙ ap (λ (b : Bool). (if b then 1 else 0) + count_by own.is_unsettled q) f in
+    let rest : nat_lt 0 (count_by own.is_unsettled q) ≡ false = grind (arith, nat_tests) in
+    rw f (none_waits q rest))
 
 none_left : (p : OwnSend → Bool) (queue : List OwnSend) → find own.is_unsettled queue ≡ None → find own.is_unsettled (filter p queue) ≡ None
 none_left p [] h = refl
@@ -257,7 +262,7 @@ module _ (group : List Entry) (i : ℕ) (c : Cause) (o : Outcome) (m : Node) whe
       let up = r.rests.base in
       let start = r.rests.start in
       let kept = h.kept in
-      let more = (r.rests.more, r.rests.entries) in
+      let more : (rest : List Entry) × (y.core.log.entries ≡ x.core.log.entries ++ rest) = (r.rests.more, r.rests.entries) in
       record {
         gave = gave_still m x y f.front_ f.start log h.gave;
         kept = omega arith;
@@ -430,7 +435,7 @@ module _ (group : List Entry) (i : ℕ) (c : Cause) (o : Outcome) (m : Node) whe
   still_log : (s : Status) → is_member s ≡ true → has_log status.Departed ≡ has_log s
   still_log s t = sym (logged s t)
 
-  inside_kind : (x y : Node) → Kind c o x y → (has_log x.status ≡ false → x.core.told ≡ 0) → Inside group i c o m x → Inside group i c o m y
+  pub inside_kind : (x y : Node) → Kind c o x y → (has_log x.status ≡ false → x.core.told ≡ 0) → Inside group i c o m x → Inside group i c o m y
   unfolding settle refresh_at_end
   inside_kind x y (kinds.alike a) bare h = inside_alike x y a h
   inside_kind x y kinds.refreshed bare h = inside_refreshed x bare h
@@ -447,7 +452,7 @@ module _ (group : List Entry) (i : ℕ) (c : Cause) (o : Outcome) (m : Node) whe
   inside_kind x y (kinds.gone member leaves) bare h =
       let p = pushed x (Leave x.core.who) in
       let log = logged x.status member in
-      let a = inside_alike x p (record (kinds.same x) { more = Leave x.core.who ∷ []; entries = refl }) h in
+      let a = inside_alike x p (pushed_alike x (Leave x.core.who)) h in
       let b = inside_refreshed p (λ none. absurd (cc)) a in
       let r = (rests_refresh p).rests in
       let d = inside_settled (refresh p) (waiting (refresh p)) refl b in

@@ -232,6 +232,12 @@ entry_low m number e is = split (nat_le m.core.log.start number) (λ t. grind (a
 
 -- ---- a step
 
+same_number : (a b : ℕ) → (a == b) ≡ true → a ≡ b
+same_number a b t = grind (arith, nat_tests)
+
+itself : (k : ℕ) → (k == k) ≡ true
+itself k = grind (arith, nat_tests)
+
 module _ (rules : Rules) (events : List Event) (e : Event) (c : Cause) (step : Step) (s t : Group) (may : MayFound rules)
     (runs : is_stopped (run rules events) (actor (run rules events) e) ≡ false) (cause : IsCause (run rules events) (actor (run rules events) e) e.act c)
     (effect : Effect ((run rules events).nodes (actor (run rules events) e)) c step)
@@ -239,19 +245,19 @@ module _ (rules : Rules) (events : List Event) (e : Event) (c : Cause) (step : S
     (old : Following rules (run rules events) s) (path : Moves s t) (grows : Grows s t)
     (new : Following rules (stepped (run rules events) e (actor (run rules events) e) step) t)
     (h : Told rules (run rules events)) where
-  w : World
+  abbrev w : World
   w = run rules events
 
-  i : ℕ
+  abbrev i : ℕ
   i = actor w e
 
-  m : Node
+  abbrev m : Node
   m = w.nodes i
 
-  n : Node
+  abbrev n : Node
   n = step.node
 
-  v : World
+  abbrev v : World
   v = stepped w e i step
 
   few : i < 256
@@ -281,7 +287,7 @@ module _ (rules : Rules) (events : List Event) (e : Event) (c : Cause) (step : S
 
   node_v : v.nodes i ≡ n
   unfolding stepped
-  node_v = let t_ : (i == i) ≡ true = grind (arith, nat_tests) in rw t_ refl
+  node_v = let t_ : (i == i) ≡ true = itself i in rw t_ refl
 
   stands_n : NameStands v i n (t.node i)
   stands_n = subst (λ x. NameStands v i x (t.node i)) node_v (new.stands.each i few)
@@ -329,7 +335,7 @@ module _ (rules : Rules) (events : List Event) (e : Event) (c : Cause) (step : S
 
   -- ---- where a list begins
 
-  more : List Entry
+  abbrev more : List Entry
   more = group_grows.rest
 
   still : NameTold rules v.group i m
@@ -458,11 +464,11 @@ module _ (rules : Rules) (events : List Event) (e : Event) (c : Cause) (step : S
 
   -- ---- the world after it
 
-  told_step : Told rules v
+  pub told_step : Told rules v
   unfolding stepped
   told_step =
       let r = record_of w e step.outcome step.letters in
-      let own : (name_of r == i) ≡ true = grind (arith, nat_tests) in
+      let own : (name_of r == i) ≡ true = itself i in
       let long = length-append w.letters step.letters in
       let all_more : (j : ℕ) → NameTold rules v.group j (w.nodes j) = λ j. subst (λ g. NameTold rules g j (w.nodes j)) group_grows.same
       (name_more rules w.group more j (w.nodes j) (h.each j)) in
@@ -494,7 +500,7 @@ module _ (rules : Rules) (events : List Event) (e : Event) (c : Cause) (step : S
       }
     where
       by_own : (r : Record) → (name_of r == i) ≡ true → name_of r ≡ i
-      by_own r own = grind (arith, nat_tests)
+      by_own r own = same_number (name_of r) i own
 
       by_number : (r : Record) → (name_of r == i) ≡ true → {j : ℕ} → name_of r ≡ j → i ≡ j
       by_number r own same = sym (by_own r own) ∙ same

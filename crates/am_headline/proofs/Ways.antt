@@ -54,21 +54,6 @@ pub data Kind (c : Cause) (o : Outcome) (m : Node) : Node → Type 0 where
   asked_out : m.status ≡ status.Member → (nat_lt 0 (unsettled m) || is_unfinished m.ballot) ≡ false → Kind c o m (record m { leaving = true })
   gone : is_member m.status ≡ true → m.leaving ≡ true → Kind c o m (closed m)
 
-pub same : (m : Node) → Alike m m
-same m = record {
-  who = refl;
-  base = omega arith;
-  acc = refl;
-  taken = refl;
-  start = refl;
-  status = refl;
-  leaving = refl;
-  sends = refl;
-  log_start = refl;
-  more = [];
-  entries = sym (append-nil m.core.log.entries);
-}
-
 -- with more entries, and anything else but what is told here
 pushes : (m n : Node) (es : List Entry) → n.core.who ≡ m.core.who → m.core.base ≤ n.core.base → n.core.acc ≡ m.core.acc → n.core.taken ≡ m.core.taken → n.core.start ≡ m.core.start
     → n.status ≡ m.status → n.leaving ≡ m.leaving → n.sends ≡ m.sends → n.core.log.start ≡ m.core.log.start
@@ -92,6 +77,10 @@ same_log : (m n : Node) → n.core.who ≡ m.core.who → m.core.base ≤ n.core
     → n.core.log.entries ≡ m.core.log.entries → Alike m n
 same_log m n who base acc taken start status_ leaving sends log entries =
     pushes m n [] who base acc taken start status_ leaving sends log (entries ∙ sym (append-nil m.core.log.entries))
+
+-- with one entry more
+pub pushed_alike : (m : Node) (e : Entry) → Alike m (pushed m e)
+pushed_alike m e = pushes m (pushed m e) (e ∷ []) refl (omega arith) refl refl refl refl refl refl refl refl
 
 look_alike : (m : Node) (b : Ballot) (v : Verdict) → Looks m b v → Alike m v.node
 look_alike m b v (finds_itself_out x) = same_log m v.node refl (omega arith) refl refl refl refl refl refl refl refl
