@@ -112,7 +112,7 @@ only rules d (k, among, done) =
     let c = subst (λ (l : List Event). Contains (run rules l).views d) none among in
     only_in (founders_decided rules) d c.0 c.1 c.2
 
-module _ (P : World → Group → Type 0) (keeps : KeptBy P) (moving : StepsMove) (rules : Rules) (may : MayFound rules)
+module _ (P : World → Group → Type 0) (rules : Rules) (keeps : KeptBy P rules) (moving : StepsMove) (may : MayFound rules)
     (begins : (t : Group) → Following rules (start rules) t → P (start rules) t) where
   held_none : Held P rules []
   unfolding happen watch_all
@@ -131,7 +131,8 @@ module _ (P : World → Group → Type 0) (keeps : KeptBy P) (moving : StepsMove
           most = λ x done. (let was : (x == key first.stamp) ≡ true = ap (λ f. f x) (sym s.marks) ∙ done in
               let same : x ≡ key first.stamp = grind (arith, nat_tests) in omega arith);
         };
-        became = λ d c. (let same = only rules d c in ap (λ (x : Decided). s.to.views.complete (key x.stamp)) (sym same) ∙ is_marked);
+        became = λ d c. (let same = only rules d c in
+            record { marked_ = ap (λ (x : Decided). s.to.views.complete (key x.stamp)) (sym same) ∙ is_marked; index = 0; there = ap Some same });
         is = begins s.to s.follows;
       }
 
@@ -145,7 +146,7 @@ module _ (P : World → Group → Type 0) (keeps : KeptBy P) (moving : StepsMove
       let r = split_last events n long in
       let all : broken_at rules (r.0 ++ r.1 ∷ []) ≡ None = ap (broken_at rules) (sym r.2) ∙ whole in
       let before = unbroken (watched rules r.0) r.1 (ap (λ (x : Watch). x.broken) (sym (watch_push (watch_start rules) r.0 r.1)) ∙ all) in
-      subst (Held P rules) (sym r.2) (next P keeps moving rules may r.0 r.1 (held_of n r.0 r.3 before.before) all)
+      subst (Held P rules) (sym r.2) (next P rules keeps moving may r.0 r.1 (held_of n r.0 r.3 before.before) all)
 
   pub held : (events : List Event) → broken_at rules events ≡ None → Held P rules events
   held events whole = held_of (length events) events refl whole

@@ -169,8 +169,8 @@ pub record Quiet (w v : World) (s t : Group) : Type 0 where
 
 -- ---- what is so of a world and the group that follows it, besides: kept by steps, and by what changes no node
 
-pub record KeptBy (P : World → Group → Type 0) : Type 1 where
-  pub by_step : (rules : Rules) (events : List Event) (e : Event) (c : Cause) (step : Step) (s t : Group) → MayFound rules
+pub record KeptBy (P : World → Group → Type 0) (rules : Rules) : Type 0 where
+  pub by_step : (events : List Event) (e : Event) (c : Cause) (step : Step) (s t : Group) → MayFound rules
       → is_stopped (run rules events) (actor (run rules events) e) ≡ false
       → IsCause (run rules events) (actor (run rules events) e) e.act c
       → Effect ((run rules events).nodes (actor (run rules events) e)) c step
@@ -180,12 +180,18 @@ pub record KeptBy (P : World → Group → Type 0) : Type 1 where
       → P (run rules events) s → P (stepped (run rules events) e (actor (run rules events) e) step) t
   pub by_quiet : (w v : World) (s t : Group) → Quiet w v s t → P w s → P v t
 
+-- it is marked, and noted
+pub record Became (w : World) (s : Group) (d : Decided) : Type 0 where
+  pub marked_ : s.views.complete (key d.stamp) ≡ true
+  pub index : ℕ
+  pub there : slice_get w.views index ≡ Some d
+
 pub record Held (P : World → Group → Type 0) (rules : Rules) (events : List Event) : Type 0 where
   pub to : Group
   pub follows : Following rules (run rules events) to
   pub shaped : Shaped to
   pub tied : Tied (watched rules events) to
-  pub became : (d : Decided) → BecameComplete rules events d → to.views.complete (key d.stamp) ≡ true
+  pub became : (d : Decided) → BecameComplete rules events d → Became (run rules events) to d
   pub is : P (run rules events) to
 
 -- what an event comes to, before views are marked
@@ -199,10 +205,10 @@ record After (P : World → Group → Type 0) (rules : Rules) (w v : World) (s :
 -- ---- each event
 
 -- one that no node does
-quiet_after : (P : World → Group → Type 0) (keeps : KeptBy P) (rules : Rules) (events : List Event) (w v : World) (r : Record) → w ≡ run rules events
+quiet_after : (P : World → Group → Type 0) (rules : Rules) (keeps : KeptBy P rules) (events : List Event) (w v : World) (r : Record) → w ≡ run rules events
     → (h : Held P rules events) → Stays w v → v.views ≡ w.views → IsIdle r.outcome → v.records ≡ w.records ++ r ∷ [] → EventStands v h.to
     → After P rules w v h.to
-quiet_after P keeps rules events w v r is h same views idle records (no_move stands) =
+quiet_after P rules keeps events w v r is h same views idle records (no_move stands) =
     let s = h.to in
     let before = subst (λ x. Following rules x s) (sym is) h.follows in
     record {
@@ -213,7 +219,7 @@ quiet_after P keeps rules events w v r is h same views idle records (no_move sta
       is = keeps.by_quiet w v s (given s) (record { stays = same; grows = grows_given s; idle = inr (r, idle, records) })
           (subst (λ x. P x s) (sym is) h.is);
     }
-quiet_after P keeps rules events w v r is h same views idle records (stop i stands) =
+quiet_after P rules keeps events w v r is h same views idle records (stop i stands) =
     let s = h.to in
     let before = subst (λ x. Following rules x s) (sym is) h.follows in
     record {
@@ -260,19 +266,19 @@ run_push rules events e = runs_go_on (start rules) events (e ∷ [])
 views_stay : (views : List Decided) (m n : Node) (k : ℕ) (d : Decided) → slice_get views k ≡ Some d → slice_get (views_after views m n) k ≡ Some d
 views_stay views m n k d at = split (worlds.decides m n) (λ t. rw t (get_front views (worlds.last_view n ∷ []) k d at)) (λ f. rw f at)
 
-module _ (P : World → Group → Type 0) (keeps : KeptBy P) (moving : StepsMove) (rules : Rules) (may : MayFound rules) where
+module _ (P : World → Group → Type 0) (rules : Rules) (keeps : KeptBy P rules) (moving : StepsMove) (may : MayFound rules) where
   after_event : (events : List Event) (e : Event) (v : World) → Happens (run rules events) e v → v ≡ happens (run rules events) e → (h : Held P rules events)
       → After P rules (run rules events) v h.to
   unfolding unchanged stepped
   after_event events e v (idles o idle) is h =
       let w = run rules events in
-      quiet_after P keeps rules events w v (worlds.record_of w e o []) refl h (stays_idle w e o) refl idle refl (idle_stands w e o h.to h.follows.stands)
+      quiet_after P rules keeps events w v (worlds.record_of w e o []) refl h (stays_idle w e o) refl idle refl (idle_stands w e o h.to h.follows.stands)
   after_event events e v (event.stops runs) is h =
       let w = run rules events in
-      quiet_after P keeps rules events w v _ refl h (stays_stop w e _ (actor w e)) refl tt refl (stop_stands w e _ (actor w e) h.to h.follows.stands)
+      quiet_after P rules keeps events w v _ refl h (stays_stop w e _ (actor w e)) refl tt refl (stop_stands w e _ (actor w e) h.to h.follows.stands)
   after_event events e v (returns place at gone more) is h =
       let w = run rules events in
-      quiet_after P keeps rules events w v _ refl h (stays_return w e _ place) refl tt refl (return_stands w e _ place h.to h.follows.stands)
+      quiet_after P rules keeps events w v _ refl h (stays_return w e _ place) refl tt refl (return_stands w e _ place h.to h.follows.stands)
   after_event events e v (steps c step runs cause effect) is h =
       let w = run rules events in
       let s = h.to in
@@ -284,7 +290,7 @@ module _ (P : World → Group → Type 0) (keeps : KeptBy P) (moving : StepsMove
         same = moves_mark f.path;
         noted = λ k d at. views_stay w.views (w.nodes (actor w e)) step.node k d at;
         is = keeps.by_quiet v v f.to (given f.to) (record { stays = stays_same v; grows = grows_given f.to; idle = inl refl })
-            (keeps.by_step rules events e c step s f.to may runs cause effect is h.follows f.path f.grows f.is h.is);
+            (keeps.by_step events e c step s f.to may runs cause effect is h.follows f.path f.grows f.is h.is);
       }
 
   -- one event more
@@ -297,9 +303,9 @@ module _ (P : World → Group → Type 0) (keeps : KeptBy P) (moving : StepsMove
       let pushed = watch_push (watch_start rules) events e in
       let here : run rules all ≡ happens w e = run_push rules events e in
       let there : new.world ≡ run rules all = watched_is_run rules all in
-      let was : old.world ≡ w = watched_is_run rules events in
+      let was_world : old.world ≡ w = watched_is_run rules events in
       let a = after_event events e (happens w e) (events_have_effects w e) refl h in
-      let b : After P rules old.world new.world h.to = subst (λ x. After P rules x new.world h.to) (sym was)
+      let b : After P rules old.world new.world h.to = subst (λ x. After P rules x new.world h.to) (sym was_world)
       (subst (λ x. After P rules w x h.to) (sym (there ∙ here)) a) in
       let ok = unbroken old e (ap (λ (x : Watch). x.broken) (sym pushed) ∙ whole) in
       let lawful : is_lawful new.world new.complete ≡ true = subst (λ (x : Watch). is_lawful x.world x.complete ≡ true) (sym pushed) ok.now in
@@ -313,8 +319,18 @@ module _ (P : World → Group → Type 0) (keeps : KeptBy P) (moving : StepsMove
         follows = subst (λ x. Following rules x (marked b.to marks)) there (marked_follows rules new.world b.to marks b.ready m.may);
         shaped = shaped_marked b.to marks b.ready.shaped;
         tied = m.tied;
-        became = λ d c. became_now rules events e d marks (λ done. m.may.stay (key d.stamp) (ap (λ f. f (key d.stamp)) b.same ∙ done))
-            (λ k at done. m.all k d (ap (λ (x : World). slice_get x.views k) there ∙ at) (ap (λ x. is_complete x d) there ∙ done)) (h.became d) c;
+        became = λ d c. became_now rules events e d marks
+            (λ was. record {
+              marked_ = m.may.stay (key d.stamp) (ap (λ f. f (key d.stamp)) b.same ∙ was.marked_);
+              index = was.index;
+              there = ap (λ (x : World). slice_get x.views was.index) (sym there) ∙ b.noted was.index d (ap (λ (x : World). slice_get x.views was.index) was_world ∙ was.there);
+            })
+            (λ k at done. record {
+              marked_ = m.all k d (ap (λ (x : World). slice_get x.views k) there ∙ at) (ap (λ x. is_complete x d) there ∙ done);
+              index = k;
+              there = at;
+            })
+            (h.became d) c;
         is = subst (λ x. P x (marked b.to marks)) there (keeps.by_quiet new.world new.world b.to (marked b.to marks)
             (record { stays = stays_same new.world; grows = grows_marked b.to marks; idle = inl refl }) b.is);
       }
@@ -327,10 +343,9 @@ module _ (P : World → Group → Type 0) (keeps : KeptBy P) (moving : StepsMove
       get_of : (xs : List Decided) (d : Decided) → Contains xs d → (k : ℕ) × (slice_get xs k ≡ Some d)
       get_of xs d c = (c.0, slice_get-get_or xs c.0 d c.1 ∙ ap Some c.2)
 
-      became_now : (rules : Rules) (events : List Event) (e : Event) (d : Decided) (marks : ℕ → Bool)
-          → ((h.to.views.complete (key d.stamp) ≡ true) → marks (key d.stamp) ≡ true)
-          → ((k : ℕ) → slice_get (run rules (events ++ e ∷ [])).views k ≡ Some d → is_complete (run rules (events ++ e ∷ [])) d ≡ true → marks (key d.stamp) ≡ true)
-          → (BecameComplete rules events d → h.to.views.complete (key d.stamp) ≡ true) → BecameComplete rules (events ++ e ∷ []) d → marks (key d.stamp) ≡ true
+      became_now : (rules : Rules) (events : List Event) (e : Event) (d : Decided) (marks : ℕ → Bool) {R : Type 0} → (Became (run rules events) h.to d → R)
+          → ((k : ℕ) → slice_get (run rules (events ++ e ∷ [])).views k ≡ Some d → is_complete (run rules (events ++ e ∷ [])) d ≡ true → R)
+          → (BecameComplete rules events d → Became (run rules events) h.to d) → BecameComplete rules (events ++ e ∷ []) d → R
       became_now rules events e d marks stay all before (k, among, done) = ⊎_elim
           (λ (low : k ≤ length events). (let same = take-append-le k events (e ∷ []) low in
           stay (before (k, subst (λ l. Contains (run rules l).views d) same among, subst (λ l. is_complete (run rules l) d ≡ true) same done))))

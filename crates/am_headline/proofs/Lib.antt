@@ -11,3 +11,5 @@ pub mod Inside
 pub mod Joined
 pub mod Own
 pub mod Told
+pub mod Moments
+pub mod Holds

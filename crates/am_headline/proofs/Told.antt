@@ -28,11 +28,11 @@ use Rattle.am_chain_moves.specs.Group.{Group, IsUp}
 use Rattle.am_chain_moves.specs.Kept.{Kept}
 use Rattle.am_model.specs.declared.status.Status.{Status}
 use Rattle.am_model.specs.declared.status.Status.TheVariants as status
-use Rattle.am_model.specs.Node.{Node, set_at, waiting, is_member, is_asking, founders_view, lowest_or_first}
+use Rattle.am_model.specs.Node.{Node, set_at, waiting, is_member, is_asking, founder, stranger, founders_view, lowest_or_first}
 use Rattle.am_model.specs.Emit.{Step}
 use Rattle.am_model.specs.Group.{sent_in, accepted_sends, has_log}
 use Rattle.am_model.specs.Lawful.{whole}
-use Rattle.am_model.specs.World.{World, record_of, is_stopped, has_departed, group_after, stepped, happens, run}
+use Rattle.am_model.specs.World.{World, record_of, is_stopped, has_departed, group_after, start, stepped, happens, run}
 use Rattle.am_model.specs.Claims.{heard_by, welcomes}
 use Rattle.am_model.proofs.Greatest.{split}
 use Rattle.am_effects.specs.Causes.{Cause, hears}
@@ -110,12 +110,12 @@ name_more rules group more i m h =
 
 -- ---- an event that changes no node
 
-record Same (w v : World) : Type 0 where
-  nodes : v.nodes ≡ w.nodes
-  letters : v.letters ≡ w.letters
-  group : v.group ≡ w.group
+pub record Same (w v : World) : Type 0 where
+  pub nodes : v.nodes ≡ w.nodes
+  pub letters : v.letters ≡ w.letters
+  pub group : v.group ≡ w.group
 
-told_same : (rules : Rules) (w v : World) → Same w v → v.records ≡ w.records → Told rules w → Told rules v
+pub told_same : (rules : Rules) (w v : World) → Same w v → v.records ≡ w.records → Told rules w → Told rules v
 told_same rules w v is records h =
     let all : (P : (ℕ → Node) → List Letter → List Entry → List Record → Type 0) → P w.nodes w.letters w.group w.records → P v.nodes v.letters v.group v.records = λ P x.
     subst (λ n. P n v.letters v.group v.records) (sym is.nodes) (subst (λ l. P w.nodes l v.group v.records) (sym is.letters)
@@ -130,7 +130,7 @@ told_same rules w v is records h =
       accepted = all (λ n l g r. All (StandsAt g (length g)) (accepted_sends r)) h.accepted;
     }
 
-told_idle : (rules : Rules) (w v : World) (r : Record) → Same w v → IsIdle r.outcome → v.records ≡ w.records ++ r ∷ [] → Told rules w → Told rules v
+pub told_idle : (rules : Rules) (w v : World) (r : Record) → Same w v → IsIdle r.outcome → v.records ≡ w.records ++ r ∷ [] → Told rules w → Told rules v
 told_idle rules w v r is idle records h =
     let all : (P : (ℕ → Node) → List Letter → List Entry → List Record → Type 0) → P w.nodes w.letters w.group (w.records ++ r ∷ [])
     → P v.nodes v.letters v.group v.records = λ P x.
@@ -230,7 +230,75 @@ entry_low m number e is = split (nat_le m.core.log.start number) (λ t. grind (a
     let at : entry_at m.core.log (suc number) ≡ Some e = ap (entry_at m.core.log) (sym z) ∙ is in
     let none = rw f at at in absurd (cc))
 
+-- ---- within a step
+
+-- an entry that is given: of the name's own list, and accepted there; it hadn't departed
+pub record Taking (m : Node) (number : ℕ) (e : Entry) : Type 0 where
+  pub there : entry_at m.core.log number ≡ Some e
+  pub low : number ≤ m.core.acc
+  pub stays : has_departed m.status ≡ false
+
+module _ (rules : Rules) (events : List Event) (e : Event) (c : Cause) (step : Step) (may : MayFound rules)
+    (cause : IsCause (run rules events) (actor (run rules events) e) e.act c)
+    (effect : Effect ((run rules events).nodes (actor (run rules events) e)) c step) (h : Told rules (run rules events)) where
+  abbrev before : Node
+  before = (run rules events).nodes (actor (run rules events) e)
+
+  inside_step : Inside (run rules events).group (actor (run rules events) e) c step.outcome before step.node
+  inside_step =
+      let i = actor (run rules events) e in
+      let few = few_names rules (run rules events) e (run_owned rules events may).blanks.views.named in
+      let views = (run_owned rules events may).blanks in
+      let k = views.views.each i few in
+      let num = (numbers_hold rules events).each i in
+      inside_chain (run rules events).group i c step.outcome before before step.node (heard_names rules (run rules events) e c views.views cause) effect.changes k.names
+      k.balloted (views.each i few)
+      (inside_start rules (run rules events).group i c step.outcome before num.kept num.given (λ none. (blank_holds rules events i may few none).acc) (h.each i))
+
+  -- whose front stays is given nothing
+  none_taken : (number : ℕ) (x : Entry) → step.outcome ≡ said.Took number x → front step.node ≡ front before → ⊥
+  none_taken number x says f =
+      let i = actor (run rules events) e in
+      let y = was_taken rules events may i c step.node step.outcome number x says effect.answer in
+      let next = y.next in
+      let on = y.gone_on in
+      let some = y.some in
+      let low = ((numbers_hold rules events).each i).given in
+      let less : before.core.taken < before.core.acc = grind (arith, nat_tests) in
+      let p = at_least before.core.taken before.core.acc (before.core.start - 1) (h.each i).passed less in
+      omega arith
+
+  pub taking : (number : ℕ) (x : Entry) → step.outcome ≡ said.Took number x → Taking before number x
+  taking number x says =
+      let i = actor (run rules events) e in
+      let y = was_taken rules events may i c step.node step.outcome number x says effect.answer in
+      let next = y.next in
+      let some = y.some in
+      let order = ((numbers_hold rules events).each i).given in
+      let less : before.core.taken < before.core.acc = grind (arith, nat_tests) in
+      record {
+        there = y.there;
+        low = omega arith;
+        stays = split (has_departed before.status) (λ u. absurd (none_taken number x says (inside_step.departed u).1)) (λ f. f);
+      }
+
 -- ---- a step
+
+-- what is given stands in the group list
+pub taking_in_group : (rules : Rules) (w : World) (s : Group) (i number : ℕ) (x : Entry) → Following rules w s → i < 256 → Taking (w.nodes i) number x
+    → item_at w.group number ≡ Some x
+taking_in_group rules w s i zero x old few y = absurd (let z = y.there in cc)
+taking_in_group rules w s i (suc j) x old few y =
+    let m = w.nodes i in
+    let kept = group_kept rules.founders (lowest_or_first rules.founders) rules.resilience s old.group in
+    let one : j + 1 ≡ suc j = omega arith in
+    let at : entry_at m.core.log (j + 1) ≡ Some x = ap (entry_at m.core.log) one ∙ y.there in
+    let low = entry_low m j x at in
+    let got = entry-get m.core.log j x low at in
+    let within = (old.stands.each i few).begins.within in
+    let number : m.core.log.start + (j - m.core.log.start) + 1 ≡ suc j = omega arith in
+    let item : item_at (whole w m) (suc j) ≡ Some x = ap (item_at (whole w m)) (sym number) ∙ whole_item w m (j - m.core.log.start) x within got in
+    taken_in_group w s i (suc j) x kept (old.stands.each i few) (old.stands.fronts i few y.stays) old.stands.group y.low item
 
 same_number : (a b : ℕ) → (a == b) ≡ true → a ≡ b
 same_number a b t = grind (arith, nat_tests)
@@ -277,13 +345,8 @@ module _ (rules : Rules) (events : List Event) (e : Event) (c : Cause) (step : S
   group_grows : Begins w.group v.group
   group_grows = subst (λ g. Begins g v.group) old.stands.group (subst (Begins s.group) new.stands.group grows.group)
 
-  inside : Inside w.group i c step.outcome m n
-  inside =
-      let views = (run_owned rules events may).blanks in
-      let k = views.views.each i few in
-      let num = (numbers_hold rules events).each i in
-      inside_chain w.group i c step.outcome m m n (heard_names rules w e c views.views cause) effect.changes k.names k.balloted (views.each i few)
-      (inside_start rules w.group i c step.outcome m num.kept num.given (λ none. (blank_holds rules events i may few none).acc) (h.each i))
+  abbrev inside : Inside w.group i c step.outcome m n
+  inside = inside_step rules events e c step may cause effect h
 
   node_v : v.nodes i ≡ n
   unfolding stepped
@@ -409,38 +472,20 @@ module _ (rules : Rules) (events : List Event) (e : Event) (c : Cause) (step : S
             each = λ k number x at. (let z = given_before.each k number x at in
                 (z.0 ∙ ap (λ y. y + k) (sym start), subst (λ y. At v.group (length v.group) (y + k) x) (sym start) z.1));
           })))
-          (λ (x : (number : ℕ) × (entry : Entry) × (step.outcome ≡ said.Took number entry)). (
-          let y = was_taken rules events may i c n step.outcome x.0 x.1 x.2 effect.answer in
-          let next = y.next in
-          let on = y.gone_on in
-          let some = y.some in
-          let low = ((numbers_hold rules events).each i).given in
-          let less : m.core.taken < m.core.acc = grind (arith, nat_tests) in
-          let p = at_least m.core.taken m.core.acc (m.core.start - 1) (h.each i).passed less in
-          absurd (omega arith)))
+          (λ (x : (number : ℕ) × (entry : Entry) × (step.outcome ≡ said.Took number entry)).
+          absurd (none_taken rules events e c step may cause effect h x.0 x.1 x.2 f))
           (taken_or step.outcome)
       by_way (took k x says a b start low ln lm) =
-          let y = was_taken rules events may i c n step.outcome (k + 1) x says effect.answer in
-          let some = y.some in
-          let next = y.next in
-          let order = ((numbers_hold rules events).each i).given in
-          let less : m.core.taken < m.core.acc = grind (arith, nat_tests) in
-          let at = record { low = (item_within v.group (k + 1) x (there k x y.there (omega arith) a b)).1; there = there k x y.there (omega arith) a b } in
+          let y = taking rules events e c step may cause effect h (k + 1) x says in
+          let item = there k x y in
+          let at : At v.group (length v.group) (k + 1) x = record { low = (item_within v.group (k + 1) x item).1; there = item } in
           let begun = (still.begins lm).some in
           subst (GivenOk v.group (length v.group) n) (ap (λ z. given ++ taken_in z) (sym says))
           (given_push v.group (length v.group) m n given k x given_before start a b begun (let st = ap (λ z. z - 1) start in omega arith) at)
         where
-          there : (k : ℕ) (x : Entry) → entry_at m.core.log (k + 1) ≡ Some x → k + 1 ≤ m.core.acc → front m ≡ k → front n ≡ k + 1 → item_at v.group (k + 1) ≡ Some x
-          there k x at low a b =
-              let stays : has_departed m.status ≡ false = split (has_departed m.status)
-              (λ u. absurd (let z = (inside.departed u).1 in omega arith)) (λ f. f) in
-              let start_low = entry_low m k x at in
-              let got = entry-get m.core.log k x start_low at in
-              let within = (old.stands.each i few).begins.within in
-              let number : m.core.log.start + (k - m.core.log.start) + 1 ≡ k + 1 = omega arith in
-              let item : item_at (whole w m) (k + 1) ≡ Some x = ap (item_at (whole w m)) (sym number) ∙ whole_item w m (k - m.core.log.start) x within got in
-              item_begins (k + 1) x group_grows
-              (taken_in_group w s i (k + 1) x kept_s (old.stands.each i few) (old.stands.fronts i few stays) old.stands.group low item)
+          there : (k : ℕ) (x : Entry) → Taking m (k + 1) x → item_at v.group (k + 1) ≡ Some x
+          there k x y =
+              item_begins (k + 1) x group_grows (taking_in_group rules w s i (k + 1) x old few y)
       by_way (began from stamp base join image heard says lm ln start f up) =
           let b = (h.each i).blank lm in
           let count = given_before.count in
@@ -504,3 +549,40 @@ module _ (rules : Rules) (events : List Event) (e : Event) (c : Cause) (step : S
 
       by_number : (r : Record) → (name_of r == i) ≡ true → {j : ℕ} → name_of r ≡ j → i ≡ j
       by_number r own same = sym (by_own r own) ∙ same
+
+-- ---- the start
+
+stranger_told : (rules : Rules) (i : ℕ) → has rules.founders i ≡ false → NameTold rules (founders_view rules ∷ []) i (stranger rules i)
+stranger_told rules i none = record {
+  passed = λ below. omega arith;
+  gone = λ t. absurd (cc);
+  silent = λ t. absurd (cc);
+  founder = λ t. absurd (cc);
+  blank = λ t. (refl, refl);
+  begins = λ t. absurd (cc);
+  sends = All-nil _;
+}
+
+founder_told : (rules : Rules) (i : ℕ) → has rules.founders i ≡ true → NameTold rules (founders_view rules ∷ []) i (founder rules i)
+founder_told rules i there = record {
+  passed = λ below. absurd (omega arith);
+  gone = λ t. absurd (cc);
+  silent = λ t. absurd (cc);
+  founder = λ t. refl;
+  blank = λ t. absurd (cc);
+  begins = λ t. record { some = omega arith; founder = λ u. refl; joiner = λ none. absurd (cc) };
+  sends = All-nil _;
+}
+
+pub told_start : (rules : Rules) → Told rules (start rules)
+told_start rules = record {
+  opens = record { first = begins_refl (founders_view rules ∷ []) };
+  any = All-nil AnyLetter;
+  each = λ i. split (has rules.founders i) (λ t. rw t (founder_told rules i t)) (λ f. rw f (stranger_told rules i f));
+  given = λ i. split (has rules.founders i)
+      (λ t. rw t (record { count = omega arith; each = λ k number e at. absurd (cc) }))
+      (λ f. rw f (record { count = omega arith; each = λ k number e at. absurd (cc) }));
+  welcomed = λ i f. rw f refl;
+  heard = All-nil _;
+  accepted = All-nil _;
+}
