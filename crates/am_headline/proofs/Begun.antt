@@ -9,13 +9,15 @@ use Rattle.am_base.specs.declared.entry.Entry.TheVariants.{View}
 use Rattle.am_base.specs.Founding.{Rules, MayFound}
 use Rattle.am_base.specs.Names.{has}
 use Rattle.am_group.specs.declared.event.Event.{Event}
-use Rattle.am_chain_lists.specs.Whole.{Begins, key}
-use Rattle.am_chain_lists.proofs.Prefixes.{begins_refl}
-use Rattle.am_chain_moves.specs.Group.{Group, opening}
+use Rattle.am_chain_lists.specs.Whole.{Begins, IsGood, key}
+use Rattle.am_chain_lists.proofs.Prefixes.{begins_refl, begins_nil}
+use Rattle.am_chain_lists.proofs.Members.{good_begins}
+use Rattle.am_chain_moves.specs.Group.{Group, opening, chain_of}
 use Rattle.am_chain_moves.specs.Runs as begun
 use Rattle.am_chain_moves.specs.Runs.{MayBegin, founded, first_choice, first_stamp}
+use Rattle.am_chain.proofs.Runs.{run_keeps}
 use Rattle.am_model.specs.Node.{lowest_or_first, founding_stamp}
-use Rattle.am_model.specs.World.{Decided, World, start, founders_decided, happen, run}
+use Rattle.am_model.specs.World.{Decided, World, start, first_node, founders_decided, has_departed, happen, run}
 use Rattle.am_model.specs.Lawful.{Watch, watch_all, watched, watch_start, broken_at}
 use Rattle.am_model.specs.Claims.{BecameComplete}
 use Rattle.am_model.proofs.Greatest.{split}
@@ -60,9 +62,16 @@ first_shaped rules may = record {
       (λ t. record { view = key (founding_stamp rules); decided = own_key rules; line = rw t (begins_refl _) })
       (λ f. absurd (some (rw f refl)));
   sets = λ x d. may.names;
+  good = λ i. (let k = run_keeps rules.founders (lowest_or_first rules.founders) rules.resilience (first_group rules) (founded (may_begin rules may)) in
+      split (has rules.founders i)
+      (λ t. good_begins ((k.kept.each i).list (record { log = t; there = record { goes = refl; stays = refl } })) k.kept.views.good)
+      (λ f. subst IsGood (sym ((k.kept.each i).blank f)) (good_begins (begins_nil (chain_of (first_group rules).views)) k.kept.views.good)));
 }
 
 -- ---- the start
+
+none_gone : (rules : Rules) (i : ℕ) → has_departed (first_node rules i).status ≡ true → ⊥
+none_gone rules i = split (has rules.founders i) (λ t. rw t (λ z. absurd (cc))) (λ f. rw f (λ z. absurd (cc)))
 
 pub record Started (rules : Rules) : Type 0 where
   pub to : Group
@@ -81,7 +90,8 @@ start_follows rules may =
       follows = record {
         group = on.group_;
         stands = leads.is;
-        nodes = λ i few. start_keeps rules leads.to on.group_ leads.is i few;
+        nodes = λ i few stays. start_keeps rules leads.to on.group_ leads.is i few;
+        gone = λ i few left. absurd (none_gone rules i left);
         letters = λ k letter at. absurd (cc);
       };
       shaped = shaped_moves rules.founders (lowest_or_first rules.founders) rules.resilience s leads.to first leads.path (first_shaped rules may);

@@ -66,7 +66,7 @@ pub record MarkedNow (watch : Watch) (v : World) (t : Group) : Type 0 where
   pub all : (k : ℕ) (d : Decided) → slice_get v.views k ≡ Some d → is_complete v d ≡ true → marks_now v t (key d.stamp) ≡ true
 
 known : (rules : Rules) (v : World) (t : Group) → Ready rules v t → Known v t
-known rules v t h = record { stands = h.stands; good = λ i few. (h.tells.nodes i few).good; shaped = h.shaped; opens = h.opens }
+known rules v t h = record { stands = h.stands; shaped = h.shaped; opens = h.opens }
 
 mark : (rules : Rules) (old new : Watch) (s t : Group) → Ready rules new.world t → t.views.complete ≡ s.views.complete → Tied old s → Small new.world.views
     → ((k : ℕ) (d : Decided) → slice_get old.world.views k ≡ Some d → slice_get new.world.views k ≡ Some d)

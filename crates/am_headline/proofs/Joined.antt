@@ -113,7 +113,7 @@ welcome_says rules w s i number l from v base join image h anys few runs asks at
     by_kind (has_gone t) = absurd (let a = (h.stands.each i few).stopped in cc)
     by_kind (has_left t) = absurd (let a = (h.stands.each i few).departed in let b = asking_stays (w.nodes i).status asks in cc)
     by_kind (is_leaving t) = absurd (let a = (h.stands.each i few).leaving in
-        let b = (h.nodes i few).leaves (sym a ∙ t) in
+        let b = (h.nodes i few (asking_stays (w.nodes i).status asks)).leaves (sym a ∙ t) in
         let d = asking_log (w.nodes i).status asks in cc)
     by_kind (may_begin says) = says
 

@@ -62,10 +62,9 @@ not_true false h = refl
 
 -- ---- who has stored a View
 
--- what of a group is known here: each list is good, and on a line; and lines open
+-- what of a group is known here: each list is good, and on a line, and lines open
 pub record Known (w : World) (s : Group) : Type 0 where
   pub stands : Stands w s
-  pub good : (i : ℕ) → i < 256 → IsGood (s.node i).list
   pub shaped : Shaped s
   pub opens : LinesOpen s
 
@@ -82,12 +81,12 @@ stored_opens w s v h k noted small few stored =
     let seen : view_of part ≡ v.stamp = view_viewed at.before v.stamp at.names at.resilience in
     let opened = k.opens on.view part on.decided (λ nil. not_nil at.before (View v.stamp at.names at.resilience) nil) (begins_trans at.begins on.line) in
     let mine : Begins part (s.views.line (key v.stamp)) = subst (λ u. Begins part (s.views.line (key u))) seen opened.line_ in
-    let good : IsGood part = good_begins at.begins (k.good h few) in
+    let good : IsGood part = good_begins at.begins (k.shaped.good h) in
     let stamped : opening ch ≡ ch.before ++ View v.stamp ch.members ch.resilience ∷ [] = ap (λ u. ch.before ++ View u ch.members ch.resilience ∷ []) noted.stamp in
     let its : Begins (ch.before ++ View v.stamp ch.members ch.resilience ∷ []) (s.views.line (key v.stamp)) = subst (λ l. Begins l (s.views.line (key v.stamp))) stamped noted.opens in
     let by = k.stands.each v.stamp.by small in
     let line_is : s.views.line (key v.stamp) ≡ up_to_next v.stamp (s.node v.stamp.by).list = noted.line ∙ ap (up_to_next v.stamp) (sym by.list) in
-    let line_good : IsGood (s.views.line (key v.stamp)) = subst IsGood (sym line_is) (good_begins (line_part v.stamp (s.node v.stamp.by).list) (k.good v.stamp.by small)) in
+    let line_good : IsGood (s.views.line (key v.stamp)) = subst IsGood (sym line_is) (good_begins (line_part v.stamp (s.node v.stamp.by).list) (k.shaped.good v.stamp.by)) in
     let same = same_opening v.stamp at.before ch.before at.names ch.members at.resilience ch.resilience (s.views.line (key v.stamp)) mine its good
     (good_begins its line_good) in
     subst (λ l. Begins l list) (same ∙ sym stamped) at.begins
@@ -138,7 +137,7 @@ completes w s k v known at small h =
         let stays : has_departed (w.nodes j).status ≡ false = sym mine.departed ∙ there.stays in
         let low : stamp_lt (nodes.view (w.nodes j)) v.stamp ≡ false = rw (runs, stays) at fails in
         let viewed : view_of (s.node j).list ≡ nodes.view (w.nodes j) = view_is w s j few known in
-        let good = view_small (s.node j).list (known.good j few) in
+        let good = view_small (s.node j).list (known.shaped.good j) in
         split (nat_lt (key (view_of (s.node j).list)) (key v.stamp))
         (λ t.
         let below : key (view_of (s.node j).list) < key v.stamp = grind (arith, nat_tests) in

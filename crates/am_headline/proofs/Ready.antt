@@ -13,6 +13,7 @@ use Rattle.am_chain_moves.specs.Moves.{Move, with_node, gives_over, stops}
 use Rattle.am_chain_moves.specs.Runs.{Completes, IsLawful, Run, more}
 use Rattle.am_chain_moves.proofs.Puts.{put_at, put_cases, put_other}
 use Rattle.am_model.specs.Node.{Node, lowest_or_first}
+use Rattle.am_model.specs.Calls.{is_unfinished}
 use Rattle.am_model.specs.World.{Decided, World, is_stopped, has_departed}
 use Rattle.am_stands.specs.Standing.{NameStands, FrontsStand, NotedStands, ViewsStand, Stands}
 use Rattle.am_stands.specs.Letters.{LetterSays}
@@ -36,7 +37,8 @@ marked s complete = record s { views = record s.views { complete = complete } }
 
 -- what a world's nodes and letters tell of a group
 pub record Tells (v : World) (t : Group) : Type 0 where
-  pub nodes : (i : ℕ) → i < 256 → NodeKeeps v t i (v.nodes i)
+  pub nodes : (i : ℕ) → i < 256 → has_departed (v.nodes i).status ≡ false → NodeKeeps v t i (v.nodes i)
+  pub gone : (i : ℕ) → i < 256 → has_departed (v.nodes i).status ≡ true → is_unfinished (v.nodes i).ballot ≡ false
   pub letters : (k : ℕ) (letter : Letter) → slice_get v.letters k ≡ Some letter → LetterSays v t letter
 
 -- marks that may be put on a group
@@ -88,6 +90,7 @@ pub shaped_marked : (s : Group) (complete : ℕ → Bool) → Shaped s → Shape
 shaped_marked s complete h = record {
   lines = λ i some. (let o = h.lines i some in record { view = o.view; decided = o.decided; line = o.line });
   sets = h.sets;
+  good = h.good;
 }
 
 branch_marked : (s : Group) (complete : ℕ → Bool) (i : ℕ) → OnBranch s i → OnBranch (marked s complete) i
@@ -132,17 +135,20 @@ stays_same w = record { nodes = refl; letters = refl; group = refl; more = ([], 
 
 tells_on : (w v : World) (s t : Group) → Stays w v → Grows s t → Stands w s → Stands v t → Tells w s → Tells v t
 tells_on w v s t same g hs ht h = record {
-  nodes = λ i few. (
+  nodes = λ i few stays. (
       let node = ap (λ (f : ℕ → Node). f i) same.nodes in
       let now : NameStands v i (w.nodes i) (t.node i) = subst (λ (m : Node). NameStands v i m (t.node i)) node (ht.each i few) in
       let more : Begins w.group v.group = subst (Begins w.group) (sym same.group) (begins_refl w.group) in
-      subst (NodeKeeps v t i) (sym node) (others_keep w v s t i (w.nodes i) same.stopped g (hs.each i few) now more (h.nodes i few)));
+      subst (NodeKeeps v t i) (sym node) (others_keep w v s t i (w.nodes i) same.stopped g (hs.each i few) now more
+      (h.nodes i few (ap (λ (m : Node). has_departed m.status) (sym node) ∙ stays))));
+  gone = λ i few left. (let node = ap (λ (f : ℕ → Node). f i) same.nodes in
+      ap (λ (m : Node). is_unfinished m.ballot) node ∙ h.gone i few (ap (λ (m : Node). has_departed m.status) (sym node) ∙ left));
   letters = λ k letter at. letters_stay w v s t letter.to letter.packet same.more g
       (h.letters k letter (ap (λ (l : List Letter). slice_get l k) (sym same.letters) ∙ at));
 }
 
 pub tells_of : {rules : Rules} {w : World} {s : Group} → Following rules w s → Tells w s
-tells_of h = record { nodes = h.nodes; letters = h.letters }
+tells_of h = record { nodes = h.nodes; gone = h.gone; letters = h.letters }
 
 -- ---- marks
 
@@ -155,6 +161,7 @@ marked_follows rules v t complete h may =
       group = record { run = h.run complete may; branches = branches_marked t complete h.branches; named = h.named };
       stands = stands;
       nodes = tells.nodes;
+      gone = tells.gone;
       letters = tells.letters;
     }
 
@@ -269,4 +276,4 @@ ready_halted rules w v s i h shaped same stands =
 pub stays_follows : (rules : Rules) (w v : World) (s : Group) → Following rules w s → Stays w v → Stands v s → Following rules v s
 stays_follows rules w v s h same stands =
     let tells = tells_on w v s s same (grows_same s) h.stands stands (tells_of h) in
-    record { group = h.group; stands = stands; nodes = tells.nodes; letters = tells.letters }
+    record { group = h.group; stands = stands; nodes = tells.nodes; gone = tells.gone; letters = tells.letters }

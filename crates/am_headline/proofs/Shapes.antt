@@ -1,12 +1,13 @@
--- What moves keep of each list, whoever has stopped or departed: it is on the line of a decided view; and each decided view has a set of
--- names.
+-- What moves keep of each list, whoever has stopped or departed: it is a good one, on the line of a decided view; and each decided view has
+-- a set of names.
 use Rattle.std.proofs.Common.{◌≡◌, ◌≢◌, ◌⊎◌, ⊎_elim, inl, inr, ℕ, ◌≤◌, List, length, Some, [], ◌∷◌, ◌++◌, true, false, refl, sym, ap, ◌∙◌, subst}
 use Rattle.am_base.specs.declared.entry.Entry.{Entry}
 use Rattle.am_base.specs.declared.entry.Entry.TheVariants.{Leave}
 use Rattle.am_base.specs.Names.{IsSet}
 use Rattle.am_group.specs.Journals.{item_at}
-use Rattle.am_chain_lists.specs.Whole.{Begins, view_of, key}
+use Rattle.am_chain_lists.specs.Whole.{Begins, IsGood, view_of, key}
 use Rattle.am_chain_lists.proofs.Prefixes.{begins_refl, begins_trans}
+use Rattle.am_chain_lists.proofs.Members.{good_begins}
 use Rattle.am_chain_moves.specs.Group as groups
 use Rattle.am_chain_moves.specs.Group.{Group, Chosen, IsUp, put, chain_of}
 use Rattle.am_chain_moves.specs.Moves.{Move, with_node, choice_of, longer, numbers, stores, accepts, learns, begins, raises, shows, serves}
@@ -28,6 +29,7 @@ pub record OnLine (s : Group) (list : List Entry) : Type 0 where
 pub record Shaped (s : Group) : Type 0 where
   pub lines : (i : ℕ) → (s.node i).list ≢ [] → OnLine s (s.node i).list
   pub sets : (x : ℕ) → s.views.decided x ≡ true → IsSet (s.views.chosen x).members
+  pub good : (i : ℕ) → IsGood (s.node i).list
 
 -- ---- a move
 
@@ -101,6 +103,14 @@ lines_on s t k g each h i some = by_way (each i)
     by_way (up there) = record { view = key t.views.current; decided = k.views.now; line = (k.each i).list there }
     by_way (gone on) = record { view = key t.views.current; decided = k.views.now; line = on }
 
+good_on : (s t : Group) → Kept t → ((i : ℕ) → ListGoes s t i) → Shaped s → (i : ℕ) → IsGood (t.node i).list
+good_on s t k each h i = by_way (each i)
+  where
+    by_way : ListGoes s t i → IsGood (t.node i).list
+    by_way (same is) = subst IsGood (sym is) (h.good i)
+    by_way (up there) = good_begins ((k.each i).list there) k.views.good
+    by_way (gone on) = good_begins on k.views.good
+
 sets_on : (s t : Group) (move : Move s t) → MoveOk move → Shaped s → (x : ℕ) → t.views.decided x ≡ true → IsSet (t.views.chosen x).members
 sets_on s t (decides i members resilience may) ok h x d =
     let at = key (s.node i).promise in
@@ -139,6 +149,8 @@ shaped_move founders first resilience s t g move ok h =
       lines = lines_on s t (group_kept founders first resilience t on.group_) on.grows
           (move_goes s t move (group_kept founders first resilience s g)) h;
       sets = sets_on s t move ok h;
+      good = good_on s t (group_kept founders first resilience t on.group_)
+          (move_goes s t move (group_kept founders first resilience s g)) h;
     }
 
 pub shaped_moves : (founders : List ℕ) (first resilience : ℕ) (s t : Group) → GroupOk founders first resilience s → Moves s t → Shaped s → Shaped t
@@ -158,6 +170,12 @@ shaped_stop s i h = record {
       (ap (λ (a : groups.Node). a.list) c.1) refl)
       (put_cases s.node i (record (s.node i) { stopped = true }) j);
   sets = h.sets;
+  good = λ j. ⊎_elim
+      (λ (c : (j ≡ i) × (put s.node i (record (s.node i) { stopped = true }) j ≡ record (s.node i) { stopped = true })).
+      subst IsGood (sym (ap (λ (a : groups.Node). a.list) c.1)) (h.good i))
+      (λ (c : (j ≢ i) × (put s.node i (record (s.node i) { stopped = true }) j ≡ s.node j)).
+      subst IsGood (sym (ap (λ (a : groups.Node). a.list) c.1)) (h.good j))
+      (put_cases s.node i (record (s.node i) { stopped = true }) j);
 }
   where
     of_node : (j : ℕ) (list : List Entry) → (put s.node i (record (s.node i) { stopped = true }) j).list ≡ list → (s.node j).list ≡ list
