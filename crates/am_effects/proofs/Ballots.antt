@@ -18,15 +18,15 @@ use Rattle.am_model.specs.Calls.{reset_row, give_up_of, give_up_row}
 use Rattle.am_model.proofs.Greatest.{and_both}
 use Rattle.am_effects.specs.Causes.{Cause, calls}
 use Rattle.am_effects.specs.Looks.{HasLearned, Looks, finds_itself_out, waits, fetches_from_best, finds_too_few, finds_no_room, decides, MayBegin, BeginsBy, by_reset, by_hand_over, MayLook, was_reset, was_handed, HasOpen, Balloting, as_it_is, without_one}
-use Rattle.am_effects.specs.Changes.{opens, looks}
-use Rattle.am_effects.specs.Courses.{nothing_yet, and_then}
+use Rattle.am_effects.specs.Changes.{opens}
+use Rattle.am_effects.specs.Courses.{nothing_yet, and_then, looked}
 use Rattle.am_effects.specs.Letters.{invite, fetch, result, MayInvite, has_begun, for_ballot, MayTell, decided}
 use Rattle.am_effects.specs.Letters as letters
 use Rattle.am_effects.specs.Effects.{Answers}
 use Rattle.am_effects.proofs.Tests.{not_false, not_true}
 use Rattle.am_effects.proofs.Items.{get_last}
 use Rattle.am_effects.proofs.Rests.{RestsWhole}
-use Rattle.am_effects.proofs.Plans.{AllSay, none_says, and_says, Comes, HasEffect, effect_if, effect_of, rows}
+use Rattle.am_effects.proofs.Plans.{AllSay, none_says, and_says, Comes, HasEffect, effect_if, effect_done, rows}
 use Rattle.am_effects.proofs.Says.{told_pushed}
 
 -- ---- a look
@@ -127,12 +127,8 @@ pub effect_answered : (m : Node) (c : Cause) (p : Node) (b : Ballot) (f : Node �
 effect_answered m c p b f comes over why says =
     let v = decide p b in
     let l = looks_at p b in
-    effect_of m c _ (record {
-      stays = refl;
-      changes = λ n. and_then (comes v.outcome) (looks {m = p} b v over why l refl) tt;
-      answer = λ n r. answers_look m c n p b v l;
-      letters = λ n r. says_result m c n p b v (f n) l r (says n r);
-    })
+    effect_done m c _ refl (λ n. looked {n = p} b v (comes v.outcome) over why l refl) (λ n r. answers_look m c n p b v l)
+    (λ n r. says_result m c n p b v (f n) l r (says n r))
 
 -- the ballot is there once it was opened
 abbrev opened : Node → ℕ → ℕ → Node

@@ -5,6 +5,7 @@ use Rattle.am_base.specs.declared.entry.Entry.{Entry}
 use Rattle.am_base.specs.declared.entry.Entry.TheVariants.{Data}
 use Rattle.am_base.specs.declared.outcome.Outcome.{Outcome}
 use Rattle.am_base.specs.declared.outcome.Outcome.TheVariants as said
+use Rattle.am_base.specs.declared.event.NodeEvent.{NodeEvent}
 use Rattle.am_base.specs.declared.event.NodeEvent.TheVariants as does
 use Rattle.am_base.specs.Names.{size}
 use Rattle.am_base.specs.Lists.{entry_at}
@@ -153,15 +154,15 @@ unfolding state_row
 row_state m = row_state_by m m.status
 
 -- a leaving node goes on, whatever the plan before does
-pub row_go : (m : Node) (c : Cause) (p : Plan) → Does Rests m c p → Comes m c p.node → ((base high : ℕ) → Allows m c (said.Held base high)) → (IsAlone p.node → p.letters (gone p.node) ≡ []) → is_member p.node.status ≡ true → p.node.leaving ≡ true → HasEffect m c (go p)
-row_go m c p h comes a quietly member leaves =
+pub row_go : (m : Node) (c : Cause) (p : Plan) (event : NodeEvent) → c ≡ calls event → Does Rests m c p → Comes m c p.node → ((base high : ℕ) → Allows m c (said.Held base high)) → (IsAlone p.node → p.letters (gone p.node) ≡ []) → view p.node ≡ view m → is_member p.node.status ≡ true → p.node.leaving ≡ true → HasEffect m c (go p)
+row_go m c p event called h comes a quietly viewed member leaves =
     effect_if m c (not (is_sequencer p.node)) _ _
     (λ t. effect_of m c _ (tightly m c _ (does_and Rests m c p (others p.node) leave_ask_of h (λ n r. leave_ask _ (ap is_member r.status ∙ member) (r.leaving ∙ leaves)))))
     (λ f. let leads = not_false _ f in
     effect_if m c (nat_lt 0 (size (others p.node))) _ _
     (λ t. effect_of m c _ (tightly m c _ (does_and Rests m c p (only_name (lowest_or_first (others p.node))) hand_over_of h (λ n r. hand_over _ (leads_rests r ∙ leads) (r.leaving ∙ leaves)))))
     (λ alone. effect_if m c (has_room p.node) _ _
-    (λ room. row_closing m c p (comes said.Departed) leads leaves alone room (alone_after p.node alone) (quietly alone))
+    (λ room. row_closing m c p event called (comes said.Departed) leads leaves alone room viewed (alone_after p.node alone) (quietly alone))
     (λ none. effect_of m c _ (record { stays = h.stays; changes = λ n. comes (said.Held p.node.core.base (top p.node)); answer = λ n r. a p.node.core.base (top p.node) n; letters = λ n r. h.letters n r.rests }))))
 
 row_leave_now : (m : Node) → m.status ≡ status.Member → HasEffect m (calls does.Leave) (leave_now m)
@@ -170,7 +171,7 @@ row_leave_now m is =
     let n = record m { leaving = true } in
     let k : m.leaving ≡ false → (nat_lt 0 (unsettled m) || is_unfinished m.ballot) ≡ false → HasEffect m c (go (quiet n said.Asked)) = λ a b.
     (let comes : Comes m c n = λ o. and_then nothing_yet (asks_to_leave {m = m} refl is a b) tt in
-    row_go m c (quiet n said.Asked) (does_quiet Rests m c n said.Asked (comes said.Asked) (λ x r. tt)) comes (λ x y z. tt) (λ alone. refl) (ap is_member is) refl) in
+    row_go m c (quiet n said.Asked) does.Leave refl (does_quiet Rests m c n said.Asked (comes said.Asked) (λ x r. tt)) comes (λ x y z. tt) (λ alone. refl) refl (ap is_member is) refl) in
     search (rows, k) depth 9
 
 row_leave_by : (m : Node) (s : Status) → m.status ≡ s → HasEffect m (calls does.Leave) (leave_by m s)

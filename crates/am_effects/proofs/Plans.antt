@@ -8,6 +8,7 @@ use Rattle.am_base.specs.Stamps.{stamp_eq}
 use Rattle.am_base.specs.declared.entry.Entry.{Entry}
 use Rattle.am_base.specs.declared.entry.Entry.TheVariants.{Leave}
 use Rattle.am_base.specs.declared.outcome.Outcome.{Outcome}
+use Rattle.am_base.specs.declared.event.NodeEvent.{NodeEvent}
 use Rattle.am_base.specs.declared.outcome.Outcome.TheVariants as said
 use Rattle.am_base.specs.Names.{size}
 use Rattle.am_packet.specs.declared.packet.Packet.{Packet}
@@ -20,9 +21,9 @@ use Rattle.am_model.specs.Refresh.{refresh, refresh_at_end}
 use Rattle.am_model.specs.Emit.{Plan, quiet, telling, polling, and_telling, and_where, numbering, accept_of, tells_accepted, with_accept, finish}
 use Rattle.am_model.proofs.Greatest.{split, and_both}
 use Rattle.am_model.specs.Hearing.{hears_member}
-use Rattle.am_effects.specs.Causes.{Cause, hears}
-use Rattle.am_effects.specs.Changes.{Change, refreshes, settles, takes_report, departs, closes, Changes, unchanged, changed}
-use Rattle.am_effects.specs.Courses.{Course, nothing_yet, used_report, and_then, at_end, let_go, closing}
+use Rattle.am_effects.specs.Causes.{Cause, calls, hears}
+use Rattle.am_effects.specs.Changes.{Change, refreshes, settles, takes_report, departs, looks, closes, Changes, unchanged, changed}
+use Rattle.am_effects.specs.Courses.{Course, nothing_yet, used_report, and_then, Deeds, plainly, looked, at_end, let_go, closing}
 use Rattle.am_effects.specs.Letters.{Says, accept, LetterSays}
 use Rattle.am_effects.specs.Effects.{Answers, Effect}
 use Rattle.am_effects.proofs.Items.{all_letter}
@@ -39,6 +40,10 @@ pub course_changes : {c : Cause} {o : Outcome} {m n : Node} → Course c o m n �
 course_changes nothing_yet = unchanged
 course_changes {m = m} (used_report s v report by may) = changed (takes_report {m = m} s v report by may) (changed (refreshes {m = with_report m s report}) unchanged)
 course_changes (and_then h z plain) = and_last (course_changes h) z
+
+deed_changes : {c : Cause} {o : Outcome} {m n : Node} → Deeds c o m n → Changes c o m n
+deed_changes (plainly h) = course_changes h
+deed_changes (looked {n = n} b verdict h over why look is) = and_last (course_changes h) (looks {m = n} b verdict over why look is)
 
 -- ---- letters
 
@@ -131,26 +136,31 @@ accept_says m c p n letters h = split (tells_accepted m p n)
     (λ t. let leads = (and_both (is_sequencer n) _ t).0 in rw t (and_says m c n (others n) (accept_of n p.polls) letters (accept (others n) p.polls leads) h))
     (λ f. rw f h)
 
-ended : {c : Cause} {o : Outcome} {m p : Node} → Course c o m p → Changes c o m (refresh_at_end p)
+ended : {c : Cause} {o : Outcome} {m p : Node} → Deeds c o m p → Changes c o m (refresh_at_end p)
 unfolding refresh_at_end
-ended {p = p} h = and_last (and_last (course_changes h) (refreshes {m = p})) (settles {m = refresh p})
+ended {p = p} h = and_last (and_last (deed_changes h) (refreshes {m = p})) (settles {m = refresh p})
 
-pub effect_of : (m : Node) (c : Cause) (p : Plan) → Does RestsWhole m c p → HasEffect m c p
+-- by what it does before its end
+pub effect_done : (m : Node) (c : Cause) (p : Plan) → p.departs ≡ false → ((n : Node) → Deeds c (p.outcome n) m p.node)
+    → ((n : Node) → RestsWhole p.node n → Answers m c n (p.outcome n)) → ((n : Node) → RestsWhole p.node n → AllSay m c n (p.letters n)) → HasEffect m c p
 unfolding finish
-effect_of m c p h =
+effect_done m c p stays deeds answer says =
     let n = refresh_at_end p.node in
     let r = rests_at_end p.node in
     record {
-      effect = rw (h.stays) (record {
-        changes = ended (h.changes n);
-        ending = at_end (h.changes n);
-        answer = h.answer n r;
+      effect = rw stays (record {
+        changes = ended (deeds n);
+        ending = at_end (deeds n);
+        answer = answer n r;
         sender = n;
         is = refl;
         stays = inl refl;
-        letters = accept_says m c p n (p.letters n) (h.letters n r);
+        letters = accept_says m c p n (p.letters n) (says n r);
       });
     }
+
+pub effect_of : (m : Node) (c : Cause) (p : Plan) → Does RestsWhole m c p → HasEffect m c p
+effect_of m c p h = effect_done m c p h.stays (λ n. plainly (h.changes n)) h.answer h.letters
 
 pub ruleset rows = (effect_if, effect_of, does_if, does_quiet, does_polling, does_telling, no_change, nothing)
 
@@ -177,12 +187,12 @@ row_let_go m c s v number is heard leaves =
     }
 
 -- the last member's own Leave is numbered, and it departs; it tells nobody
-pub row_closing : (m : Node) (c : Cause) (p : Plan) → Course c said.Departed m p.node → is_sequencer p.node ≡ true → p.node.leaving ≡ true
-    → nat_lt 0 (size (others p.node)) ≡ false → has_room p.node ≡ true
+pub row_closing : (m : Node) (c : Cause) (p : Plan) (event : NodeEvent) → c ≡ calls event → Course c said.Departed m p.node → is_sequencer p.node ≡ true → p.node.leaving ≡ true
+    → nat_lt 0 (size (others p.node)) ≡ false → has_room p.node ≡ true → view p.node ≡ view m
     → size (others (refresh_at_end (pushed p.node (Leave p.node.core.who)))) ≡ 0 → p.letters (refresh_at_end (pushed p.node (Leave p.node.core.who))) ≡ []
     → HasEffect m c (record p { node = pushed p.node (Leave p.node.core.who); outcome = λ n. said.Departed; numbers = true; departs = true })
 unfolding finish
-row_closing m c p comes leads leaves alone room none quietly =
+row_closing m c p event called comes leads leaves alone room viewed none quietly =
     let n = refresh_at_end (pushed p.node (Leave p.node.core.who)) in
     let q = record p { node = pushed p.node (Leave p.node.core.who); outcome = λ n. said.Departed; numbers = true; departs = true } in
     let nobody : (size (others n) == 0) ≡ true = grind (arith, nat_tests) in
@@ -190,7 +200,7 @@ row_closing m c p comes leads leaves alone room none quietly =
     record {
       effect = rw silent (record {
         changes = and_last (course_changes comes) (closes {m = p.node} leads leaves alone room);
-        ending = closing {x = p.node} comes leads leaves alone room;
+        ending = closing {x = p.node} event called comes leads leaves alone room viewed;
         answer = tt;
         sender = n;
         is = refl;

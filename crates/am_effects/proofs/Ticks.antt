@@ -25,7 +25,7 @@ use Rattle.am_effects.proofs.Tests.{not_false}
 use Rattle.am_effects.proofs.Rests.{Rests, RestsWhole, leads_rests}
 use Rattle.am_effects.proofs.Plans.{Does, and_says, HasEffect, effect_if, effect_of, does_quiet, does_telling, tightly, rows}
 use Rattle.am_effects.proofs.Alone.{IsAlone, gone, alone_after, sent_others, those_none}
-use Rattle.am_effects.proofs.Says.{leads_pushed, tells_ack}
+use Rattle.am_effects.proofs.Says.{leads_pushed, view_pushed, tells_ack}
 use Rattle.am_effects.proofs.Calls.{does_emit, comes_emit, node_if, row_ask_to_join, row_go}
 
 abbrev pub tick : Cause
@@ -54,7 +54,7 @@ row_tick_promised m = effect_if m tick (m.core.promise.by == m.core.who) _ _ (λ
 row_tick_member : (m : Node) → is_member m.status ≡ true → acts m ≡ true → HasEffect m tick (tick_member m)
 row_tick_member m member acting =
     effect_if m tick m.leaving _ _
-    (λ t. row_go m tick (quiet m said.Ticked) (does_quiet Rests m tick m said.Ticked nothing_yet (λ n r. tt)) (λ o. nothing_yet) (λ x y z. tt) (λ alone. refl) member t)
+    (λ t. row_go m tick (quiet m said.Ticked) does.Tick refl (does_quiet Rests m tick m said.Ticked nothing_yet (λ n r. tt)) (λ o. nothing_yet) (λ x y z. tt) (λ alone. refl) refl member t)
     (λ f. effect_if m tick (would_emit m (waiting m)) _ _
     (λ t. effect_of m tick _ (tightly m tick _ (does_emit m tick m (waiting m) said.Ticked nothing_yet (λ n same. tt) refl)))
     (λ g. effect_of m tick _ (does_telling RestsWhole m tick m said.Ticked (only_name (view m).by) ack_of nothing_yet (λ n r. tt) (tells_ack m tick m (only_name (view m).by) acting))))
@@ -65,16 +65,16 @@ plain_put_off : (m : Node) (w : Option OwnSend) (n : Node) → Answers m tick n 
 plain_put_off m None n = tt
 plain_put_off m (Some s) n = split (would_emit m (Some s) && not (has_room m)) (λ t. rw t tt) (λ f. rw f tt)
 
--- a node that emits stays a sequencer, and a member, and goes on leaving
+-- a node that emits stays a sequencer, and a member, and goes on leaving, in its view
 abbrev Same : Node → Node → Type 0
-Same m p = (is_sequencer p ≡ is_sequencer m) × (p.status ≡ m.status) × (p.leaving ≡ m.leaving)
+Same m p = (is_sequencer p ≡ is_sequencer m) × (p.status ≡ m.status) × (p.leaving ≡ m.leaving) × (view p ≡ view m)
 
 same_emit : (m : Node) (w : Option OwnSend) (o : Outcome) → Same m (emit m w o).node
-same_emit m None o = (refl, refl, refl)
+same_emit m None o = (refl, refl, refl, refl)
 same_emit m (Some s) o =
-    node_if (Same m) (not (would_emit m (Some s))) _ _ (λ t. (refl, refl, refl))
-    (λ f. node_if (Same m) (not (is_sequencer m)) _ _ (λ t. node_if (Same m) (nat_le (length s.body) m.core.rules.pb_up_to) _ _ (λ u. (refl, refl, refl)) (λ u. (refl, refl, refl)))
-    (λ g. node_if (Same m) (has_room m) _ _ (λ t. (leads_pushed m (Data m.core.who s.req s.body) refl, refl, refl)) (λ k. (refl, refl, refl))))
+    node_if (Same m) (not (would_emit m (Some s))) _ _ (λ t. (refl, refl, refl, refl))
+    (λ f. node_if (Same m) (not (is_sequencer m)) _ _ (λ t. node_if (Same m) (nat_le (length s.body) m.core.rules.pb_up_to) _ _ (λ u. (refl, refl, refl, refl)) (λ u. (refl, refl, refl, refl)))
+    (λ g. node_if (Same m) (has_room m) _ _ (λ t. (leads_pushed m (Data m.core.who s.req s.body) refl, refl, refl, view_pushed m (Data m.core.who s.req s.body) refl)) (λ k. (refl, refl, refl, refl))))
 
 -- who is alone tells nobody of its send, nor of the last View
 quiet_emit : (m : Node) (w : Option OwnSend) (o : Outcome) (n : Node) → IsAlone (emit m w o).node → is_sequencer m ≡ true → (emit m w o).letters n ≡ []
@@ -116,7 +116,7 @@ row_tick_sequencer m member lead =
           (result (behind_view n) (told n).view_number (viewed_by (entry_at n.core.log (told n).view_number)) refl refl (leads (leads_rests r ∙ same.0 ∙ lead))) (d.letters n r);
     } in
     effect_if m tick m.leaving (go p) p
-    (λ t. row_go m tick p h (comes_emit m tick m (waiting m) o (λ k. nothing_yet) refl) (λ x y z. tt) (quiet_last m o lead) (ap is_member same.1 ∙ member) (same.2 ∙ t))
+    (λ t. row_go m tick p does.Tick refl h (comes_emit m tick m (waiting m) o (λ k. nothing_yet) refl) (λ x y z. tt) (quiet_last m o lead) same.3 (ap is_member same.1 ∙ member) (same.2 ∙ t))
     (λ f. effect_of m tick p (tightly m tick p h))
 
 -- ---- the row
