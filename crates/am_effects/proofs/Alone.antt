@@ -1,17 +1,17 @@
 -- A sequencer that is alone is so once its own Leave is numbered, and so it tells nobody.
-use Rattle.std.proofs.Common.{◌≡◌, ℕ, zero, suc, ◌+◌, ◌<◌, ◌≤◌, ◌==◌, ◌&&◌, nat_lt, Bool, true, false, if◌then◌else◌, List, [], ◌∷◌, length, map, slice_index, slice_set, get_or-set_same, get_or-set_other, refl, sym, ap, ◌∙◌, subst, arith}
-use Rattle.std.proofs.lemmas.Bool.{cases_lt}
+use Rattle.std.proofs.Common.{◌≡◌, ℕ, zero, suc, ◌+◌, ◌<◌, ◌≤◌, ◌==◌, nat_lt, Bool, true, false, if◌then◌else◌, List, [], ◌∷◌, length, slice_index}
+use Rattle.std.proofs.Common.{slice_set, get_or-set_same, get_or-set_other, refl, sym, ap, ◌∙◌, subst, arith}
 use Rattle.std.proofs.lemmas.Bool.Decides.{nat_tests}
 use Rattle.std.proofs.lemmas.List.{map-set, get_or_past, length-set}
 use Rattle.std.proofs.Math.Seq.{map-set_same}
 use Rattle.am_base.specs.declared.image.Image.{Image}
 use Rattle.am_base.specs.declared.image.Row.{Row}
 use Rattle.am_base.specs.declared.entry.Entry.TheVariants.{Data, Leave}
-use Rattle.am_base.specs.Names.{place_of, life_of, nobody, has, size, without_name}
+use Rattle.am_base.specs.Names.{place_of, life_of, has, size, without_name}
 use Rattle.am_base.specs.Lists.{Log, told_by, at_place, members_of, member_life, after}
 use Rattle.am_base.proofs.Places.{slice_index-by_place, length-by_place}
 use Rattle.am_fronts.proofs.ReportLaws.{count_cons}
-use Rattle.am_model.specs.Node.{Node, top, told, members, name_where, those, others, pushed}
+use Rattle.am_model.specs.Node.{Node, top, told, name_where, those, others, pushed}
 use Rattle.am_model.specs.Refresh.{refresh_at_end}
 use Rattle.am_model.proofs.Greatest.{split}
 use Rattle.am_effects.proofs.Rests.{rests_at_end}
@@ -89,7 +89,8 @@ abbrev pub IsAlone : Node → Type 0
 IsAlone x = nat_lt 0 (size (others x)) ≡ false
 
 pub sent_others : (m : Node) (who req : ℕ) (body : List ℕ) → others (pushed m (Data who req body)) ≡ others m
-sent_others m who req body = ap (λ set. without_name set m.core.who) (ap members_of (told_pushed m (Data who req body)) ∙ sent_members (told m) (top m + 1) who req body)
+sent_others m who req body = ap (λ set. without_name set m.core.who) (ap members_of (told_pushed m (Data who req body))
+    ∙ sent_members (told m) (top m + 1) who req body)
 
 -- the end of its step
 abbrev pub gone : Node → Node
@@ -111,8 +112,9 @@ unfolding those
 those_none test set none = size_none _ at
   where
     at : IsNone (those test set)
-    unfolding those
     at i = split (nat_lt i 16)
         (λ t. slice_index-by_place (λ place. name_where test place (slice_index set place)) i (let z : i < 16 = grind (arith, nat_tests) in z)
         ∙ ap (name_where test i) (none_of set none i))
-        (λ g. get_or_past (those test set) i 0 (let long : length (those test set) ≡ 16 = length-by_place (λ place. name_where test place (slice_index set place)) in let z : 16 ≤ i = grind (arith, nat_tests) in omega arith))
+        (λ g. get_or_past (those test set) i 0
+            (let long : length (those test set) ≡ 16 = length-by_place (λ place. name_where test place (slice_index set place)) in let z : 16 ≤ i = grind
+            (arith, nat_tests) in omega arith))

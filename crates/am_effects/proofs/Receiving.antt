@@ -14,7 +14,6 @@ use Rattle.am_base.specs.Lists.{fits, row_of}
 use Rattle.am_packet.specs.declared.packet.Packet.TheVariants as packet
 use Rattle.am_sender.specs.declared.OwnSend.{OwnSend}
 use Rattle.am_bodies.specs.Bodies.{is_of, keep_body}
-use Rattle.am_model.specs.declared.status.Status.TheVariants as status
 use Rattle.am_model.specs.Node.{Node, top, told, view, only_name, acts, is_member, is_asking, has_own_leave, is_within_bound, waiting, pushed}
 use Rattle.am_model.specs.Emit.{quiet, ack_of, nack_of, fetch_of}
 use Rattle.am_model.specs.Sequencing.{row_at, risen}

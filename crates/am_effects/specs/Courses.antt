@@ -34,7 +34,8 @@ pub data Course (c : Cause) (o : Outcome) (m : Node) : Node → Type 0 where
 -- and a look at a ballot comes last
 pub data Deeds (c : Cause) (o : Outcome) (m : Node) : Node → Type 0 where
   plainly : {n : Node} → Course c o m n → Deeds c o m n
-  looked : {n : Node} (b : Ballot) (verdict : Verdict) → Course c o m n → b.is_over ≡ false → Balloting c n b → Looks n b verdict → o ≡ verdict.outcome → Deeds c o m verdict.node
+  looked : {n : Node} (b : Ballot) (verdict : Verdict) → Course c o m n → b.is_over ≡ false → Balloting c n b → Looks n b verdict → o ≡ verdict.outcome
+      → Deeds c o m verdict.node
 
 -- Then comes the refresh at the end of each step. A leaver that was let go departs before that, and the last member, which by a call or the
 -- tick numbered its own Leave, after it; both send nothing.
@@ -42,5 +43,6 @@ pub data Ending (c : Cause) (o : Outcome) (m : Node) : List Letter → Node → 
   at_end : {letters : List Letter} {x : Node} → Deeds c o m x → Ending c o m letters (refresh_at_end x)
   let_go : (s : ℕ) (v : Stamp) (number : ℕ) → c ≡ hears (packet.Gone s v number) → hears_member m s ≡ true → m.leaving ≡ true
       → Ending c o m [] (refresh_at_end (record m { status = Departed }))
-  closing : {x : Node} (event : NodeEvent) → c ≡ calls event → Course c o m x → is_sequencer x ≡ true → x.leaving ≡ true → nat_lt 0 (size (others x)) ≡ false → has_room x ≡ true → view x ≡ view m
+  closing : {x : Node} (event : NodeEvent) → c ≡ calls event → Course c o m x → is_sequencer x ≡ true → x.leaving ≡ true → nat_lt 0 (size (others x)) ≡ false
+      → has_room x ≡ true → view x ≡ view m
       → Ending c o m [] (record (refresh_at_end (pushed x (Leave x.core.who))) { status = Departed })

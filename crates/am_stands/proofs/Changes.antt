@@ -77,7 +77,7 @@ others_same w name x y s u h i few = split (i == name)
     (λ f. let old : NameStands (within w name x) i (w.nodes i) (s.node i) = rw f at (h i few) in
     rw f (name_in (within w name x) (within w name y) i (w.nodes i) (s.node i) refl refl old))
 
-others_fronts : (w : World) (name : ℕ) (x y : Node) (s : Group)
+pub others_fronts : (w : World) (name : ℕ) (x y : Node) (s : Group)
     → ((i : ℕ) → i < 256 → i ≢ name → has_departed ((within w name x).nodes i).status ≡ false → FrontsStand ((within w name x).nodes i) (s.node i))
     → (i : ℕ) → i < 256 → i ≢ name → has_departed ((within w name y).nodes i).status ≡ false → FrontsStand ((within w name y).nodes i) (s.node i)
 others_fronts w name x y s h i few other = split (i == name)
