@@ -260,7 +260,7 @@ module _ (rules : Rules) (w : World) (name : ℕ) (c : Cause) (x : Node) (s : Gr
 
 -- ---- all together
 
-member_here : (t : Status) → is_member t ≡ true → has_departed t ≡ false
+pub member_here : (t : Status) → is_member t ≡ true → has_departed t ≡ false
 member_here status.Stranger m = refl
 member_here status.Asking m = refl
 member_here status.Member m = refl
