@@ -28,7 +28,7 @@ use Rattle.am_stands.proofs.Begun.{start_keeps}
 use Rattle.am_stands.proofs.Branches.{branches_begin}
 use Rattle.am_stands.proofs.Onward.{goes_on}
 use Rattle.am_stands.proofs.Start.{start_stands}
-use Rattle.am_headline.specs.Following.{Following, StepsMove}
+use Rattle.am_stands.specs.Running.{Following, StepsMove}
 use Rattle.am_headline.proofs.Shapes.{OnLine, Shaped, shaped_moves}
 use Rattle.am_headline.proofs.Greatest.{unbroken, watch_push}
 use Rattle.am_headline.proofs.Fold.{KeptBy, Held, moves_mark, next}

@@ -39,7 +39,7 @@ use Rattle.am_stands.specs.Growing.{Grows}
 use Rattle.am_stands.specs.Steps.{EventStands, no_move, stop}
 use Rattle.am_stands.proofs.Events.{idle_stands, stop_stands, return_stands}
 use Rattle.am_stands.proofs.Onward.{grows_same, grows_trans, move_on}
-use Rattle.am_headline.specs.Following.{Following, Follows, StepsMove}
+use Rattle.am_stands.specs.Running.{Following, Follows, StepsMove}
 use Rattle.am_headline.proofs.Shapes.{Shaped, shaped_moves}
 use Rattle.am_headline.proofs.Marks.{Known, completes}
 use Rattle.am_headline.proofs.Lawful.{or_cases, lawful_group}

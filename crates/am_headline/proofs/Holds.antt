@@ -43,7 +43,7 @@ use Rattle.am_unballoted.proofs.Worlds.{GivenOk, StandsAt}
 use Rattle.am_stands.specs.Standing.{NameStands, NotedStands}
 use Rattle.am_stands.proofs.Changes.{told_all}
 use Rattle.am_stands.proofs.Onward.{group_kept}
-use Rattle.am_headline.specs.Following.{Following, StepsMove}
+use Rattle.am_stands.specs.Running.{Following, StepsMove}
 use Rattle.am_headline.specs.Claims.{HeadlineWhereStepsMove}
 use Rattle.am_headline.proofs.Lists.{item_begins, item_back}
 use Rattle.am_headline.proofs.Fold.{Quiet, KeptBy, Became, Held}

@@ -28,7 +28,7 @@ use Rattle.am_effects.proofs.Items.{all_get}
 use Rattle.am_effects.proofs.Statuses.{asking_log}
 use Rattle.am_stands.specs.Letters.{PacketSays, WelcomeSays, WelcomeTo, has_begun, has_gone, has_left, is_leaving, may_begin}
 use Rattle.am_stands.proofs.Joins.{Becomes, stayed, joins, founds, became, blank_nil}
-use Rattle.am_headline.specs.Following.{Following}
+use Rattle.am_stands.specs.Running.{Following}
 
 -- ---- by the group list
 

@@ -25,7 +25,7 @@ use Rattle.am_stands.proofs.Letters.{letters_stay}
 use Rattle.am_stands.proofs.Onward.{group_kept, move_on, grows_same}
 use Rattle.am_stands.proofs.Opens.{moves_open, runs_open}
 use Rattle.am_stands.proofs.Others.{others_keep}
-use Rattle.am_headline.specs.Following.{Following}
+use Rattle.am_stands.specs.Running.{Following}
 use Rattle.am_headline.proofs.Shapes.{OnLine, Shaped, shaped_move, shaped_stop}
 
 abbrev pub RunFor : Rules → Group → Type 0

@@ -64,7 +64,7 @@ use Rattle.am_stands.specs.Standing.{NameStands, Stands}
 use Rattle.am_stands.specs.Moving.{Moves}
 use Rattle.am_stands.specs.Growing.{Grows}
 use Rattle.am_stands.proofs.Onward.{group_kept}
-use Rattle.am_headline.specs.Following.{Following}
+use Rattle.am_stands.specs.Running.{Following}
 use Rattle.am_headline.proofs.Lists.{item_begins}
 use Rattle.am_headline.proofs.Shapes.{Along, along_up, along_moves}
 use Rattle.am_headline.proofs.Ways.{kind_of}

@@ -1,0 +1,11 @@
+pub mod Stopped
+pub mod Once
+pub mod Owns
+pub mod Any
+pub mod Starting
+pub mod Worlds
+pub mod Refreshed
+pub mod Grown
+pub mod Courses
+pub mod Fronts
+pub mod Going
