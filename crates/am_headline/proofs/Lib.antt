@@ -13,3 +13,5 @@ pub mod Own
 pub mod Told
 pub mod Moments
 pub mod Holds
+pub mod Fits
+pub mod Rows

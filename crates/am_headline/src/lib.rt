@@ -2,9 +2,14 @@
 //! each step of a name is moves of the group that stands for its world.
 #![tactic(auto)]
 
-ghost use Rattle.am_headline.specs.Claims.{HeadlineWhereStepsMove};
+ghost use Rattle.am_headline.specs.Claims.{HeadlineWhereStepsMove, ViewsFitWhereStepsMove};
 
 /// Up to its lawful front each run keeps the headline, where each step is moves of the group (`StepsMove`).
 pub fn the_headline_holds_where_steps_move()
     ensures { HeadlineWhereStepsMove }
+{}
+
+/// And up to there a View that leaves somebody out always fits.
+pub fn views_fit_where_steps_move()
+    ensures { ViewsFitWhereStepsMove }
 {}
