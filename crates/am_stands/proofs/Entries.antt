@@ -138,7 +138,7 @@ piece_stands w name x y e s few runs member l (of_shown open_ needs) h =
 
 -- ---- a sequencer's own entry
 
-numbers_plain : (c : Cause) (m : Node) (e : Entry) → Numbers c m e → is_view e ≡ false
+pub numbers_plain : (c : Cause) (m : Node) (e : Entry) → Numbers c m e → is_view e ≡ false
 numbers_plain c m e (asked_send s v report req body by known stays next) = refl
 numbers_plain c m e (own_send s is last) = refl
 numbers_plain c m e (asked_join s v is other fit) = refl

@@ -1,11 +1,12 @@
 -- What a run of the definitions keeps with the group that stands for it, and that each step of a name keeps it.
-use Rattle.std.specs.Prelude.{◌≡◌, ℕ, ◌<◌, List, Some, false, slice_get}
+use Rattle.std.specs.Prelude.{◌≡◌, ℕ, ◌<◌, List, Some, true, false, slice_get}
 use Rattle.am_base.specs.Founding.{Rules, MayFound}
 use Rattle.am_packet.specs.Boxes.{Letter}
 use Rattle.am_group.specs.declared.event.Event.{Event}
 use Rattle.am_chain_moves.specs.Group.{Group}
 use Rattle.am_model.specs.Emit.{Step}
-use Rattle.am_model.specs.World.{World, run, is_stopped, stepped, happens}
+use Rattle.am_model.specs.Calls.{is_unfinished}
+use Rattle.am_model.specs.World.{World, run, is_stopped, has_departed, stepped, happens}
 use Rattle.am_effects.specs.Causes.{Cause}
 use Rattle.am_effects.specs.Effects.{Effect}
 use Rattle.am_effects.specs.Events.{actor, IsCause}
@@ -19,7 +20,9 @@ use Rattle.am_stands.specs.Keeping.{GroupFor, NodeKeeps}
 pub record Following (rules : Rules) (w : World) (s : Group) : Type 0 where
   pub group : GroupFor rules s
   pub stands : Stands w s
-  pub nodes : (i : ℕ) → i < 256 → NodeKeeps w s i (w.nodes i)
+  -- who has departed keeps but that it has no unfinished ballot
+  pub nodes : (i : ℕ) → i < 256 → has_departed (w.nodes i).status ≡ false → NodeKeeps w s i (w.nodes i)
+  pub gone : (i : ℕ) → i < 256 → has_departed (w.nodes i).status ≡ true → is_unfinished (w.nodes i).ballot ≡ false
   pub letters : (k : ℕ) (letter : Letter) → slice_get w.letters k ≡ Some letter → LetterSays w s letter
 
 -- some moves, none of which is a stop, lead to a group that follows

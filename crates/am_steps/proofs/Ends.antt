@@ -36,8 +36,9 @@ use Rattle.am_stands.proofs.Keeping.{old, whole}
 use Rattle.am_stands.proofs.Onward.{grows_trans}
 use Rattle.am_stands.proofs.Opens.{list_opens}
 use Rattle.am_stands.proofs.Stepped.{changes_go_on}
+use Rattle.am_steps.proofs.Statuses.{member_here}
 use Rattle.am_steps.proofs.Worlds.{growing}
-use Rattle.am_steps.proofs.Refreshed.{member_here, refresh_on}
+use Rattle.am_steps.proofs.Refreshed.{refresh_on}
 use Rattle.am_steps.proofs.Grown.{accepted_twice}
 use Rattle.am_steps.proofs.Going.{Grown, as_before, by_reports}
 use Rattle.am_steps.proofs.Deeds.{further, Decides, Seen, none_new, one_new, Done}
@@ -101,13 +102,13 @@ ended_on rules w name c o m x s sent d =
       grows = grows_trans s d.to one.to d.grows (grows_trans d.to r.to one.to r.grows one.grows);
       goes = subst (λ g. Stepping rules (further w g d.views) name c n one.to) is one.goes;
       fronts = λ u. (
-      let here : has_departed y.status ≡ false = sym (ap (λ (z : Node). has_departed z.status) same) ∙ u in
-      let acc = ap (λ (z : Node). z.core.acc) same in
-      let told_ = ap (λ (z : Node). z.core.told) same in
-      let most = r.fronts.told here in
-      let none = r.nothing_heard in
-      let stays_told = one.fronts.told in
-      record { told = omega arith; acc = one.fronts.acc ∙ r.fronts.acc here ∙ sym acc });
+          let here : has_departed y.status ≡ false = sym (ap (λ (z : Node). has_departed z.status) same) ∙ u in
+          let acc = ap (λ (z : Node). z.core.acc) same in
+          let told_ = ap (λ (z : Node). z.core.told) same in
+          let most = r.fronts.told here in
+          let none = r.nothing_heard in
+          let stays_told = one.fronts.told in
+          record { told = omega arith; acc = one.fronts.acc ∙ r.fronts.acc here ∙ sym acc });
       seen = seen_end w m x n d.views log who d.seen;
     }
 

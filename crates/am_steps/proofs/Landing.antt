@@ -10,6 +10,7 @@ use Rattle.am_chain_moves.specs.Group as groups
 use Rattle.am_chain_moves.specs.Group.{Group, Views}
 use Rattle.am_model.specs.Node.{Node, set_at, lowest_or_first}
 use Rattle.am_model.specs.Emit.{Step}
+use Rattle.am_model.specs.Calls.{is_unfinished}
 use Rattle.am_model.specs.World.{Decided, World, is_stopped, has_departed, group_after, views_after, stepped}
 use Rattle.am_model.proofs.Greatest.{split}
 use Rattle.am_effects.specs.Causes.{Cause}
@@ -33,15 +34,17 @@ pub record Landed (rules : Rules) (v : World) (s : Group) : Type 0 where
   pub grows : Grows s to
   pub group : GroupFor rules to
   pub stands : Stands v to
-  pub nodes : (i : ℕ) → i < 256 → NodeKeeps v to i (v.nodes i)
+  pub nodes : (i : ℕ) → i < 256 → has_departed (v.nodes i).status ≡ false → NodeKeeps v to i (v.nodes i)
+  pub gone : (i : ℕ) → i < 256 → has_departed (v.nodes i).status ≡ true → is_unfinished (v.nodes i).ballot ≡ false
 
 -- ---- the others
 
 -- from a group that stands for the world after the step, where the acting name keeps it
 pub landed : (rules : Rules) (w : World) (e : Event) (name : ℕ) (step : Step) (s t : Group) → Following rules w s → (path : Moves s t)
-    → Stands (stepped w e name step) t → NodeKeeps (stepped w e name step) t name step.node → Landed rules (stepped w e name step) s
+    → Stands (stepped w e name step) t → (has_departed step.node.status ≡ false → NodeKeeps (stepped w e name step) t name step.node)
+    → (has_departed step.node.status ≡ true → is_unfinished step.node.ballot ≡ false) → Landed rules (stepped w e name step) s
 unfolding stepped
-landed rules w e name step s t h path stands mine =
+landed rules w e name step s t h path stands mine closed =
     let v = stepped w e name step in
     let on = goes_on rules.founders (lowest_or_first rules.founders) rules.resilience s t h.group path in
     let more : Begins w.group v.group = subst (λ g. Begins g v.group) h.stands.group (subst (Begins s.group) stands.group on.grows.group) in
@@ -51,26 +54,34 @@ landed rules w e name step s t h path stands mine =
       grows = on.grows;
       group = on.group_;
       stands = stands;
-      nodes = λ i few. split (i == name)
+      nodes = λ i few d. split (i == name)
           (λ u. (let same : name ≡ i = grind (arith, nat_tests) in
-          let here : NodeKeeps v t i step.node = subst (λ k. NodeKeeps v t k step.node) same mine in
-          rw u here))
+          let here : has_departed step.node.status ≡ false → NodeKeeps v t i step.node =
+          subst (λ k. has_departed step.node.status ≡ false → NodeKeeps v t k step.node) same mine in
+          let stays : has_departed step.node.status ≡ false = rw u at d in
+          rw u (here stays)))
           (λ f. (let there : NameStands v i (w.nodes i) (t.node i) = rw f at (stands.each i few) in
-          rw f (others_keep w v s t i (w.nodes i) (λ j z. z) on.grows (h.stands.each i few) there more (h.nodes i few))));
+          let stays : has_departed (w.nodes i).status ≡ false = rw f at d in
+          rw f (others_keep w v s t i (w.nodes i) (λ j z. z) on.grows (h.stands.each i few) there more (h.nodes i few stays))));
+      gone = λ i few d. split (i == name)
+          (λ u. (let left : has_departed step.node.status ≡ true = rw u at d in rw u (closed left)))
+          (λ f. (let left : has_departed (w.nodes i).status ≡ true = rw f at d in rw f (h.gone i few left)));
     }
 
 -- ---- the end of a step that goes on
 
--- what is known within a step of a node as it is at the end stands for the world after the step
-pub ended_stands : (rules : Rules) (w : World) (e : Event) (name : ℕ) (c : Cause) (step : Step) (t : Group)
-    → Stepping rules (further (recorded w (after_step w e step)) (group_after w.group step.node) (views_after w.views (w.nodes name) step.node)) name c step.node t
+-- within a step, of a node as it is at the end: this is the world after the step
+abbrev pub at_end : World → Event → ℕ → Step → World
+at_end w e name step = further (recorded w (after_step w e step)) (group_after w.group step.node) (views_after w.views (w.nodes name) step.node)
+
+-- what stands for it stands for the world after the step
+pub ended_stands : (w : World) (e : Event) (name : ℕ) (step : Step) (t : Group) → StandsBut name (within (at_end w e name step) name step.node) t
     → (has_departed step.node.status ≡ false → FrontsStand step.node (t.node name)) → Stands (stepped w e name step) t
 unfolding stepped
-ended_stands rules w e name c step t h own =
+ended_stands w e name step t k own =
     let n = step.node in
-    let u = within (further (recorded w (after_step w e step)) (group_after w.group n) (views_after w.views (w.nodes name) n)) name n in
+    let u = within (at_end w e name step) name n in
     let v = stepped w e name step in
-    let k = h.stands in
     record {
       each = λ i few. name_in u v i (set_at w.nodes name n i) (t.node i) refl refl (k.each i few);
       fronts = λ i few d. split (i == name)
@@ -84,8 +95,6 @@ ended_stands rules w e name c step t h own =
     }
 
 pub ended_keeps : (rules : Rules) (w : World) (e : Event) (name : ℕ) (c : Cause) (step : Step) (t : Group)
-    → Stepping rules (further (recorded w (after_step w e step)) (group_after w.group step.node) (views_after w.views (w.nodes name) step.node)) name c step.node t
-    → NodeKeeps (stepped w e name step) t name step.node
+    → Stepping rules (at_end w e name step) name c step.node t → NodeKeeps (stepped w e name step) t name step.node
 unfolding stepped
-ended_keeps rules w e name c step t h = keeps_in (further (recorded w (after_step w e step)) (group_after w.group step.node) (views_after w.views (w.nodes name) step.node))
-    (stepped w e name step) t name step.node (λ j z. z) h.keeps
+ended_keeps rules w e name c step t h = keeps_in (at_end w e name step) (stepped w e name step) t name step.node (λ j z. z) h.keeps

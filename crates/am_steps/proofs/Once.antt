@@ -84,8 +84,8 @@ asked_step w e c s h cause effect =
 
 -- ---- runs
 
-record AllAsked (w : World) : Type 0 where
-  asked : AskedOk w.records w.nodes
+pub record AllAsked (w : World) : Type 0 where
+  pub asked : AskedOk w.records w.nodes
 
 no_idle : (o : Outcome) (req : ℕ) → IsIdle o → o ≡ said.Queued req → ⊥
 no_idle o req idle is = subst IsIdle is idle
@@ -104,12 +104,7 @@ none_asked rules = record {
   asked = record { low = λ k r name req body there is. absurd (cc); once = λ k l r s name req body other a b is also. absurd (cc) };
 }
 
-sends_once : (w : World) → AllAsked w → SendsOnce w
-sends_once w h name req a b p q = (unique w.records w.nodes h.asked).one name req a b
-    (record { index = p.index; send = p.done; there = p.there; is = p.is }) (record { index = q.index; send = q.done; there = q.there; is = q.is })
-
--- before a step, and with its record
-pub run_once : (rules : Rules) (events : List Event) → AllAsked (run rules events)
+run_once : (rules : Rules) (events : List Event) → AllAsked (run rules events)
 run_once rules events = runs_keep AllAsked asked_next (start rules) events (none_asked rules)
 
 pub step_once : (rules : Rules) (events : List Event) (e : Event) (c : Cause) (s : Step) → IsCause (run rules events) (actor (run rules events) e) e.act c
@@ -117,4 +112,5 @@ pub step_once : (rules : Rules) (events : List Event) (e : Event) (c : Cause) (s
 step_once rules events e c s cause effect =
     let w = run rules events in
     let z = asked_step w e c s (run_once rules events).asked cause effect in
-    sends_once (record w { records = after_step w e s; nodes = set_at w.nodes (actor w e) s.node }) (record { asked = z })
+    λ name req a b p q. (unique (after_step w e s) (set_at w.nodes (actor w e) s.node) z).one name req a b
+        (record { index = p.index; send = p.done; there = p.there; is = p.is }) (record { index = q.index; send = q.done; there = q.there; is = q.is })

@@ -25,13 +25,14 @@ use Rattle.am_effects.proofs.Tests.{not_true}
 use Rattle.am_laws.proofs.Named.{few_names}
 use Rattle.am_laws.proofs.Stamps.{equal_stamps}
 use Rattle.am_laws.proofs.ViewNames.{HasNames, HeardNames, change_names, promised_named}
-use Rattle.am_laws.proofs.ViewChanges.{Balloted, change_does, looked_at, welcomed_none}
+use Rattle.am_laws.proofs.ViewChanges.{Balloted, change_does, looked_at}
 use Rattle.am_laws.proofs.Views.{AllViews, each_views, heard_names, views_start}
 use Rattle.am_promises.specs.Claim.{AtMost, IsBegun}
 use Rattle.am_promises.proofs.Stamps.{most_same, most_through}
 use Rattle.am_promises.proofs.Changes.{CauseBegun, Promised, promise_change}
 use Rattle.am_promises.proofs.Runs.{AllBegun, cause_begun, each_keeps, start_begun}
 use Rattle.am_stands.specs.States.{OwnDecided}
+use Rattle.am_steps.proofs.Statuses.{asking_bare}
 
 -- ---- by the parts of a node
 
@@ -105,7 +106,7 @@ change_owns nodes i c o x y names begun (keeps_body s v report req body is heard
 change_owns nodes i c o x y names begun (notes s v base a by heard) h = h.owns
 change_owns nodes i c o x y names begun (stores s v base a number e by heard plain may) h = h.owns
 change_owns nodes i c o x y names begun (begins_list s v base join image is says may) h = λ b number all at answer mine. absurd (
-    let none = h.balloted.none (welcomed_none x s v base join image may) in let z = sym none ∙ at in cc)
+    let none = h.balloted.none (asking_bare x.status may.no_member (and_both (not (s == x.core.who)) (is_member x.status || is_asking x.status) may.asks).1) in let z = sym none ∙ at in cc)
 change_owns nodes i c o x y names begun (departs s v number is heard leaves) h = h.owns
 change_owns nodes i c o x y names begun (promises v low why) h = promise_owns nodes i c x v names begun why low (raised why) h
   where
@@ -153,8 +154,12 @@ owns_next rules w e v (steps c s runs cause effect) h =
     let few = few_names rules w e h.views.named in
     let k = h.views.each i few in
     let now = along (Knows w.nodes i) (change_knows w.nodes i c s.outcome (heard_names rules w e c h.views cause) (cause_begun w i e.act c h.begun.letters cause))
-        effect.changes (record { named = k.names; balloted = k.balloted; promised = record { who = h.begun.who i; up = most_same (w.nodes i).core.promise; begun = inr (h.begun.each i) };
-          owns = h.each i few }) in
+    effect.changes (record {
+      named = k.names;
+      balloted = k.balloted;
+      promised = record { who = h.begun.who i; up = most_same (w.nodes i).core.promise; begun = inr (h.begun.each i) };
+      owns = h.each i few;
+    }) in
     record {
       views = each_views rules w e v (steps c s runs cause effect) h.views;
       begun = each_keeps w e v (steps c s runs cause effect) h.begun;

@@ -13,8 +13,6 @@ use Rattle.am_chain_moves.specs.Moves as group
 use Rattle.am_chain_moves.specs.Moves.{with_node}
 use Rattle.am_chain_moves.specs.Kept.{Kept}
 use Rattle.am_chain_moves.proofs.Puts.{put_same}
-use Rattle.am_model.specs.declared.status.Status.{Status}
-use Rattle.am_model.specs.declared.status.Status.TheVariants as status
 use Rattle.am_model.specs.Node as nodes
 use Rattle.am_model.specs.Node.{Node, is_member, is_sequencer, lowest_or_first}
 use Rattle.am_model.specs.Calls.{is_unfinished}
@@ -44,6 +42,7 @@ use Rattle.am_stands.proofs.Learning.{no_more_group, refresh_learns, advanced}
 use Rattle.am_stands.proofs.Letters.{letters_stay, sequencer_stays}
 use Rattle.am_stands.proofs.Onward.{goes_on, grows_same, group_kept}
 use Rattle.am_stands.proofs.Refreshing.{refreshes_keep}
+use Rattle.am_steps.proofs.Statuses.{bare_status, member_here}
 use Rattle.am_steps.proofs.Worlds.{growing, grown_stands, same_stands, learned, learned_stands, keeps_in, once_in}
 
 -- ---- how far a name was told, and gives out, within its step
@@ -76,13 +75,6 @@ unmoved_refresh x =
       start = r.begins;
     }
 
--- who is no member, and hasn't departed, has no list
-bare_status : (t : Status) → is_member t ≡ false → has_departed t ≡ false → has_log t ≡ false
-bare_status status.Stranger m d = refl
-bare_status status.Asking m d = refl
-bare_status status.Member m d = absurd (cc)
-bare_status status.Departed m d = absurd (cc)
-
 no_leader : (x : Node) → is_member x.status ≡ false → is_sequencer x ≡ false
 no_leader x f = split (is_sequencer x) (λ t. absurd (let z = leads_member x t in cc)) (λ g. g)
 
@@ -105,7 +97,7 @@ module _ (rules : Rules) (w : World) (name : ℕ) (c : Cause) (x : Node) (s : Gr
   k = kept rules w name c x s h
 
   along : Along rules y
-  along = along_changes {o = said.Ticked} rules x y h.names h.used (changed {m = x} refreshes unchanged) h.along
+  along = along_changes rules {o = said.Ticked} x y h.names h.used (changed {m = x} refreshes unchanged) h.along
 
   -- from the group that accepted, and in which the name learned
   gone_on : (g : List Entry) (t : Group) → Moves s t → Begins w.group g → StandsBut name (within (growing w g) name y) t → (t.node name).list ≡ (s.node name).list
@@ -163,7 +155,7 @@ module _ (rules : Rules) (w : World) (name : ℕ) (c : Cause) (x : Node) (s : Gr
               (front_named (s.node name).list (chain_of s.views) ((k.each name).list (is_up w name x (s.node name) h.runs member mine)) h.group.named);
         }
 
-    comes : ComesTo w s name f.heard x
+    pub comes : ComesTo w s name f.heard x
     comes =
         let own = (k.each name).fronts in
         let acc_ = f.acc here in
@@ -259,12 +251,6 @@ module _ (rules : Rules) (w : World) (name : ℕ) (c : Cause) (x : Node) (s : Gr
     }
 
 -- ---- all together
-
-pub member_here : (t : Status) → is_member t ≡ true → has_departed t ≡ false
-member_here status.Stranger m = refl
-member_here status.Asking m = refl
-member_here status.Member m = refl
-member_here status.Departed m = absurd (cc)
 
 pub refresh_on : (rules : Rules) (w : World) (name : ℕ) (c : Cause) (x : Node) (s : Group) → Stepping rules w name c x s → Fronted w name x s
     → Refreshed rules w name c x s
