@@ -1,22 +1,18 @@
 -- The last member's end, which is one move.
-use Rattle.std.proofs.Common.{◌≡◌, ℕ, ◌<◌, ◌≤◌, nat_lt, true, false, List, [], ◌∷◌, ◌++◌, length, refl, sym, ap, ◌∙◌, subst, arith}
-use Rattle.std.specs.Prelude.{All}
+use Rattle.std.proofs.Common.{◌≡◌, ℕ, nat_lt, true, false, List, refl, sym, subst}
 use Rattle.std.proofs.lemmas.List.Elements.{All-push}
-use Rattle.am_base.specs.declared.entry.Entry.{Entry}
 use Rattle.am_base.specs.declared.entry.Entry.TheVariants.{Leave}
-use Rattle.am_base.specs.declared.event.NodeEvent.{NodeEvent}
 use Rattle.am_base.specs.Founding.{Rules}
 use Rattle.am_base.specs.Names.{size}
 use Rattle.am_group.specs.declared.event.Event.{Event}
 use Rattle.am_group.specs.declared.event.Record.{Record}
-use Rattle.am_chain_moves.specs.Group as groups
 use Rattle.am_chain_moves.specs.Group.{Group, chain_of}
 use Rattle.am_chain_moves.specs.Moves.{longer}
 use Rattle.am_chain_moves.specs.Kept.{Kept}
 use Rattle.am_model.specs.Node.{Node, view, others, is_member, is_sequencer, pushed}
 use Rattle.am_model.specs.Emit.{Step}
-use Rattle.am_model.specs.World.{World, has_departed, stepped}
-use Rattle.am_effects.specs.Causes.{Cause, calls}
+use Rattle.am_model.specs.World.{World, stepped}
+use Rattle.am_effects.specs.Causes.{Cause}
 use Rattle.am_laws.proofs.ViewChanges.{leads_member}
 use Rattle.am_stands.specs.Standing.{NameStands, StandsBut, Stands, within}
 use Rattle.am_stands.specs.Accepting.{CountsNames, ComesTo}

@@ -1,18 +1,17 @@
 -- A step of who had departed before it changes nothing that the group looks at.
-use Rattle.std.proofs.Common.{◌≡◌, ℕ, ◌≤◌, ◌==◌, ◌&&◌, ◌||◌, not, max, true, false, List, Some, refl, sym, ap, ◌∙◌, subst, arith}
-use Rattle.am_base.specs.declared.image.Report.{Report}
+use Rattle.std.proofs.Common.{◌≡◌, ℕ, ◌≤◌, ◌==◌, ◌||◌, not, max, true, false, refl, sym, ap, ◌∙◌, subst, arith}
 use Rattle.am_base.specs.declared.name.Stamp.{Stamp}
 use Rattle.am_base.specs.declared.outcome.Outcome.{Outcome}
 use Rattle.am_model.specs.declared.status.Status.{Status}
 use Rattle.am_model.specs.declared.status.Status.TheVariants as status
-use Rattle.am_model.specs.Node.{Node, Ballot, view, acts, is_member, is_asking, is_sequencer}
+use Rattle.am_model.specs.Node.{Node, is_member, is_asking, is_sequencer}
 use Rattle.am_model.specs.Calls.{is_unfinished}
 use Rattle.am_model.specs.Group.{has_log}
 use Rattle.am_model.specs.Hearing.{hears_member, hears_asking, hears_in_view, hears_sequencer}
 use Rattle.am_model.specs.Refresh.{refresh, settle, refresh_at_end}
 use Rattle.am_model.specs.World.{has_departed}
 use Rattle.am_model.proofs.Greatest.{split, and_both}
-use Rattle.am_effects.specs.Causes.{Cause, hears}
+use Rattle.am_effects.specs.Causes.{Cause}
 use Rattle.am_effects.specs.Changes.{Promises, invited, overtaken, told_result, Change, refreshes, settles, takes_report, admits, numbers, keeps_body}
 use Rattle.am_effects.specs.Changes.{notes, stores, begins_list, departs, promises, opens, looks, fetches, stores_view, queues, collects, takes, asks_to_join}
 use Rattle.am_effects.specs.Changes.{asks_to_leave, closes}
@@ -122,7 +121,7 @@ module _ (x : Node) (gone : x.status ≡ status.Departed) where
 
 -- ---- a step
 
-rests_course : {c : Cause} {o : Outcome} (m x : Node) → m.status ≡ status.Departed → Course c o m x → Rests m x
+pub rests_course : {c : Cause} {o : Outcome} (m x : Node) → m.status ≡ status.Departed → Course c o m x → Rests m x
 rests_course m x gone nothing_yet = rests_itself m
 rests_course m x gone (used_report s v report by may) = absurd (no_leader m gone may.leads)
 rests_course m x gone (and_then {n = n} before z plain) =

@@ -1,5 +1,5 @@
 -- The end of a step: the refresh, what of it settles a send, and what the step noted.
-use Rattle.std.proofs.Common.{◌≡◌, ◌≢◌, ⊎_elim, ℕ, ◌<◌, ◌≤◌, ◌==◌, ◌&&◌, not, max, Bool, true, false, if◌then◌else◌, List, [], ◌∷◌, ◌++◌, length, slice_get, Some}
+use Rattle.std.proofs.Common.{◌≡◌, ◌≢◌, ⊎_elim, ℕ, ◌<◌, ◌≤◌, ◌==◌, ◌&&◌, not, true, false, List, [], ◌∷◌, ◌++◌, slice_get, Some}
 use Rattle.std.proofs.Common.{refl, sym, ap, ◌∙◌, subst, arith}
 use Rattle.std.proofs.lemmas.Bool.Decides.{nat_tests}
 use Rattle.am_base.specs.declared.name.Stamp.{Stamp}
@@ -14,7 +14,7 @@ use Rattle.am_chain_moves.specs.Group.{Group, IsUp}
 use Rattle.am_model.specs.Node.{Node, top, view, told, is_member}
 use Rattle.am_model.specs.Group.{has_log}
 use Rattle.am_model.specs.Refresh.{refresh, settle}
-use Rattle.am_model.specs.World.{Decided, World, is_stopped, has_departed, decides, group_after, last_view, views_after}
+use Rattle.am_model.specs.World.{Decided, World, has_departed, decides, group_after, views_after}
 use Rattle.am_model.proofs.Greatest.{split, and_both}
 use Rattle.am_effects.specs.Causes.{Cause}
 use Rattle.am_effects.specs.Changes.{settles}
@@ -25,10 +25,9 @@ use Rattle.am_laws.proofs.ViewChanges.{log_of_member}
 use Rattle.am_laws.proofs.Views.{IsNoted}
 use Rattle.am_laws.proofs.ViewSteps.{SameView, Stood, Goes}
 use Rattle.am_sent.proofs.Changes.{CauseSent}
-use Rattle.am_stands.specs.Standing.{NameStands, FrontsStand, within}
+use Rattle.am_stands.specs.Standing.{FrontsStand}
 use Rattle.am_stands.specs.Growing.{Grows}
 use Rattle.am_stands.specs.Moving.{Moves}
-use Rattle.am_stands.specs.Sending.{KeptWhole}
 use Rattle.am_stands.specs.Keeping.{Stepping}
 use Rattle.am_stands.proofs.Ends.{then_moves}
 use Rattle.am_stands.proofs.Entries.{key_stamp, view_whole}
@@ -41,7 +40,7 @@ use Rattle.am_steps.proofs.Worlds.{growing}
 use Rattle.am_steps.proofs.Refreshed.{refresh_on}
 use Rattle.am_steps.proofs.Grown.{accepted_twice}
 use Rattle.am_steps.proofs.Going.{Grown, as_before, by_reports}
-use Rattle.am_steps.proofs.Deeds.{further, Decides, Seen, none_new, one_new, Done}
+use Rattle.am_steps.proofs.Deeds.{further, Seen, none_new, one_new, Done}
 
 -- ---- the group list at the end
 
@@ -114,7 +113,7 @@ ended_on rules w name c o m x s sent d =
 
 -- ---- what was noted
 
-stamp_itself : (a : Stamp) → stamp_eq a a ≡ true
+pub stamp_itself : (a : Stamp) → stamp_eq a a ≡ true
 stamp_itself a = grind (arith, nat_tests)
 
 none_below : (a : Stamp) → stamp_lt a no_stamp ≡ false

@@ -1,6 +1,6 @@
 -- What a sequencer's step makes of the group list, in two parts.
-use Rattle.std.proofs.Common.{◌≡◌, ℕ, ◌+◌, ◌-◌, ◌<◌, ◌≤◌, ◌==◌, nat_lt, true, false, List, [], ◌∷◌, ◌++◌, length, take, drop, refl, sym, ap, ◌∙◌, subst, arith}
-use Rattle.std.proofs.Common.{append-nil, append_assoc, length-append}
+use Rattle.std.proofs.Common.{◌≡◌, ℕ, ◌+◌, ◌-◌, ◌<◌, ◌≤◌, nat_lt, true, false, List, [], ◌∷◌, ◌++◌, length, take, drop, sym, ap, ◌∙◌, arith}
+use Rattle.std.proofs.Common.{append_assoc, length-append}
 use Rattle.std.proofs.Math.Seq.{take-add}
 use Rattle.std.proofs.lemmas.Bool.Decides.{nat_tests}
 use Rattle.std.proofs.lemmas.List.{length-take, length-drop, drop-drop, drop-append-le, take-append-le}
@@ -8,10 +8,10 @@ use Rattle.am_base.specs.declared.entry.Entry.{Entry}
 use Rattle.am_base.specs.Lists.{top_of, with_entry}
 use Rattle.am_core.specs.Cores.{CoreState}
 use Rattle.am_model.specs.Receiving.{is_view}
-use Rattle.am_model.specs.Node.{Node, view, is_sequencer, pushed}
+use Rattle.am_model.specs.Node.{Node, is_sequencer, pushed}
 use Rattle.am_model.specs.World.{grown, group_after}
 use Rattle.am_model.proofs.Greatest.{split}
-use Rattle.am_effects.proofs.Says.{leads_pushed, view_pushed}
+use Rattle.am_effects.proofs.Says.{leads_pushed}
 use Rattle.am_stands.proofs.Learning.{same_by, same_group}
 
 -- ---- an entry more

@@ -1,11 +1,8 @@
 -- The letters of a step are so, once a voter has shown what they tell, and served what it sends of it.
-use Rattle.std.proofs.Common.{◌≡◌, ℕ, ◌<◌, ◌≤◌, true, false, List, [], ◌∷◌, ◌++◌, Some, slice_get, refl, sym, ap, ◌∙◌, subst, append-nil}
+use Rattle.std.proofs.Common.{◌≡◌, ℕ, ◌≤◌, List, [], ◌∷◌, ◌++◌, refl, sym, ◌∙◌, subst, append-nil}
 use Rattle.std.specs.Prelude.{All}
-use Rattle.std.proofs.lemmas.List.Elements.{All-nil, All-cons, All-head, All-tail, All-weaker}
-use Rattle.am_base.specs.declared.name.Stamp.{Stamp}
-use Rattle.am_base.specs.declared.entry.Entry.{Entry}
+use Rattle.std.proofs.lemmas.List.Elements.{All-nil, All-cons, All-head, All-tail}
 use Rattle.am_base.specs.Founding.{Rules}
-use Rattle.am_packet.specs.declared.packet.Packet.{Packet}
 use Rattle.am_packet.specs.declared.packet.Packet.TheVariants as packet
 use Rattle.am_packet.specs.Boxes.{Letter}
 use Rattle.am_group.specs.declared.event.Record.{Record}
@@ -16,12 +13,12 @@ use Rattle.am_model.specs.Node.{Node, lowest_or_first}
 use Rattle.am_model.specs.World.{World}
 use Rattle.am_effects.specs.Causes.{Cause}
 use Rattle.am_effects.specs.Letters as letters
-use Rattle.am_stands.specs.Standing.{NameStands, FrontsStand, ViewsStand, Stands}
-use Rattle.am_stands.specs.Letters.{Trimmed, AllShown, LetterSays}
+use Rattle.am_stands.specs.Standing.{NameStands, FrontsStand, ViewsStand}
+use Rattle.am_stands.specs.Letters.{LetterSays}
 use Rattle.am_stands.specs.Growing.{Grows}
 use Rattle.am_stands.specs.Moving.{Moves, none}
-use Rattle.am_stands.specs.States.{ReportsStand, Reporting}
-use Rattle.am_stands.specs.Sending.{Sender, LeaderStands, BallotStands, ShowsMore}
+use Rattle.am_stands.specs.States.{Reporting}
+use Rattle.am_stands.specs.Sending.{Sender, LeaderStands, ShowsMore}
 use Rattle.am_stands.specs.Keeping.{GroupFor}
 use Rattle.am_stands.proofs.Ends.{then_moves}
 use Rattle.am_stands.proofs.Letters.{letters_stay, trimmed_stays, all_stay}
@@ -80,9 +77,8 @@ pub record Told (rules : Rules) (v : World) (all : List Letter) (s : Group) : Ty
 same_then : (s t u : Group) → ShowsMore s t → ShowsMore t u → ShowsMore s u
 same_then s t u a b = record { node = b.node ∙ a.node; views = b.views ∙ a.views; group_ = b.group_ ∙ a.group_ }
 
-pub letters_told : (rules : Rules) (v : World) (i : ℕ) (c : Cause) (m n : Node) (all : List Letter) (s : Group) → GroupFor rules s → Sender v i c m n s
-    → All (letters.LetterSays m c n) all → Told rules v all s
-letters_told rules v i c m n [] s group h says = record {
+pub none_told : (rules : Rules) (v : World) (s : Group) → GroupFor rules s → Told rules v [] s
+none_told rules v s group = record {
   to = s;
   path = none;
   grows = grows_same s;
@@ -90,6 +86,10 @@ letters_told rules v i c m n [] s group h says = record {
   same = record { node = refl; views = refl; group_ = refl };
   says = All-nil (LetterSays v s);
 }
+
+pub letters_told : (rules : Rules) (v : World) (i : ℕ) (c : Cause) (m n : Node) (all : List Letter) (s : Group) → GroupFor rules s → Sender v i c m n s
+    → All (letters.LetterSays m c n) all → Told rules v all s
+letters_told rules v i c m n [] s group h says = none_told rules v s group
 letters_told rules v i c m n (l ∷ ls) s group h says =
     let first = All-head (letters.LetterSays m c n) l ls says in
     let one = sent_says v i c m n s l.to l.packet h first.says in

@@ -1,5 +1,5 @@
 -- A request of a name stands for one body, in every run.
-use Rattle.std.proofs.Common.{◌≡◌, ⊎_elim, ℕ, ◌+◌, ◌<◌, ◌≤◌, List, [], ◌∷◌, ◌++◌, Some, slice_get, true, false, refl, sym, ap, ◌∙◌, subst, arith}
+use Rattle.std.proofs.Common.{◌≡◌, ⊎_elim, ℕ, ◌+◌, ◌≤◌, List, [], refl, sym, ap, subst, arith}
 use Rattle.am_base.specs.declared.outcome.Outcome.{Outcome}
 use Rattle.am_base.specs.declared.outcome.Outcome.TheVariants as said
 use Rattle.am_base.specs.declared.event.NodeEvent.TheVariants as does
@@ -8,25 +8,21 @@ use Rattle.am_sender.specs.Sends as own
 use Rattle.am_group.specs.declared.event.Act.{Act}
 use Rattle.am_group.specs.declared.event.Act.TheVariants as act
 use Rattle.am_group.specs.declared.event.Event.{Event}
-use Rattle.am_group.specs.declared.event.Record.{Record}
 use Rattle.am_model.specs.Node.{Node, Ballot, set_at}
 use Rattle.am_model.specs.Ballots.{Verdict}
 use Rattle.am_model.specs.Emit.{Step}
 use Rattle.am_model.specs.World.{World, start, record_of, unchanged, stepped, run}
-use Rattle.am_model.specs.Claims.{IsSend}
 use Rattle.am_model.proofs.Greatest.{split}
 use Rattle.am_effects.specs.Causes.{Cause, calls}
 use Rattle.am_effects.specs.Looks.{Looks, finds_itself_out, waits, fetches_from_best, finds_too_few, finds_no_room, decides}
 use Rattle.am_effects.specs.Changes.{Change, refreshes, settles, takes_report, admits, numbers, keeps_body, notes, stores, begins_list, departs, promises}
 use Rattle.am_effects.specs.Changes.{opens, looks, fetches, stores_view, queues, collects, takes, asks_to_join, asks_to_leave, closes}
 use Rattle.am_effects.specs.Effects.{Answers, WasQueued, AnswersAsk, Effect}
-use Rattle.am_effects.specs.Events as event
 use Rattle.am_effects.specs.Events.{actor, IsCall, IsCause, IsIdle, idles, stops, returns, steps}
 use Rattle.am_effects.proofs.Rests.{rests_refresh, rests_closed, settle_is}
 use Rattle.am_effects.proofs.Runs.{along, EachKeeps, runs_keep}
 use Rattle.am_sent.proofs.Runs.{after_step}
 use Rattle.am_unballoted.proofs.Worlds.{AskedOk, asked_more, asked_other, unique}
-use Rattle.am_stands.specs.Letters.{WasAsked}
 use Rattle.am_stands.specs.States.{SendsOnce}
 
 -- ---- a node's last request number only rises

@@ -1,27 +1,25 @@
 -- Where a node's last ballot was decided and its promise is its own, it is that of the ballot, in every run.
-use Rattle.std.proofs.Common.{◌≡◌, inr, ⊎_elim, ℕ, ◌<◌, ◌==◌, ◌&&◌, ◌||◌, not, nat_lt, Bool, true, false, List, Option, Some, None, refl, sym, ap, ◌∙◌, subst, arith}
+use Rattle.std.proofs.Common.{◌≡◌, inr, ⊎_elim, ℕ, ◌<◌, ◌==◌, ◌&&◌, ◌||◌, not, true, false, List, Option, Some, None, sym, ap, ◌∙◌, subst, arith}
 use Rattle.std.proofs.lemmas.Bool.Decides.{nat_tests}
 use Rattle.am_base.specs.declared.name.Stamp.{Stamp}
 use Rattle.am_base.specs.declared.outcome.Outcome.{Outcome}
 use Rattle.am_base.specs.declared.outcome.Outcome.TheVariants as said
 use Rattle.am_base.specs.Founding.{Rules, MayFound}
-use Rattle.am_base.specs.Names.{has, rank_of}
+use Rattle.am_base.specs.Names.{has}
 use Rattle.am_base.specs.Stamps.{stamp_lt, no_stamp}
-use Rattle.am_packet.specs.declared.packet.Packet.TheVariants as packet
 use Rattle.am_group.specs.declared.event.Event.{Event}
-use Rattle.am_model.specs.Node.{Node, Ballot, is_member, is_asking, founder, stranger}
+use Rattle.am_model.specs.Node.{Node, Ballot, is_member, is_asking}
 use Rattle.am_model.specs.Ballots.{Verdict, overtaken}
 use Rattle.am_model.specs.World.{World, start, unchanged, stepped, run}
 use Rattle.am_model.proofs.Greatest.{split, and_both}
-use Rattle.am_effects.specs.Causes.{Cause, hears}
+use Rattle.am_effects.specs.Causes.{Cause}
 use Rattle.am_effects.specs.Looks.{Looks, finds_itself_out, waits, fetches_from_best, finds_too_few, finds_no_room, decides}
 use Rattle.am_effects.specs.Changes.{Promises, invited, overtaken as overtaken_by, told_result, Change, refreshes, settles, takes_report, admits, numbers}
 use Rattle.am_effects.specs.Changes.{keeps_body, notes, stores, begins_list, departs, promises, opens, looks, fetches, stores_view, queues, collects, takes}
-use Rattle.am_effects.specs.Changes.{asks_to_join, asks_to_leave, closes, unchanged as no_change, changed}
+use Rattle.am_effects.specs.Changes.{asks_to_join, asks_to_leave, closes}
 use Rattle.am_effects.specs.Events.{actor, idles, stops, returns, steps}
 use Rattle.am_effects.proofs.Rests.{rests_refresh, rests_closed, settle_is}
 use Rattle.am_effects.proofs.Runs.{along, EachKeeps, runs_keep}
-use Rattle.am_effects.proofs.Tests.{not_true}
 use Rattle.am_laws.proofs.Named.{few_names}
 use Rattle.am_laws.proofs.Stamps.{equal_stamps}
 use Rattle.am_laws.proofs.ViewNames.{HasNames, HeardNames, change_names, promised_named}

@@ -1,10 +1,9 @@
 -- A refresh within a step: the group accepts what it accepts, and the name learns of it; and then all is known again.
-use Rattle.std.proofs.Common.{◌≡◌, ℕ, ◌<◌, ◌≤◌, ◌==◌, max, min, Bool, true, false, List, [], length, refl, sym, ap, ◌∙◌, subst, arith, append-nil}
+use Rattle.std.proofs.Common.{◌≡◌, ℕ, ◌≤◌, max, true, false, List, [], length, refl, sym, ap, ◌∙◌, subst, arith, append-nil}
 use Rattle.am_base.specs.declared.entry.Entry.{Entry}
 use Rattle.am_base.specs.declared.outcome.Outcome.TheVariants as said
 use Rattle.am_base.specs.Founding.{Rules}
 use Rattle.am_base.specs.Lists.{top_of}
-use Rattle.am_packet.specs.declared.packet.Packet.{Packet}
 use Rattle.am_chain_lists.specs.Whole.{Begins}
 use Rattle.am_chain_lists.proofs.Prefixes.{begins_refl}
 use Rattle.am_chain_moves.specs.Group as groups
@@ -31,16 +30,14 @@ use Rattle.am_stands.specs.Standing.{NameStands, StandsBut, within}
 use Rattle.am_stands.specs.Accepting.{MayCount, Word, nothing, of_sequencer, ComesTo, AcceptsAndLearns}
 use Rattle.am_stands.specs.Growing.{Grows}
 use Rattle.am_stands.specs.Moving.{Moves, none, moves}
-use Rattle.am_stands.specs.States.{ReportsStand}
-use Rattle.am_stands.specs.Keeping.{GroupFor, Stepping, Refreshing}
-use Rattle.am_stands.proofs.Changes.{Unmoved, own_name, same_name, is_up}
+use Rattle.am_stands.specs.Keeping.{Stepping}
+use Rattle.am_stands.proofs.Changes.{Unmoved, own_name, is_up}
 use Rattle.am_stands.proofs.ChainNames.{front_named, counts_names}
-use Rattle.am_stands.proofs.Ends.{accept_moves, then_moves, name_grows}
+use Rattle.am_stands.proofs.Ends.{accept_moves, then_moves}
 use Rattle.am_stands.proofs.Keeping.{kept, old}
-use Rattle.am_stands.proofs.Learned.{word_group}
 use Rattle.am_stands.proofs.Learning.{no_more_group, refresh_learns, advanced}
 use Rattle.am_stands.proofs.Letters.{letters_stay, sequencer_stays}
-use Rattle.am_stands.proofs.Onward.{goes_on, grows_same, group_kept}
+use Rattle.am_stands.proofs.Onward.{goes_on, grows_same}
 use Rattle.am_stands.proofs.Refreshing.{refreshes_keep}
 use Rattle.am_steps.proofs.Statuses.{bare_status, member_here}
 use Rattle.am_steps.proofs.Worlds.{growing, grown_stands, same_stands, learned, learned_stands, keeps_in, once_in}

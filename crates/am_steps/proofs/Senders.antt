@@ -1,26 +1,21 @@
 -- What is known of a name that sends, as it is after its step.
-use Rattle.std.proofs.Common.{◌≡◌, ⊎_elim, ℕ, ◌<◌, ◌≤◌, ◌==◌, true, false, List, [], Some, slice_get, refl, sym, ap, ◌∙◌, subst, arith}
+use Rattle.std.proofs.Common.{◌≡◌, ℕ, ◌<◌, ◌≤◌, ◌==◌, true, false, List, slice_get, sym, ap, ◌∙◌, subst, arith}
 use Rattle.std.specs.Prelude.{All}
 use Rattle.std.specs.List.{list_any}
 use Rattle.std.proofs.lemmas.List.Elements.{All-nil}
 use Rattle.am_base.specs.declared.name.Stamp.{Stamp}
-use Rattle.am_base.specs.declared.entry.Entry.{Entry}
 use Rattle.am_base.specs.declared.entry.Entry.TheVariants.{Data}
-use Rattle.am_base.specs.declared.outcome.Outcome.TheVariants as said
 use Rattle.am_base.specs.Founding.{Rules}
 use Rattle.am_base.specs.Lists.{entry_at}
 use Rattle.am_packet.specs.declared.packet.Packet.TheVariants as packet
-use Rattle.am_sender.specs.declared.OwnSend.{OwnSend}
 use Rattle.am_chain_lists.specs.Whole.{key}
 use Rattle.am_chain_moves.specs.Group.{Group, IsThere, IsUp, chain_of}
 use Rattle.am_chain_moves.specs.Kept.{Kept}
-use Rattle.am_model.specs.Node.{Node, Ballot, view, told, is_member, is_sequencer, lowest_or_first}
+use Rattle.am_model.specs.Node.{Node, view, told, is_sequencer}
 use Rattle.am_model.specs.Group.{has_log}
 use Rattle.am_model.specs.World.{World, has_departed}
 use Rattle.am_model.proofs.Greatest.{split}
-use Rattle.am_effects.specs.Causes.{Cause, hears}
-use Rattle.am_effects.specs.Looks.{HasOpen}
-use Rattle.am_effects.specs.Letters.{HasSend}
+use Rattle.am_effects.specs.Causes.{Cause}
 use Rattle.am_effects.proofs.Items.{all_get}
 use Rattle.am_effects.proofs.Statuses.{logged}
 use Rattle.am_laws.proofs.ViewChanges.{OpenBallot, leads_member}
@@ -28,17 +23,15 @@ use Rattle.am_laws.proofs.Views.{IsNoted, AllViews}
 use Rattle.am_promises.specs.Claim.{IsBegun}
 use Rattle.am_promises.proofs.Runs.{AllBegun}
 use Rattle.am_sent.proofs.Kept.{EntrySent, SendSent, WasSent}
-use Rattle.am_stands.specs.Standing.{NameStands, FrontsStand, Stands, within}
-use Rattle.am_stands.specs.Letters.{WasAsked, AllShown, FetchSays}
+use Rattle.am_stands.specs.Standing.{NameStands, FrontsStand, Stands}
+use Rattle.am_stands.specs.Letters.{WasAsked, AllShown}
 use Rattle.am_stands.specs.Moving.{NamesNamed}
 use Rattle.am_stands.specs.States.{OwnDecided, FetchesStand}
 use Rattle.am_stands.specs.Sending.{NumbersStand, ListBegins, LeaderStands, BallotStands, SendsStand, Sender}
 use Rattle.am_stands.specs.Keeping.{Stepping}
-use Rattle.am_stands.proofs.Changes.{is_up}
 use Rattle.am_stands.proofs.ChainNames.{front_named, rows_live, concerned_small}
 use Rattle.am_stands.proofs.Entries.{key_stamp}
-use Rattle.am_stands.proofs.Keeping.{kept, old, whole}
-use Rattle.am_stands.proofs.Names.{name_in}
+use Rattle.am_stands.proofs.Keeping.{kept, whole}
 use Rattle.am_stands.proofs.Sent.{Speaks, leading}
 use Rattle.am_steps.proofs.Based.{view_above}
 use Rattle.am_steps.proofs.Starting.{begun_stands}

@@ -1,5 +1,5 @@
 -- A step of who had departed before it sends nothing.
-use Rattle.std.proofs.Common.{◌≡◌, ℕ, ◌+◌, ◌==◌, ◌||◌, nat_lt, nat_le, not, Bool, true, false, if◌then◌else◌, List, [], ◌∷◌, ◌++◌, length, Option, Some, None, refl, sym, ap, ◌∙◌, arith, append-nil}
+use Rattle.std.proofs.Common.{◌≡◌, ℕ, ◌==◌, ◌||◌, nat_lt, nat_le, not, Bool, true, false, if◌then◌else◌, [], ◌++◌, length, Option, Some, None, refl, sym, ap, ◌∙◌, arith, append-nil}
 use Rattle.std.proofs.Common.{length-append}
 use Rattle.am_base.specs.declared.outcome.Outcome.TheVariants as said
 use Rattle.am_base.specs.declared.event.NodeEvent.{NodeEvent}
@@ -16,7 +16,7 @@ use Rattle.am_model.specs.Node.{Node}
 use Rattle.am_model.specs.Emit.{Step}
 use Rattle.am_model.specs.Step.{step, hear, refused}
 use Rattle.am_model.specs.Lengths.{packet_length}
-use Rattle.am_model.specs.World.{World, current, is_stopped, has_departed, unchanged, stepped, does_event, gives_up, stops, heard, hear_cut, lives_on, returned}
+use Rattle.am_model.specs.World.{World, current, is_stopped, has_departed, unchanged, stepped, does_event, gives_up, heard, hear_cut, returned}
 use Rattle.am_model.specs.World.{acts_as, happens}
 use Rattle.am_effects.specs.Events.{actor}
 use Rattle.am_unballoted.proofs.Steps.{nil_of}

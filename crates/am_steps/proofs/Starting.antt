@@ -1,5 +1,5 @@
 -- What is known where a step begins: what the run keeps, with the step's record.
-use Rattle.std.proofs.Common.{◌≡◌, ⊎_elim, ℕ, zero, suc, ◌<◌, ◌≤◌, ◌==◌, nat_lt, Bool, true, false, if◌then◌else◌, List, [], ◌∷◌, ◌++◌, length, take, Some, slice_get, slice_index, get_or-set_same, refl, sym, ap, ◌∙◌, subst, arith}
+use Rattle.std.proofs.Common.{◌≡◌, ⊎_elim, ℕ, zero, suc, ◌<◌, ◌≤◌, ◌==◌, true, false, List, Some, slice_get, slice_index, get_or-set_same, refl, sym, ap, ◌∙◌, subst, arith}
 use Rattle.std.specs.Prelude.{All}
 use Rattle.std.proofs.lemmas.Bool.Decides.{nat_tests}
 use Rattle.am_base.specs.declared.name.Stamp.{Stamp}
@@ -70,7 +70,7 @@ set_same : (f : ℕ → Node) (i : ℕ) → set_at f i (f i) ≡ f
 set_same f i = λ k j. set_is f i j k
 
 -- as it is where a name's step begins
-stands_but : (w : World) (records : List Record) (name : ℕ) (s : Group) → Stands w s → StandsBut name (within (recorded w records) name (w.nodes name)) s
+pub stands_but : (w : World) (records : List Record) (name : ℕ) (s : Group) → Stands w s → StandsBut name (within (recorded w records) name (w.nodes name)) s
 stands_but w records name s h = subst (λ f. StandsBut name (record (recorded w records) { nodes = f }) s) (sym (set_same w.nodes name)) (record {
   each = λ i few. name_recorded w records i (w.nodes i) (s.node i) (h.each i few);
   fronts = λ i few other d. h.fronts i few d;

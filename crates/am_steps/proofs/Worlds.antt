@@ -1,6 +1,5 @@
 -- A world within a step whose group list, and views, have gone on.
-use Rattle.std.proofs.Common.{◌≡◌, ◌≢◌, ℕ, ◌<◌, ◌==◌, true, false, List, [], ◌++◌, Some, slice_get, refl, sym, ap, ◌∙◌, subst, arith, append-nil}
-use Rattle.am_base.specs.declared.name.Stamp.{Stamp}
+use Rattle.std.proofs.Common.{◌≡◌, ℕ, ◌<◌, true, List, ◌++◌, Some, slice_get, refl, sym, ap, ◌∙◌}
 use Rattle.am_base.specs.declared.entry.Entry.{Entry}
 use Rattle.am_group.specs.declared.event.Record.{Record}
 use Rattle.am_chain_lists.specs.Whole.{Begins}
