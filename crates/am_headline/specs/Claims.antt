@@ -3,7 +3,7 @@ use Rattle.std.specs.Prelude.{List}
 use Rattle.am_model.specs.Claims.{HeadlineHolds, ViewsFit}
 use Rattle.am_stands.specs.Running.{StepsMove}
 
--- the headline, where each step of a name is moves of the group that stands for the world: this premise isn't proved yet
+-- the headline, where each step of a name is moves of the group that stands for the world
 abbrev pub HeadlineWhereStepsMove : Type 0
 HeadlineWhereStepsMove = StepsMove → HeadlineHolds
 
