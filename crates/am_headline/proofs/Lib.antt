@@ -13,3 +13,4 @@ pub mod Own
 pub mod Told
 pub mod Moments
 pub mod Holds
+pub mod Headline

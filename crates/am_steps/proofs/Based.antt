@@ -1,5 +1,6 @@
 -- Where a node's list begins after a step: where it did, unless it was welcomed, and then it doesn't lead.
-use Rattle.std.proofs.Common.{◌≡◌, ℕ, zero, suc, ◌+◌, ◌-◌, ◌<◌, ◌≤◌, ◌==◌, ◌||◌, not, nat_le, true, false, List, [], ◌∷◌, Some, slice_get, refl, sym, ap, ◌∙◌, subst, arith}
+use Rattle.std.proofs.Common.{◌≡◌, ℕ, zero, suc, ◌+◌, ◌-◌, ◌<◌, ◌≤◌, ◌==◌, ◌||◌, not, nat_le, true, false, List, [], ◌∷◌, Some, slice_get, refl, sym}
+use Rattle.std.proofs.Common.{ap, ◌∙◌, subst, arith}
 use Rattle.std.proofs.lemmas.Bool.Decides.{nat_tests}
 use Rattle.am_base.specs.declared.name.Stamp.{Stamp}
 use Rattle.am_base.specs.declared.image.Image.{Image}
@@ -90,7 +91,8 @@ based_change rules m x y (promises v low why) a h = based_other m x y refl refl 
 based_change rules m x y (opens least resilience by may) a h = based_other m x y refl refl (begin_welcomes by) h
 based_change rules m x y (looks b verdict over why look is) a h = looked_based m x look h
 based_change rules m x y (fetches s v base number e is heard promise below why may) a h = based_same m x y refl refl refl (omega arith) h
-based_change rules m x y (stores_view s v base number names resilience is heard own other promise below may) a h = based_same m x y refl refl refl (omega arith) h
+based_change rules m x y (stores_view s v base number names resilience is heard own other promise below may) a h = based_same m x y refl refl refl
+    (omega arith) h
 based_change rules m x y (queues body is says member stays few) a h = based_same m x y refl refl refl (omega arith) h
 based_change rules m x y (collects req is) a h = based_same m x y refl refl refl (omega arith) h
 based_change rules m x y (takes e is says member some there) a h = based_same m x y refl refl refl (omega arith) h
@@ -130,7 +132,8 @@ view_number_up image n zero (e ∷ es) stamp names resilience at =
     let its : (after image n e).view_number ≡ n = view_its image n e (ap is_view is) in
     let up = view_grows (after image n e) (n + 1) es (omega arith) in
     omega arith
-view_number_up image n (suc k) (e ∷ es) stamp names resilience at = (let up = view_number_up (after image n e) (n + 1) k es stamp names resilience at in omega arith)
+view_number_up image n (suc k) (e ∷ es) stamp names resilience at =
+    (let up = view_number_up (after image n e) (n + 1) k es stamp names resilience at in omega arith)
 
 pub view_above : (log : Log) (number : ℕ) (stamp : Stamp) (names : List ℕ) (resilience : ℕ) → entry_at log number ≡ Some (View stamp names resilience)
     → log.start < (told_by log).view_number

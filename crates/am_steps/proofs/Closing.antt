@@ -74,7 +74,8 @@ module _ (rules : Rules) (w : World) (records : List Record) (name : ℕ) (c : C
       let list = (t.node name).list in
       let named = front_named list (chain_of t.views) ((k.each name).list (is_up (recorded w records) name x (t.node name) h.runs member mine)) h.group.named in
       counts_names (within w name (pushed x e)) name (pushed x e) (longer (t.node name) e)
-      (name_longer w name x (pushed x e) e (t.node name) (record { log = refl; stays = refl; leaving = refl; promise = refl; ballot = refl; start = refl }) here)
+      (name_longer w name x (pushed x e) e (t.node name)
+      (record { log = refl; stays = refl; leaving = refl; promise = refl; ballot = refl; start = refl }) here)
       (All-push NamesNamed list e named tt)
 
   moves_here : MayMove w name c x t

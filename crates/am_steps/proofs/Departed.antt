@@ -108,12 +108,12 @@ module _ (x : Node) (gone : x.status ≡ status.Departed) where
   rests_change y (stores_view s v base number names resilience is heard own other promise below may) p = absurd (no_hearer s heard)
   rests_change y (queues body is says member stays few) p = absurd (no_member member)
   rests_change y (collects req is) p = record {
-      same = record { log = refl; log_ = refl; departed = refl; leaving = refl; promise = refl; ballot = refl; start = refl };
-      status = refl;
-      ballot = refl;
-      told = refl;
-      acc = refl;
-    }
+    same = record { log = refl; log_ = refl; departed = refl; leaving = refl; promise = refl; ballot = refl; start = refl };
+    status = refl;
+    ballot = refl;
+    told = refl;
+    acc = refl;
+  }
   rests_change y (takes e is says member some there) p = absurd (no_member member)
   rests_change y (asks_to_join is was) p = absurd (other_status status.Stranger was refl)
   rests_change y (asks_to_leave is was stays done) p = absurd (other_status status.Member was refl)
@@ -142,7 +142,8 @@ pub record Ended (m n : Node) : Type 0 where
   pub ballot : n.ballot ≡ m.ballot
   pub low : n.core.acc ≤ max m.core.acc m.core.told
 
-pub rests_step : {c : Cause} {o : Outcome} (m x : Node) → m.status ≡ status.Departed → is_unfinished m.ballot ≡ false → Deeds c o m x → Ended m (refresh_at_end x)
+pub rests_step : {c : Cause} {o : Outcome} (m x : Node) → m.status ≡ status.Departed → is_unfinished m.ballot ≡ false → Deeds c o m x
+    → Ended m (refresh_at_end x)
 unfolding refresh_at_end
 rests_step m x gone closed deeds =
     let r = rests_at_end x in

@@ -90,7 +90,8 @@ ended_on rules w name c o m x s sent d =
     let r = refresh_on rules now name c x d.to d.goes d.fronts in
     let later = growing now (group_after d.group y) in
     let one = changes_go_on rules later name c o y n r.to (settles {m = y}) tt r.goes sent in
-    let is : group_after d.group y ≡ group_after w.group n = end_group w.group d.group x d.goes.along.owned.fronts.accepted d.grown ∙ sym (settled_group w.group y) in
+    let is : group_after d.group y ≡ group_after w.group n = end_group w.group d.group x d.goes.along.owned.fronts.accepted d.grown
+    ∙ sym (settled_group w.group y) in
     let same = settle_is y in
     let log : n.core.log ≡ x.core.log = ap (λ (z : Node). z.core.log) same ∙ (rests_refresh x).log in
     let who : n.core.who ≡ x.core.who = ap (λ (z : Node). z.core.who) same ∙ (rests_refresh x).rests.who in
@@ -124,9 +125,11 @@ unfolding view_of fold
 no_view = refl
 
 -- a step that noted no view decided none
-none_decided : (rules : Rules) (w : World) (name : ℕ) (c : Cause) (m n : Node) (t : Group) (group : List Entry) → Stepping rules (further w group w.views) name c n t
+none_decided : (rules : Rules) (w : World) (name : ℕ) (c : Cause) (m n : Node) (t : Group) (group : List Entry)
+    → Stepping rules (further w group w.views) name c n t
     → (has_log m.status ≡ true → Goes m.core.log n.core.log) → (has_log m.status ≡ true → has_log n.status ≡ true)
-    → (has_departed m.status ≡ false → has_departed n.status ≡ false) → ((k : ℕ) (d : Decided) → slice_get w.views k ≡ Some d → IsNoted w.nodes d) → w.nodes name ≡ m
+    → (has_departed m.status ≡ false → has_departed n.status ≡ false) → ((k : ℕ) (d : Decided) → slice_get w.views k ≡ Some d → IsNoted w.nodes d)
+    → w.nodes name ≡ m
     → (member : is_member m.status ≡ true) → (view n).by ≡ n.core.who → stamp_eq (view m) (view n) ≡ false → ⊥
 none_decided rules w name c m n t group h goes log_ there noted is member own differs =
     let had = log_of_member m.status member in
@@ -156,7 +159,8 @@ none_decided rules w name c m n t group h goes log_ there noted is member own di
 pub views_end : (rules : Rules) (w : World) (name : ℕ) (c : Cause) (m n : Node) (t : Group) (group : List Entry) (views : List Decided)
     → Stepping rules (further w group views) name c n t
     → (has_log m.status ≡ true → Goes m.core.log n.core.log) → (has_log m.status ≡ true → has_log n.status ≡ true)
-    → (has_departed m.status ≡ false → has_departed n.status ≡ false) → ((k : ℕ) (d : Decided) → slice_get w.views k ≡ Some d → IsNoted w.nodes d) → w.nodes name ≡ m
+    → (has_departed m.status ≡ false → has_departed n.status ≡ false) → ((k : ℕ) (d : Decided) → slice_get w.views k ≡ Some d → IsNoted w.nodes d)
+    → w.nodes name ≡ m
     → Seen w m n views → views ≡ views_after w.views m n
 views_end rules w name c m n t group views h goes log_ there noted is (none_new same) = split (decides m n)
     (λ u. absurd (
@@ -169,7 +173,8 @@ views_end rules w name c m n t group views h goes log_ there noted is (none_new 
 views_end rules w name c m n t group views h goes log_ there noted is (one_new d same) =
     let own : ((view n).by == n.core.who) ≡ true = (let z = d.own in grind (arith, nat_tests)) in
     let differs : stamp_eq (view m) (view n) ≡ false = split (stamp_eq (view m) (view n))
-    (λ u. absurd (let same_ = same_stamp (view m) (view n) u in let z : stamp_lt (view m) (view n) ≡ false = ap (stamp_lt (view m)) (sym same_) ∙ not_above_itself (view m) in
+    (λ u. absurd (let same_ = same_stamp (view m) (view n) u in
+    let z : stamp_lt (view m) (view n) ≡ false = ap (stamp_lt (view m)) (sym same_) ∙ not_above_itself (view m) in
     let up = d.above in cc)) (λ f. f) in
     let member = d.member in
     rw (member, own, differs) same

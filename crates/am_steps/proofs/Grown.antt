@@ -62,7 +62,8 @@ grown_twice group c d log low up high = split (nat_lt (length group) c.acc)
     ∙ (λ i. group ++ take (d.acc - g) (drop (g - (sym log i).start) (sym log i).entries))))
     (λ f. (let low_ : c.acc ≤ length group = grind (arith, nat_tests) in ap (λ l. grown l d) (same_group group c low_)))
 
-pub accepted_twice : (group : List Entry) (x y : Node) → is_sequencer x ≡ true → is_sequencer y ≡ true → y.core.log ≡ x.core.log → x.core.log.start ≤ length group
+pub accepted_twice : (group : List Entry) (x y : Node) → is_sequencer x ≡ true → is_sequencer y ≡ true → y.core.log ≡ x.core.log
+    → x.core.log.start ≤ length group
     → x.core.acc ≤ y.core.acc → x.core.acc ≤ top_of x.core.log → group_after (group_after group x) y ≡ group_after group y
 accepted_twice group x y leads leads_y log low up high =
     let by = same_by x leads in

@@ -91,7 +91,8 @@ ended_stands w e name step t k own =
       each = λ i few. name_in u v i (set_at w.nodes name n i) (t.node i) refl refl (k.each i few);
       fronts = λ i few d. split (i == name)
           (λ z. (let same : name ≡ i = grind (arith, nat_tests) in
-          let mine : has_departed n.status ≡ false → FrontsStand n (t.node i) = subst (λ j. has_departed n.status ≡ false → FrontsStand n (t.node j)) same own in
+          let mine : has_departed n.status ≡ false → FrontsStand n (t.node i) =
+          subst (λ j. has_departed n.status ≡ false → FrontsStand n (t.node j)) same own in
           let there : has_departed n.status ≡ false = rw z at d in
           rw z (mine there)))
           (λ f. k.fronts i few (λ same. (let z : (i == name) ≡ true = grind (arith, nat_tests) in cc)) d);
@@ -113,7 +114,8 @@ get_all P (x ∷ xs) f = All-cons P x xs (f 0 x refl) (get_all P xs (λ k y is. 
 same_stands : (v : World) (s t : Group) → ShowsMore s t → Stands v s → Stands v t
 same_stands v s t same h = record {
   each = subst (λ (f : ℕ → groups.Node). (i : ℕ) → i < 256 → NameStands v i (v.nodes i) (f i)) (sym same.node) h.each;
-  fronts = subst (λ (f : ℕ → groups.Node). (i : ℕ) → i < 256 → has_departed (v.nodes i).status ≡ false → FrontsStand (v.nodes i) (f i)) (sym same.node) h.fronts;
+  fronts = subst (λ (f : ℕ → groups.Node). (i : ℕ) → i < 256 → has_departed (v.nodes i).status ≡ false → FrontsStand (v.nodes i) (f i))
+      (sym same.node) h.fronts;
   views = subst (ViewsStand v) (sym same.views) h.views;
   group = same.group_ ∙ h.group;
 }
@@ -126,7 +128,8 @@ landed_told rules w e name step s t h land told =
     let v = stepped w e name step in
     let grows = grows_trans s t told.to land.grows told.grows in
     let stands = same_stands v t told.to told.same land.stands in
-    let older : All (LetterSays v told.to) w.letters = get_all (LetterSays v told.to) w.letters (λ k l at. letters_stay w v s told.to l.to l.packet (_, refl) grows (h.letters k l at)) in
+    let older : All (LetterSays v told.to) w.letters = get_all (LetterSays v told.to) w.letters
+    (λ k l at. letters_stay w v s told.to l.to l.packet (_, refl) grows (h.letters k l at)) in
     let all = All-append (LetterSays v told.to) w.letters step.letters older told.says in
     record {
       to = told.to;
@@ -135,7 +138,8 @@ landed_told rules w e name step s t h land told =
       is = record {
         group = told.group;
         stands = stands;
-        nodes = λ i few d. others_keep v v t told.to i (v.nodes i) (λ j z. z) told.grows (land.stands.each i few) (stands.each i few) (begins_refl v.group) (land.nodes i few d);
+        nodes = λ i few d. others_keep v v t told.to i (v.nodes i) (λ j z. z) told.grows (land.stands.each i few) (stands.each i few) (begins_refl v.group)
+            (land.nodes i few d);
         gone = land.gone;
         letters = λ k l at. all_get (LetterSays v told.to) (w.letters ++ step.letters) k l all at;
       };

@@ -57,7 +57,8 @@ sender_more rules v i c m n s t group same g h = record {
   ballots = record {
     blank = h.ballots.blank;
     own = h.ballots.own;
-    fetches = λ b from want open_ answer. (let k = h.ballots.fetches b from want open_ answer in (k.0, all_stay v v s t g (nothing_more v) n.core.promise from k.1));
+    fetches = λ b from want open_ answer.
+        (let k = h.ballots.fetches b from want open_ answer in (k.0, all_stay v v s t g (nothing_more v) n.core.promise from k.1));
   };
   sends = h.sends;
   asked = λ from stored u is. (let k = h.asked from stored u is in

@@ -88,10 +88,17 @@ no_idle o req idle is = subst IsIdle is idle
 
 asked_next : EachKeeps AllAsked
 unfolding unchanged stepped
-asked_next w e v (idles o idle) h = record { asked = asked_other w.records w.nodes (record_of w e o []) (λ name req body is. no_idle o req idle is.answered) h.asked }
-asked_next w e v (stops runs) h = record { asked = asked_other w.records w.nodes (record_of w e said.Stopped []) (λ name req body is. (let z = is.answered in absurd (cc))) h.asked }
+asked_next w e v (idles o idle) h = record {
+  asked = asked_other w.records w.nodes (record_of w e o [])
+      (λ name req body is. no_idle o req idle is.answered) h.asked;
+}
+asked_next w e v (stops runs) h = record {
+  asked = asked_other w.records w.nodes (record_of w e said.Stopped [])
+      (λ name req body is. (let z = is.answered in absurd (cc))) h.asked;
+}
 asked_next w e v (returns place at gone more) h = record {
-  asked = asked_other w.records w.nodes (record_of w e (said.Returned (w.lives place + 1)) []) (λ name req body is. (let z = is.answered in absurd (cc))) h.asked;
+  asked = asked_other w.records w.nodes (record_of w e (said.Returned (w.lives place + 1)) [])
+      (λ name req body is. (let z = is.answered in absurd (cc))) h.asked;
 }
 asked_next w e v (steps c s runs cause effect) h = record { asked = asked_step w e c s h.asked cause effect }
 
@@ -109,4 +116,4 @@ step_once rules events e c s cause effect =
     let w = run rules events in
     let z = asked_step w e c s (run_once rules events).asked cause effect in
     λ name req a b p q. (unique (after_step w e s) (set_at w.nodes (actor w e) s.node) z).one name req a b
-        (record { index = p.index; send = p.done; there = p.there; is = p.is }) (record { index = q.index; send = q.done; there = q.there; is = q.is })
+    (record { index = p.index; send = p.done; there = p.there; is = p.is }) (record { index = q.index; send = q.done; there = q.there; is = q.is })

@@ -97,7 +97,8 @@ module _ (rules : Rules) (w : World) (name : ℕ) (c : Cause) (x : Node) (s : Gr
   along = along_changes rules {o = said.Ticked} x y h.names h.used (changed {m = x} refreshes unchanged) h.along
 
   -- from the group that accepted, and in which the name learned
-  gone_on : (g : List Entry) (t : Group) → Moves s t → Begins w.group g → StandsBut name (within (growing w g) name y) t → (t.node name).list ≡ (s.node name).list
+  gone_on : (g : List Entry) (t : Group) → Moves s t → Begins w.group g → StandsBut name (within (growing w g) name y) t
+      → (t.node name).list ≡ (s.node name).list
       → y.core.acc ≤ length t.group → Stepping rules (growing w g) name c y t
   gone_on g t path grows stands list low =
       let on = goes_on rules.founders (lowest_or_first rules.founders) rules.resilience s t h.group path in
@@ -190,7 +191,9 @@ module _ (rules : Rules) (w : World) (name : ℕ) (c : Cause) (x : Node) (s : Gr
     path : Moves s next
     path =
         let l = learns.learns in
-        let more : Moves middle next = moves (group.learns name told (refresh x).core.acc l.up (omega arith) l.told l.before l.up_to l.given l.within) tt none in
+        let learn : group.Move middle next =
+        group.learns name told (refresh x).core.acc l.up (omega arith) l.told l.before l.up_to l.given l.within in
+        let more : Moves middle next = moves learn tt none in
         then_moves (accept_moves w s name y h.stands.group learns.accepts) more
 
     stands : StandsBut name (within (growing w after) name y) next

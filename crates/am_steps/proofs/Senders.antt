@@ -87,9 +87,9 @@ module _ (rules : Rules) (w v : World) (name : ℕ) (c : Cause) (m n : Node) (t 
     blank = λ b at. split (has_log n.status) (λ u. u) (λ f. absurd (let none = h.along.balloted.none f in let z = sym none ∙ at in cc));
     own = owns;
     fetches = λ b from want open_ answer. (
-    let o = (subst (OpenBallot n.core.who n.core.promise (view n)) open_.last h.along.balloted.opened) open_.open_ in
-    let shown : AllShown t b.stamp from = (subst (FetchesStand t) open_.last h.keeps.fetches) open_.open_ from want answer in
-    (ap (λ (s : Stamp). s.by) o.promised ∙ o.own ∙ h.who, subst (λ (s : Stamp). AllShown t s from) (sym o.promised) shown));
+        let o = (subst (OpenBallot n.core.who n.core.promise (view n)) open_.last h.along.balloted.opened) open_.open_ in
+        let shown : AllShown t b.stamp from = (subst (FetchesStand t) open_.last h.keeps.fetches) open_.open_ from want answer in
+        (ap (λ (s : Stamp). s.by) o.promised ∙ o.own ∙ h.who, subst (λ (s : Stamp). AllShown t s from) (sym o.promised) shown));
   }
 
   was_asked : (who req : ℕ) (body : List ℕ) → WasSent w.records who req body → WasAsked v who req body
@@ -98,9 +98,10 @@ module _ (rules : Rules) (w v : World) (name : ℕ) (c : Cause) (m n : Node) (t 
   sends : SendsStand v name n
   sends = record {
     own = λ req body s. (
-    let sent : SendSent w.records name s.send = all_get (SendSent w.records name) n.sends.queue s.index s.send h.sent.sends s.there in
-    was_asked name req body (subst (WasSent w.records name req) s.body_ (subst (λ r. WasSent w.records name r s.send.body) s.request sent)));
-    numbered = λ index from req body at. was_asked from req body (all_get (EntrySent w.records) n.core.log.entries index (Data from req body) h.sent.entries at);
+        let sent : SendSent w.records name s.send = all_get (SendSent w.records name) n.sends.queue s.index s.send h.sent.sends s.there in
+        was_asked name req body (subst (WasSent w.records name req) s.body_ (subst (λ r. WasSent w.records name r s.send.body) s.request sent)));
+    numbered = λ index from req body at. was_asked from req body
+        (all_get (EntrySent w.records) n.core.log.entries index (Data from req body) h.sent.entries at);
   }
 
   pub sender : Sender v name c m n t

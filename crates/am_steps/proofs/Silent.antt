@@ -1,5 +1,6 @@
 -- A step of who had departed before it sends nothing.
-use Rattle.std.proofs.Common.{◌≡◌, ℕ, ◌==◌, ◌||◌, nat_lt, nat_le, not, Bool, true, false, if◌then◌else◌, [], ◌++◌, length, Option, Some, None, refl, sym, ap, ◌∙◌, arith, append-nil}
+use Rattle.std.proofs.Common.{◌≡◌, ℕ, ◌==◌, ◌||◌, nat_lt, nat_le, not, Bool, true, false, if◌then◌else◌, [], ◌++◌, length, Option, Some, None, refl}
+use Rattle.std.proofs.Common.{sym, ap, ◌∙◌, arith, append-nil}
 use Rattle.std.proofs.Common.{length-append}
 use Rattle.am_base.specs.declared.outcome.Outcome.TheVariants as said
 use Rattle.am_base.specs.declared.event.NodeEvent.{NodeEvent}
@@ -57,7 +58,8 @@ module _ (w : World) (e : Event) (name : ℕ) (h : SendsNothing (w.nodes name)) 
   cut : (keep : ℕ) (p : Packet) → (hear_cut (w.nodes name) keep p).letters ≡ []
   cut keep p = by_test (nat_le (packet_length p) keep) (nat_lt keep 12)
     where
-      by_test : (whole none : Bool) → (if whole then hear (w.nodes name) p else if none then refused (w.nodes name) 1 else refused (w.nodes name) 5).letters ≡ []
+      by_test : (whole none : Bool)
+          → (if whole then hear (w.nodes name) p else if none then refused (w.nodes name) 1 else refused (w.nodes name) 5).letters ≡ []
       by_test true none = h.hears_ p
       by_test false true = h.refuses_ 1
       by_test false false = h.refuses_ 5

@@ -1,5 +1,6 @@
 -- What is known where a step begins: what the run keeps, with the step's record.
-use Rattle.std.proofs.Common.{◌≡◌, ⊎_elim, ℕ, zero, suc, ◌<◌, ◌≤◌, ◌==◌, true, false, List, Some, slice_get, slice_index, get_or-set_same, refl, sym, ap, ◌∙◌, subst, arith}
+use Rattle.std.proofs.Common.{◌≡◌, ⊎_elim, ℕ, zero, suc, ◌<◌, ◌≤◌, ◌==◌, true, false, List, Some, slice_get, slice_index, get_or-set_same, refl, sym}
+use Rattle.std.proofs.Common.{ap, ◌∙◌, subst, arith}
 use Rattle.std.specs.Prelude.{All}
 use Rattle.std.proofs.lemmas.Bool.Decides.{nat_tests}
 use Rattle.am_base.specs.declared.name.Stamp.{Stamp}
@@ -109,7 +110,8 @@ unfolding key
 none_key p = omega arith
 
 -- a stamp that was begun by a node was begun by what stands for it
-pub begun_stands : (w : World) (s : Group) (v : Stamp) → Stands w s → ((i : ℕ) → i < 256 → (w.nodes i).core.promise.by < 256) → v.by < 256 → IsBegun w.nodes v → WasBegun s v
+pub begun_stands : (w : World) (s : Group) (v : Stamp) → Stands w s → ((i : ℕ) → i < 256 → (w.nodes i).core.promise.by < 256) → v.by < 256 → IsBegun w.nodes v
+    → WasBegun s v
 begun_stands w s v h named small is = record {
   small = small;
   begun = subst (λ (u : Stamp). key v ≤ key u) (sym (h.each v.by small).promise) (⊎_elim
@@ -233,8 +235,10 @@ module _ (rules : Rules) (events : List Event) (e : Event) (c : Cause) (step : S
     once = step_once rules events e c step cause effect;
     begun = begun;
     heard = heard;
-    given = λ other is. (let call : IsCause w name e.act (calls (GiveUp other)) = subst (IsCause w name e.act) is cause in given_stopped w e.act (GiveUp other) other refl call);
-    keeps = others_keep w begun_world s s name m (λ j t. t) (grows_same s) (h.stands.each name few) (name_recorded w (after_step w e step) name m (s.node name) (h.stands.each name few))
+    given = λ other is. (let call : IsCause w name e.act (calls (GiveUp other)) = subst (IsCause w name e.act) is cause in
+        given_stopped w e.act (GiveUp other) other refl call);
+    keeps = others_keep w begun_world s s name m (λ j t. t) (grows_same s) (h.stands.each name few)
+        (name_recorded w (after_step w e step) name m (s.node name) (h.stands.each name few))
         (begins_refl w.group) (h.nodes name few here);
     accepted = ((numbers_hold rules events).each name).acc;
   }

@@ -1,5 +1,6 @@
 -- Each step of a name of a run is moves of the group that stands for it.
-use Rattle.std.proofs.Common.{◌≡◌, ⊎_elim, Option, None, ℕ, ◌<◌, ◌≤◌, ◌==◌, not, nat_lt, true, false, List, [], Some, slice_get, refl, sym, ap, ◌∙◌, subst, arith}
+use Rattle.std.proofs.Common.{◌≡◌, ⊎_elim, Option, None, ℕ, ◌<◌, ◌≤◌, ◌==◌, not, nat_lt, true, false, List, [], Some, slice_get, refl, sym, ap, ◌∙◌}
+use Rattle.std.proofs.Common.{subst, arith}
 use Rattle.std.specs.Prelude.{All}
 use Rattle.std.proofs.lemmas.Bool.Decides.{nat_tests}
 use Rattle.am_base.specs.declared.name.Stamp.{Stamp}
@@ -175,15 +176,18 @@ module _ (rules : Rules) (events : List Event) (e : Event) (c : Cause) (s : Grou
   unfolding stepped
   is_node step = (let t : (name == name) ≡ true = grind (arith, nat_tests) in rw t refl)
 
-  same_seen : (step : Step) → (stepped (run rules events) e (actor (run rules events) e) step).views ≡ (at_end (run rules events) e (actor (run rules events) e) step).views
+  same_seen : (step : Step)
+      → (stepped (run rules events) e (actor (run rules events) e) step).views ≡ (at_end (run rules events) e (actor (run rules events) e) step).views
   unfolding stepped
   same_seen step = refl
 
-  same_records : (step : Step) → (stepped (run rules events) e (actor (run rules events) e) step).records ≡ (at_end (run rules events) e (actor (run rules events) e) step).records
+  same_records : (step : Step)
+      → (stepped (run rules events) e (actor (run rules events) e) step).records ≡ (at_end (run rules events) e (actor (run rules events) e) step).records
   unfolding stepped
   same_records step = refl
 
-  same_stopped : (step : Step) → (stepped (run rules events) e (actor (run rules events) e) step).stopped ≡ (at_end (run rules events) e (actor (run rules events) e) step).stopped
+  same_stopped : (step : Step)
+      → (stepped (run rules events) e (actor (run rules events) e) step).stopped ≡ (at_end (run rules events) e (actor (run rules events) e) step).stopped
   unfolding stepped
   same_stopped step = refl
 
@@ -234,7 +238,8 @@ module _ (rules : Rules) (events : List Event) (e : Event) (c : Cause) (s : Grou
   -- ---- of who is there
 
   module _ (here : has_departed m.status ≡ false) where
-    begins_so : (step : Step) → Effect m c step → Stepping rules (recorded (run rules events) (after_step (run rules events) e step)) (actor (run rules events) e) c m s
+    begins_so : (step : Step) → Effect m c step
+        → Stepping rules (recorded (run rules events) (after_step (run rules events) e step)) (actor (run rules events) e) c m s
     begins_so step effect = stepping_begins rules events e c step s may runs cause effect h here
 
     sent_so : (step : Step) → CauseSent (after_step (run rules events) e step) (actor (run rules events) e) step.outcome c
@@ -250,11 +255,13 @@ module _ (rules : Rules) (events : List Event) (e : Event) (c : Cause) (s : Grou
         let begun = recorded w (after_step w e step) in
         let h0 = begins_so step effect in
         let done = deeds_on rules begun name c o m x s deeds h0 (fronts_begin step) (sent_so step) in
-        let a : AtEnd rules begun name c m n s = subst (λ k. AtEnd rules begun name c m k s) (sym (end_is x)) (ended_on rules begun name c o m x s (sent_so step) done) in
+        let a : AtEnd rules begun name c m n s = subst (λ k. AtEnd rules begun name c m k s) (sym (end_is x))
+        (ended_on rules begun name c o m x s (sent_so step) done) in
         let does = (changes_do m n h0.names effect.changes h0.along.names h0.along.balloted).does in
         let there : has_departed n.status ≡ false = ap has_departed (rests_at_end x).rests.status ∙ deeds_there m x deeds here in
         let same_views = views_end rules begun name c m n a.to (group_after w.group n) a.views a.goes does.goes does.log_ (λ d. there) noted refl a.seen in
-        let goes : Stepping rules (at_end w e name step) name c n a.to = subst (λ vs. Stepping rules (further begun (group_after w.group n) vs) name c n a.to) same_views a.goes in
+        let goes : Stepping rules (at_end w e name step) name c n a.to = subst
+        (λ vs. Stepping rules (further begun (group_after w.group n) vs) name c n a.to) same_views a.goes in
         let stands = ended_stands w e name step a.to goes.stands a.fronts in
         let land = landed rules w e name step s a.to h a.path stands (λ d. ended_keeps rules w e name c step a.to goes) (λ d. absurd (both_ways _ d there)) in
         let sender_is : effect.sender ≡ n = is_sender n effect.sender effect.is (⊎_elim (λ (z : n.status ≡ effect.sender.status). z)
@@ -291,14 +298,17 @@ module _ (rules : Rules) (events : List Event) (e : Event) (c : Cause) (s : Grou
           grown = as_before refl;
           seen = none_new refl;
         } in
-        let a : AtEnd rules begun name c m n s = subst (λ k. AtEnd rules begun name c m k s) (sym (end_is x)) (ended_on rules begun name c o m x s (sent_so step) done) in
+        let a : AtEnd rules begun name c m n s = subst (λ k. AtEnd rules begun name c m k s) (sym (end_is x))
+        (ended_on rules begun name c o m x s (sent_so step) done) in
         let viewed : view n ≡ view m = ap (λ (l : Log). (told_by l).view) (rests_at_end x).log in
         let same_views : a.views ≡ views_after w.views m n = seen_none begun m n a.views viewed a.seen ∙ sym (quiet_views w.views m n viewed) in
-        let goes : Stepping rules (at_end w e name step) name c n a.to = subst (λ vs. Stepping rules (further begun (group_after w.group n) vs) name c n a.to) same_views a.goes in
+        let goes : Stepping rules (at_end w e name step) name c n a.to = subst
+        (λ vs. Stepping rules (further begun (group_after w.group n) vs) name c n a.to) same_views a.goes in
         let left : has_departed n.status ≡ true = ap has_departed (rests_at_end x).rests.status in
         let all = ended_stands w e name step a.to goes.stands (λ d. absurd (both_ways _ left d)) in
         let open_ : is_unfinished m.ballot ≡ false = split (is_unfinished m.ballot) (λ t. absurd (both_ways _ leaves (h0.keeps.opens t).1)) (λ f. f) in
-        let land = landed rules w e name step s a.to h a.path all (λ d. absurd (both_ways _ left d)) (λ d. ap is_unfinished (rests_at_end x).rests.ballot ∙ open_) in
+        let land = landed rules w e name step s a.to h a.path all (λ d. absurd (both_ways _ left d)) (λ d. ap is_unfinished (rests_at_end x).rests.ballot
+        ∙ open_) in
         landed_told rules w e name step s a.to h land (none_told rules (after_ step) a.to land.group)
 
     -- the last member, which numbers its own Leave
@@ -336,4 +346,5 @@ module _ (rules : Rules) (events : List Event) (e : Event) (c : Cause) (s : Grou
       sent n ending
 
 pub steps_move : StepsMove
-steps_move rules events e c step s may runs cause effect is h = follows rules events e c s may runs cause h step.outcome step.letters step.node effect.ending effect is
+steps_move rules events e c step s may runs cause effect is h =
+    follows rules events e c s may runs cause h step.outcome step.letters step.node effect.ending effect is

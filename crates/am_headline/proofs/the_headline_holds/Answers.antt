@@ -1,6 +1,5 @@
-use Rattle.am_steps.proofs.Steps.{steps_move}
-use Rattle.am_headline.proofs.Holds.{headline_where_steps_move}
+use Rattle.am_headline.proofs.Headline.{headline_holds}
 use Rattle.am_headline.proofs.the_headline_holds.Goals as goal
 
 pub returns : goal.returns
-returns c = headline_where_steps_move steps_move
+returns c = headline_holds
