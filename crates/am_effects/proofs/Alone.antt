@@ -116,5 +116,6 @@ those_none test set none = size_none _ at
         (λ t. slice_index-by_place (λ place. name_where test place (slice_index set place)) i (let z : i < 16 = grind (arith, nat_tests) in z)
         ∙ ap (name_where test i) (none_of set none i))
         (λ g. get_or_past (those test set) i 0
-            (let long : length (those test set) ≡ 16 = length-by_place (λ place. name_where test place (slice_index set place)) in let z : 16 ≤ i = grind
-            (arith, nat_tests) in omega arith))
+        (let long : length (those test set) ≡ 16 = length-by_place (λ place. name_where test place (slice_index set place)) in
+        let z : 16 ≤ i = grind (arith, nat_tests) in
+        omega arith))

@@ -1,4 +1,4 @@
--- The headline, where each step is moves of the group.
+-- The headline, of every run.
 use Rattle.std.proofs.Common.{◌≡◌, ◌≢◌, ◌⊎◌, ⊎_elim, ℕ, zero, suc, ◌+◌, ◌-◌, ◌<◌, ◌≤◌, ◌==◌, nat_le, Bool, true, false, if◌then◌else◌, List, [], ◌∷◌, ◌++◌, length, take}
 use Rattle.std.proofs.Common.{Some, None, slice_get, refl, sym, ap, ◌∙◌, subst, arith, append-nil, append_assoc, drop}
 use Rattle.std.proofs.lemmas.Bool.Decides.{nat_tests}
@@ -43,8 +43,8 @@ use Rattle.am_unballoted.proofs.Worlds.{GivenOk, StandsAt}
 use Rattle.am_stands.specs.Standing.{NameStands, NotedStands}
 use Rattle.am_stands.proofs.Changes.{told_all}
 use Rattle.am_stands.proofs.Onward.{group_kept}
-use Rattle.am_stands.specs.Running.{Following, StepsMove}
-use Rattle.am_headline.specs.Claims.{HeadlineWhereStepsMove}
+use Rattle.am_steps.proofs.Steps.{steps_move}
+use Rattle.am_stands.specs.Running.{Following}
 use Rattle.am_headline.proofs.Lists.{item_begins, item_back}
 use Rattle.am_headline.proofs.Fold.{Quiet, KeptBy, Became, Held}
 use Rattle.am_headline.proofs.Begun.{held}
@@ -142,7 +142,7 @@ small_view rules events d k may at = (all_get (IsNoted (run rules events).nodes)
 
 -- ---- up to the lawful front
 
-module _ (moving : StepsMove) (rules : Rules) (may : MayFound rules) where
+module _ (rules : Rules) (may : MayFound rules) where
   abbrev Kept_ : World → Group → Type 0
   Kept_ w s = Told rules w
 
@@ -160,7 +160,7 @@ module _ (moving : StepsMove) (rules : Rules) (may : MayFound rules) where
   }
 
   at_moment : (events : List Event) → broken_at rules events ≡ None → Held Kept_ rules events
-  at_moment events whole = held Kept_ rules keeps moving may (λ t f. told_start rules) events whole
+  at_moment events whole = held Kept_ rules keeps steps_move may (λ t f. told_start rules) events whole
 
   -- ---- segment
 
@@ -229,9 +229,9 @@ module _ (moving : StepsMove) (rules : Rules) (may : MayFound rules) where
         senders_order = senders_in_order w fit;
       }
 
-pub headline_where_steps_move : HeadlineWhereStepsMove
-headline_where_steps_move moving rules events may = record {
-  front = holds moving rules may (lawful_front rules events) (front_is_lawful rules events);
+pub headline_holds : HeadlineHolds
+headline_holds rules events may = record {
+  front = holds rules may (lawful_front rules events) (front_is_lawful rules events);
   begins = front_begins rules events;
   bounded = bounded_holds rules events may;
 }

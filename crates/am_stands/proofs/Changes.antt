@@ -97,12 +97,13 @@ unmoved w name x y s u h = onto_same name (within w name y) s (record {
 moved : (w : World) (name : ℕ) (x y : Node) (s : Group) (b : groups.Node) → y.core.log ≡ x.core.log → (move : Move s (with_node s name b)) → MoveOk move
     → b.told ≡ (s.node name).told → b.acc ≡ (s.node name).acc → (NameStands (within w name x) name x (s.node name) → NameStands (within w name y) name y b)
     → StandsBut name (within w name x) s → Onto name (within w name y) s
-moved w name x y s b log move ok told_ acc_ f h = onto_move name (within w name y) s (with_node s name b) move ok b (put_same s.node name b) told_ acc_ (record {
-  each = each_within w name x y s b f h.each;
-  fronts = fronts_within w name x y s b h.fronts;
-  views = views_in (within w name x) (within w name y) s.views refl (lines_within w name x y log) h.views;
-  group = h.group;
-})
+moved w name x y s b log move ok told_ acc_ f h = onto_move name (within w name y) s (with_node s name b) move ok b (put_same s.node name b) told_ acc_
+    (record {
+      each = each_within w name x y s b f h.each;
+      fronts = fronts_within w name x y s b h.fronts;
+      views = views_in (within w name x) (within w name y) s.views refl (lines_within w name x y log) h.views;
+      group = h.group;
+    })
 
 is_itself : (name : ℕ) → (name == name) ≡ true
 is_itself name = grind (arith, nat_tests)

@@ -262,7 +262,8 @@ none_opens [] e h = let z = h.same in absurd (cc)
 none_opens (x ∷ before) e h = let z = h.same in absurd (cc)
 
 pub welcome_stands : (w : World) (name : ℕ) (c : Cause) (x : Node) (v : Stamp) (base join : ℕ) (image : Image) (s : Group) → MayMove w name c x s
-    → NeedsWelcome s name v base join image → StandsBut name (within w name x) s → Leads (λ t. StandsBut name (within w name (begun x v base join image)) t × FrontsBegin name base t) s
+    → NeedsWelcome s name v base join image → StandsBut name (within w name x) s
+    → Leads (λ t. StandsBut name (within w name (begun x v base join image)) t × FrontsBegin name base t) s
 unfolding up_to_next
 welcome_stands w name c x v base join image s may needs h =
     let y = begun x v base join image in
@@ -280,20 +281,22 @@ welcome_stands w name c x v base join image s may needs h =
     let ch = s.views.chosen (key d.stamp) in
     absurd (none_opens ch.before (View ch.stamp ch.members ch.resilience) (subst (Begins (opening ch)) (n.line ∙ none) n.opens)))
     (λ f. rw f refl) in
-    one_move (λ t. StandsBut name (within w name y) t × FrontsBegin name base t) s (with_node s name b) (group.welcomes name v base join needs.may) tt
-    (record {
-      each = each_within w name x y s b (λ k. record {
-        begins = record { within = subst (λ (g : List Entry). base ≤ length g) h.group needs.within; image = needs.image_ ∙ ap told all_of };
-        list = all_of ∙ sym (append-nil (take base w.group));
-        log_ = refl;
-        stopped = k.stopped;
-        departed = needs.may.there.stays;
-        leaving = k.leaving;
-        promise = refl;
-        ballot = k.ballot;
-        start = λ t. refl;
-      }) h.each;
-      fronts = fronts_within w name x y s b h.fronts;
-      views = views_noted (within w name x) (within w name y) s.views refl lines h.views;
-      group = h.group;
-    }, record { told = ap (λ (m : groups.Node). m.told) (put_same s.node name b); acc = ap (λ (m : groups.Node). m.acc) (put_same s.node name b) })
+    one_move (λ t. StandsBut name (within w name y) t × FrontsBegin name base t) s (with_node s name b) (group.welcomes name v base join needs.may) tt (
+      record {
+        each = each_within w name x y s b (λ k. record {
+          begins = record { within = subst (λ (g : List Entry). base ≤ length g) h.group needs.within; image = needs.image_ ∙ ap told all_of };
+          list = all_of ∙ sym (append-nil (take base w.group));
+          log_ = refl;
+          stopped = k.stopped;
+          departed = needs.may.there.stays;
+          leaving = k.leaving;
+          promise = refl;
+          ballot = k.ballot;
+          start = λ t. refl;
+        }) h.each;
+        fronts = fronts_within w name x y s b h.fronts;
+        views = views_noted (within w name x) (within w name y) s.views refl lines h.views;
+        group = h.group;
+      },
+      record { told = ap (λ (m : groups.Node). m.told) (put_same s.node name b); acc = ap (λ (m : groups.Node). m.acc) (put_same s.node name b) },
+    )

@@ -69,7 +69,8 @@ unfolding refresh
 told_after x t within = rw t (lead_told x ∙ sym (lead_acc x within))
 
 -- and who follows accepts what it is told of
-pub advanced : (x : Node) → is_sequencer x ≡ false → ((refresh x).core.told ≡ x.core.told) × ((refresh x).core.acc ≡ max x.core.acc (min x.core.told (nodes.top x)))
+pub advanced : (x : Node) → is_sequencer x ≡ false
+    → ((refresh x).core.told ≡ x.core.told) × ((refresh x).core.acc ≡ max x.core.acc (min x.core.told (nodes.top x)))
 unfolding refresh accept pass_over
 advanced x f = rw f (refl, refl)
 

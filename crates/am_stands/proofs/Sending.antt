@@ -11,7 +11,6 @@ use Rattle.am_base.specs.Stamps.{stamp_eq, no_stamp}
 use Rattle.am_base.specs.Lists.{row_of, entry_at, image_at, fold}
 use Rattle.am_packet.specs.declared.packet.Packet.{Packet}
 use Rattle.am_packet.specs.declared.packet.Packet.TheVariants as packet
-
 use Rattle.am_chain_lists.specs.Whole.{Begins, mem, view_of, key}
 use Rattle.am_chain_lists.proofs.Members.{good_begins}
 use Rattle.am_chain_lists.proofs.Order.{key_by, view_small}
@@ -186,7 +185,8 @@ module _ (v : World) (i : ℕ) (c : Cause) (m n : Node) (s : Group) (h : Sender 
       let by : n.core.promise.by ≡ from = ap (λ (x : Stamp). x.by) (sym promise) ∙ same_number u.by from t in
       let asks = h.asked from stored u is in
       let asked = subst (λ (x : Stamp). FetchSays s from x asks.0) promise asks.2 in
-      shown_said v i from m.core.base number n e s asks.0 (speaks member) by (not_itself from asks.0 by asks.1 asked) asks.1 asked (start_asked from stored u is) at)
+      shown_said v i from m.core.base number n e s asks.0 (speaks member) by (not_itself from asks.0 by asks.1 asked) asks.1 asked
+      (start_asked from stored u is) at)
       (λ f.
       let rest : ((u.by == n.core.who) && stamp_eq (view n) u) ≡ true = rw f at both.1 in
       let own = and_both (u.by == n.core.who) (stamp_eq (view n) u) rest in

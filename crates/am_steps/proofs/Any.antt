@@ -1,5 +1,5 @@
 -- Which letters go to every life of their places: that of a joiner that asks, in every run.
-use Rattle.std.proofs.Common.{◌≡◌, refl}
+use Rattle.std.proofs.Common.{◌≡◌}
 use Rattle.std.specs.Prelude.{All}
 use Rattle.std.proofs.lemmas.List.Elements.{All-nil, All-append, All-weaker}
 use Rattle.am_base.specs.Founding.{Rules}

@@ -1,5 +1,5 @@
 -- The plain changes of a step: what each does to who acts, and to a sequencer that took a report.
-use Rattle.std.proofs.Common.{◌≡◌, ℕ, ◌+◌, ◌≤◌, ◌==◌, ◌&&◌, ◌||◌, not, nat_lt, Bool, true, false, List, length, refl, sym, ap, ◌∙◌, subst}
+use Rattle.std.proofs.Common.{◌≡◌, ℕ, ◌≤◌, ◌==◌, ◌||◌, not, nat_lt, Bool, true, false, List, length, refl, sym, ap, ◌∙◌, subst}
 use Rattle.am_base.specs.declared.image.Report.{Report}
 use Rattle.am_base.specs.declared.name.Stamp.{Stamp}
 use Rattle.am_base.specs.declared.entry.Entry.{Entry}
@@ -19,10 +19,11 @@ use Rattle.am_effects.specs.Changes.{opens, looks, fetches, stores_view, queues,
 use Rattle.am_effects.specs.Courses.{IsPlain}
 use Rattle.am_effects.proofs.Rests.{settle_is}
 use Rattle.am_effects.proofs.Says.{leads_pushed}
-use Rattle.am_laws.proofs.ViewChanges.{numbers_plain}
 use Rattle.am_stands.specs.Steps.{after_change}
 use Rattle.am_stands.specs.Keeping as plainly
+use Rattle.am_stands.proofs.Entries.{numbers_plain}
 use Rattle.am_steps.proofs.Grown.{pushed_group}
+use Rattle.am_steps.proofs.Statuses.{asking_stays}
 
 -- ---- what brings a report
 
@@ -82,7 +83,6 @@ look_welcomes b (as_it_is old open_ on) = may_look_welcomes on
 
 pub both_ways : (b : Bool) → b ≡ true → b ≡ false → ⊥
 both_ways b t f = (let z = sym t ∙ f in cc)
-
 
 -- ---- each plain change
 
@@ -160,12 +160,6 @@ stays x y (begins_list from v base join image is says_ may) p = record {
   gone = λ t. absurd (asking_stays x.status (and_both (not (from == x.core.who)) (is_member x.status || is_asking x.status) may.asks).1 t);
   member = λ f t. absurd (both_ways _ (ap was_welcomed is) f);
 }
-  where
-    asking_stays : (t : Status) → (is_member t || is_asking t) ≡ true → has_departed t ≡ true → ⊥
-    asking_stays status.Stranger a d = cc
-    asking_stays status.Asking a d = cc
-    asking_stays status.Member a d = cc
-    asking_stays status.Departed a d = cc
 stays x y (departs from v number is heard leaves) p = absurd p
 stays x y (promises v low why) p = stays_same x y refl
 stays x y (opens least resilience by may) p = stays_same x y refl

@@ -1,26 +1,23 @@
 -- A look at a ballot, which comes last before the end of a step: a view that it decided was noted.
-use Rattle.std.proofs.Common.{◌≡◌, ◌⊎◌, inl, inr, ⊎_elim, ℕ, ◌≤◌, max, true, false, List, [], ◌∷◌, ◌++◌, length, refl, sym, ap, ◌∙◌, subst, arith}
+use Rattle.std.proofs.Common.{◌≡◌, ◌⊎◌, inl, inr, ⊎_elim, ℕ, max, true, false, List, [], ◌∷◌, ◌++◌, refl, sym, ap, ◌∙◌, subst}
 use Rattle.am_base.specs.declared.name.Stamp.{Stamp}
 use Rattle.am_base.specs.declared.entry.Entry.{Entry}
 use Rattle.am_base.specs.declared.outcome.Outcome.{Outcome}
 use Rattle.am_base.specs.Founding.{Rules}
-use Rattle.am_base.specs.Lists.{Log, told_by}
 use Rattle.am_base.specs.Stamps.{stamp_lt}
 use Rattle.am_chain_moves.specs.Group.{Group}
-use Rattle.am_model.specs.Node.{Node, Ballot, view, acts, is_member, is_sequencer, told}
+use Rattle.am_model.specs.Node.{Node, Ballot, view, is_member, told}
 use Rattle.am_model.specs.Ballots.{Verdict, trimmed_for, left_in, need_of}
-use Rattle.am_model.specs.Group.{has_log}
 use Rattle.am_model.specs.World.{Decided, World, last_view}
 use Rattle.am_effects.specs.Causes.{Cause}
 use Rattle.am_effects.specs.Looks.{Balloting, Looks, finds_itself_out, waits, fetches_from_best, finds_too_few, finds_no_room, decides}
-use Rattle.am_effects.specs.Changes.{Changes, looks}
+use Rattle.am_effects.specs.Changes.{looks}
 use Rattle.am_effects.specs.Courses.{Course, nothing_yet, used_report, and_then, Deeds, plainly, looked}
 use Rattle.am_effects.proofs.Plans.{course_changes}
 use Rattle.am_effects.proofs.Rests.{rests_refresh}
 use Rattle.am_laws.proofs.Stamps.{below, not_above}
-use Rattle.am_laws.proofs.ViewNames.{HasNames, HeardNames}
 use Rattle.am_laws.proofs.ViewSteps.{SameView, Stood, view_last}
-use Rattle.am_laws.proofs.ViewChanges.{Balloted, changes_do, looked_at, log_of_member}
+use Rattle.am_laws.proofs.ViewChanges.{changes_do, looked_at, log_of_member}
 use Rattle.am_sent.proofs.Changes.{CauseSent}
 use Rattle.am_stands.specs.Growing.{Grows}
 use Rattle.am_stands.specs.Moving.{Moves}
@@ -32,9 +29,9 @@ use Rattle.am_stands.proofs.Onward.{grows_trans}
 use Rattle.am_stands.proofs.Stepped.{changes_go_on}
 use Rattle.am_steps.proofs.Worlds.{growing}
 use Rattle.am_steps.proofs.Refreshed.{Fronted}
-use Rattle.am_steps.proofs.Courses.{brings_report, was_welcomed, look_brings, look_welcomes, both_ways, stays}
+use Rattle.am_steps.proofs.Courses.{was_welcomed, look_brings, look_welcomes, both_ways, stays}
 use Rattle.am_steps.proofs.Fronts.{fronts_next}
-use Rattle.am_steps.proofs.Going.{Grown, as_before, by_reports, Going, going_on}
+use Rattle.am_steps.proofs.Going.{Grown, as_before, by_reports, going_on}
 
 -- with these views
 abbrev pub further : World → List Entry → List Decided → World

@@ -1,5 +1,5 @@
 -- The end of a step: the refresh, what of it settles a send, and what the step noted.
-use Rattle.std.proofs.Common.{◌≡◌, ◌≢◌, ⊎_elim, ℕ, ◌<◌, ◌≤◌, ◌==◌, ◌&&◌, not, max, Bool, true, false, if◌then◌else◌, List, [], ◌∷◌, ◌++◌, length, slice_get, Some}
+use Rattle.std.proofs.Common.{◌≡◌, ◌≢◌, ⊎_elim, ℕ, ◌<◌, ◌≤◌, ◌==◌, ◌&&◌, not, true, false, List, [], ◌∷◌, ◌++◌, slice_get, Some}
 use Rattle.std.proofs.Common.{refl, sym, ap, ◌∙◌, subst, arith}
 use Rattle.std.proofs.lemmas.Bool.Decides.{nat_tests}
 use Rattle.am_base.specs.declared.name.Stamp.{Stamp}
@@ -14,7 +14,7 @@ use Rattle.am_chain_moves.specs.Group.{Group, IsUp}
 use Rattle.am_model.specs.Node.{Node, top, view, told, is_member}
 use Rattle.am_model.specs.Group.{has_log}
 use Rattle.am_model.specs.Refresh.{refresh, settle}
-use Rattle.am_model.specs.World.{Decided, World, is_stopped, has_departed, decides, group_after, last_view, views_after}
+use Rattle.am_model.specs.World.{Decided, World, has_departed, decides, group_after, views_after}
 use Rattle.am_model.proofs.Greatest.{split, and_both}
 use Rattle.am_effects.specs.Causes.{Cause}
 use Rattle.am_effects.specs.Changes.{settles}
@@ -25,10 +25,9 @@ use Rattle.am_laws.proofs.ViewChanges.{log_of_member}
 use Rattle.am_laws.proofs.Views.{IsNoted}
 use Rattle.am_laws.proofs.ViewSteps.{SameView, Stood, Goes}
 use Rattle.am_sent.proofs.Changes.{CauseSent}
-use Rattle.am_stands.specs.Standing.{NameStands, FrontsStand, within}
+use Rattle.am_stands.specs.Standing.{FrontsStand}
 use Rattle.am_stands.specs.Growing.{Grows}
 use Rattle.am_stands.specs.Moving.{Moves}
-use Rattle.am_stands.specs.Sending.{KeptWhole}
 use Rattle.am_stands.specs.Keeping.{Stepping}
 use Rattle.am_stands.proofs.Ends.{then_moves}
 use Rattle.am_stands.proofs.Entries.{key_stamp, view_whole}
@@ -36,11 +35,12 @@ use Rattle.am_stands.proofs.Keeping.{old, whole}
 use Rattle.am_stands.proofs.Onward.{grows_trans}
 use Rattle.am_stands.proofs.Opens.{list_opens}
 use Rattle.am_stands.proofs.Stepped.{changes_go_on}
+use Rattle.am_steps.proofs.Statuses.{member_here}
 use Rattle.am_steps.proofs.Worlds.{growing}
-use Rattle.am_steps.proofs.Refreshed.{member_here, refresh_on}
+use Rattle.am_steps.proofs.Refreshed.{refresh_on}
 use Rattle.am_steps.proofs.Grown.{accepted_twice}
 use Rattle.am_steps.proofs.Going.{Grown, as_before, by_reports}
-use Rattle.am_steps.proofs.Deeds.{further, Decides, Seen, none_new, one_new, Done}
+use Rattle.am_steps.proofs.Deeds.{further, Seen, none_new, one_new, Done}
 
 -- ---- the group list at the end
 
@@ -90,7 +90,8 @@ ended_on rules w name c o m x s sent d =
     let r = refresh_on rules now name c x d.to d.goes d.fronts in
     let later = growing now (group_after d.group y) in
     let one = changes_go_on rules later name c o y n r.to (settles {m = y}) tt r.goes sent in
-    let is : group_after d.group y ≡ group_after w.group n = end_group w.group d.group x d.goes.along.owned.fronts.accepted d.grown ∙ sym (settled_group w.group y) in
+    let is : group_after d.group y ≡ group_after w.group n = end_group w.group d.group x d.goes.along.owned.fronts.accepted d.grown
+    ∙ sym (settled_group w.group y) in
     let same = settle_is y in
     let log : n.core.log ≡ x.core.log = ap (λ (z : Node). z.core.log) same ∙ (rests_refresh x).log in
     let who : n.core.who ≡ x.core.who = ap (λ (z : Node). z.core.who) same ∙ (rests_refresh x).rests.who in
@@ -101,19 +102,19 @@ ended_on rules w name c o m x s sent d =
       grows = grows_trans s d.to one.to d.grows (grows_trans d.to r.to one.to r.grows one.grows);
       goes = subst (λ g. Stepping rules (further w g d.views) name c n one.to) is one.goes;
       fronts = λ u. (
-      let here : has_departed y.status ≡ false = sym (ap (λ (z : Node). has_departed z.status) same) ∙ u in
-      let acc = ap (λ (z : Node). z.core.acc) same in
-      let told_ = ap (λ (z : Node). z.core.told) same in
-      let most = r.fronts.told here in
-      let none = r.nothing_heard in
-      let stays_told = one.fronts.told in
-      record { told = omega arith; acc = one.fronts.acc ∙ r.fronts.acc here ∙ sym acc });
+          let here : has_departed y.status ≡ false = sym (ap (λ (z : Node). has_departed z.status) same) ∙ u in
+          let acc = ap (λ (z : Node). z.core.acc) same in
+          let told_ = ap (λ (z : Node). z.core.told) same in
+          let most = r.fronts.told here in
+          let none = r.nothing_heard in
+          let stays_told = one.fronts.told in
+          record { told = omega arith; acc = one.fronts.acc ∙ r.fronts.acc here ∙ sym acc });
       seen = seen_end w m x n d.views log who d.seen;
     }
 
 -- ---- what was noted
 
-stamp_itself : (a : Stamp) → stamp_eq a a ≡ true
+pub stamp_itself : (a : Stamp) → stamp_eq a a ≡ true
 stamp_itself a = grind (arith, nat_tests)
 
 none_below : (a : Stamp) → stamp_lt a no_stamp ≡ false
@@ -124,9 +125,11 @@ unfolding view_of fold
 no_view = refl
 
 -- a step that noted no view decided none
-none_decided : (rules : Rules) (w : World) (name : ℕ) (c : Cause) (m n : Node) (t : Group) (group : List Entry) → Stepping rules (further w group w.views) name c n t
+none_decided : (rules : Rules) (w : World) (name : ℕ) (c : Cause) (m n : Node) (t : Group) (group : List Entry)
+    → Stepping rules (further w group w.views) name c n t
     → (has_log m.status ≡ true → Goes m.core.log n.core.log) → (has_log m.status ≡ true → has_log n.status ≡ true)
-    → (has_departed m.status ≡ false → has_departed n.status ≡ false) → ((k : ℕ) (d : Decided) → slice_get w.views k ≡ Some d → IsNoted w.nodes d) → w.nodes name ≡ m
+    → (has_departed m.status ≡ false → has_departed n.status ≡ false) → ((k : ℕ) (d : Decided) → slice_get w.views k ≡ Some d → IsNoted w.nodes d)
+    → w.nodes name ≡ m
     → (member : is_member m.status ≡ true) → (view n).by ≡ n.core.who → stamp_eq (view m) (view n) ≡ false → ⊥
 none_decided rules w name c m n t group h goes log_ there noted is member own differs =
     let had = log_of_member m.status member in
@@ -156,7 +159,8 @@ none_decided rules w name c m n t group h goes log_ there noted is member own di
 pub views_end : (rules : Rules) (w : World) (name : ℕ) (c : Cause) (m n : Node) (t : Group) (group : List Entry) (views : List Decided)
     → Stepping rules (further w group views) name c n t
     → (has_log m.status ≡ true → Goes m.core.log n.core.log) → (has_log m.status ≡ true → has_log n.status ≡ true)
-    → (has_departed m.status ≡ false → has_departed n.status ≡ false) → ((k : ℕ) (d : Decided) → slice_get w.views k ≡ Some d → IsNoted w.nodes d) → w.nodes name ≡ m
+    → (has_departed m.status ≡ false → has_departed n.status ≡ false) → ((k : ℕ) (d : Decided) → slice_get w.views k ≡ Some d → IsNoted w.nodes d)
+    → w.nodes name ≡ m
     → Seen w m n views → views ≡ views_after w.views m n
 views_end rules w name c m n t group views h goes log_ there noted is (none_new same) = split (decides m n)
     (λ u. absurd (
@@ -169,7 +173,8 @@ views_end rules w name c m n t group views h goes log_ there noted is (none_new 
 views_end rules w name c m n t group views h goes log_ there noted is (one_new d same) =
     let own : ((view n).by == n.core.who) ≡ true = (let z = d.own in grind (arith, nat_tests)) in
     let differs : stamp_eq (view m) (view n) ≡ false = split (stamp_eq (view m) (view n))
-    (λ u. absurd (let same_ = same_stamp (view m) (view n) u in let z : stamp_lt (view m) (view n) ≡ false = ap (stamp_lt (view m)) (sym same_) ∙ not_above_itself (view m) in
+    (λ u. absurd (let same_ = same_stamp (view m) (view n) u in
+    let z : stamp_lt (view m) (view n) ≡ false = ap (stamp_lt (view m)) (sym same_) ∙ not_above_itself (view m) in
     let up = d.above in cc)) (λ f. f) in
     let member = d.member in
     rw (member, own, differs) same

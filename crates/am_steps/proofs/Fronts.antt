@@ -1,5 +1,5 @@
 -- How far a name is told, and gives out, along plain changes of its step.
-use Rattle.std.proofs.Common.{◌≡◌, ℕ, ◌<◌, ◌≤◌, ◌==◌, ◌&&◌, max, nat_lt, true, false, length, refl, sym, ap, ◌∙◌, subst, arith}
+use Rattle.std.proofs.Common.{◌≡◌, ℕ, ◌<◌, ◌≤◌, ◌==◌, ◌&&◌, nat_lt, true, false, length, refl, sym, ap, ◌∙◌, arith}
 use Rattle.std.proofs.lemmas.Bool.Decides.{nat_tests}
 use Rattle.am_base.specs.declared.name.Stamp.{Stamp}
 use Rattle.am_base.specs.declared.outcome.Outcome.{Outcome}
@@ -21,14 +21,12 @@ use Rattle.am_effects.specs.Changes.{Change, refreshes, settles, takes_report, a
 use Rattle.am_effects.specs.Changes.{opens, looks, fetches, stores_view, queues, collects, takes, asks_to_join, asks_to_leave, closes}
 use Rattle.am_effects.proofs.Rests.{settle_is}
 use Rattle.am_laws.proofs.Stamps.{same_stamp}
-use Rattle.am_stands.specs.Accepting.{Word, nothing, of_sequencer}
+use Rattle.am_stands.specs.Accepting.{nothing, of_sequencer}
 use Rattle.am_stands.specs.Growing.{Grows}
 use Rattle.am_stands.specs.Letters.{SequencerSays}
 use Rattle.am_stands.specs.Steps.{FrontsStay, FrontsAfter}
 use Rattle.am_stands.specs.Keeping.{IsPlain, HeardSo, Stepping}
 use Rattle.am_stands.proofs.Keeping.{old}
-use Rattle.am_stands.proofs.Learned.{word_group}
-use Rattle.am_steps.proofs.Courses.{stays}
 use Rattle.am_steps.proofs.Refreshed.{Fronted, word_stays}
 
 -- ---- where they stay
@@ -88,7 +86,7 @@ noted_fronts rules w name c x s t from v base acc by heard h stay g f =
 
 -- ---- each change that goes on
 
-looked_fronts : {m : Node} {b : Ballot} {v : Verdict} (look : Looks m b v) → (v.node.core.acc ≡ m.core.acc) × (v.node.core.told ≡ m.core.told)
+pub looked_fronts : {m : Node} {b : Ballot} {v : Verdict} (look : Looks m b v) → (v.node.core.acc ≡ m.core.acc) × (v.node.core.told ≡ m.core.told)
     × (v.node.status ≡ m.status)
 looked_fronts (finds_itself_out a) = (refl, refl, refl)
 looked_fronts (waits a e) = (refl, refl, refl)

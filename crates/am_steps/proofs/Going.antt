@@ -1,28 +1,21 @@
 -- A step up to its end, as moves of the group.
-use Rattle.std.proofs.Common.{◌≡◌, ℕ, ◌≤◌, true, false, List, [], ◌∷◌, length, refl, sym, ap, ◌∙◌, subst, arith}
-use Rattle.am_base.specs.declared.name.Stamp.{Stamp}
-use Rattle.am_base.specs.declared.image.Report.{Report}
+use Rattle.std.proofs.Common.{◌≡◌, ℕ, ◌≤◌, true, List, length, refl, sym, ap, ◌∙◌, subst, arith}
 use Rattle.am_base.specs.declared.entry.Entry.{Entry}
 use Rattle.am_base.specs.declared.outcome.Outcome.{Outcome}
 use Rattle.am_base.specs.Founding.{Rules}
 use Rattle.am_base.specs.Lists.{Log}
-use Rattle.am_chain_lists.specs.Whole.{Begins}
-use Rattle.am_chain_lists.proofs.Prefixes.{begins_refl, begins_length}
 use Rattle.am_chain_moves.specs.Group.{Group}
-use Rattle.am_model.specs.Node.{Node, Ballot, top, is_sequencer, with_report}
-use Rattle.am_model.specs.Ballots.{Verdict}
-use Rattle.am_model.specs.Refresh.{refresh, settle}
-use Rattle.am_model.specs.World.{Decided, World, group_after}
-use Rattle.am_effects.specs.Causes.{Cause, BringsReport}
-use Rattle.am_effects.specs.Looks.{Balloting, Looks}
-use Rattle.am_effects.specs.Changes.{MayReport, Change, settles, takes_report, looks}
+use Rattle.am_model.specs.Node.{Node, top, is_sequencer, with_report}
+use Rattle.am_model.specs.Refresh.{refresh}
+use Rattle.am_model.specs.World.{World, group_after}
+use Rattle.am_effects.specs.Causes.{Cause}
+use Rattle.am_effects.specs.Changes.{Change, takes_report}
 use Rattle.am_effects.specs.Courses.{IsPlain, Course, nothing_yet, used_report, and_then}
-use Rattle.am_effects.proofs.Rests.{rests_refresh, leads_rests, settle_is}
+use Rattle.am_effects.proofs.Rests.{rests_refresh, leads_rests}
 use Rattle.am_sent.proofs.Changes.{CauseSent}
-use Rattle.am_stands.specs.Standing.{within}
 use Rattle.am_stands.specs.Growing.{Grows}
 use Rattle.am_stands.specs.Moving.{Moves, none}
-use Rattle.am_stands.specs.Steps.{after_look, after_change}
+use Rattle.am_stands.specs.Steps.{after_change}
 use Rattle.am_stands.specs.Keeping as plainly
 use Rattle.am_stands.specs.Keeping.{Next, Stepping}
 use Rattle.am_stands.proofs.Ends.{then_moves}
@@ -33,7 +26,6 @@ use Rattle.am_steps.proofs.Worlds.{growing}
 use Rattle.am_steps.proofs.Refreshed.{Fronted, refresh_on}
 use Rattle.am_steps.proofs.Courses.{brings_report, brings_true, plain_too, none_noted, leads_on}
 use Rattle.am_steps.proofs.Fronts.{fronts_next}
-use Rattle.am_steps.proofs.Grown.{accepted_twice}
 
 -- what the group list is by now: as before the step, or a sequencer that took a report has accepted more
 pub data Grown (c : Cause) (old group : List Entry) (x : Node) : Type 0 where

@@ -1,6 +1,6 @@
 -- What a sequencer's step makes of the group list, in two parts.
-use Rattle.std.proofs.Common.{◌≡◌, ℕ, ◌+◌, ◌-◌, ◌<◌, ◌≤◌, ◌==◌, nat_lt, true, false, List, [], ◌∷◌, ◌++◌, length, take, drop, refl, sym, ap, ◌∙◌, subst, arith}
-use Rattle.std.proofs.Common.{append-nil, append_assoc, length-append}
+use Rattle.std.proofs.Common.{◌≡◌, ℕ, ◌+◌, ◌-◌, ◌<◌, ◌≤◌, nat_lt, true, false, List, [], ◌∷◌, ◌++◌, length, take, drop, sym, ap, ◌∙◌, arith}
+use Rattle.std.proofs.Common.{append_assoc, length-append}
 use Rattle.std.proofs.Math.Seq.{take-add}
 use Rattle.std.proofs.lemmas.Bool.Decides.{nat_tests}
 use Rattle.std.proofs.lemmas.List.{length-take, length-drop, drop-drop, drop-append-le, take-append-le}
@@ -8,10 +8,10 @@ use Rattle.am_base.specs.declared.entry.Entry.{Entry}
 use Rattle.am_base.specs.Lists.{top_of, with_entry}
 use Rattle.am_core.specs.Cores.{CoreState}
 use Rattle.am_model.specs.Receiving.{is_view}
-use Rattle.am_model.specs.Node.{Node, view, is_sequencer, pushed}
+use Rattle.am_model.specs.Node.{Node, is_sequencer, pushed}
 use Rattle.am_model.specs.World.{grown, group_after}
 use Rattle.am_model.proofs.Greatest.{split}
-use Rattle.am_effects.proofs.Says.{leads_pushed, view_pushed}
+use Rattle.am_effects.proofs.Says.{leads_pushed}
 use Rattle.am_stands.proofs.Learning.{same_by, same_group}
 
 -- ---- an entry more
@@ -62,7 +62,8 @@ grown_twice group c d log low up high = split (nat_lt (length group) c.acc)
     ∙ (λ i. group ++ take (d.acc - g) (drop (g - (sym log i).start) (sym log i).entries))))
     (λ f. (let low_ : c.acc ≤ length group = grind (arith, nat_tests) in ap (λ l. grown l d) (same_group group c low_)))
 
-pub accepted_twice : (group : List Entry) (x y : Node) → is_sequencer x ≡ true → is_sequencer y ≡ true → y.core.log ≡ x.core.log → x.core.log.start ≤ length group
+pub accepted_twice : (group : List Entry) (x y : Node) → is_sequencer x ≡ true → is_sequencer y ≡ true → y.core.log ≡ x.core.log
+    → x.core.log.start ≤ length group
     → x.core.acc ≤ y.core.acc → x.core.acc ≤ top_of x.core.log → group_after (group_after group x) y ≡ group_after group y
 accepted_twice group x y leads leads_y log low up high =
     let by = same_by x leads in

@@ -1,5 +1,6 @@
 pub mod Stopped
 pub mod Once
+pub mod Statuses
 pub mod Owns
 pub mod Any
 pub mod Starting
@@ -9,3 +10,13 @@ pub mod Grown
 pub mod Courses
 pub mod Fronts
 pub mod Going
+pub mod Deeds
+pub mod Ends
+pub mod Landing
+pub mod Based
+pub mod Letters
+pub mod Silent
+pub mod Senders
+pub mod Departed
+pub mod Closing
+pub mod Steps

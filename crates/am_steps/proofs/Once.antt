@@ -1,5 +1,5 @@
 -- A request of a name stands for one body, in every run.
-use Rattle.std.proofs.Common.{◌≡◌, ⊎_elim, ℕ, ◌+◌, ◌<◌, ◌≤◌, List, [], ◌∷◌, ◌++◌, Some, slice_get, true, false, refl, sym, ap, ◌∙◌, subst, arith}
+use Rattle.std.proofs.Common.{◌≡◌, ⊎_elim, ℕ, ◌+◌, ◌≤◌, List, [], refl, sym, ap, subst, arith}
 use Rattle.am_base.specs.declared.outcome.Outcome.{Outcome}
 use Rattle.am_base.specs.declared.outcome.Outcome.TheVariants as said
 use Rattle.am_base.specs.declared.event.NodeEvent.TheVariants as does
@@ -8,25 +8,21 @@ use Rattle.am_sender.specs.Sends as own
 use Rattle.am_group.specs.declared.event.Act.{Act}
 use Rattle.am_group.specs.declared.event.Act.TheVariants as act
 use Rattle.am_group.specs.declared.event.Event.{Event}
-use Rattle.am_group.specs.declared.event.Record.{Record}
 use Rattle.am_model.specs.Node.{Node, Ballot, set_at}
 use Rattle.am_model.specs.Ballots.{Verdict}
 use Rattle.am_model.specs.Emit.{Step}
 use Rattle.am_model.specs.World.{World, start, record_of, unchanged, stepped, run}
-use Rattle.am_model.specs.Claims.{IsSend}
 use Rattle.am_model.proofs.Greatest.{split}
 use Rattle.am_effects.specs.Causes.{Cause, calls}
 use Rattle.am_effects.specs.Looks.{Looks, finds_itself_out, waits, fetches_from_best, finds_too_few, finds_no_room, decides}
 use Rattle.am_effects.specs.Changes.{Change, refreshes, settles, takes_report, admits, numbers, keeps_body, notes, stores, begins_list, departs, promises}
 use Rattle.am_effects.specs.Changes.{opens, looks, fetches, stores_view, queues, collects, takes, asks_to_join, asks_to_leave, closes}
 use Rattle.am_effects.specs.Effects.{Answers, WasQueued, AnswersAsk, Effect}
-use Rattle.am_effects.specs.Events as event
 use Rattle.am_effects.specs.Events.{actor, IsCall, IsCause, IsIdle, idles, stops, returns, steps}
 use Rattle.am_effects.proofs.Rests.{rests_refresh, rests_closed, settle_is}
 use Rattle.am_effects.proofs.Runs.{along, EachKeeps, runs_keep}
 use Rattle.am_sent.proofs.Runs.{after_step}
 use Rattle.am_unballoted.proofs.Worlds.{AskedOk, asked_more, asked_other, unique}
-use Rattle.am_stands.specs.Letters.{WasAsked}
 use Rattle.am_stands.specs.States.{SendsOnce}
 
 -- ---- a node's last request number only rises
@@ -84,18 +80,25 @@ asked_step w e c s h cause effect =
 
 -- ---- runs
 
-record AllAsked (w : World) : Type 0 where
-  asked : AskedOk w.records w.nodes
+pub record AllAsked (w : World) : Type 0 where
+  pub asked : AskedOk w.records w.nodes
 
 no_idle : (o : Outcome) (req : ℕ) → IsIdle o → o ≡ said.Queued req → ⊥
 no_idle o req idle is = subst IsIdle is idle
 
 asked_next : EachKeeps AllAsked
 unfolding unchanged stepped
-asked_next w e v (idles o idle) h = record { asked = asked_other w.records w.nodes (record_of w e o []) (λ name req body is. no_idle o req idle is.answered) h.asked }
-asked_next w e v (stops runs) h = record { asked = asked_other w.records w.nodes (record_of w e said.Stopped []) (λ name req body is. (let z = is.answered in absurd (cc))) h.asked }
+asked_next w e v (idles o idle) h = record {
+  asked = asked_other w.records w.nodes (record_of w e o [])
+      (λ name req body is. no_idle o req idle is.answered) h.asked;
+}
+asked_next w e v (stops runs) h = record {
+  asked = asked_other w.records w.nodes (record_of w e said.Stopped [])
+      (λ name req body is. (let z = is.answered in absurd (cc))) h.asked;
+}
 asked_next w e v (returns place at gone more) h = record {
-  asked = asked_other w.records w.nodes (record_of w e (said.Returned (w.lives place + 1)) []) (λ name req body is. (let z = is.answered in absurd (cc))) h.asked;
+  asked = asked_other w.records w.nodes (record_of w e (said.Returned (w.lives place + 1)) [])
+      (λ name req body is. (let z = is.answered in absurd (cc))) h.asked;
 }
 asked_next w e v (steps c s runs cause effect) h = record { asked = asked_step w e c s h.asked cause effect }
 
@@ -104,12 +107,7 @@ none_asked rules = record {
   asked = record { low = λ k r name req body there is. absurd (cc); once = λ k l r s name req body other a b is also. absurd (cc) };
 }
 
-sends_once : (w : World) → AllAsked w → SendsOnce w
-sends_once w h name req a b p q = (unique w.records w.nodes h.asked).one name req a b
-    (record { index = p.index; send = p.done; there = p.there; is = p.is }) (record { index = q.index; send = q.done; there = q.there; is = q.is })
-
--- before a step, and with its record
-pub run_once : (rules : Rules) (events : List Event) → AllAsked (run rules events)
+run_once : (rules : Rules) (events : List Event) → AllAsked (run rules events)
 run_once rules events = runs_keep AllAsked asked_next (start rules) events (none_asked rules)
 
 pub step_once : (rules : Rules) (events : List Event) (e : Event) (c : Cause) (s : Step) → IsCause (run rules events) (actor (run rules events) e) e.act c
@@ -117,4 +115,5 @@ pub step_once : (rules : Rules) (events : List Event) (e : Event) (c : Cause) (s
 step_once rules events e c s cause effect =
     let w = run rules events in
     let z = asked_step w e c s (run_once rules events).asked cause effect in
-    sends_once (record w { records = after_step w e s; nodes = set_at w.nodes (actor w e) s.node }) (record { asked = z })
+    λ name req a b p q. (unique (after_step w e s) (set_at w.nodes (actor w e) s.node) z).one name req a b
+    (record { index = p.index; send = p.done; there = p.there; is = p.is }) (record { index = q.index; send = q.done; there = q.there; is = q.is })

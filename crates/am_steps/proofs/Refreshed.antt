@@ -1,10 +1,9 @@
 -- A refresh within a step: the group accepts what it accepts, and the name learns of it; and then all is known again.
-use Rattle.std.proofs.Common.{◌≡◌, ℕ, ◌<◌, ◌≤◌, ◌==◌, max, min, Bool, true, false, List, [], length, refl, sym, ap, ◌∙◌, subst, arith, append-nil}
+use Rattle.std.proofs.Common.{◌≡◌, ℕ, ◌≤◌, max, true, false, List, [], length, refl, sym, ap, ◌∙◌, subst, arith, append-nil}
 use Rattle.am_base.specs.declared.entry.Entry.{Entry}
 use Rattle.am_base.specs.declared.outcome.Outcome.TheVariants as said
 use Rattle.am_base.specs.Founding.{Rules}
 use Rattle.am_base.specs.Lists.{top_of}
-use Rattle.am_packet.specs.declared.packet.Packet.{Packet}
 use Rattle.am_chain_lists.specs.Whole.{Begins}
 use Rattle.am_chain_lists.proofs.Prefixes.{begins_refl}
 use Rattle.am_chain_moves.specs.Group as groups
@@ -13,8 +12,6 @@ use Rattle.am_chain_moves.specs.Moves as group
 use Rattle.am_chain_moves.specs.Moves.{with_node}
 use Rattle.am_chain_moves.specs.Kept.{Kept}
 use Rattle.am_chain_moves.proofs.Puts.{put_same}
-use Rattle.am_model.specs.declared.status.Status.{Status}
-use Rattle.am_model.specs.declared.status.Status.TheVariants as status
 use Rattle.am_model.specs.Node as nodes
 use Rattle.am_model.specs.Node.{Node, is_member, is_sequencer, lowest_or_first}
 use Rattle.am_model.specs.Calls.{is_unfinished}
@@ -33,17 +30,16 @@ use Rattle.am_stands.specs.Standing.{NameStands, StandsBut, within}
 use Rattle.am_stands.specs.Accepting.{MayCount, Word, nothing, of_sequencer, ComesTo, AcceptsAndLearns}
 use Rattle.am_stands.specs.Growing.{Grows}
 use Rattle.am_stands.specs.Moving.{Moves, none, moves}
-use Rattle.am_stands.specs.States.{ReportsStand}
-use Rattle.am_stands.specs.Keeping.{GroupFor, Stepping, Refreshing}
-use Rattle.am_stands.proofs.Changes.{Unmoved, own_name, same_name, is_up}
+use Rattle.am_stands.specs.Keeping.{Stepping}
+use Rattle.am_stands.proofs.Changes.{Unmoved, own_name, is_up}
 use Rattle.am_stands.proofs.ChainNames.{front_named, counts_names}
-use Rattle.am_stands.proofs.Ends.{accept_moves, then_moves, name_grows}
+use Rattle.am_stands.proofs.Ends.{accept_moves, then_moves}
 use Rattle.am_stands.proofs.Keeping.{kept, old}
-use Rattle.am_stands.proofs.Learned.{word_group}
 use Rattle.am_stands.proofs.Learning.{no_more_group, refresh_learns, advanced}
 use Rattle.am_stands.proofs.Letters.{letters_stay, sequencer_stays}
-use Rattle.am_stands.proofs.Onward.{goes_on, grows_same, group_kept}
+use Rattle.am_stands.proofs.Onward.{goes_on, grows_same}
 use Rattle.am_stands.proofs.Refreshing.{refreshes_keep}
+use Rattle.am_steps.proofs.Statuses.{bare_status, member_here}
 use Rattle.am_steps.proofs.Worlds.{growing, grown_stands, same_stands, learned, learned_stands, keeps_in, once_in}
 
 -- ---- how far a name was told, and gives out, within its step
@@ -76,13 +72,6 @@ unmoved_refresh x =
       start = r.begins;
     }
 
--- who is no member, and hasn't departed, has no list
-bare_status : (t : Status) → is_member t ≡ false → has_departed t ≡ false → has_log t ≡ false
-bare_status status.Stranger m d = refl
-bare_status status.Asking m d = refl
-bare_status status.Member m d = absurd (cc)
-bare_status status.Departed m d = absurd (cc)
-
 no_leader : (x : Node) → is_member x.status ≡ false → is_sequencer x ≡ false
 no_leader x f = split (is_sequencer x) (λ t. absurd (let z = leads_member x t in cc)) (λ g. g)
 
@@ -105,10 +94,11 @@ module _ (rules : Rules) (w : World) (name : ℕ) (c : Cause) (x : Node) (s : Gr
   k = kept rules w name c x s h
 
   along : Along rules y
-  along = along_changes {o = said.Ticked} rules x y h.names h.used (changed {m = x} refreshes unchanged) h.along
+  along = along_changes rules {o = said.Ticked} x y h.names h.used (changed {m = x} refreshes unchanged) h.along
 
   -- from the group that accepted, and in which the name learned
-  gone_on : (g : List Entry) (t : Group) → Moves s t → Begins w.group g → StandsBut name (within (growing w g) name y) t → (t.node name).list ≡ (s.node name).list
+  gone_on : (g : List Entry) (t : Group) → Moves s t → Begins w.group g → StandsBut name (within (growing w g) name y) t
+      → (t.node name).list ≡ (s.node name).list
       → y.core.acc ≤ length t.group → Stepping rules (growing w g) name c y t
   gone_on g t path grows stands list low =
       let on = goes_on rules.founders (lowest_or_first rules.founders) rules.resilience s t h.group path in
@@ -163,7 +153,7 @@ module _ (rules : Rules) (w : World) (name : ℕ) (c : Cause) (x : Node) (s : Gr
               (front_named (s.node name).list (chain_of s.views) ((k.each name).list (is_up w name x (s.node name) h.runs member mine)) h.group.named);
         }
 
-    comes : ComesTo w s name f.heard x
+    pub comes : ComesTo w s name f.heard x
     comes =
         let own = (k.each name).fronts in
         let acc_ = f.acc here in
@@ -201,7 +191,9 @@ module _ (rules : Rules) (w : World) (name : ℕ) (c : Cause) (x : Node) (s : Gr
     path : Moves s next
     path =
         let l = learns.learns in
-        let more : Moves middle next = moves (group.learns name told (refresh x).core.acc l.up (omega arith) l.told l.before l.up_to l.given l.within) tt none in
+        let learn : group.Move middle next =
+        group.learns name told (refresh x).core.acc l.up (omega arith) l.told l.before l.up_to l.given l.within in
+        let more : Moves middle next = moves learn tt none in
         then_moves (accept_moves w s name y h.stands.group learns.accepts) more
 
     stands : StandsBut name (within (growing w after) name y) next
@@ -259,12 +251,6 @@ module _ (rules : Rules) (w : World) (name : ℕ) (c : Cause) (x : Node) (s : Gr
     }
 
 -- ---- all together
-
-pub member_here : (t : Status) → is_member t ≡ true → has_departed t ≡ false
-member_here status.Stranger m = refl
-member_here status.Asking m = refl
-member_here status.Member m = refl
-member_here status.Departed m = absurd (cc)
 
 pub refresh_on : (rules : Rules) (w : World) (name : ℕ) (c : Cause) (x : Node) (s : Group) → Stepping rules w name c x s → Fronted w name x s
     → Refreshed rules w name c x s

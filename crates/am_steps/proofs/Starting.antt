@@ -1,5 +1,6 @@
 -- What is known where a step begins: what the run keeps, with the step's record.
-use Rattle.std.proofs.Common.{◌≡◌, ⊎_elim, ℕ, zero, suc, ◌<◌, ◌≤◌, ◌==◌, nat_lt, Bool, true, false, if◌then◌else◌, List, [], ◌∷◌, ◌++◌, length, take, Some, slice_get, slice_index, get_or-set_same, refl, sym, ap, ◌∙◌, subst, arith}
+use Rattle.std.proofs.Common.{◌≡◌, ⊎_elim, ℕ, zero, suc, ◌<◌, ◌≤◌, ◌==◌, true, false, List, Some, slice_get, slice_index, get_or-set_same, refl, sym}
+use Rattle.std.proofs.Common.{ap, ◌∙◌, subst, arith}
 use Rattle.std.specs.Prelude.{All}
 use Rattle.std.proofs.lemmas.Bool.Decides.{nat_tests}
 use Rattle.am_base.specs.declared.name.Stamp.{Stamp}
@@ -23,7 +24,7 @@ use Rattle.am_chain_moves.specs.Group as groups
 use Rattle.am_chain_moves.specs.Group.{Group}
 use Rattle.am_model.specs.Node.{Node, set_at}
 use Rattle.am_model.specs.Emit.{Step}
-use Rattle.am_model.specs.World.{World, is_stopped, run}
+use Rattle.am_model.specs.World.{World, start, is_stopped, has_departed, run}
 use Rattle.am_model.specs.Claims.{heard_by}
 use Rattle.am_model.proofs.Greatest.{split}
 use Rattle.am_effects.specs.Causes.{Cause, calls, hears}
@@ -31,13 +32,14 @@ use Rattle.am_effects.specs.Effects.{Effect}
 use Rattle.am_effects.specs.Events as event
 use Rattle.am_effects.specs.Events.{actor, WasSentTo, IsCall, IsCause}
 use Rattle.am_effects.proofs.Items.{all_get, all_item}
+use Rattle.am_effects.proofs.Runs.{runs_keep}
 use Rattle.am_laws.specs.Packets.{stamp_of}
 use Rattle.am_laws.proofs.Named.{few_names}
 use Rattle.am_laws.proofs.RunCounts.{numbers_hold}
 use Rattle.am_laws.proofs.Views.{IsNoted, heard_names}
 use Rattle.am_laws.proofs.TakenRuns.{AllOwned, run_owned, each_along, heard_used}
 use Rattle.am_sent.proofs.Kept.{kept_more}
-use Rattle.am_sent.proofs.Runs.{after_step, run_sent}
+use Rattle.am_sent.proofs.Runs.{AllSent, after_step, each_keeps, sent_start}
 use Rattle.am_promises.specs.Claim.{AtMost, IsBegun, StampOk}
 use Rattle.am_stands.specs.Standing.{NameStands, StandsBut, Stands, within}
 use Rattle.am_stands.specs.Letters.{PacketSays, LetterSays}
@@ -69,7 +71,7 @@ set_same : (f : ℕ → Node) (i : ℕ) → set_at f i (f i) ≡ f
 set_same f i = λ k j. set_is f i j k
 
 -- as it is where a name's step begins
-stands_but : (w : World) (records : List Record) (name : ℕ) (s : Group) → Stands w s → StandsBut name (within (recorded w records) name (w.nodes name)) s
+pub stands_but : (w : World) (records : List Record) (name : ℕ) (s : Group) → Stands w s → StandsBut name (within (recorded w records) name (w.nodes name)) s
 stands_but w records name s h = subst (λ f. StandsBut name (record (recorded w records) { nodes = f }) s) (sym (set_same w.nodes name)) (record {
   each = λ i few. name_recorded w records i (w.nodes i) (s.node i) (h.each i few);
   fronts = λ i few other d. h.fronts i few d;
@@ -108,7 +110,8 @@ unfolding key
 none_key p = omega arith
 
 -- a stamp that was begun by a node was begun by what stands for it
-begun_stands : (w : World) (s : Group) (v : Stamp) → Stands w s → ((i : ℕ) → i < 256 → (w.nodes i).core.promise.by < 256) → v.by < 256 → IsBegun w.nodes v → WasBegun s v
+pub begun_stands : (w : World) (s : Group) (v : Stamp) → Stands w s → ((i : ℕ) → i < 256 → (w.nodes i).core.promise.by < 256) → v.by < 256 → IsBegun w.nodes v
+    → WasBegun s v
 begun_stands w s v h named small is = record {
   small = small;
   begun = subst (λ (u : Stamp). key v ≤ key u) (sym (h.each v.by small).promise) (⊎_elim
@@ -174,9 +177,13 @@ given_stopped w a ev other is event.tick = absurd (cc)
 
 -- ---- where a step begins
 
+pub run_sent : (rules : Rules) (events : List Event) → AllSent (run rules events)
+run_sent rules events = runs_keep AllSent each_keeps (start rules) events (sent_start rules)
+
 module _ (rules : Rules) (events : List Event) (e : Event) (c : Cause) (step : Step) (s : Group) (may : MayFound rules)
     (runs : is_stopped (run rules events) (actor (run rules events) e) ≡ false) (cause : IsCause (run rules events) (actor (run rules events) e) e.act c)
-    (effect : Effect ((run rules events).nodes (actor (run rules events) e)) c step) (h : Following rules (run rules events) s) where
+    (effect : Effect ((run rules events).nodes (actor (run rules events) e)) c step) (h : Following rules (run rules events) s)
+    (here : has_departed ((run rules events).nodes (actor (run rules events) e)).status ≡ false) where
   abbrev w : World
   w = run rules events
 
@@ -228,8 +235,10 @@ module _ (rules : Rules) (events : List Event) (e : Event) (c : Cause) (step : S
     once = step_once rules events e c step cause effect;
     begun = begun;
     heard = heard;
-    given = λ other is. (let call : IsCause w name e.act (calls (GiveUp other)) = subst (IsCause w name e.act) is cause in given_stopped w e.act (GiveUp other) other refl call);
-    keeps = others_keep w begun_world s s name m (λ j t. t) (grows_same s) (h.stands.each name few) (name_recorded w (after_step w e step) name m (s.node name) (h.stands.each name few))
-        (begins_refl w.group) (h.nodes name few);
+    given = λ other is. (let call : IsCause w name e.act (calls (GiveUp other)) = subst (IsCause w name e.act) is cause in
+        given_stopped w e.act (GiveUp other) other refl call);
+    keeps = others_keep w begun_world s s name m (λ j t. t) (grows_same s) (h.stands.each name few)
+        (name_recorded w (after_step w e step) name m (s.node name) (h.stands.each name few))
+        (begins_refl w.group) (h.nodes name few here);
     accepted = ((numbers_hold rules events).each name).acc;
   }

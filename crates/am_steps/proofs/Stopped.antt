@@ -1,12 +1,11 @@
 -- Who has stopped is one of the 256 names.
-use Rattle.std.proofs.Common.{◌≡◌, ℕ, ◌<◌, ◌==◌, ◌||◌, Bool, true, false, if◌then◌else◌, List, [], ◌∷◌, ◌++◌, refl, sym, ap, ◌∙◌, subst, arith}
+use Rattle.std.proofs.Common.{◌≡◌, ℕ, ◌<◌, ◌==◌, ◌||◌, true, false, List, [], ◌∷◌, ◌++◌, sym, ◌∙◌, arith}
 use Rattle.std.specs.List.{list_any}
 use Rattle.std.proofs.lemmas.Bool.Decides.{nat_tests}
 use Rattle.std.proofs.lemmas.List.Folds.{list_any-append}
 use Rattle.am_base.specs.Founding.{Rules, MayFound}
-use Rattle.am_base.specs.Names.{place_of}
 use Rattle.am_group.specs.declared.event.Event.{Event}
-use Rattle.am_model.specs.World.{World, start, current, is_stopped, unchanged, stepped, lives_on, run}
+use Rattle.am_model.specs.World.{World, start, current, is_stopped, unchanged, stepped, run}
 use Rattle.am_model.proofs.Greatest.{split}
 use Rattle.am_effects.specs.Events.{actor, idles, stops, returns, steps}
 use Rattle.am_effects.proofs.Runs.{EachKeeps, runs_keep}
@@ -30,7 +29,11 @@ pub record Few (rules : Rules) (w : World) : Type 0 where
 few_next : (rules : Rules) → EachKeeps (Few rules)
 unfolding unchanged stepped
 few_next rules w e v (idles o idle) h = record { named = each_named rules w e v (idles o idle) h.named; few = h.few }
-few_next rules w e v (stops runs) h = record { named = each_named rules w e v (stops runs) h.named; few = few_more w.stopped (actor w e) (few_names rules w e h.named) h.few }
+few_next rules w e v (stops runs) h = record {
+  named = each_named rules w e v (stops runs) h.named;
+  few = few_more w.stopped (actor w e)
+      (few_names rules w e h.named) h.few;
+}
 few_next rules w e v (steps c s runs cause effect) h = record { named = each_named rules w e v (steps c s runs cause effect) h.named; few = h.few }
 few_next rules w e v (returns place is gone more) h = record {
   named = each_named rules w e v (returns place is gone more) h.named;
@@ -41,4 +44,5 @@ few_next rules w e v (returns place is gone more) h = record {
     low = let a = h.named.least place in let b = h.named.most place in let c = is in omega arith
 
 pub few_stopped : (rules : Rules) (events : List Event) → MayFound rules → (j : ℕ) → is_stopped (run rules events) j ≡ true → j < 256
-few_stopped rules events may = (runs_keep (Few rules) (few_next rules) (start rules) events (record { named = start_named rules may; few = λ j t. absurd (cc) })).few
+few_stopped rules events may =
+    (runs_keep (Few rules) (few_next rules) (start rules) events (record { named = start_named rules may; few = λ j t. absurd (cc) })).few

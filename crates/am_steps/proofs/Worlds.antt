@@ -1,6 +1,5 @@
 -- A world within a step whose group list, and views, have gone on.
-use Rattle.std.proofs.Common.{◌≡◌, ◌≢◌, ℕ, ◌<◌, ◌==◌, true, false, List, [], ◌++◌, Some, slice_get, refl, sym, ap, ◌∙◌, subst, arith, append-nil}
-use Rattle.am_base.specs.declared.name.Stamp.{Stamp}
+use Rattle.std.proofs.Common.{◌≡◌, ℕ, ◌<◌, true, List, ◌++◌, Some, slice_get, refl, sym, ap, ◌∙◌}
 use Rattle.am_base.specs.declared.entry.Entry.{Entry}
 use Rattle.am_group.specs.declared.event.Record.{Record}
 use Rattle.am_chain_lists.specs.Whole.{Begins}
@@ -35,7 +34,8 @@ grown_stands v group name s grows noted h = record {
   each = λ i few. name_grows v (growing v group) i (v.nodes i) (s.node i) grows refl (h.each i few);
   fronts = h.fronts;
   views = views_noted v (growing v group) s.views refl (λ k d at. (let m = v.nodes d.stamp.by in
-      ap (λ l. up_to_next d.stamp (l ++ m.core.log.entries)) (taken_more m.core.log.start v.group group grows (h.each d.stamp.by (noted k d at)).begins.within))) h.views;
+      ap (λ l. up_to_next d.stamp (l ++ m.core.log.entries))
+      (taken_more m.core.log.start v.group group grows (h.each d.stamp.by (noted k d at)).begins.within))) h.views;
   group = refl;
 }
 

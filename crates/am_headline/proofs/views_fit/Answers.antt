@@ -1,6 +1,6 @@
 use Rattle.am_headline.proofs.Fits.{fitting_changes}
 use Rattle.am_headline.proofs.Rows.{row_ends}
-use Rattle.am_headline.proofs.views_fit_where_steps_move.Goals as goal
+use Rattle.am_headline.proofs.views_fit.Goals as goal
 
 pub returns : goal.returns
 returns c = fitting_changes
