@@ -175,7 +175,7 @@ pub record KeptBy (P : World → Group → Type 0) (rules : Rules) : Type 0 wher
       → IsCause (run rules events) (actor (run rules events) e) e.act c
       → Effect ((run rules events).nodes (actor (run rules events) e)) c step
       → stepped (run rules events) e (actor (run rules events) e) step ≡ happens (run rules events) e
-      → Following rules (run rules events) s → Moves s t → Grows s t
+      → Following rules (run rules events) s → Moves s t → Grows s t → Shaped t
       → Following rules (stepped (run rules events) e (actor (run rules events) e) step) t
       → P (run rules events) s → P (stepped (run rules events) e (actor (run rules events) e) step) t
   pub by_quiet : (w v : World) (s t : Group) → Quiet w v s t → P w s → P v t
@@ -290,7 +290,7 @@ module _ (P : World → Group → Type 0) (rules : Rules) (keeps : KeptBy P rule
         same = moves_mark f.path;
         noted = λ k d at. views_stay w.views (w.nodes (actor w e)) step.node k d at;
         is = keeps.by_quiet v v f.to (given f.to) (record { stays = stays_same v; grows = grows_given f.to; idle = inl refl })
-            (keeps.by_step events e c step s f.to may runs cause effect is h.follows f.path f.grows f.is h.is);
+            (keeps.by_step events e c step s f.to may runs cause effect is h.follows f.path f.grows shaped f.is h.is);
       }
 
   -- one event more

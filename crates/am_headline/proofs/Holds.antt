@@ -155,7 +155,7 @@ module _ (rules : Rules) (may : MayFound rules) where
 
   keeps : KeptBy Kept_ rules
   keeps = record {
-    by_step = λ events e c step s t m runs cause effect is old path grows new h. told_step rules events e c step s t m runs cause effect is old path grows new h;
+    by_step = λ events e c step s t m runs cause effect is old path grows shaped new h. told_step rules events e c step s t m runs cause effect is old path grows new h;
     by_quiet = by_idle;
   }
 

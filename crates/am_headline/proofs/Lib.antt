@@ -15,3 +15,5 @@ pub mod Moments
 pub mod Holds
 pub mod Fits
 pub mod Rows
+pub mod Heard
+pub mod Views

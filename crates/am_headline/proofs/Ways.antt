@@ -83,7 +83,7 @@ same_log m n who base acc taken start status_ leaving sends log entries =
 pub pushed_alike : (m : Node) (e : Entry) → Alike m (pushed m e)
 pushed_alike m e = pushes m (pushed m e) (e ∷ []) refl (omega arith) refl refl refl refl refl refl refl refl
 
-look_alike : (m : Node) (b : Ballot) (v : Verdict) → Looks m b v → Alike m v.node
+pub look_alike : (m : Node) (b : Ballot) (v : Verdict) → Looks m b v → Alike m v.node
 look_alike m b v (finds_itself_out x) = same_log m v.node refl (omega arith) refl refl refl refl refl refl refl refl
 look_alike m b v (waits x y) = same_log m v.node refl (omega arith) refl refl refl refl refl refl refl refl
 look_alike m b v (fetches_from_best x y z) = same_log m v.node refl (omega arith) refl refl refl refl refl refl refl refl
