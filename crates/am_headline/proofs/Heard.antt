@@ -1,5 +1,5 @@
 -- The node that hears a packet in a run, and who has a list to send of.
-use Rattle.std.proofs.Common.{◌≡◌, ◌⊎◌, ⊎_elim, inl, inr, ℕ, zero, suc, ◌==◌, not, nat_le, nat_lt, Bool, true, false, if◌then◌else◌, List, [], ◌∷◌, ◌++◌}
+use Rattle.std.proofs.Common.{◌≡◌, ◌⊎◌, ⊎_elim, inl, inr, ℕ, zero, suc, ◌≤◌, ◌==◌, not, nat_le, nat_lt, Bool, true, false, if◌then◌else◌, List, [], ◌∷◌, ◌++◌}
 use Rattle.std.proofs.Common.{Option, Some, None, slice_get, refl, sym, ap, ◌∙◌, subst, arith}
 use Rattle.std.proofs.lemmas.Bool.Decides.{nat_tests}
 use Rattle.am_base.specs.declared.outcome.Outcome.{Outcome}
@@ -11,7 +11,6 @@ use Rattle.am_group.specs.declared.event.Act.TheVariants as act
 use Rattle.am_group.specs.declared.event.Event.{Event}
 use Rattle.am_group.specs.Addressed.{is_for}
 use Rattle.am_group.specs.Journals.{letter_at}
-use Rattle.am_model.specs.declared.status.Status.TheVariants.{Departed}
 use Rattle.am_model.specs.Node.{Node}
 use Rattle.am_model.specs.Emit.{Plan, Step, finish, quiet}
 use Rattle.am_model.specs.Lengths.{packet_length}
@@ -32,23 +31,19 @@ use Rattle.am_headline.proofs.Ways.{look_alike}
 -- the packet by its row; or its first bytes, which are refused
 pub data HeardAs (m n : Node) (p : Packet) : Type 0 where
   whole_packet : n ≡ (hear m p).node → HeardAs m n p
-  too_short : n.core.log ≡ m.core.log → HeardAs m n p
+  too_short : n.core.log ≡ m.core.log → m.core.base ≤ n.core.base → HeardAs m n p
 
-ended : (x : Node) (b : Bool) → (if b then record x { status = Departed } else x).core.log ≡ x.core.log
-ended x true = refl
-ended x false = refl
-
-refused_log : (m : Node) (cause : ℕ) → (refused m cause).node.core.log ≡ m.core.log
+refused_so : (m : Node) (cause : ℕ) → ((refused m cause).node.core.log ≡ m.core.log) × (m.core.base ≤ (refused m cause).node.core.base)
 unfolding refused finish
-refused_log m cause = (rests_at_end m).log
+refused_so m cause = let r = rests_at_end m in (r.log, r.rests.base)
 
 cut_node : (m : Node) (keep : ℕ) (p : Packet) → HeardAs m (hear_cut m keep p).node p
 cut_node m keep p = by_test (nat_le (packet_length p) keep) (nat_lt keep 12)
   where
     by_test : (whole none : Bool) → HeardAs m (if whole then hear m p else if none then refused m 1 else refused m 5).node p
     by_test true none = whole_packet refl
-    by_test false true = too_short (refused_log m 1)
-    by_test false false = too_short (refused_log m 5)
+    by_test false true = (let r = refused_so m 1 in too_short r.0 r.1)
+    by_test false false = (let r = refused_so m 5 in too_short r.0 r.1)
 
 set_here : (nodes : ℕ → Node) (name : ℕ) (n : Node) → (if name == name then n else nodes name) ≡ n
 set_here nodes name n = let t : (name == name) ≡ true = grind (arith, nat_tests) in rw t refl

@@ -17,3 +17,4 @@ pub mod Fits
 pub mod Rows
 pub mod Heard
 pub mod Views
+pub mod Fitted

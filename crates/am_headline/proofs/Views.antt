@@ -33,7 +33,8 @@ use Rattle.am_stands.specs.Growing.{Grows}
 use Rattle.am_stands.proofs.Changes.{told_all, long_all}
 use Rattle.am_stands.proofs.Ends.{taken_more}
 use Rattle.am_stands.proofs.Parts.{image_whole}
-use Rattle.am_headline.proofs.Shapes.{OnLine, Shaped}
+use Rattle.am_headline.proofs.Lists.{item_begins}
+use Rattle.am_headline.proofs.Shapes.{Shaped}
 use Rattle.am_headline.proofs.Fits.{FitsAt}
 use Rattle.am_headline.proofs.Rows.{Stores}
 
@@ -91,15 +92,17 @@ pub record LineFits (rules : Rules) (s : Group) (v : Stamp) (base number : ℕ) 
   pub decided : s.views.decided (key v) ≡ true
   pub fits : FitIn rules (s.views.line (key v)) base number
 
-pub data PieceFits (rules : Rules) (s : Group) (sender : ℕ) (v : Stamp) (base number : ℕ) : Type 0 where
-  of_line : LineFits rules s v base number → PieceFits rules s sender v base number
-  of_shown : (list : List Entry) → s.shown (key v) sender ≡ Some list → FitIn rules list base number → PieceFits rules s sender v base number
-  over : PieceFits rules s sender v base number
+-- of that line, or of a list that was shown to the ballot, and sent of; or the view was decided before
+pub data PieceFits (rules : Rules) (s : Group) (sender : ℕ) (v : Stamp) (base number : ℕ) (e : Entry) : Type 0 where
+  of_line : LineFits rules s v base number → item_at (s.views.line (key v)) number ≡ Some e → PieceFits rules s sender v base number e
+  of_shown : (list : List Entry) → s.shown (key v) sender ≡ Some list → s.served (key v) sender ≡ true → item_at list number ≡ Some e
+      → FitIn rules list base number → PieceFits rules s sender v base number e
+  over : v.by ≢ sender → s.views.decided (key v) ≡ true → PieceFits rules s sender v base number e
 
 abbrev pub PacketFits : Rules → Group → Packet → Type 0
 PacketFits rules s (packet.Bcast i v base acc number e) = LineFits rules s v base number
 PacketFits rules s (packet.Order i v base acc number from req) = LineFits rules s v base number
-PacketFits rules s (packet.Piece i v base number e) = PieceFits rules s i v base number
+PacketFits rules s (packet.Piece i v base number e) = PieceFits rules s i v base number e
 PacketFits rules s (packet.Result i v base number names resilience) = v.by ≡ i → LineFits rules s v base number
 PacketFits rules s _ = Unit {0}
 
@@ -109,15 +112,16 @@ line_on rules s t v base number g h = record {
   fits = fit_more rules (s.views.line (key v)) (t.views.line (key v)) base number (g.lines (key v) h.decided) h.fits;
 }
 
-piece_on : (rules : Rules) (s t : Group) (i : ℕ) (v : Stamp) (base number : ℕ) → Grows s t → PieceFits rules s i v base number → PieceFits rules t i v base number
-piece_on rules s t i v base number g (of_line h) = of_line (line_on rules s t v base number g h)
-piece_on rules s t i v base number g (of_shown list is h) = of_shown list (g.shown (key v) i list is) h
-piece_on rules s t i v base number g over = over
+piece_on : (rules : Rules) (s t : Group) (i : ℕ) (v : Stamp) (base number : ℕ) (e : Entry) → Grows s t → PieceFits rules s i v base number e
+    → PieceFits rules t i v base number e
+piece_on rules s t i v base number e g (of_line h at) = of_line (line_on rules s t v base number g h) (item_begins number e (g.lines (key v) h.decided) at)
+piece_on rules s t i v base number e g (of_shown list is served at h) = of_shown list (g.shown (key v) i list is) (g.served (key v) i served) at h
+piece_on rules s t i v base number e g (over other d) = over other (g.decided (key v) d).0
 
 pub packet_on : (rules : Rules) (s t : Group) (p : Packet) → Grows s t → PacketFits rules s p → PacketFits rules t p
 packet_on rules s t (packet.Bcast i v base acc number e) g h = line_on rules s t v base number g h
 packet_on rules s t (packet.Order i v base acc number from req) g h = line_on rules s t v base number g h
-packet_on rules s t (packet.Piece i v base number e) g h = piece_on rules s t i v base number g h
+packet_on rules s t (packet.Piece i v base number e) g h = piece_on rules s t i v base number e g h
 packet_on rules s t (packet.Result i v base number names resilience) g h = λ by. line_on rules s t v base number g (h by)
 packet_on rules s t (packet.Request i v report req body) g h = tt
 packet_on rules s t (packet.Spread i v report req body) g h = tt
