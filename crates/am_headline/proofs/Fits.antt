@@ -40,7 +40,7 @@ use Rattle.am_bounded.proofs.Changes.{kept_change}
 
 -- ---- how many names
 
-few_size : (set : List ℕ) → size set ≤ length set
+pub few_size : (set : List ℕ) → size set ≤ length set
 few_size set = count_by-le-length (λ life. nat_lt 0 life) set
 
 -- a set of no other names has no more

@@ -1,28 +1,32 @@
 -- Up to its lawful front each node of a run has room for a View that leaves somebody out.
-use Rattle.std.proofs.Common.{◌≡◌, ◌≢◌, ◌⊎◌, ⊎_elim, inl, inr, ℕ, zero, suc, ◌+◌, ◌-◌, ◌<◌, ◌≤◌, ◌==◌, ◌&&◌, Bool, true, false, if◌then◌else◌, List, [], ◌∷◌, ◌++◌, length}
+use Rattle.std.proofs.Common.{◌≡◌, ◌≢◌, ◌⊎◌, ⊎_elim, inl, inr, ℕ, zero, suc, ◌+◌, ◌-◌, ◌<◌, ◌≤◌, ◌==◌, ◌&&◌, Bool, true, false, if◌then◌else◌, List, [], ◌∷◌, ◌++◌, length, take}
 use Rattle.std.proofs.Common.{Option, Some, None, slice_get, refl, sym, ap, ◌∙◌, subst, arith}
 use Rattle.std.proofs.lemmas.Bool.Decides.{nat_tests}
+use Rattle.std.proofs.lemmas.List.{length-map}
 use Rattle.am_base.specs.declared.entry.Entry.{Entry}
 use Rattle.am_base.specs.declared.entry.Entry.TheVariants.{Data, Join, Leave, View}
 use Rattle.am_base.specs.declared.name.Stamp.{Stamp}
 use Rattle.am_base.specs.Founding.{Rules, MayFound}
 use Rattle.am_base.specs.Names.{has, size}
-use Rattle.am_base.specs.Lists.{top_of, members_at}
+use Rattle.am_base.specs.Lists.{top_of, told_by, member_life, members_of, members_at}
+use Rattle.am_core.specs.Cores.{CoreState}
 use Rattle.am_base.specs.Stamps.{stamp_eq}
 use Rattle.am_packet.specs.declared.packet.Packet.{Packet}
 use Rattle.am_packet.specs.declared.packet.Packet.TheVariants as packet
 use Rattle.am_packet.specs.Boxes.{Letter}
 use Rattle.am_group.specs.declared.event.Event.{Event}
 use Rattle.am_group.specs.Journals.{item_at, letter_at}
-use Rattle.am_chain_lists.specs.Whole.{Begins, NotView, view_of, key}
+use Rattle.am_chain_lists.specs.Whole.{Begins, NotView, told, view_of, key}
 use Rattle.am_chain_lists.proofs.Order.{key_by, view_push, view_viewed}
-use Rattle.am_chain_lists.proofs.Prefixes.{begins_both, begins_push, begins_trans}
+use Rattle.am_chain_lists.proofs.Members.{long_told}
+use Rattle.am_chain_lists.proofs.Prefixes.{begins_both, begins_length, begins_push, begins_trans}
 use Rattle.am_chain_moves.specs.Group.{Group, IsUp}
 use Rattle.am_chain_moves.specs.Kept.{Kept}
 use Rattle.am_model.specs.declared.status.Status.{Status}
 use Rattle.am_model.specs.declared.status.Status.TheVariants as status
 use Rattle.am_model.specs.Calls.{is_unfinished}
-use Rattle.am_model.specs.Node.{Node, top, view, is_member, acts, set_at, founder, stranger, lowest_or_first}
+use Rattle.am_model.specs.Node.{Node, top, view, is_member, acts, founder, founders_view, lowest_or_first}
+use Rattle.am_model.specs.Node as nodes
 use Rattle.am_model.specs.Emit.{Step}
 use Rattle.am_model.specs.Hearing.{hears_member, hears_in_view, hears_sequencer}
 use Rattle.am_model.specs.Receiving.{is_view}
@@ -36,7 +40,7 @@ use Rattle.am_model.proofs.Runs.{front_is_lawful}
 use Rattle.am_effects.specs.Causes.{Cause, hears}
 use Rattle.am_effects.specs.Effects.{Effect}
 use Rattle.am_effects.specs.Letters.{Says, request, spread, bcast, order, accept, ack, nack, hold, join_ask, welcome, leave_ask, gone, invite, vote, fetch, piece}
-use Rattle.am_effects.specs.Letters.{result, hand_over}
+use Rattle.am_effects.specs.Letters.{result, hand_over, LetterSays}
 use Rattle.am_effects.specs.Events.{actor, IsCause, WasSentTo}
 use Rattle.am_effects.proofs.Items.{all_get}
 use Rattle.am_effects.proofs.Statuses.{logged}
@@ -45,6 +49,7 @@ use Rattle.am_laws.proofs.RunCounts.{numbers_hold}
 use Rattle.am_laws.proofs.Stamps.{same_stamp}
 use Rattle.am_laws.proofs.TakenRuns.{Along, each_along, heard_used, run_owned}
 use Rattle.am_laws.proofs.Views.{heard_names}
+use Rattle.am_watched.proofs.Lists.{lists_go_on}
 use Rattle.am_unballoted.proofs.Lists.{item_get, item_within}
 use Rattle.am_stands.specs.Letters as says
 use Rattle.am_stands.specs.Letters.{PacketSays, PieceSays, ResultSays}
@@ -64,7 +69,7 @@ use Rattle.am_steps.proofs.Steps.{steps_move}
 use Rattle.am_headline.proofs.Shapes.{Shaped}
 use Rattle.am_headline.proofs.Fold.{Quiet, KeptBy, run_push}
 use Rattle.am_headline.proofs.Begun.{held}
-use Rattle.am_headline.proofs.Fits.{BringsEntry, by_bcast, by_order, by_piece, by_result, FitsAt, fitting_changes}
+use Rattle.am_headline.proofs.Fits.{BringsEntry, by_bcast, by_order, by_piece, by_result, FitsAt, few_size, fitting_changes}
 use Rattle.am_headline.proofs.Rows as done
 use Rattle.am_headline.proofs.Rows.{Stores, Does, OrderDoes, InView, Piecewise, Fetched, Viewing, bcast_does, order_does, piece_does, result_does, row_ends}
 use Rattle.am_headline.proofs.Heard.{HeardAs, whole_packet, too_short, heard_as, sender_stays}
@@ -108,6 +113,9 @@ in_view m s v t =
     let a = (and_both (hears_in_view m s v) (v.by == s) t).0 in
     let b = (and_both (hears_member m s) _ a).1 in
     same_stamp v (view m) (and_both (acts m) (stamp_eq v (view m)) b).1
+
+two : (a b : ℕ) → (a ≤ b) ⊎ (b < a)
+two a b = grind arith
 
 -- ---- a step
 
@@ -379,3 +387,159 @@ module _ (rules : Rules) (events : List Event) (e : Event) (c : Cause) (step : S
       by_packet number (by_order from u base acc by req heard_) above within = fits_order from u base acc number by req heard_ above within
       by_packet number (by_piece from u base x heard_) above within = fits_piece from u base number x heard_ above within
       by_packet number (by_result from u base names resilience heard_) above within = fits_result from u base number names resilience heard_ above within
+
+  -- ---- its letters
+
+  abbrev x : Node
+  x = effect.sender
+
+  core_x : n.core ≡ x.core
+  core_x = ap (λ (y : Node). y.core) effect.is
+
+  own_fit : (number : ℕ) → n.core.base < number → number ≤ top n → FitIn rules (t.node i).list n.core.base number
+  own_fit number above within =
+      let start = order_n in
+      node_fit rules v i number n (t.node i) stands_n (omega arith) within (node_now.each number above within)
+
+  runs_v : is_stopped v i ≡ false
+  unfolding stepped
+  runs_v = runs
+
+  -- who has an entry is up, if it hasn't departed
+  up_n : has_departed n.status ≡ false → (number : ℕ) → n.core.base < number → number ≤ top n → IsUp (t.node i)
+  up_n stays number above within = record {
+    log = split (t.node i).has_log (λ y. y)
+        (λ f. absurd (let nil = ap length ((kept_t.each i).blank f) in let long = long_all v i n (t.node i) stands_n in omega arith));
+    there = record { goes = stands_n.stopped ∙ runs_v; stays = stands_n.departed ∙ stays };
+  }
+
+  -- of who is up, an entry of its list fits the line of its promise
+  sent_line : has_departed n.status ≡ false → (number : ℕ) → number ≤ top x → number ≤ length (t.views.line (key x.core.promise))
+      → t.views.decided (key x.core.promise) ≡ true → LineFits rules t x.core.promise x.core.base number
+  sent_line stays number within long d = subst (λ (q : CoreState). LineFits rules t q.promise q.base number) core_x
+      (own_line (subst (λ (q : CoreState). number ≤ top_of q.log) (sym core_x) within)
+      (subst (λ (q : CoreState). number ≤ length (t.views.line (key q.promise))) (sym core_x) long)
+      (subst (λ (q : CoreState). t.views.decided (key q.promise) ≡ true) (sym core_x) d))
+    where
+      own_line : number ≤ top n → number ≤ length (t.views.line (key n.core.promise)) → t.views.decided (key n.core.promise) ≡ true
+          → LineFits rules t n.core.promise n.core.base number
+      own_line within long d = record {
+        decided = d;
+        fits = ⊎_elim
+            (λ (low : number ≤ n.core.base). fit_low rules (t.views.line (key n.core.promise)) n.core.base number low long)
+            (λ (above : n.core.base < number). subst (λ (y : Stamp). FitIn rules (t.views.line (key y)) n.core.base number) stands_n.promise
+            (fit_more rules (t.node i).list (t.views.line (key (t.node i).promise)) n.core.base number
+            (promised_line t i kept_t (up_n stays number above within) (ap (λ y. t.views.decided (key y)) stands_n.promise ∙ d))
+            (own_fit number above within)))
+            (two number n.core.base);
+      }
+
+  -- a list that it showed
+  shown_fit : (list : List Entry) (u : Stamp) (number : ℕ) (en : Entry) → t.shown (key u) i ≡ Some list → item_at list number ≡ Some en
+      → FitIn rules list x.core.base number
+  shown_fit list u number en shown at = subst (λ (q : CoreState). FitIn rules list q.base number) core_x
+      (let begins = (kept_t.shown (key u) i list shown).list in
+      let low = item_within list number en at in
+      let long = begins_length begins in
+      let all = long_all v i n (t.node i) stands_n in
+      ⊎_elim
+      (λ (below : number ≤ n.core.base). fit_low rules list n.core.base number below low.1)
+      (λ (above : n.core.base < number). fit_less rules list (t.node i).list n.core.base number begins low.1
+      (own_fit number above (let z = low.1 in omega arith)))
+      (two number n.core.base))
+
+  who_x : x.core.who ≡ i
+  who_x = sym (ap (λ (q : CoreState). q.who) core_x) ∙ (lists_go_on rules events e c step may runs cause effect).own
+
+  view_low : nodes.told x ≡ told (t.node i).list → (nodes.told x).view_number ≤ top x
+  view_low same =
+      let low = number_low (t.node i).list in
+      let long = long_all v i n (t.node i) stands_n in
+      let number = ap (λ g. g.view_number) same in
+      let high = ap (λ (q : CoreState). top_of q.log) core_x in
+      omega arith
+
+  packet_sent : has_departed n.status ≡ false → (to : List ℕ) (p : Packet) → Says m c x to p → PacketSays v t to p → PacketFits rules t p
+  packet_sent stays to p (bcast _ number en leads at) h_ =
+      let says_ = h_.1 in
+      sent_line stays number at.within (item_within (t.views.line (key x.core.promise)) number en says_.stands).1 says_.sequencer.decided
+  packet_sent stays to p (order _ number from req u report body heard_ leads at) h_ =
+      let says_ = h_.1.entry in
+      sent_line stays number at.within (item_within (t.views.line (key x.core.promise)) number (Data from req h_.1.body) says_.stands).1 says_.sequencer.decided
+  packet_sent stays to p (piece from u stored number en heard_ may_ at) h_ = by_piece_says h_.1
+    where
+      by_piece_says : PieceSays t x.core.who x.core.promise number en → PieceFits rules t x.core.who x.core.promise x.core.base number en
+      by_piece_says (says.of_line by d there) =
+          of_line (sent_line stays number at.within (item_within (t.views.line (key x.core.promise)) number en there).1 d) there
+      by_piece_says (says.of_shown so) = of_shown so.list so.shown so.served so.stands
+          (shown_fit so.list x.core.promise number en (ap (λ k. t.shown (key x.core.promise) k) (sym who_x) ∙ so.shown) so.stands)
+      by_piece_says (says.over other d) = over other d
+  packet_sent stays to p (result _ number names is_ viewed may_) h_ = λ by.
+      (let says_ = h_.1 by in
+      let same : nodes.told x ≡ told (t.node i).list = ap (λ (q : CoreState). told_by q.log) (sym core_x) ∙ sym (told_all v i n (t.node i) stands_n) in
+      sent_line stays number (let z = view_low same in omega arith)
+      (item_within (t.views.line (key x.core.promise)) number _ says_.stands).1 says_.decided)
+  packet_sent stays to p (request _ req body a f z) h_ = tt
+  packet_sent stays to p (spread _ req body a f z) h_ = tt
+  packet_sent stays to p (accept _ poll l) h_ = tt
+  packet_sent stays to p (ack _ a) h_ = tt
+  packet_sent stays to p (nack _ a) h_ = tt
+  packet_sent stays to p (hold _ from u report req body by l) h_ = tt
+  packet_sent stays to p (join_ask _ a) h_ = tt
+  packet_sent stays to p (welcome name l may_) h_ = tt
+  packet_sent stays to p (leave_ask _ a l) h_ = tt
+  packet_sent stays to p (gone name l may_) h_ = tt
+  packet_sent stays to p (invite _ may_) h_ = tt
+  packet_sent stays to p (vote from u heard_) h_ = tt
+  packet_sent stays to p (fetch _ may_) h_ = tt
+  packet_sent stays to p (hand_over _ l leaves) h_ = tt
+
+  -- who sends something is there
+  sender_there : (k : ℕ) (l : Letter) → slice_get step.letters k ≡ Some l → has_departed n.status ≡ false
+  sender_there k l at = sender_stays m n step.letters k l effect.ending at (split (has_departed m.status)
+      (λ d. absurd (let none = departed_quiet w e step (departed_silent m (departed_is m.status d) (old.gone i few d)) (sym is) in
+      let got = ap (λ ls. slice_get ls k) (sym none) ∙ at in cc))
+      (λ f. f))
+
+  fitted_step : Fitted rules v t
+  unfolding stepped
+  fitted_step = record {
+    nodes = λ j. split (j == i) (λ y. rw y node_now) (λ f. rw f (h.nodes j));
+    letters = λ k l at. ⊎_elim
+        (λ (was : slice_get w.letters k ≡ Some l). packet_on rules s t l.packet grows (h.letters k l was))
+        (λ (now : (j : ℕ) × (slice_get step.letters j ≡ Some l)).
+        packet_sent (sender_there now.0 l now.1) l.to l.packet (all_get (LetterSays m c x) step.letters now.0 l effect.letters now.1).says (new.letters k l at))
+        (get_either w.letters step.letters k l at);
+  }
+
+-- ---- up to the lawful front
+
+-- at the start there is one entry, and the window isn't empty
+first_fits : (rules : Rules) (name number : ℕ) → MayFound rules → number ≤ top (founder rules name) → FitsAt rules (founder rules name) number
+first_fits rules name number may within =
+    let list = founders_view rules ∷ [] in
+    let rows = long_told (take (number - 0) list) in
+    let count = length-map (told (take (number - 0) list)).rows member_life in
+    let most = few_size (members_of (told (take (number - 0) list))) in
+    let window = may.window_least in
+    omega arith
+
+start_fits : (rules : Rules) → MayFound rules → (name : ℕ) → FitsView rules ((start rules).nodes name)
+start_fits rules may name = split (has rules.founders name)
+    (λ t. rw t (record { each = λ number above within. first_fits rules name number may within }))
+    (λ f. rw f (record { each = λ number above within. absurd (omega arith) }))
+
+fitted_keeps : (rules : Rules) → KeptBy (Fitted rules) rules
+fitted_keeps rules = record {
+  by_step = λ events e c step s t may runs cause effect is old path grows shaped new h.
+      fitted_step rules events e c step s t may runs cause effect is old grows shaped new h;
+  by_quiet = λ w v s t q h. record {
+      nodes = λ i. subst (λ (f : ℕ → Node). FitsView rules (f i)) (sym q.stays.nodes) (h.nodes i);
+      letters = λ k l at. packet_on rules s t l.packet q.grows (h.letters k l (ap (λ (ls : List Letter). slice_get ls k) (sym q.stays.letters) ∙ at));
+  };
+}
+
+pub views_fit : ViewsFit
+views_fit rules events name may =
+    (held (Fitted rules) rules (fitted_keeps rules) steps_move may (λ t f. record { nodes = start_fits rules may; letters = λ k l at. absurd (cc) })
+    (lawful_front rules events) (front_is_lawful rules events)).is.nodes name
