@@ -1,6 +1,6 @@
 -- How far above its base a name's entries lie, by the members at each: within a step.
-use Rattle.std.proofs.Common.{◌≡◌, ◌⊎◌, ⊎_elim, inl, inr, ℕ, zero, suc, ◌+◌, ◌-◌, ◌<◌, ◌≤◌, max, ◌==◌, ◌&&◌, not, nat_lt, nat_le, Bool, true, false, if◌then◌else◌}
-use Rattle.std.proofs.Common.{List, [], ◌∷◌, ◌++◌, length, map, Option, Some, slice_index, unwrap_or, refl, sym, ap, ◌∙◌, subst, length-append, arith}
+use Rattle.std.proofs.Common.{◌≡◌, ◌⊎◌, ⊎_elim, inl, inr, ℕ, suc, ◌+◌, ◌-◌, ◌<◌, ◌≤◌, max, ◌==◌, ◌&&◌, not, nat_lt, Bool, true, if◌then◌else◌}
+use Rattle.std.proofs.Common.{List, [], ◌∷◌, length, slice_index, refl, sym, ap, ◌∙◌, subst, length-append, arith}
 use Rattle.std.proofs.lemmas.Bool.Decides.{nat_tests}
 use Rattle.std.proofs.lemmas.List.{length-map, get_or-map}
 use Rattle.std.proofs.lemmas.List.Sums.{count_by-le-length}
@@ -11,21 +11,20 @@ use Rattle.am_base.specs.declared.image.Row.{Row}
 use Rattle.am_base.specs.declared.name.Stamp.{Stamp}
 use Rattle.am_base.specs.declared.outcome.Outcome.{Outcome}
 use Rattle.am_base.specs.Founding.{Rules}
-use Rattle.am_base.specs.Names.{size, names_of}
-use Rattle.am_base.specs.Lists.{Log, blank_row, member_life, members_of, members_at, image_at, told_by, top_of, with_entry, after}
+use Rattle.am_base.specs.Names.{size}
+use Rattle.am_base.specs.Lists.{Log, blank_row, member_life, members_of, members_at, image_at, top_of, with_entry, after}
 use Rattle.am_core.proofs.Ends.{image-push, image-top}
 use Rattle.am_fronts.proofs.ReportLaws.{count_cons}
-use Rattle.am_fronts.specs.Reports.{least_of}
 use Rattle.am_packet.specs.declared.packet.Packet.TheVariants as packet
 use Rattle.am_chain_lists.proofs.Rows.{In, row_at, long_after, in_viewed}
-use Rattle.am_model.specs.Node.{Node, Ballot, top, told, members, is_sequencer, has_room, pushed, trimmed}
-use Rattle.am_model.specs.Ballots.{Verdict, need_of, left_in, taken_by, trimmed_for}
-use Rattle.am_model.specs.Refresh.{refresh, settle, refresh_at_end}
+use Rattle.am_model.specs.Node.{Node, Ballot, top, told, has_room, pushed}
+use Rattle.am_model.specs.Ballots.{Verdict, need_of, left_in, trimmed_for}
 use Rattle.am_model.proofs.Greatest.{split}
 use Rattle.am_effects.specs.Causes.{Cause, hears}
 use Rattle.am_effects.specs.Looks.{Looks, finds_itself_out, waits, fetches_from_best, finds_too_few, finds_no_room, decides}
-use Rattle.am_effects.specs.Changes.{Carries, whole_entry, by_number, MayStore, Change, refreshes, settles, takes_report, admits, numbers, keeps_body, notes, stores}
-use Rattle.am_effects.specs.Changes.{begins_list, departs, promises, opens, looks, fetches, stores_view, queues, collects, takes, asks_to_join, asks_to_leave, closes}
+use Rattle.am_effects.specs.Changes.{Carries, whole_entry, by_number, Change, refreshes, settles, takes_report, admits, numbers, keeps_body, notes, stores}
+use Rattle.am_effects.specs.Changes.{begins_list, departs, promises, opens, looks, fetches, stores_view, queues, collects, takes, asks_to_join, asks_to_leave}
+use Rattle.am_effects.specs.Changes.{closes}
 use Rattle.am_effects.specs.Changes.{Changes, unchanged, changed}
 use Rattle.am_effects.proofs.Rests.{rests_refresh, rests_at_end, settle_is}
 use Rattle.am_effects.proofs.Says.{told_pushed}
@@ -90,7 +89,8 @@ pub data BringsEntry (c : Cause) (number : ℕ) : Type 0 where
   by_bcast : (s : ℕ) (v : Stamp) (base acc : ℕ) (e : Entry) → c ≡ hears (packet.Bcast s v base acc number e) → BringsEntry c number
   by_order : (s : ℕ) (v : Stamp) (base acc from req : ℕ) → c ≡ hears (packet.Order s v base acc number from req) → BringsEntry c number
   by_piece : (s : ℕ) (v : Stamp) (base : ℕ) (e : Entry) → c ≡ hears (packet.Piece s v base number e) → BringsEntry c number
-  by_result : (s : ℕ) (v : Stamp) (base : ℕ) (names : List ℕ) (resilience : ℕ) → c ≡ hears (packet.Result s v base number names resilience) → BringsEntry c number
+  by_result : (s : ℕ) (v : Stamp) (base : ℕ) (names : List ℕ) (resilience : ℕ) → c ≡ hears (packet.Result s v base number names resilience)
+      → BringsEntry c number
 
 abbrev pub FitsAt : Rules → Node → ℕ → Type 0
 FitsAt rules x number = number - x.core.base ≤ rules.window + 16 - size (members_at x.core.log number)
@@ -184,10 +184,12 @@ carried : (c : Cause) (m : Node) (s : ℕ) (v : Stamp) (base acc number : ℕ) (
 carried c m s v base acc number e (whole_entry x is) = by_bcast s v base acc x is
 carried c m s v base acc number e (by_number from req body is there) = by_order s v base acc from req is
 
-told_entry : (rules : Rules) (c : Cause) (x y : Node) (number : ℕ) → number ≡ top x + 1 → BringsEntry c number → FitsAt rules y (top x + 1) ⊎ BringsEntry c (top x + 1)
+told_entry : (rules : Rules) (c : Cause) (x y : Node) (number : ℕ) → number ≡ top x + 1 → BringsEntry c number
+    → FitsAt rules y (top x + 1) ⊎ BringsEntry c (top x + 1)
 told_entry rules c x y number next h = inr (subst (BringsEntry c) next h)
 
-fitting_change : (rules : Rules) (c : Cause) (o : Outcome) (x y : Node) → x.core.rules ≡ rules → Fronts x → Change c o x y → Fitting rules c x → Fitting rules c y
+fitting_change : (rules : Rules) (c : Cause) (o : Outcome) (x y : Node) → x.core.rules ≡ rules → Fronts x → Change c o x y → Fitting rules c x
+    → Fitting rules c y
 fitting_change rules c o x y same fronts refreshes h = let r = rests_refresh x in same_fits rules c x y r.log r.rests.base h
 fitting_change rules c o x y same fronts settles h =
     let base = ap (λ (z : Node). z.core.base) (settle_is x) in

@@ -1,6 +1,6 @@
 -- Up to its lawful front each node of a run has room for a View that leaves somebody out.
-use Rattle.std.proofs.Common.{◌≡◌, ◌≢◌, ◌⊎◌, ⊎_elim, inl, inr, ℕ, zero, suc, ◌+◌, ◌-◌, ◌<◌, ◌≤◌, ◌==◌, ◌&&◌, Bool, true, false, if◌then◌else◌, List, [], ◌∷◌, ◌++◌, length, take}
-use Rattle.std.proofs.Common.{Option, Some, None, slice_get, refl, sym, ap, ◌∙◌, subst, arith}
+use Rattle.std.proofs.Common.{◌≡◌, ◌⊎◌, ⊎_elim, inl, inr, ℕ, zero, suc, ◌+◌, ◌-◌, ◌<◌, ◌≤◌, ◌==◌, true, false, List, [], ◌∷◌, ◌++◌, length, take}
+use Rattle.std.proofs.Common.{Some, slice_get, refl, sym, ap, ◌∙◌, subst, arith}
 use Rattle.std.proofs.lemmas.Bool.Decides.{nat_tests}
 use Rattle.std.proofs.lemmas.List.{length-map}
 use Rattle.am_base.specs.declared.entry.Entry.{Entry}
@@ -15,7 +15,7 @@ use Rattle.am_packet.specs.declared.packet.Packet.{Packet}
 use Rattle.am_packet.specs.declared.packet.Packet.TheVariants as packet
 use Rattle.am_packet.specs.Boxes.{Letter}
 use Rattle.am_group.specs.declared.event.Event.{Event}
-use Rattle.am_group.specs.Journals.{item_at, letter_at}
+use Rattle.am_group.specs.Journals.{item_at}
 use Rattle.am_chain_lists.specs.Whole.{Begins, NotView, told, view_of, key}
 use Rattle.am_chain_lists.proofs.Order.{key_by, view_push, view_viewed}
 use Rattle.am_chain_lists.proofs.Members.{long_told}
@@ -32,14 +32,14 @@ use Rattle.am_model.specs.Hearing.{hears_member, hears_in_view, hears_sequencer}
 use Rattle.am_model.specs.Receiving.{is_view}
 use Rattle.am_model.specs.Claims.{heard_by, FitsView, ViewsFit}
 use Rattle.am_model.specs.Lawful.{lawful_front}
-use Rattle.am_model.specs.Step.{hear}
 use Rattle.am_model.specs.Hearing as rows
 use Rattle.am_model.specs.World.{World, start, is_stopped, has_departed, stepped, happens, run}
 use Rattle.am_model.proofs.Greatest.{split, and_both}
 use Rattle.am_model.proofs.Runs.{front_is_lawful}
 use Rattle.am_effects.specs.Causes.{Cause, hears}
 use Rattle.am_effects.specs.Effects.{Effect}
-use Rattle.am_effects.specs.Letters.{Says, request, spread, bcast, order, accept, ack, nack, hold, join_ask, welcome, leave_ask, gone, invite, vote, fetch, piece}
+use Rattle.am_effects.specs.Letters.{Says, request, spread, bcast, order, accept, ack, nack, hold, join_ask, welcome, leave_ask, gone, invite, vote, fetch}
+use Rattle.am_effects.specs.Letters.{piece}
 use Rattle.am_effects.specs.Letters.{result, hand_over, LetterSays}
 use Rattle.am_effects.specs.Events.{actor, IsCause, WasSentTo}
 use Rattle.am_effects.proofs.Items.{all_get}
@@ -47,7 +47,7 @@ use Rattle.am_effects.proofs.Statuses.{logged}
 use Rattle.am_laws.proofs.Named.{few_names}
 use Rattle.am_laws.proofs.RunCounts.{numbers_hold}
 use Rattle.am_laws.proofs.Stamps.{same_stamp}
-use Rattle.am_laws.proofs.TakenRuns.{Along, each_along, heard_used, run_owned}
+use Rattle.am_laws.proofs.TakenRuns.{each_along, heard_used, run_owned}
 use Rattle.am_laws.proofs.Views.{heard_names}
 use Rattle.am_watched.proofs.Lists.{lists_go_on}
 use Rattle.am_unballoted.proofs.Lists.{item_get, item_within}
@@ -55,7 +55,6 @@ use Rattle.am_stands.specs.Letters as says
 use Rattle.am_stands.specs.Letters.{PacketSays, PieceSays, ResultSays}
 use Rattle.am_stands.specs.Standing.{NameStands}
 use Rattle.am_stands.specs.States.{LinesOpen}
-use Rattle.am_stands.specs.Moving.{Moves}
 use Rattle.am_stands.specs.Growing.{Grows}
 use Rattle.am_stands.specs.Running.{Following}
 use Rattle.am_stands.proofs.Changes.{told_all, long_all}
@@ -67,7 +66,7 @@ use Rattle.am_steps.proofs.Silent.{departed_quiet}
 use Rattle.am_steps.proofs.Statuses.{departed_is}
 use Rattle.am_steps.proofs.Steps.{steps_move}
 use Rattle.am_headline.proofs.Shapes.{Shaped}
-use Rattle.am_headline.proofs.Fold.{Quiet, KeptBy, run_push}
+use Rattle.am_headline.proofs.Fold.{KeptBy, run_push}
 use Rattle.am_headline.proofs.Begun.{held}
 use Rattle.am_headline.proofs.Fits.{BringsEntry, by_bcast, by_order, by_piece, by_result, FitsAt, few_size, fitting_changes}
 use Rattle.am_headline.proofs.Rows as done
@@ -534,8 +533,8 @@ fitted_keeps rules = record {
   by_step = λ events e c step s t may runs cause effect is old path grows shaped new h.
       fitted_step rules events e c step s t may runs cause effect is old grows shaped new h;
   by_quiet = λ w v s t q h. record {
-      nodes = λ i. subst (λ (f : ℕ → Node). FitsView rules (f i)) (sym q.stays.nodes) (h.nodes i);
-      letters = λ k l at. packet_on rules s t l.packet q.grows (h.letters k l (ap (λ (ls : List Letter). slice_get ls k) (sym q.stays.letters) ∙ at));
+    nodes = λ i. subst (λ (f : ℕ → Node). FitsView rules (f i)) (sym q.stays.nodes) (h.nodes i);
+    letters = λ k l at. packet_on rules s t l.packet q.grows (h.letters k l (ap (λ (ls : List Letter). slice_get ls k) (sym q.stays.letters) ∙ at));
   };
 }
 

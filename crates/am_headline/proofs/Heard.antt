@@ -1,5 +1,5 @@
 -- The node that hears a packet in a run, and who has a list to send of.
-use Rattle.std.proofs.Common.{◌≡◌, ◌⊎◌, ⊎_elim, inl, inr, ℕ, zero, suc, ◌≤◌, ◌==◌, not, nat_le, nat_lt, Bool, true, false, if◌then◌else◌, List, [], ◌∷◌, ◌++◌}
+use Rattle.std.proofs.Common.{◌≡◌, ℕ, ◌≤◌, ◌==◌, not, nat_le, nat_lt, Bool, true, false, if◌then◌else◌, List}
 use Rattle.std.proofs.Common.{Option, Some, None, slice_get, refl, sym, ap, ◌∙◌, subst, arith}
 use Rattle.std.proofs.lemmas.Bool.Decides.{nat_tests}
 use Rattle.am_base.specs.declared.outcome.Outcome.{Outcome}
@@ -12,14 +12,13 @@ use Rattle.am_group.specs.declared.event.Event.{Event}
 use Rattle.am_group.specs.Addressed.{is_for}
 use Rattle.am_group.specs.Journals.{letter_at}
 use Rattle.am_model.specs.Node.{Node}
-use Rattle.am_model.specs.Emit.{Plan, Step, finish, quiet}
+use Rattle.am_model.specs.Emit.{Step, finish}
 use Rattle.am_model.specs.Lengths.{packet_length}
-use Rattle.am_model.specs.Refresh.{refresh_at_end}
 use Rattle.am_model.specs.Step.{hear, refused}
 use Rattle.am_model.specs.World.{World, is_stopped, has_departed, unchanged, stepped, heard, hear_cut, acts_as, happens}
-use Rattle.am_model.proofs.Greatest.{split}
 use Rattle.am_effects.specs.Causes.{Cause}
-use Rattle.am_effects.specs.Changes.{Change, refreshes, settles, takes_report, admits, numbers, keeps_body, notes, stores, begins_list, departs, promises, opens}
+use Rattle.am_effects.specs.Changes.{Change, refreshes, settles, takes_report, admits, numbers, keeps_body, notes, stores, begins_list, departs, promises}
+use Rattle.am_effects.specs.Changes.{opens}
 use Rattle.am_effects.specs.Changes.{looks, fetches, stores_view, queues, collects, takes, asks_to_join, asks_to_leave, closes}
 use Rattle.am_effects.specs.Courses.{IsPlain, Course, nothing_yet, used_report, and_then, Deeds, plainly, looked, Ending, at_end, let_go, closing}
 use Rattle.am_effects.specs.Events.{actor, WasSentTo}
@@ -60,7 +59,8 @@ heard_node w e name hearing None l is for_ runs = absurd (cc)
 heard_node w e name hearing (Some x) l is for_ runs =
     let same : x ≡ l = cc in
     let mine : is_for x name ≡ true = ap (λ y. is_for y name) same ∙ for_ in
-    let at = gates (is_for x name) (is_stopped w name) (unchanged w e said.NotAddressed) (unchanged w e said.IsStopped) (stepped w e name (hearing x.packet)) mine runs in
+    let at = gates (is_for x name) (is_stopped w name) (unchanged w e said.NotAddressed) (unchanged w e said.IsStopped) (stepped w e name (hearing x.packet))
+    mine runs in
     ap (λ (v : World). v.nodes name) at ∙ set_here w.nodes name (hearing x.packet).node ∙ ap (λ (y : Letter). (hearing y.packet).node) same
 
 acts_node : (w : World) (e : Event) (name : ℕ) (a : Act) (p : Packet) → WasSentTo w name a p → is_stopped w name ≡ false

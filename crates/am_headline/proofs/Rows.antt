@@ -1,6 +1,6 @@
 -- What the rows of packets with entries store: the next entry, above a base that was noted.
-use Rattle.std.proofs.Common.{◌≡◌, ◌⊎◌, ⊎_elim, inl, inr, ℕ, zero, suc, ◌+◌, ◌-◌, ◌<◌, ◌≤◌, max, ◌==◌, ◌&&◌, ◌||◌, not, nat_lt, nat_le, Bool, true, false}
-use Rattle.std.proofs.Common.{if◌then◌else◌, List, [], ◌∷◌, ◌++◌, length, Option, Some, None, refl, sym, ap, ◌∙◌, subst, append_assoc, append-nil, length-append, arith}
+use Rattle.std.proofs.Common.{◌≡◌, ℕ, ◌+◌, ◌≤◌, ◌==◌, ◌&&◌, ◌||◌, not, nat_lt, nat_le, Bool, true, false}
+use Rattle.std.proofs.Common.{if◌then◌else◌, List, [], ◌∷◌, ◌++◌, Option, Some, None, refl, sym, ap, ◌∙◌, append-nil, arith}
 use Rattle.std.proofs.lemmas.Bool.Decides.{nat_tests}
 use Rattle.am_base.specs.declared.entry.Entry.{Entry}
 use Rattle.am_base.specs.declared.entry.Entry.TheVariants.{Data, View}
@@ -13,14 +13,14 @@ use Rattle.am_core.specs.Cores.{CoreState}
 use Rattle.am_packet.specs.declared.packet.Packet.{Packet}
 use Rattle.am_packet.specs.declared.packet.Packet.TheVariants as packet
 use Rattle.am_model.specs.declared.status.Status.TheVariants.{Departed}
-use Rattle.am_model.specs.Node.{Node, Ballot, top, told, view, is_member, has_own_leave, is_within_bound, pushed, trimmed}
+use Rattle.am_model.specs.Node.{Node, Ballot, top, told, view, has_own_leave, is_within_bound, pushed, trimmed}
 use Rattle.am_model.specs.Emit.{Plan, quiet, finish}
 use Rattle.am_model.specs.Ballots.{promised, decide}
 use Rattle.am_model.specs.Calls.{is_unfinished}
-use Rattle.am_model.specs.Hearing.{hears_member, hears_sequencer, where_heard, hear_row}
+use Rattle.am_model.specs.Hearing.{hears_member, hears_sequencer, hear_row}
 use Rattle.am_model.specs.Receiving.{is_view, noted, store, received, data_of, body_of, bcast_row, order_row}
 use Rattle.am_model.specs.Refresh.{refresh_at_end}
-use Rattle.am_model.specs.Resets.{is_view_past, fetched, caught_up, fetched_for, fetches_from, piece_promised, piece_for, piece_row, hears_result, result_row}
+use Rattle.am_model.specs.Resets.{fetched, caught_up, fetched_for, fetches_from, piece_promised, piece_for, piece_row, result_row}
 use Rattle.am_model.specs.Step.{hear}
 use Rattle.am_model.proofs.Greatest.{split, and_both}
 use Rattle.am_effects.proofs.Rests.{rests_at_end}
@@ -53,7 +53,8 @@ with_why m x base number e P Q f (nothing h up) = nothing h up
 with_why m x base number e P Q f (one p h) = one (f p) h
 
 -- where the list was as it is
-from_same : (m p x : Node) (base number : ℕ) (e : Entry) (P : Type 0) → p.core.log ≡ m.core.log → m.core.base ≤ p.core.base → Does p x base number e P → Does m x base number e P
+from_same : (m p x : Node) (base number : ℕ) (e : Entry) (P : Type 0) → p.core.log ≡ m.core.log → m.core.base ≤ p.core.base → Does p x base number e P
+    → Does m x base number e P
 from_same m p x base number e P log low (nothing h up) = nothing (h ∙ log) (omega arith)
 from_same m p x base number e P log low (one why h) = one why (record {
   next = h.next ∙ ap (λ (l : Log). top_of l + 1) log;
@@ -123,7 +124,8 @@ order_does m s v base acc number from req = split (hears_sequencer m s v)
     (λ t. rw t (by_body t (body_of (noted m base acc) from req)))
     (λ f. rw f (nothing refl (omega arith)))
   where
-    as_order : (x : Node) (body : List ℕ) → Does m x base number (Data from req body) (InView m s v (Data from req body)) → OrderDoes m x s v base number from req
+    as_order : (x : Node) (body : List ℕ) → Does m x base number (Data from req body) (InView m s v (Data from req body))
+        → OrderDoes m x s v base number from req
     as_order x body (nothing h up) = nothing h up
     as_order x body (one why h) = one body why h
 

@@ -1,36 +1,26 @@
 -- A View that leaves somebody out always fits: what each run keeps of it up to its lawful front.
-use Rattle.std.proofs.Common.{◌≡◌, ◌≢◌, ◌⊎◌, ⊎_elim, inl, inr, ℕ, zero, suc, ◌+◌, ◌-◌, ◌<◌, ◌≤◌, ◌==◌, ◌&&◌, Bool, true, false, if◌then◌else◌, List, [], ◌∷◌, ◌++◌, length, take}
-use Rattle.std.proofs.Common.{Option, Some, None, slice_get, refl, sym, ap, ◌∙◌, subst, append_assoc, length-append, arith}
-use Rattle.std.proofs.lemmas.Bool.Decides.{nat_tests}
-use Rattle.std.proofs.lemmas.Option.{slice_get_within}
+use Rattle.std.proofs.Common.{◌≡◌, ◌≢◌, ◌⊎◌, ⊎_elim, ℕ, ◌+◌, ◌-◌, ◌<◌, ◌≤◌, true, List, [], ◌∷◌, ◌++◌, length, take}
+use Rattle.std.proofs.Common.{Some, refl, sym, ap, ◌∙◌, subst, append_assoc, arith}
 use Rattle.am_base.specs.declared.entry.Entry.{Entry}
-use Rattle.am_base.specs.declared.entry.Entry.TheVariants.{Data, Join, Leave, View}
 use Rattle.am_base.specs.declared.image.Image.{Image}
 use Rattle.am_base.specs.declared.name.Stamp.{Stamp}
-use Rattle.am_base.specs.Founding.{Rules, MayFound}
+use Rattle.am_base.specs.Founding.{Rules}
 use Rattle.am_base.specs.Names.{size}
-use Rattle.am_base.specs.Lists.{members_of, members_at, image_at}
+use Rattle.am_base.specs.Lists.{members_of}
 use Rattle.am_packet.specs.declared.packet.Packet.{Packet}
 use Rattle.am_packet.specs.declared.packet.Packet.TheVariants as packet
-use Rattle.am_packet.specs.Boxes.{Letter}
-use Rattle.am_group.specs.declared.event.Event.{Event}
-use Rattle.am_group.specs.Journals.{item_at, letter_at}
-use Rattle.am_chain_lists.specs.Whole.{Begins, NotView, told, view_of, key}
-use Rattle.am_chain_lists.proofs.Order.{key_by, view_push, view_viewed}
-use Rattle.am_chain_lists.proofs.Prefixes.{begins_refl, begins_take, begins_push, begins_trans, begins_both, begins_length, take_begins, length_push}
+use Rattle.am_group.specs.Journals.{item_at}
+use Rattle.am_chain_lists.specs.Whole.{Begins, told, view_of, key}
+use Rattle.am_chain_lists.proofs.Prefixes.{begins_trans, begins_length, length_push}
 use Rattle.am_chain_moves.specs.Group as groups
 use Rattle.am_chain_moves.specs.Group.{Group, IsUp}
 use Rattle.am_chain_moves.specs.Kept.{Kept}
-use Rattle.am_model.specs.Node.{Node, top, view, lowest_or_first}
-use Rattle.am_model.specs.Receiving.{is_view}
-use Rattle.am_model.specs.Calls.{is_unfinished}
-use Rattle.am_model.specs.Claims.{FitsView}
-use Rattle.am_model.specs.World.{World, is_stopped, has_departed}
-use Rattle.am_model.proofs.Greatest.{split, and_both}
-use Rattle.am_stands.specs.Standing.{NameStands, Stands}
+use Rattle.am_model.specs.Node.{Node, top}
+use Rattle.am_model.specs.World.{World}
+use Rattle.am_stands.specs.Standing.{NameStands}
 use Rattle.am_stands.specs.States.{LinesOpen}
 use Rattle.am_stands.specs.Growing.{Grows}
-use Rattle.am_stands.proofs.Changes.{told_all, long_all}
+use Rattle.am_stands.proofs.Changes.{long_all}
 use Rattle.am_stands.proofs.Ends.{taken_more}
 use Rattle.am_stands.proofs.Parts.{image_whole}
 use Rattle.am_headline.proofs.Lists.{item_begins}
@@ -174,7 +164,8 @@ pub stored_list : (w v : World) (s t : Group) (i : ℕ) (m n x : Node) (base num
 stored_list w v s t i m n x base number e hs ht grows log h =
     let start : n.core.log.start ≡ m.core.log.start = ap (λ l. l.start) log ∙ h.start in
     let entries : n.core.log.entries ≡ (m.core.log.entries ++ e ∷ []) ++ h.more = ap (λ l. l.entries) log ∙ h.entries in
-    let front : take n.core.log.start v.group ≡ take m.core.log.start w.group = ap (λ k. take k v.group) start ∙ taken_more m.core.log.start w.group v.group grows hs.begins.within in
+    let front : take n.core.log.start v.group ≡ take m.core.log.start w.group = ap (λ k. take k v.group) start ∙ taken_more m.core.log.start w.group v.group
+    grows hs.begins.within in
     record {
       rest = h.more;
       same = ap (λ l. (l ++ e ∷ []) ++ h.more) hs.list ∙ ap (λ l. l ++ h.more) (append_assoc (take m.core.log.start w.group) m.core.log.entries (e ∷ []))
@@ -188,4 +179,5 @@ pub stored_fits : (rules : Rules) (v : World) (t : Group) (i base number : ℕ) 
 stored_fits rules v t i base number n list line e h start next low mine its f =
     let long = length_push list e in
     let part = fit_less rules (list ++ e ∷ []) line base number its (omega arith) f in
-    fit_node rules v i number n (t.node i) h start (fit_up rules (t.node i).list base n.core.base number low (fit_more rules (list ++ e ∷ []) (t.node i).list base number mine part))
+    fit_node rules v i number n (t.node i) h start (fit_up rules (t.node i).list base n.core.base number low (fit_more rules (list ++ e ∷ []) (t.node i).list
+    base number mine part))

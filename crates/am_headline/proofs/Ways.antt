@@ -1,13 +1,12 @@
 -- The changes of a node by what they do to what its application was given, and to its own sends.
-use Rattle.std.proofs.Common.{◌≡◌, ℕ, ◌+◌, ◌<◌, ◌≤◌, ◌-◌, ◌==◌, ◌||◌, not, max, nat_lt, Bool, true, false, if◌then◌else◌, List, [], ◌∷◌, ◌++◌, length, Some, refl, sym, ◌∙◌, append-nil, arith}
+use Rattle.std.proofs.Common.{◌≡◌, ℕ, ◌+◌, ◌≤◌, ◌-◌, ◌==◌, ◌||◌, not, max, nat_lt, Bool, true, false, if◌then◌else◌, List, [], ◌∷◌, ◌++◌, refl, sym, ◌∙◌}
+use Rattle.std.proofs.Common.{append-nil, arith}
 use Rattle.am_base.specs.declared.entry.Entry.{Entry}
 use Rattle.am_base.specs.declared.entry.Entry.TheVariants.{Leave, View}
-use Rattle.am_base.specs.declared.event.NodeEvent.TheVariants as does
 use Rattle.am_base.specs.declared.image.Image.{Image}
 use Rattle.am_base.specs.declared.name.Stamp.{Stamp}
 use Rattle.am_base.specs.declared.outcome.Outcome.{Outcome}
 use Rattle.am_base.specs.declared.outcome.Outcome.TheVariants as said
-use Rattle.am_base.specs.Lists.{entry_at}
 use Rattle.am_base.specs.Names.{has, size}
 use Rattle.am_packet.specs.declared.packet.Packet.TheVariants as packet
 use Rattle.am_sender.specs.Sends as own
@@ -18,7 +17,7 @@ use Rattle.am_model.specs.Calls.{queued, is_unfinished}
 use Rattle.am_model.specs.Joining.{begun}
 use Rattle.am_model.specs.Refresh.{refresh, settle, refresh_at_end}
 use Rattle.am_model.proofs.Greatest.{and_both}
-use Rattle.am_effects.specs.Causes.{Cause, calls, hears}
+use Rattle.am_effects.specs.Causes.{Cause, hears}
 use Rattle.am_effects.specs.Looks.{Looks, finds_itself_out, waits, fetches_from_best, finds_too_few, finds_no_room, decides}
 use Rattle.am_effects.specs.Changes.{MayBeWelcomed, Change, refreshes, settles, takes_report, admits, numbers, keeps_body, notes, stores, begins_list, departs}
 use Rattle.am_effects.specs.Changes.{promises, opens, looks, fetches, stores_view, queues, collects, takes, asks_to_join, asks_to_leave, closes}
@@ -56,7 +55,8 @@ pub data Kind (c : Cause) (o : Outcome) (m : Node) : Node → Type 0 where
   gone : is_member m.status ≡ true → m.leaving ≡ true → Kind c o m (closed m)
 
 -- with more entries, and anything else but what is told here
-pushes : (m n : Node) (es : List Entry) → n.core.who ≡ m.core.who → m.core.base ≤ n.core.base → n.core.acc ≡ m.core.acc → n.core.taken ≡ m.core.taken → n.core.start ≡ m.core.start
+pushes : (m n : Node) (es : List Entry) → n.core.who ≡ m.core.who → m.core.base ≤ n.core.base → n.core.acc ≡ m.core.acc → n.core.taken ≡ m.core.taken
+    → n.core.start ≡ m.core.start
     → n.status ≡ m.status → n.leaving ≡ m.leaving → n.sends ≡ m.sends → n.core.log.start ≡ m.core.log.start
     → n.core.log.entries ≡ m.core.log.entries ++ es → Alike m n
 pushes m n es who base acc taken start status_ leaving sends log entries = record {
@@ -73,7 +73,8 @@ pushes m n es who base acc taken start status_ leaving sends log entries = recor
   entries = entries;
 }
 
-same_log : (m n : Node) → n.core.who ≡ m.core.who → m.core.base ≤ n.core.base → n.core.acc ≡ m.core.acc → n.core.taken ≡ m.core.taken → n.core.start ≡ m.core.start
+same_log : (m n : Node) → n.core.who ≡ m.core.who → m.core.base ≤ n.core.base → n.core.acc ≡ m.core.acc → n.core.taken ≡ m.core.taken
+    → n.core.start ≡ m.core.start
     → n.status ≡ m.status → n.leaving ≡ m.leaving → n.sends ≡ m.sends → n.core.log.start ≡ m.core.log.start
     → n.core.log.entries ≡ m.core.log.entries → Alike m n
 same_log m n who base acc taken start status_ leaving sends log entries =
@@ -106,12 +107,14 @@ decide_alike m b =
     let before = trimmed_for m b names in
     let last : (o : Outcome) → Alike m (ends (restarted (pushed before view)) b o).node = λ o.
     pushes m (ends (restarted (pushed before view)) b o).node (view ∷ []) refl (omega arith) refl refl refl refl refl refl refl refl in
-    let crowded : (o : Outcome) → Alike m (ends before b o).node = λ o. same_log m (ends before b o).node refl (omega arith) refl refl refl refl refl refl refl refl in
+    let crowded : (o : Outcome) → Alike m (ends before b o).node = λ o. same_log m (ends before b o).node refl (omega arith) refl refl refl refl refl refl
+    refl refl in
     let few = those (is_waited_for m.core.who b) (need_of m b) in
     let crowd : Outcome = said.Crowded before.core.base (top before) in
     let done : Outcome = said.Decided (top before + 1) names in
     let decided : Alike m (decide_view before b names).node = alike_if m
-    (nat_lt (before.core.rules.window + 16 - size names) (top before + 1 - before.core.base)) (ends before b crowd) (ends (restarted (pushed before view)) b done)
+    (nat_lt (before.core.rules.window + 16 - size names) (top before + 1 - before.core.base)) (ends before b crowd)
+    (ends (restarted (pushed before view)) b done)
     (crowded crowd) (last done) in
     let small : Outcome = said.TooFew (size names) b.least in
     let v4 : Verdict = if nat_lt (size names) b.least then ends m b small else decide_view before b names in
