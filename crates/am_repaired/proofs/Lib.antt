@@ -1,1 +1,3 @@
 pub mod OneList
+pub mod Left
+pub mod Upheld
