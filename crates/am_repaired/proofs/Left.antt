@@ -60,7 +60,7 @@ none_more list name j h = by_kind (became (told list) (1 + length list) (Leave n
     by_kind (founds is blank_ same) = absurd (cc)
 
 -- a name leaves a list once
-once : (list a b : List Entry) (d : ℕ) → IsGood list → Begins (a ++ Leave d ∷ []) list → Begins (b ++ Leave d ∷ []) list → length a < length b → ⊥
+pub once : (list a b : List Entry) (d : ℕ) → IsGood list → Begins (a ++ Leave d ∷ []) list → Begins (b ++ Leave d ∷ []) list → length a < length b → ⊥
 once list a b d good h k less =
     let good_a = good_begins h good in
     let good_b = good_begins k good in

@@ -1,3 +1,4 @@
 pub mod OneList
 pub mod Left
 pub mod Upheld
+pub mod Counted

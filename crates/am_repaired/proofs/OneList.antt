@@ -38,7 +38,7 @@ lawful_events rules events place may = subst (λ es. broken_at rules es ≡ None
 
 -- ---- who is there
 
-small_name : (rules : Rules) (events : List Event) (place : ℕ) → MayFound rules → place < 16 → current (run rules events) place < 256
+pub small_name : (rules : Rules) (events : List Event) (place : ℕ) → MayFound rules → place < 16 → current (run rules events) place < 256
 small_name rules events place may low =
     let most = (names_hold rules events may).most place in
     let least = (names_hold rules events may).least place in
