@@ -9,7 +9,7 @@ use Rattle.am_model.specs.Lawful.{Watch, watch_start, watch, watch_all, watched}
 use Rattle.am_model.specs.Play.{watched_text, text_of, summary_text_of}
 use Rattle.am_model.specs.Settle.{settle_events}
 use Rattle.am_model.proofs.Runs.{watched_is_run}
-use Rattle.am_bounded.proofs.Runs.{bounded_holds}
+use Rattle.am_headline.proofs.Headline.{headline_holds}
 use Rattle.am_sent.proofs.Runs.{sent_holds}
 use Rattle.am_unballoted.proofs.Holds.{unballoted_holds}
 use Rattle.am_pump.specs.Generating.{generated_rules, generated}
@@ -53,7 +53,7 @@ played_by bytes text (Play founding events settles) is within same =
       script = is;
       written = same.0 ∙ text_is founding events settles;
       few = same.1;
-      bounded = bounded_holds founding done may;
+      headline = headline_holds founding done may;
       sent = sent_holds founding done may;
       unballoted = λ none. unballoted_holds founding done may none;
     }
@@ -78,7 +78,7 @@ generated_by numbers text is many =
     record {
       written = is;
       count = many;
-      bounded = bounded_holds generated_rules done may_found;
+      headline = headline_holds generated_rules done may_found;
       sent = sent_holds generated_rules done may_found;
       unballoted = λ none. unballoted_holds generated_rules done may_found none;
     }

@@ -7,7 +7,7 @@ use Rattle.am_base.specs.Founding.{Rules}
 use Rattle.am_group.specs.declared.event.Event.{Event}
 use Rattle.am_model.specs.World.{run}
 use Rattle.am_model.specs.Play.{text_of, settled_text_of, summary_text_of}
-use Rattle.am_model.specs.Claims.{Bounded, Sent, NoBallot, HoldsUnballoted}
+use Rattle.am_model.specs.Claims.{Headline, Sent, NoBallot, HoldsUnballoted}
 use Rattle.am_script.specs.Scripts.{reading}
 use Rattle.am_script.specs.declared.key.Key.TheVariants as key
 use Rattle.am_script.specs.declared.refusal.ScriptRefusal.{ScriptRefusal}
@@ -35,10 +35,10 @@ asked words = form_of (map (λ word. word.now) words)
 abbrev pub script_text : Rules → List Event → Bool → List ℕ
 script_text rules events settles = if settles then settled_text_of rules events else text_of rules events
 
--- what was read is a script, what was written is the text of its run, which has at most 100,000 events, and that run keeps
--- what is claimed of every run: no node ever kept more than it may, and everything in the one group list was sent before it
--- stood there. Where nobody began a ballot, each node besides gave out a gapless segment of the one group list, and accepted
--- sends stand there once, in their senders' order
+-- what was read is a script, what was written is the text of its run, which has at most 100,000 events, and that run keeps what is claimed of
+-- every run: no node ever kept more than it may, everything in the one group list was sent before it stood there, and up to its lawful front
+-- each name was given a gapless segment of that list, accepted sends stand there once, in their senders' order, and what was given before a
+-- complete view stands in it. Where nobody began a ballot, that holds of the whole run, but for the last
 pub record Played (bytes text : List ℕ) : Type 0 where
   pub founding : Rules
   pub events : List Event
@@ -46,7 +46,7 @@ pub record Played (bytes text : List ℕ) : Type 0 where
   pub script : reading key.Play bytes ≡ Ok (Play founding events settles)
   pub written : text ≡ script_text founding events settles
   pub few : length (done_of founding events settles) ≤ most_events
-  pub bounded : Bounded founding (done_of founding events settles)
+  pub headline : Headline founding (done_of founding events settles)
   pub sent : Sent founding (done_of founding events settles)
   pub unballoted : NoBallot (run founding (done_of founding events settles)) → HoldsUnballoted founding (done_of founding events settles)
 
@@ -54,7 +54,7 @@ pub record Played (bytes text : List ℕ) : Type 0 where
 pub record Generated (numbers : Numbers) (text : List ℕ) : Type 0 where
   pub written : text ≡ summary_text_of generated_rules (generated numbers.seed numbers.count)
   pub count : length (generated numbers.seed numbers.count) ≡ numbers.count
-  pub bounded : Bounded generated_rules (generated numbers.seed numbers.count)
+  pub headline : Headline generated_rules (generated numbers.seed numbers.count)
   pub sent : Sent generated_rules (generated numbers.seed numbers.count)
   pub unballoted : NoBallot (run generated_rules (generated numbers.seed numbers.count)) → HoldsUnballoted generated_rules (generated numbers.seed numbers.count)
 

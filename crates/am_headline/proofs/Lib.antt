@@ -1,0 +1,16 @@
+pub mod Lists
+pub mod Shapes
+pub mod Marks
+pub mod Lawful
+pub mod Ready
+pub mod Greatest
+pub mod Fold
+pub mod Begun
+pub mod Ways
+pub mod Inside
+pub mod Joined
+pub mod Own
+pub mod Told
+pub mod Moments
+pub mod Holds
+pub mod Headline
