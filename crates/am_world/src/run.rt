@@ -66,6 +66,12 @@ fn new_record(alloc: Global, event: &Event, life: u8, outcome: Outcome) -> Resul
     })
 }
 
+/// A place for an entry that is taken.
+#[inline(never)]
+fn spare_entry(alloc: Global) -> Result<Boxed<Entry>, NoMemory> {
+    Boxed::of(alloc, Entry::default())
+}
+
 fn has_departed(status: Status) -> bool
     ensures { result ≡ has_departed status }
 {
@@ -263,7 +269,7 @@ impl Run {
     {
         self.journal.reserve()?;
         let mut record = new_record(self.alloc, event, name.life(), Outcome::Idle)?;
-        let spare = Boxed::of(self.alloc, Entry::default())?;
+        let spare = spare_entry(self.alloc)?;
         make_room(&mut self.group, self.journal.records().len() + 2)?;
         let mut out = empty_box(self.alloc, &mut self.out)?;
         record.outcome = step_at(
