@@ -1,7 +1,7 @@
 -- At the start there is a group that follows the world, and so there is up to the lawful front.
-use Rattle.std.proofs.Common.{◌≡◌, ◌≢◌, ⊎_elim, ℕ, zero, suc, ◌+◌, ◌<◌, ◌≤◌, ◌==◌, Bool, true, false, if◌then◌else◌, List, [], ◌∷◌, ◌++◌, length, take, None, Some, slice_get}
+use Rattle.std.proofs.Common.{◌≡◌, ℕ, zero, suc, ◌<◌, ◌≤◌, ◌==◌, true, List, [], ◌∷◌, ◌++◌, length, take, None, Some}
 use Rattle.std.proofs.Common.{refl, sym, ap, ◌∙◌, subst, arith}
-use Rattle.std.specs.Prelude.{All, Contains, slice_index_or}
+use Rattle.std.specs.Prelude.{Contains, slice_index_or}
 use Rattle.std.proofs.lemmas.Bool.Decides.{nat_tests}
 use Rattle.std.proofs.lemmas.List.{take_all}
 use Rattle.std.proofs.lemmas.List.Elements.{All-nil, All-cons}
@@ -9,10 +9,10 @@ use Rattle.am_base.specs.declared.entry.Entry.TheVariants.{View}
 use Rattle.am_base.specs.Founding.{Rules, MayFound}
 use Rattle.am_base.specs.Names.{has}
 use Rattle.am_group.specs.declared.event.Event.{Event}
-use Rattle.am_chain_lists.specs.Whole.{Begins, IsGood, key}
+use Rattle.am_chain_lists.specs.Whole.{IsGood, key}
 use Rattle.am_chain_lists.proofs.Prefixes.{begins_refl, begins_nil}
 use Rattle.am_chain_lists.proofs.Members.{good_begins}
-use Rattle.am_chain_moves.specs.Group.{Group, opening, chain_of}
+use Rattle.am_chain_moves.specs.Group.{Group, chain_of}
 use Rattle.am_chain_moves.specs.Runs as begun
 use Rattle.am_chain_moves.specs.Runs.{MayBegin, founded, first_choice, first_stamp}
 use Rattle.am_chain.proofs.Runs.{run_keeps}
@@ -29,7 +29,7 @@ use Rattle.am_stands.proofs.Branches.{branches_begin}
 use Rattle.am_stands.proofs.Onward.{goes_on}
 use Rattle.am_stands.proofs.Start.{start_stands}
 use Rattle.am_stands.specs.Running.{Following, StepsMove}
-use Rattle.am_headline.proofs.Shapes.{OnLine, Shaped, shaped_moves}
+use Rattle.am_headline.proofs.Shapes.{Shaped, shaped_moves}
 use Rattle.am_headline.proofs.Greatest.{unbroken, watch_push}
 use Rattle.am_headline.proofs.Fold.{KeptBy, Held, moves_mark, next}
 

@@ -1,12 +1,11 @@
 -- Up to its lawful front each run has a group that follows it, whose marks are the views that became complete.
-use Rattle.std.proofs.Common.{◌≡◌, ◌⊎◌, ⊎_elim, inl, inr, ℕ, zero, suc, ◌+◌, ◌<◌, ◌≤◌, ◌==◌, ◌&&◌, ◌||◌, Bool, true, false, if◌then◌else◌, List, [], ◌∷◌, ◌++◌}
-use Rattle.std.proofs.Common.{length, take, Option, Some, None, slice_get, refl, sym, ap, ◌∙◌, subst, arith, length-append}
+use Rattle.std.proofs.Common.{◌≡◌, ◌⊎◌, ⊎_elim, inl, inr, ℕ, ◌<◌, ◌≤◌, ◌==◌, ◌&&◌, ◌||◌, Bool, true, false, List, [], ◌∷◌, ◌++◌}
+use Rattle.std.proofs.Common.{length, Some, None, slice_get, refl, sym, ap, ◌∙◌, subst, arith, length-append}
 use Rattle.std.specs.Prelude.{Contains, not}
 use Rattle.std.specs.List.{list_any}
 use Rattle.std.proofs.lemmas.Bool.Decides.{nat_tests}
 use Rattle.std.proofs.lemmas.List.{take-append-le, take_all}
 use Rattle.std.proofs.lemmas.List.Folds.{list_any-append}
-use Rattle.std.proofs.lemmas.List.Elements.{All-nil}
 use Rattle.std.proofs.lemmas.Option.{slice_get-get_or}
 use Rattle.am_base.specs.Founding.{Rules, MayFound}
 use Rattle.am_group.specs.declared.event.Event.{Event}
@@ -14,14 +13,15 @@ use Rattle.am_group.specs.declared.event.Record.{Record}
 use Rattle.am_base.specs.declared.outcome.Outcome.{Outcome}
 use Rattle.am_chain_lists.specs.Whole.{key}
 use Rattle.am_chain_moves.specs.Group.{Group, how_many}
-use Rattle.am_chain_moves.specs.Moves.{Move, numbers, stores, accepts, learns, begins, raises, shows, serves, fetches, decides, gives_over, welcomes, asks, departs}
+use Rattle.am_chain_moves.specs.Moves.{Move, numbers, stores, accepts, learns, begins, raises, shows, serves, fetches, decides, gives_over, welcomes, asks}
+use Rattle.am_chain_moves.specs.Moves.{departs}
 use Rattle.am_chain_moves.specs.Moves.{closes, stops}
-use Rattle.am_chain_moves.specs.Runs.{Completes, IsLawful, counts_for}
+use Rattle.am_chain_moves.specs.Runs.{Completes, counts_for}
 use Rattle.am_model.specs.Node.{Node, lowest_or_first}
 use Rattle.am_model.specs.Emit.{Step}
 use Rattle.am_model.specs.World as worlds
 use Rattle.am_model.specs.World.{Decided, World, start, current, is_stopped, views_after, unchanged, stepped, lives_on, happens, happen, run}
-use Rattle.am_model.specs.Lawful.{is_complete, is_lawful, Watch, watch_start, watch, watched, greatest_complete, broken_at}
+use Rattle.am_model.specs.Lawful.{is_complete, is_lawful, Watch, watch_start, watched, greatest_complete, broken_at}
 use Rattle.am_model.specs.Claims.{BecameComplete}
 use Rattle.am_model.proofs.Greatest.{split, and_both}
 use Rattle.am_model.proofs.Runs.{runs_go_on, watched_is_run}
@@ -33,17 +33,16 @@ use Rattle.am_effects.proofs.Events.{events_have_effects}
 use Rattle.am_effects.proofs.Items.{all_get, get_front}
 use Rattle.am_effects.proofs.Runs.{runs_keep}
 use Rattle.am_laws.proofs.Views.{IsNoted, AllViews, each_views, views_start}
-use Rattle.am_stands.specs.Standing.{Stands}
 use Rattle.am_stands.specs.Moving.{Moves, none, moves}
 use Rattle.am_stands.specs.Growing.{Grows}
 use Rattle.am_stands.specs.Steps.{EventStands, no_move, stop}
 use Rattle.am_stands.proofs.Events.{idle_stands, stop_stands, return_stands}
-use Rattle.am_stands.proofs.Onward.{grows_same, grows_trans, move_on}
-use Rattle.am_stands.specs.Running.{Following, Follows, StepsMove}
+use Rattle.am_stands.specs.Running.{Following, StepsMove}
 use Rattle.am_headline.proofs.Shapes.{Shaped, shaped_moves}
 use Rattle.am_headline.proofs.Marks.{Known, completes}
 use Rattle.am_headline.proofs.Lawful.{or_cases, lawful_group}
-use Rattle.am_headline.proofs.Ready.{marked, given, halted, MayMark, Ready, Stays, stays_same, grows_marked, grows_halted, shaped_marked, marked_follows, ready_given}
+use Rattle.am_headline.proofs.Ready.{marked, given, halted, MayMark, Ready, Stays, stays_same, grows_marked, grows_halted, shaped_marked, marked_follows}
+use Rattle.am_headline.proofs.Ready.{ready_given}
 use Rattle.am_headline.proofs.Ready.{ready_halted, stays_follows, grows_given}
 use Rattle.am_headline.proofs.Greatest.{Passing, any_passing, passing_any, Small, IsGreatest, greatest_is, watch_push, unbroken, watch_complete}
 
@@ -76,9 +75,11 @@ mark rules old new s t ready same tied small stay best lawful = record {
     stay = λ view done. rw done refl;
     marks = λ view done. ⊎_elim
         (λ (a : t.views.complete view ≡ true). inl a)
-        (λ (a : list_any (λ d. (key d.stamp == view) && is_complete v d) v.views ≡ true). inr (of_passing view (any_passing (λ d. (key d.stamp == view) && is_complete v d) v.views a)))
+        (λ (a : list_any (λ d. (key d.stamp == view) && is_complete v d) v.views ≡ true). inr
+        (of_passing view (any_passing (λ d. (key d.stamp == view) && is_complete v d) v.views a)))
         (or_cases _ _ done);
-    lawful = λ view done most. (let is : view ≡ key new.complete.stamp = (let a = high view done in let b = most (key new.complete.stamp) here in omega arith) in
+    lawful = λ view done most. (let is : view ≡ key new.complete.stamp = (let a = high view done in let b = most (key new.complete.stamp) here in omega
+        arith) in
         subst (λ x. how_many (λ name. counts_for t x name && ((t.node name).stopped && not (t.node name).departed)) ≤ (t.views.chosen x).resilience) (sym is)
         (lawful_group v t new.complete ready.stands (ready.stands.views.noted at.0 new.complete at.1) lawful));
   };
@@ -112,7 +113,8 @@ mark rules old new s t ready same tied small stay best lawful = record {
     here : marks_now v t (key new.complete.stamp) ≡ true
     here = ⊎_elim
         (λ (a : new.complete ≡ old.complete). (
-        let was : t.views.complete (key new.complete.stamp) ≡ true = ap (λ f. f (key new.complete.stamp)) same ∙ ap (λ (d : Decided). s.views.complete (key d.stamp)) a ∙ tied.marked_ in
+        let was : t.views.complete (key new.complete.stamp) ≡ true = ap (λ f. f (key new.complete.stamp)) same ∙ ap
+        (λ (d : Decided). s.views.complete (key d.stamp)) a ∙ tied.marked_ in
         rw was refl))
         (λ (a : (k : ℕ) × (slice_get v.views k ≡ Some new.complete) × (is_complete v new.complete ≡ true)). passing a.0 new.complete a.1 a.2)
         greatest.is
@@ -175,7 +177,7 @@ pub record KeptBy (P : World → Group → Type 0) (rules : Rules) : Type 0 wher
       → IsCause (run rules events) (actor (run rules events) e) e.act c
       → Effect ((run rules events).nodes (actor (run rules events) e)) c step
       → stepped (run rules events) e (actor (run rules events) e) step ≡ happens (run rules events) e
-      → Following rules (run rules events) s → Moves s t → Grows s t
+      → Following rules (run rules events) s → Moves s t → Grows s t → Shaped t
       → Following rules (stepped (run rules events) e (actor (run rules events) e) step) t
       → P (run rules events) s → P (stepped (run rules events) e (actor (run rules events) e) step) t
   pub by_quiet : (w v : World) (s t : Group) → Quiet w v s t → P w s → P v t
@@ -290,7 +292,7 @@ module _ (P : World → Group → Type 0) (rules : Rules) (keeps : KeptBy P rule
         same = moves_mark f.path;
         noted = λ k d at. views_stay w.views (w.nodes (actor w e)) step.node k d at;
         is = keeps.by_quiet v v f.to (given f.to) (record { stays = stays_same v; grows = grows_given f.to; idle = inl refl })
-            (keeps.by_step events e c step s f.to may runs cause effect is h.follows f.path f.grows f.is h.is);
+            (keeps.by_step events e c step s f.to may runs cause effect is h.follows f.path f.grows shaped f.is h.is);
       }
 
   -- one event more
@@ -323,7 +325,8 @@ module _ (P : World → Group → Type 0) (rules : Rules) (keeps : KeptBy P rule
             (λ was. record {
               marked_ = m.may.stay (key d.stamp) (ap (λ f. f (key d.stamp)) b.same ∙ was.marked_);
               index = was.index;
-              there = ap (λ (x : World). slice_get x.views was.index) (sym there) ∙ b.noted was.index d (ap (λ (x : World). slice_get x.views was.index) was_world ∙ was.there);
+              there = ap (λ (x : World). slice_get x.views was.index) (sym there) ∙ b.noted was.index d
+                  (ap (λ (x : World). slice_get x.views was.index) was_world ∙ was.there);
             })
             (λ k at done. record {
               marked_ = m.all k d (ap (λ (x : World). slice_get x.views k) there ∙ at) (ap (λ x. is_complete x d) there ∙ done);

@@ -1,18 +1,14 @@
 -- The greatest complete view of a watched run, and the marks of the group.
-use Rattle.std.proofs.Common.{◌≡◌, ◌⊎◌, ⊎_elim, inl, inr, ℕ, zero, suc, ◌+◌, ◌<◌, ◌≤◌, ◌==◌, ◌&&◌, ◌||◌, Bool, true, false, if◌then◌else◌, List, [], ◌∷◌, ◌++◌}
+use Rattle.std.proofs.Common.{◌≡◌, ◌⊎◌, ⊎_elim, inl, inr, ℕ, zero, suc, ◌+◌, ◌<◌, ◌≤◌, Bool, true, false, List, [], ◌∷◌, ◌++◌}
 use Rattle.std.proofs.Common.{Option, Some, None, slice_get, refl, sym, ap, ◌∙◌, subst, arith}
 use Rattle.std.specs.List.{list_any}
-use Rattle.std.proofs.lemmas.Bool.Decides.{nat_tests}
-use Rattle.am_base.specs.Founding.{Rules}
 use Rattle.am_base.specs.Stamps.{stamp_lt}
 use Rattle.am_group.specs.declared.event.Event.{Event}
 use Rattle.am_chain_lists.specs.Whole.{key}
 use Rattle.am_chain_lists.proofs.Order.{key_lt, lt_key}
-use Rattle.am_chain_moves.specs.Group.{Group}
-use Rattle.am_model.specs.World.{Decided, World, run, happens}
-use Rattle.am_model.specs.Lawful.{is_complete, is_lawful, Watch, watch_start, watch, watch_all, watched, greater_complete, greatest_complete, broken_now, broken_at}
+use Rattle.am_model.specs.World.{Decided, World, happens}
+use Rattle.am_model.specs.Lawful.{is_complete, is_lawful, Watch, watch, watch_all, greater_complete, greatest_complete, broken_now}
 use Rattle.am_model.proofs.Greatest.{split}
-use Rattle.am_headline.proofs.Lawful.{or_cases}
 
 -- ---- one item that passes
 

@@ -1,30 +1,26 @@
--- The headline, where each step is moves of the group.
-use Rattle.std.proofs.Common.{◌≡◌, ◌≢◌, ◌⊎◌, ⊎_elim, ℕ, zero, suc, ◌+◌, ◌-◌, ◌<◌, ◌≤◌, ◌==◌, nat_le, Bool, true, false, if◌then◌else◌, List, [], ◌∷◌, ◌++◌, length, take}
+-- The headline, of every run.
+use Rattle.std.proofs.Common.{◌≡◌, ◌≢◌, ◌⊎◌, ⊎_elim, ℕ, ◌<◌, ◌≤◌, true, List, [], ◌∷◌, ◌++◌, length, take}
 use Rattle.std.proofs.Common.{Some, None, slice_get, refl, sym, ap, ◌∙◌, subst, arith, append-nil, append_assoc, drop}
-use Rattle.std.proofs.lemmas.Bool.Decides.{nat_tests}
 use Rattle.std.proofs.lemmas.List.{take-append-drop}
 use Rattle.am_base.specs.declared.entry.Entry.{Entry}
-use Rattle.am_base.specs.declared.entry.Entry.TheVariants.{Data, View}
-use Rattle.am_base.specs.declared.outcome.Outcome.TheVariants as said
 use Rattle.am_base.specs.Founding.{Rules, MayFound}
-use Rattle.am_base.specs.Names.{has}
 use Rattle.am_base.specs.Stamps.{stamp_lt}
-use Rattle.am_base.specs.Lists.{blank, AllFit, entry_at}
+use Rattle.am_base.specs.Lists.{blank, AllFit}
 use Rattle.am_group.specs.declared.event.Event.{Event}
 use Rattle.am_group.specs.declared.event.Record.{Record}
-use Rattle.am_group.specs.Deliveries.{name_of, deliveries}
+use Rattle.am_group.specs.Deliveries.{deliveries}
 use Rattle.am_group.specs.Journals.{item_at}
 use Rattle.am_chain_lists.specs.Whole.{Begins, IsGood, view_of, key}
 use Rattle.am_chain_lists.proofs.Order.{key_lt, view_small, view_up, view_viewed}
-use Rattle.am_chain_lists.proofs.Prefixes.{begins_both, begins_take, begins_trans, begins_length, length_take, length_push}
+use Rattle.am_chain_lists.proofs.Prefixes.{begins_both, begins_take, begins_trans, length_take, length_push}
 use Rattle.am_chain_lists.proofs.Members.{good_begins}
-use Rattle.am_chain_moves.specs.Group.{Group, opening, chain_of}
+use Rattle.am_chain_moves.specs.Group.{Group, opening}
 use Rattle.am_chain_moves.specs.Kept as groups
-use Rattle.am_model.specs.Node.{Node, view, lowest_or_first}
+use Rattle.am_model.specs.Node.{view, lowest_or_first}
 use Rattle.am_model.specs.Group.{accepted_sends, has_log}
 use Rattle.am_model.specs.World.{Decided, World, happens, run}
 use Rattle.am_model.specs.Lawful.{Watch, watched, watch_start, broken_at, lawful_front}
-use Rattle.am_model.specs.Claims.{BeginsAt, Segment, Once, SendersOrder, line_of, BecameComplete, KeepsView, Kept, Holds, HeadlineHolds}
+use Rattle.am_model.specs.Claims.{BeginsAt, Segment, line_of, BecameComplete, KeepsView, Holds, HeadlineHolds}
 use Rattle.am_model.proofs.Greatest.{split}
 use Rattle.am_model.proofs.Beginnings.{runs_begin}
 use Rattle.am_model.proofs.Runs.{front_is_lawful}
@@ -39,12 +35,12 @@ use Rattle.am_laws.proofs.Named.{few_names}
 use Rattle.am_laws.proofs.TakenRuns.{run_owned}
 use Rattle.am_laws.proofs.Views.{IsNoted}
 use Rattle.am_unballoted.proofs.Steps.{nil_of}
-use Rattle.am_unballoted.proofs.Worlds.{GivenOk, StandsAt}
+use Rattle.am_unballoted.proofs.Worlds.{StandsAt}
 use Rattle.am_stands.specs.Standing.{NameStands, NotedStands}
 use Rattle.am_stands.proofs.Changes.{told_all}
 use Rattle.am_stands.proofs.Onward.{group_kept}
-use Rattle.am_stands.specs.Running.{Following, StepsMove}
-use Rattle.am_headline.specs.Claims.{HeadlineWhereStepsMove}
+use Rattle.am_steps.proofs.Steps.{steps_move}
+use Rattle.am_stands.specs.Running.{Following}
 use Rattle.am_headline.proofs.Lists.{item_begins, item_back}
 use Rattle.am_headline.proofs.Fold.{Quiet, KeptBy, Became, Held}
 use Rattle.am_headline.proofs.Begun.{held}
@@ -126,7 +122,8 @@ number_below rules w s d f became v r i number e old few y grows small low =
     let viewed = view_is v r i a in
     let under = key_lt (view (v.nodes i)) d.stamp (subst (λ u. u.by < 256) viewed (view_small (r.node i).list good)) small low in
     let same = ap key viewed in
-    below rules w s d f became (r.node i).list v.group (r.node i).acc number good (subst (Begins (take (r.node i).acc (r.node i).list)) old.stands.group ok.delivered)
+    below rules w s d f became (r.node i).list v.group (r.node i).acc number good (subst (Begins (take (r.node i).acc (r.node i).list)) old.stands.group
+    ok.delivered)
     ok.within grows (omega arith) (omega arith)
 
 -- ---- earlier moments
@@ -138,11 +135,12 @@ group_grows : (rules : Rules) (events : List Event) (k : ℕ) → Begins (run ru
 group_grows rules events k = let b = (runs_begin rules events k).group in record { rest = b.0; same = sym b.1 }
 
 small_view : (rules : Rules) (events : List Event) (d : Decided) (k : ℕ) → MayFound rules → slice_get (run rules events).views k ≡ Some d → d.stamp.by < 256
-small_view rules events d k may at = (all_get (IsNoted (run rules events).nodes) (run rules events).views k d (run_owned rules events may).blanks.views.noted at).by
+small_view rules events d k may at = (all_get (IsNoted (run rules events).nodes) (run rules events).views k d (run_owned rules events may).blanks.views.noted
+    at).by
 
 -- ---- up to the lawful front
 
-module _ (moving : StepsMove) (rules : Rules) (may : MayFound rules) where
+module _ (rules : Rules) (may : MayFound rules) where
   abbrev Kept_ : World → Group → Type 0
   Kept_ w s = Told rules w
 
@@ -155,12 +153,13 @@ module _ (moving : StepsMove) (rules : Rules) (may : MayFound rules) where
 
   keeps : KeptBy Kept_ rules
   keeps = record {
-    by_step = λ events e c step s t m runs cause effect is old path grows new h. told_step rules events e c step s t m runs cause effect is old path grows new h;
+    by_step = λ events e c step s t m runs cause effect is old path grows shaped new h. told_step rules events e c step s t m runs cause effect is old path
+        grows new h;
     by_quiet = by_idle;
   }
 
   at_moment : (events : List Event) → broken_at rules events ≡ None → Held Kept_ rules events
-  at_moment events whole = held Kept_ rules keeps moving may (λ t f. told_start rules) events whole
+  at_moment events whole = held Kept_ rules keeps steps_move may (λ t f. told_start rules) events whole
 
   -- ---- segment
 
@@ -181,9 +180,9 @@ module _ (moving : StepsMove) (rules : Rules) (may : MayFound rules) where
   segment_holds : (w : World) → Told rules w → Segment rules w
   segment_holds w h = record {
     each = λ name some. (
-        (w.nodes name).core.start,
-        begins_there w name h (has_list w name h some),
-        λ k number e at. (let g = (h.given name).each k number e at in (g.0, g.1.there)),
+      (w.nodes name).core.start,
+      begins_there w name h (has_list w name h some),
+      λ k number e at. (let g = (h.given name).each k number e at in (g.0, g.1.there)),
     );
   }
 
@@ -200,13 +199,15 @@ module _ (moving : StepsMove) (rules : Rules) (may : MayFound rules) where
             let before = prefix_whole rules events k whole in
             let o = at_moment (take k events) before in
             let v = run rules (take k events) in
-            let g = given_then rules (take k events) moment.event (happens v moment.event) number e r may o.is (events_have_effects v moment.event) moment.done says in
+            let g = given_then rules (take k events) moment.event (happens v moment.event) number e r may o.is (events_have_effects v moment.event)
+            moment.done says in
             let i = actor v moment.event in
             let few = few_names rules v moment.event (run_owned rules (take k events) may).blanks.views.named in
             let view_low : stamp_lt (view (v.nodes i)) d.stamp ≡ true = ap (λ j. stamp_lt (view (v.nodes j)) d.stamp) (sym g.by) ∙ low in
             let item = taking_in_group rules v o.to i number e o.follows few g.taking_ in
             let grows = group_grows rules events k in
-            let least = number_below rules w h.to d h.follows became v o.to i number e o.follows few g.taking_ grows (small_view rules events d became.index may became.there) view_low in
+            let least = number_below rules w h.to d h.follows became v o.to i number e o.follows few g.taking_ grows
+            (small_view rules events d became.index may became.there) view_low in
             (least, in_line rules w h.to d h.follows became number e (omega arith) (item_begins number e grows item)));
         group = λ number e low at. in_line rules w h.to d h.follows became number e low at;
       }
@@ -229,9 +230,9 @@ module _ (moving : StepsMove) (rules : Rules) (may : MayFound rules) where
         senders_order = senders_in_order w fit;
       }
 
-pub headline_where_steps_move : HeadlineWhereStepsMove
-headline_where_steps_move moving rules events may = record {
-  front = holds moving rules may (lawful_front rules events) (front_is_lawful rules events);
+pub headline_holds : HeadlineHolds
+headline_holds rules events may = record {
+  front = holds rules may (lawful_front rules events) (front_is_lawful rules events);
   begins = front_begins rules events;
   bounded = bounded_holds rules events may;
 }

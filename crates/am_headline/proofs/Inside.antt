@@ -1,6 +1,6 @@
 -- What is known of a name's node within its step: what its application was given, and which of its sends are settled.
-use Rattle.std.proofs.Common.{◌≡◌, ◌≢◌, ◌⊎◌, ⊎_elim, inl, inr, ℕ, ◌+◌, ◌-◌, ◌<◌, ◌≤◌, max, min, ◌==◌, ◌&&◌, ◌||◌, not, nat_lt, Bool, true, false, if◌then◌else◌}
-use Rattle.std.proofs.Common.{List, [], ◌∷◌, ◌++◌, map, filter, find, count_by, Option, Some, None, slice_get, refl, sym, ap, ◌∙◌, subst, arith}
+use Rattle.std.proofs.Common.{◌≡◌, ◌⊎◌, ⊎_elim, inl, inr, ℕ, ◌+◌, ◌-◌, ◌<◌, ◌≤◌, max, min, ◌==◌, ◌||◌, not, nat_lt, Bool, true, false, if◌then◌else◌}
+use Rattle.std.proofs.Common.{List, [], ◌∷◌, ◌++◌, filter, find, count_by, Option, Some, None, slice_get, refl, sym, ap, ◌∙◌, subst, arith}
 use Rattle.std.specs.Prelude.{All}
 use Rattle.std.proofs.lemmas.Bool.Decides.{nat_tests}
 use Rattle.std.proofs.lemmas.List.Sums.{sum_by-cons}
@@ -19,7 +19,6 @@ use Rattle.am_sender.specs.Sends as own
 use Rattle.am_model.specs.declared.status.Status.{Status}
 use Rattle.am_model.specs.declared.status.Status.TheVariants as status
 use Rattle.am_model.specs.Node.{Node, is_member, is_asking, is_sequencer, waiting, unsettled, pushed}
-use Rattle.am_model.specs.Calls.{queued}
 use Rattle.am_model.specs.Joining.{begun}
 use Rattle.am_model.specs.Group.{has_log}
 use Rattle.am_model.specs.Refresh.{advance, lead, refresh, settle, settled, settled_at, accepted_at, refresh_at_end}
@@ -29,11 +28,11 @@ use Rattle.am_group.specs.Journals.{item_at}
 use Rattle.am_effects.specs.Causes.{Cause, hears}
 use Rattle.am_effects.specs.Changes.{MayBeWelcomed}
 use Rattle.am_effects.proofs.Items.{get_front}
-use Rattle.am_effects.proofs.Rests.{rests_refresh, rests_closed, refresh_is, settle_is}
+use Rattle.am_effects.proofs.Rests.{rests_refresh, refresh_is, settle_is}
 use Rattle.am_effects.proofs.Receiving.{asking}
 use Rattle.am_effects.proofs.Statuses.{logged, asking_log}
 use Rattle.am_unballoted.proofs.Chains.{front, Gave, nothing, took, began, at_least}
-use Rattle.am_unballoted.proofs.Changes.{Found, found_at}
+use Rattle.am_unballoted.proofs.Changes.{found_at}
 use Rattle.am_headline.proofs.Ways as kinds
 use Rattle.am_headline.proofs.Ways.{Alike, Kind, closed, pushed_alike}
 
@@ -76,7 +75,8 @@ pub record Inside (group : List Entry) (i : ℕ) (c : Cause) (o : Outcome) (m x 
 -- ---- fronts
 
 passed_front : (taken acc start : ℕ) → max (if nat_lt taken (start - 1) then max taken (min acc (start - 1)) else taken) (start - 1) ≡ max taken (start - 1)
-passed_front taken acc start = split (nat_lt taken (start - 1)) (λ t. let z : taken < start - 1 = grind (arith, nat_tests) in rw t (omega arith)) (λ f. rw f refl)
+passed_front taken acc start = split (nat_lt taken (start - 1)) (λ t. let z : taken < start - 1 = grind (arith, nat_tests) in rw t (omega arith))
+    (λ f. rw f refl)
 
 -- what a refresh makes of the numbers
 record Fronts (m n : Node) : Type 0 where
@@ -312,7 +312,8 @@ module _ (group : List Entry) (i : ℕ) (c : Cause) (o : Outcome) (m : Node) whe
         bare = h.bare;
         sends = All-map (SendIn group i m y) (own.settle_send req number) x.sends.queue
             (All-weaker (SendIn group i m x) (λ s. SendIn group i m y (own.settle_send req number s))
-            (λ s old. now_settled x y req number s fresh (settled_on group i m x y (λ r n g. same_fresh x y r n refl refl refl refl g) s.req s.number old)) x.sends.queue h.sends);
+            (λ s old. now_settled x y req number s fresh (settled_on group i m x y (λ r n g. same_fresh x y r n refl refl refl refl g) s.req s.number old))
+            x.sends.queue h.sends);
       }
     where
       same_fresh : (x y : Node) (req number : ℕ) → y.core.who ≡ x.core.who → y.core.log.start ≡ x.core.log.start
@@ -326,7 +327,8 @@ module _ (group : List Entry) (i : ℕ) (c : Cause) (o : Outcome) (m : Node) whe
         stays = g.stays;
       }
 
-      now_settled : (x y : Node) (req number : ℕ) (s : OwnSend) → Fresh m y req number → SendIn group i m y s → SendIn group i m y (own.settle_send req number s)
+      now_settled : (x y : Node) (req number : ℕ) (s : OwnSend) → Fresh m y req number → SendIn group i m y s
+          → SendIn group i m y (own.settle_send req number s)
       now_settled x y req number s fresh old = split (s.req == req)
           (λ t. let same : req ≡ s.req = grind (arith, nat_tests) in rw t (inr (subst (λ r. Fresh m y r number) same fresh)))
           (λ f. rw f old)
@@ -370,7 +372,14 @@ module _ (group : List Entry) (i : ℕ) (c : Cause) (o : Outcome) (m : Node) whe
         gone = leaves;
         silent = h.silent;
         bare = λ t. h.bare (sym log ∙ t);
-        sends = sends_on group i m x y x.sends.queue (λ req number g. record { body = g.body; index = g.index; there = g.there; at = g.at; low = g.low; stays = g.stays }) h.sends;
+        sends = sends_on group i m x y x.sends.queue (λ req number g. record {
+          body = g.body;
+          index = g.index;
+          there = g.there;
+          at = g.at;
+          low = g.low;
+          stays = g.stays;
+        }) h.sends;
       }
 
   -- only the sends change
@@ -388,7 +397,15 @@ module _ (group : List Entry) (i : ℕ) (c : Cause) (o : Outcome) (m : Node) whe
         gone = h.gone;
         silent = silent;
         bare = h.bare;
-        sends = sends_on group i m x y q.queue (λ req number g. record { body = g.body; index = g.index; there = g.there; at = g.at; low = g.low; stays = g.stays }) sends;
+        sends = sends_on group i m x y q.queue (λ req number g. record {
+          body = g.body;
+          index = g.index;
+          there = g.there;
+          at = g.at;
+          low = g.low;
+          stays =
+              g.stays;
+        }) sends;
       }
 
   inside_collected : (x : Node) (req : ℕ) → Inside group i c o m x → Inside group i c o m (record x { sends = own.collect req x.sends })
@@ -413,7 +430,14 @@ module _ (group : List Entry) (i : ℕ) (c : Cause) (o : Outcome) (m : Node) whe
         gone = h.gone;
         silent = h.silent;
         bare = h.bare;
-        sends = sends_on group i m x y x.sends.queue (λ req number g. record { body = g.body; index = g.index; there = g.there; at = g.at; low = g.low; stays = g.stays }) h.sends;
+        sends = sends_on group i m x y x.sends.queue (λ req number g. record {
+          body = g.body;
+          index = g.index;
+          there = g.there;
+          at = g.at;
+          low = g.low;
+          stays = g.stays;
+        }) h.sends;
       }
 
   inside_asked : (x : Node) → nat_lt 0 (unsettled x) ≡ false → Inside group i c o m x → Inside group i c o m (record x { leaving = true })
@@ -429,7 +453,14 @@ module _ (group : List Entry) (i : ℕ) (c : Cause) (o : Outcome) (m : Node) whe
         gone = λ t. refl;
         silent = λ t. none_waits x.sends.queue none;
         bare = h.bare;
-        sends = sends_on group i m x y x.sends.queue (λ req number g. record { body = g.body; index = g.index; there = g.there; at = g.at; low = g.low; stays = g.stays }) h.sends;
+        sends = sends_on group i m x y x.sends.queue (λ req number g. record {
+          body = g.body;
+          index = g.index;
+          there = g.there;
+          at = g.at;
+          low = g.low;
+          stays = g.stays;
+        }) h.sends;
       }
 
   still_log : (s : Status) → is_member s ≡ true → has_log status.Departed ≡ has_log s

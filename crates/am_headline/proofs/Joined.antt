@@ -1,14 +1,13 @@
 -- A joiner's Join stands at the number with which it is welcomed.
-use Rattle.std.proofs.Common.{◌≡◌, ◌⊎◌, ⊎_elim, inl, inr, ℕ, zero, suc, ◌+◌, ◌<◌, ◌≤◌, ◌==◌, true, false, List, [], ◌∷◌, ◌++◌, length, take, Some, slice_get, refl, sym, ap, ◌∙◌, subst, arith}
+use Rattle.std.proofs.Common.{◌≡◌, ◌⊎◌, ⊎_elim, inl, inr, ℕ, zero, suc, ◌+◌, ◌<◌, ◌≤◌, true, false, List, [], ◌∷◌, ◌++◌, length, take, Some, slice_get, refl}
+use Rattle.std.proofs.Common.{sym, ap, ◌∙◌, subst, arith}
 use Rattle.std.specs.Prelude.{All}
-use Rattle.std.proofs.lemmas.Bool.Decides.{nat_tests}
 use Rattle.am_base.specs.declared.entry.Entry.{Entry}
 use Rattle.am_base.specs.declared.entry.Entry.TheVariants.{Join}
 use Rattle.am_base.specs.declared.image.Image.{Image}
 use Rattle.am_base.specs.declared.name.Stamp.{Stamp}
 use Rattle.am_base.specs.Founding.{Rules}
 use Rattle.am_base.specs.Names.{place_of, life_of, has}
-use Rattle.am_base.specs.Lists.{is_blank}
 use Rattle.am_packet.specs.declared.packet.Packet.TheVariants as packet
 use Rattle.am_packet.specs.Boxes.{Letter}
 use Rattle.am_packet.specs.Kinds.{goes_to_any}
@@ -17,12 +16,11 @@ use Rattle.am_group.specs.Journals.{item_at}
 use Rattle.am_chain_lists.specs.Whole.{Begins, IsGood, told, mem}
 use Rattle.am_chain_lists.proofs.Rows.{In, row_at}
 use Rattle.am_chain_lists.proofs.Prefixes.{begins_take, length_take}
-use Rattle.am_chain_lists.proofs.Members.{good_begins, told_push, long_told, mem_in, in_mem, mem_nil, mem_viewed}
+use Rattle.am_chain_lists.proofs.Members.{good_begins, told_push, long_told, mem_in, in_mem, mem_viewed}
 use Rattle.am_chain_moves.specs.Group.{Group}
 use Rattle.am_model.specs.declared.status.Status.{Status}
 use Rattle.am_model.specs.declared.status.Status.TheVariants as status
-use Rattle.am_model.specs.Node.{Node, is_asking, founders_view}
-use Rattle.am_model.specs.Group.{has_log}
+use Rattle.am_model.specs.Node.{is_asking, founders_view}
 use Rattle.am_model.specs.World.{World, is_stopped, has_departed}
 use Rattle.am_effects.proofs.Items.{all_get}
 use Rattle.am_effects.proofs.Statuses.{asking_log}

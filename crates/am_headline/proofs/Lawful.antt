@@ -1,6 +1,7 @@
 -- A world that is lawful for its greatest complete view is so in the group that stands for it.
-use Rattle.std.proofs.Common.{◌≡◌, ◌≢◌, ◌⊎◌, ⊎_elim, inl, inr, ℕ, zero, suc, ◌+◌, ◌<◌, ◌≤◌, ◌==◌, ◌&&◌, ◌||◌, not, nat_lt, nat_le, Bool, true, false, if◌then◌else◌, List, [], ◌∷◌, length}
-use Rattle.std.proofs.Common.{count_by, refl, sym, ap, ◌∙◌, subst, arith}
+use Rattle.std.proofs.Common.{◌≡◌, ◌≢◌, ◌⊎◌, ⊎_elim, inl, inr, ℕ, zero, suc, ◌+◌, ◌<◌, ◌≤◌, ◌==◌, ◌&&◌, ◌||◌, not, nat_lt, Bool, true, false, if◌then◌else◌}
+use Rattle.std.proofs.Common.{List, [], ◌∷◌, length}
+use Rattle.std.proofs.Common.{count_by, refl, sym, ap, ◌∙◌, arith}
 use Rattle.std.specs.List.{list_any}
 use Rattle.std.proofs.lemmas.Bool.Decides.{nat_tests}
 use Rattle.am_base.specs.declared.entry.Entry.TheVariants.{View}
@@ -11,7 +12,7 @@ use Rattle.am_chain_lists.proofs.Prefixes.{length_push}
 use Rattle.am_chain_moves.specs.Group.{Group, count, how_many, opening}
 use Rattle.am_chain_moves.specs.Runs.{counts_for}
 use Rattle.am_model.specs.Group.{has_log}
-use Rattle.am_model.specs.World.{Decided, World, is_stopped, has_departed}
+use Rattle.am_model.specs.World.{Decided, World, has_departed}
 use Rattle.am_model.specs.Lawful.{counts, is_lost, is_lawful}
 use Rattle.am_model.proofs.Greatest.{split, and_both}
 use Rattle.am_stands.specs.Standing.{NotedStands, Stands}

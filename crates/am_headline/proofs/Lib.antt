@@ -13,4 +13,8 @@ pub mod Own
 pub mod Told
 pub mod Moments
 pub mod Holds
-pub mod Headline
+pub mod Fits
+pub mod Rows
+pub mod Heard
+pub mod Views
+pub mod Fitted

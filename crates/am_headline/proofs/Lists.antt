@@ -1,5 +1,5 @@
 -- Lists, their lines, and where a View stands in them.
-use Rattle.std.proofs.Common.{◌≡◌, ◌⊎◌, ⊎_elim, ℕ, zero, suc, ◌+◌, ◌<◌, ◌≤◌, true, false, List, [], ◌∷◌, ◌++◌, length, Some, slice_get, refl, sym, ap, ◌∙◌, subst, arith}
+use Rattle.std.proofs.Common.{◌≡◌, ◌⊎◌, ⊎_elim, ℕ, zero, suc, ◌<◌, ◌≤◌, true, List, [], ◌∷◌, ◌++◌, length, Some, slice_get, sym, ap, ◌∙◌, subst, arith}
 use Rattle.std.specs.List.{list_any}
 use Rattle.am_base.specs.declared.entry.Entry.{Entry}
 use Rattle.am_base.specs.declared.entry.Entry.TheVariants.{Data, Join, Leave, View}
@@ -78,7 +78,8 @@ same_opening v a b names others resilience more list h k g f =
     ⊎_elim
     (λ (le : length p ≤ length q). ⊎_elim
     (λ (back : length q ≤ length p). begins_same (begins_both h k le) back)
-    (λ (less : length p < length q). absurd (below v b others more p (begins_both (begins_both h k le) (begins_more b (View v others more ∷ [])) (omega arith)) f
+    (λ (less : length p < length q). absurd (below v b others more p (begins_both (begins_both h k le) (begins_more b (View v others more ∷ []))
+    (omega arith)) f
     (view_viewed a v names resilience)))
     (two (length q) (length p)))
     (λ (less : length q < length p). absurd (below v a names resilience q

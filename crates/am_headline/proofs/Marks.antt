@@ -1,11 +1,10 @@
 -- A view that is complete in a world completes in the group that stands for it.
-use Rattle.std.proofs.Common.{◌≡◌, ◌≢◌, ◌⊎◌, ⊎_elim, ℕ, zero, suc, ◌+◌, ◌<◌, ◌≤◌, ◌==◌, ◌&&◌, ◌||◌, not, nat_lt, nat_le, min, Bool, true, false, List, [], ◌∷◌, ◌++◌}
+use Rattle.std.proofs.Common.{◌≡◌, ℕ, zero, suc, ◌+◌, ◌<◌, ◌≤◌, ◌==◌, ◌&&◌, not, nat_lt, nat_le, min, Bool, true, false, List, [], ◌∷◌, ◌++◌}
 use Rattle.std.proofs.Common.{length, Some, slice_get, slice_index, count_by, refl, sym, ap, ◌∙◌, subst, arith}
 use Rattle.std.specs.List.{list_any}
 use Rattle.std.proofs.lemmas.Bool.Decides.{nat_tests}
 use Rattle.am_base.specs.declared.entry.Entry.{Entry}
 use Rattle.am_base.specs.declared.entry.Entry.TheVariants.{View}
-use Rattle.am_base.specs.declared.name.Stamp.{Stamp}
 use Rattle.am_base.specs.Names.{IsSet, place_of, life_of, name_at, has, size, names_from, names_of}
 use Rattle.am_base.specs.Stamps.{stamp_lt}
 use Rattle.am_chain_lists.specs.Whole.{Begins, IsGood, view_of, key}
@@ -13,12 +12,12 @@ use Rattle.am_chain_lists.proofs.Rows.{mod16}
 use Rattle.am_chain_lists.proofs.Prefixes.{begins_trans}
 use Rattle.am_chain_lists.proofs.Members.{good_begins}
 use Rattle.am_chain_lists.proofs.Order.{lt_key, view_small, view_viewed}
-use Rattle.am_chain_moves.specs.Group.{Group, Chosen, how_many, opening, IsThere}
+use Rattle.am_chain_moves.specs.Group.{Group, how_many, opening, IsThere}
 use Rattle.am_chain_moves.specs.Runs.{Completes}
 use Rattle.am_model.specs.Node as nodes
 use Rattle.am_model.specs.World.{Decided, World, is_stopped, has_departed}
-use Rattle.am_model.specs.Lawful.{whole, is_view_of, has_stored, lags, is_complete}
-use Rattle.am_model.specs.Claims.{up_to_next, line_of}
+use Rattle.am_model.specs.Lawful.{is_view_of, has_stored, lags, is_complete}
+use Rattle.am_model.specs.Claims.{up_to_next}
 use Rattle.am_model.proofs.Greatest.{split, and_both}
 use Rattle.am_stands.specs.Standing.{NotedStands, Stands}
 use Rattle.am_stands.specs.States.{LinesOpen}
@@ -82,11 +81,14 @@ stored_opens w s v h k noted small few stored =
     let opened = k.opens on.view part on.decided (λ nil. not_nil at.before (View v.stamp at.names at.resilience) nil) (begins_trans at.begins on.line) in
     let mine : Begins part (s.views.line (key v.stamp)) = subst (λ u. Begins part (s.views.line (key u))) seen opened.line_ in
     let good : IsGood part = good_begins at.begins (k.shaped.good h) in
-    let stamped : opening ch ≡ ch.before ++ View v.stamp ch.members ch.resilience ∷ [] = ap (λ u. ch.before ++ View u ch.members ch.resilience ∷ []) noted.stamp in
-    let its : Begins (ch.before ++ View v.stamp ch.members ch.resilience ∷ []) (s.views.line (key v.stamp)) = subst (λ l. Begins l (s.views.line (key v.stamp))) stamped noted.opens in
+    let stamped : opening ch ≡ ch.before ++ View v.stamp ch.members ch.resilience ∷ [] = ap (λ u. ch.before ++ View u ch.members ch.resilience ∷ [])
+    noted.stamp in
+    let its : Begins (ch.before ++ View v.stamp ch.members ch.resilience ∷ []) (s.views.line (key v.stamp)) = subst
+    (λ l. Begins l (s.views.line (key v.stamp))) stamped noted.opens in
     let by = k.stands.each v.stamp.by small in
     let line_is : s.views.line (key v.stamp) ≡ up_to_next v.stamp (s.node v.stamp.by).list = noted.line ∙ ap (up_to_next v.stamp) (sym by.list) in
-    let line_good : IsGood (s.views.line (key v.stamp)) = subst IsGood (sym line_is) (good_begins (line_part v.stamp (s.node v.stamp.by).list) (k.shaped.good v.stamp.by)) in
+    let line_good : IsGood (s.views.line (key v.stamp)) = subst IsGood (sym line_is) (good_begins (line_part v.stamp (s.node v.stamp.by).list) (k.shaped.good
+    v.stamp.by)) in
     let same = same_opening v.stamp at.before ch.before at.names ch.members at.resilience ch.resilience (s.views.line (key v.stamp)) mine its good
     (good_begins its line_good) in
     subst (λ l. Begins l list) (same ∙ sym stamped) at.begins

@@ -1,5 +1,5 @@
 -- What a record of a run tells of the moment when its event was done.
-use Rattle.std.proofs.Common.{◌≡◌, ◌⊎◌, ⊎_elim, ℕ, zero, suc, ◌+◌, ◌<◌, ◌≤◌, List, [], ◌∷◌, ◌++◌, length, take, Some, slice_get, refl, sym, ap, ◌∙◌, subst, arith}
+use Rattle.std.proofs.Common.{◌≡◌, ℕ, zero, suc, ◌+◌, ◌<◌, List, [], ◌∷◌, ◌++◌, length, take, Some, slice_get, refl, sym, ap, ◌∙◌, subst, arith}
 use Rattle.std.proofs.lemmas.List.{length-take-le}
 use Rattle.std.proofs.lemmas.Option.{slice_get_within}
 use Rattle.am_base.specs.declared.entry.Entry.{Entry}
@@ -15,7 +15,6 @@ use Rattle.am_model.proofs.Beginnings.{runs_begin}
 use Rattle.am_model.proofs.Runs.{one_record_each}
 use Rattle.am_effects.specs.Events as event
 use Rattle.am_effects.specs.Events.{actor, IsIdle, Happens, idles, returns, steps}
-use Rattle.am_effects.proofs.Events.{events_have_effects}
 use Rattle.am_effects.proofs.Items.{get_last}
 use Rattle.am_headline.proofs.Fold.{run_push}
 use Rattle.am_headline.proofs.Told.{Told, Taking, taking}
@@ -45,7 +44,8 @@ done_then rules events k r at =
     let begins = (runs_begin rules events (suc k)).records in
     let count = one_record_each rules (take (suc k) events) in
     let long = length-take-le (suc k) events (omega arith) in
-    let part : slice_get (run rules (take (suc k) events)).records k ≡ Some r = sym (get_before (run rules (take (suc k) events)).records begins.0 k (omega arith))
+    let part : slice_get (run rules (take (suc k) events)).records k ≡ Some r = sym (get_before (run rules (take (suc k) events)).records begins.0 k (omega
+    arith))
     ∙ ap (λ l. slice_get l k) (sym begins.1) ∙ at in
     let same : run rules (take (suc k) events) ≡ happens (run rules (take k events)) e.event = ap (run rules) e.is ∙ run_push rules (take k events) e.event in
     let before = one_record_each rules (take k events) in
@@ -73,7 +73,8 @@ last_of records a r h = some_record a r (sym (get_last records a) ∙ h)
 none_idle : (o : Outcome) (number : ℕ) (x : Entry) → IsIdle o → o ≡ said.Took number x → ⊥
 none_idle o number x idle is = subst IsIdle is idle
 
-pub given_then : (rules : Rules) (events : List Event) (e : Event) (v : World) (number : ℕ) (x : Entry) (r : Record) → MayFound rules → Told rules (run rules events)
+pub given_then : (rules : Rules) (events : List Event) (e : Event) (v : World) (number : ℕ) (x : Entry) (r : Record) → MayFound rules
+    → Told rules (run rules events)
     → Happens (run rules events) e v → slice_get v.records (length (run rules events).records) ≡ Some r → r.outcome ≡ said.Took number x
     → GivenThen (run rules events) e number x r
 unfolding unchanged stepped

@@ -1,24 +1,19 @@
 -- What a name accepted of its own list stands in the group list.
-use Rattle.std.proofs.Common.{◌≡◌, ◌⊎◌, ⊎_elim, inl, inr, ℕ, zero, suc, ◌+◌, ◌-◌, ◌<◌, ◌≤◌, ◌==◌, Bool, true, false, if◌then◌else◌, List, [], ◌∷◌, ◌++◌, length, take, drop}
-use Rattle.std.proofs.Common.{Some, slice_get, refl, sym, ap, ◌∙◌, subst, arith, length-append}
+use Rattle.std.proofs.Common.{◌≡◌, ◌⊎◌, ⊎_elim, ℕ, suc, ◌+◌, ◌-◌, ◌<◌, ◌≤◌, ◌==◌, List, ◌++◌, length, take, drop}
+use Rattle.std.proofs.Common.{Some, slice_get, refl, sym, ap, ◌∙◌, subst, arith}
 use Rattle.std.proofs.lemmas.List.{length-take-le}
-use Rattle.std.proofs.lemmas.Bool.Decides.{nat_tests}
 use Rattle.am_base.specs.declared.entry.Entry.{Entry}
-use Rattle.am_base.specs.declared.entry.Entry.TheVariants.{Data}
-use Rattle.am_base.specs.Lists.{Log, entry_at}
-use Rattle.am_core.proofs.Ends.{entry-get}
 use Rattle.am_core.proofs.Folds.{slice_get-drop}
 use Rattle.am_group.specs.Journals.{item_at}
 use Rattle.am_group.proofs.Places.{get_behind}
 use Rattle.am_chain_lists.specs.Whole.{Begins}
-use Rattle.am_chain_moves.specs.Group as groups
 use Rattle.am_chain_moves.specs.Group.{Group}
 use Rattle.am_chain_moves.specs.Kept.{Kept}
 use Rattle.am_model.specs.Node.{Node, view}
 use Rattle.am_model.specs.Lawful.{whole}
-use Rattle.am_model.specs.World.{World, is_stopped, has_departed, grown, group_after}
+use Rattle.am_model.specs.World.{World, grown, group_after}
 use Rattle.am_model.proofs.Greatest.{split}
-use Rattle.am_stands.specs.Standing.{NameStands, FrontsStand, Stands}
+use Rattle.am_stands.specs.Standing.{NameStands, FrontsStand}
 use Rattle.am_unballoted.proofs.Lists.{get_item, item_taken}
 use Rattle.am_headline.proofs.Lists.{item_begins}
 use Rattle.am_headline.proofs.Shapes.{Along}
@@ -53,7 +48,8 @@ grown_item group n index number e start is above low at =
     let j = number - length group - 1 in
     let more = take (n.core.acc - length group) (drop (length group - n.core.log.start) n.core.log.entries) in
     let place : (length group - n.core.log.start) + j ≡ index = omega arith in
-    let dropped : slice_get (drop (length group - n.core.log.start) n.core.log.entries) j ≡ Some e = slice_get-drop (length group - n.core.log.start) j n.core.log.entries
+    let dropped : slice_get (drop (length group - n.core.log.start) n.core.log.entries) j ≡ Some e = slice_get-drop (length group - n.core.log.start) j
+    n.core.log.entries
     ∙ ap (slice_get n.core.log.entries) place ∙ at in
     let item : item_at (drop (length group - n.core.log.start) n.core.log.entries) (j + 1) ≡ Some e = get_item _ (j + 1) j e refl dropped in
     let taken : item_at more (j + 1) ≡ Some e = item_taken (n.core.acc - length group) _ (j + 1) e (omega arith) item in

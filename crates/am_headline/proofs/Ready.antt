@@ -1,7 +1,6 @@
 -- What follows a world goes on through marks, stops and events that change no node.
-use Rattle.std.proofs.Common.{◌≡◌, ◌≢◌, ◌⊎◌, ⊎_elim, inl, inr, ℕ, ◌<◌, ◌≤◌, length, List, [], ◌∷◌, ◌++◌, Bool, true, false, Some, slice_get, refl, sym, ap, ◌∙◌, subst, append-nil, arith}
-use Rattle.std.proofs.lemmas.Bool.Decides.{nat_tests}
-use Rattle.am_base.specs.declared.entry.Entry.{Entry}
+use Rattle.std.proofs.Common.{◌≡◌, ◌≢◌, ◌⊎◌, ⊎_elim, inl, inr, ℕ, ◌<◌, ◌≤◌, length, List, [], ◌++◌, Bool, true, false, Some, slice_get, refl, sym, ap, ◌∙◌}
+use Rattle.std.proofs.Common.{subst, append-nil, arith}
 use Rattle.am_base.specs.Founding.{Rules}
 use Rattle.am_packet.specs.Boxes.{Letter}
 use Rattle.am_group.specs.declared.event.Record.{Record}
@@ -14,19 +13,19 @@ use Rattle.am_chain_moves.specs.Runs.{Completes, IsLawful, Run, more}
 use Rattle.am_chain_moves.proofs.Puts.{put_at, put_cases, put_other}
 use Rattle.am_model.specs.Node.{Node, lowest_or_first}
 use Rattle.am_model.specs.Calls.{is_unfinished}
-use Rattle.am_model.specs.World.{Decided, World, is_stopped, has_departed}
-use Rattle.am_stands.specs.Standing.{NameStands, FrontsStand, NotedStands, ViewsStand, Stands}
+use Rattle.am_model.specs.World.{World, is_stopped, has_departed}
+use Rattle.am_stands.specs.Standing.{NameStands, FrontsStand, Stands}
 use Rattle.am_stands.specs.Letters.{LetterSays}
 use Rattle.am_stands.specs.States.{LinesOpen}
 use Rattle.am_stands.specs.Growing.{NameGrows, Grows}
 use Rattle.am_stands.specs.Branches.{OnBranch, on_chain, left_out, BranchesOk, ChainNamed}
-use Rattle.am_stands.specs.Keeping.{GroupOk, NodeKeeps}
+use Rattle.am_stands.specs.Keeping.{NodeKeeps}
 use Rattle.am_stands.proofs.Letters.{letters_stay}
 use Rattle.am_stands.proofs.Onward.{group_kept, move_on, grows_same}
 use Rattle.am_stands.proofs.Opens.{moves_open, runs_open}
 use Rattle.am_stands.proofs.Others.{others_keep}
 use Rattle.am_stands.specs.Running.{Following}
-use Rattle.am_headline.proofs.Shapes.{OnLine, Shaped, shaped_move, shaped_stop}
+use Rattle.am_headline.proofs.Shapes.{Shaped, shaped_move, shaped_stop}
 
 abbrev pub RunFor : Rules → Group → Type 0
 RunFor rules s = Run rules.founders (lowest_or_first rules.founders) rules.resilience s
@@ -95,7 +94,8 @@ shaped_marked s complete h = record {
 
 branch_marked : (s : Group) (complete : ℕ → Bool) (i : ℕ) → OnBranch s i → OnBranch (marked s complete) i
 branch_marked s complete i (on_chain h) = on_chain h
-branch_marked s complete i (left_out a v names resilience branch on below list good member out) = left_out a v names resilience branch on below list good member out
+branch_marked s complete i (left_out a v names resilience branch on below list good member out) = left_out a v names resilience branch on below list good
+    member out
 
 same_up : (s t : Group) (i : ℕ) → t.node i ≡ s.node i → IsUp (t.node i) → IsUp (s.node i)
 same_up s t i is h = subst IsUp is h
@@ -202,7 +202,8 @@ ready_given rules v s h shaped =
       tells = tells_on v v s (given s) (stays_same v) on.grows h.stands stands (tells_of h);
       shaped = shaped_move founders first rules.resilience s (given s) h.group move tt shaped;
       opens = runs_open founders first rules.resilience (given s) on.group_.run;
-      run = λ complete may. more h.group.run (record { moved = given s; move = move; complete = complete; stay = may.stay; marks = may.marks; is = refl }) may.lawful;
+      run = λ complete may. more h.group.run (record { moved = given s; move = move; complete = complete; stay = may.stay; marks = may.marks; is = refl })
+          may.lawful;
     }
 
 -- ---- a stop
@@ -237,11 +238,15 @@ branch_halted s i j (left_out a v names resilience branch on below list good mem
 branches_halted : (s : Group) (i : ℕ) → BranchesOk s → BranchesOk (halted s i)
 branches_halted s i h = record {
   branch = λ j stays. branch_halted s i j (h.branch j (sym (halts s i j).departed ∙ stays));
-  own = λ j stays a d below begins member. h.own j (sym (halts s i j).departed ∙ stays) a d (subst (λ l. BeginsBelow d l) (halts s i j).list below) begins member;
+  own = λ j stays a d below begins member. h.own j (sym (halts s i j).departed ∙ stays) a d (subst (λ l. BeginsBelow d l) (halts s i j).list below) begins
+      member;
   short = λ c k list up ballot shown stays.
       (let a = halts s i c in
       let b = halts s i k in
-      let up_ : IsUp (s.node c) = record { log = sym a.log ∙ up.log; there = record { goes = a.goes up.there.goes; stays = sym a.departed ∙ up.there.stays } } in
+      let up_ : IsUp (s.node c) = record {
+        log = sym a.log ∙ up.log;
+        there = record { goes = a.goes up.there.goes; stays = sym a.departed ∙ up.there.stays };
+      } in
       let seen : s.shown (key (s.node c).promise) k ≡ Some list = ap (λ u. s.shown (key u) k) (sym a.promise) ∙ shown in
       let r = h.short c k list up_ (sym a.ballot ∙ ballot) seen (sym b.departed ∙ stays) in
       ⊎_elim
@@ -268,7 +273,14 @@ ready_halted rules w v s i h shaped same stands =
       shaped = shaped_stop s i shaped;
       opens = moves_open s (halted s i) (stops i) (group_kept founders first rules.resilience s h.group)
           (runs_open founders first rules.resilience s h.group.run);
-      run = λ complete may. more h.group.run (record { moved = halted s i; move = stops i; complete = complete; stay = may.stay; marks = may.marks; is = refl }) may.lawful;
+      run = λ complete may. more h.group.run (record {
+        moved = halted s i;
+        move = stops i;
+        complete = complete;
+        stay = may.stay;
+        marks = may.marks;
+        is = refl;
+      }) may.lawful;
     }
 
 -- ---- nothing happens

@@ -1,6 +1,6 @@
 -- What moves keep of each list, whoever has stopped or departed: it is a good one, on the line of a decided view; and each decided view has
 -- a set of names.
-use Rattle.std.proofs.Common.{◌≡◌, ◌≢◌, ◌⊎◌, ⊎_elim, inl, inr, ℕ, ◌≤◌, List, length, Some, [], ◌∷◌, ◌++◌, true, false, refl, sym, ap, ◌∙◌, subst}
+use Rattle.std.proofs.Common.{◌≡◌, ◌≢◌, ◌⊎◌, ⊎_elim, inl, inr, ℕ, ◌≤◌, List, length, Some, [], true, refl, sym, ap, ◌∙◌, subst}
 use Rattle.am_base.specs.declared.entry.Entry.{Entry}
 use Rattle.am_base.specs.declared.entry.Entry.TheVariants.{Leave}
 use Rattle.am_base.specs.Names.{IsSet}
@@ -81,7 +81,13 @@ move_goes s t (fetches i f list e there ballot served shown next) k = now_up s t
     (still_up (s.node i) (longer (s.node i) e) refl refl refl there)
 move_goes s t (decides i members resilience may) k = now_up s t i _ refl (still_up (s.node i) _ refl refl refl may.up)
 move_goes s t (gives_over i) k = list_stays s t i _ refl refl
-move_goes s t (welcomes j stamp base join may) k = now_up s t j _ refl (record { log = refl; there = record { goes = may.there.goes; stays = may.there.stays } })
+move_goes s t (welcomes j stamp base join may) k = now_up s t j _ refl (record {
+  log = refl;
+  there = record {
+    goes = may.there.goes;
+    stays = may.there.stays;
+  };
+})
 move_goes s t (asks i there unballoted) k = list_stays s t i _ refl refl
 move_goes s t (departs i before may) k = list_stays s t i _ refl refl
 move_goes s t (closes i n leads leaving alone may) k = closed_line s t i (record (longer (s.node i) (Leave i)) { departed = true }) k leads refl refl refl
@@ -117,7 +123,8 @@ sets_on s t (decides i members resilience may) ok h x d =
     let choice = choice_of (s.node i) members resilience in
     by_number (put_cases s.views.chosen at choice x) (put_cases s.views.decided at true x)
   where
-    by_number : ((x ≡ key (s.node i).promise) × (put s.views.chosen (key (s.node i).promise) (choice_of (s.node i) members resilience) x ≡ choice_of (s.node i) members resilience))
+    by_number : ((x ≡ key (s.node i).promise) × (put s.views.chosen (key (s.node i).promise) (choice_of (s.node i) members resilience) x ≡ choice_of
+        (s.node i) members resilience))
         ⊎ ((x ≢ key (s.node i).promise) × (put s.views.chosen (key (s.node i).promise) (choice_of (s.node i) members resilience) x ≡ s.views.chosen x))
         → ((x ≡ key (s.node i).promise) × (put s.views.decided (key (s.node i).promise) true x ≡ true))
         ⊎ ((x ≢ key (s.node i).promise) × (put s.views.decided (key (s.node i).promise) true x ≡ s.views.decided x))

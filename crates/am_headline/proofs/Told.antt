@@ -1,6 +1,6 @@
 -- What each run keeps of what its applications were given: gapless, from where a name began, and each send that was settled at its number.
-use Rattle.std.proofs.Common.{◌≡◌, ◌≢◌, ◌⊎◌, ⊎_elim, inl, inr, ℕ, zero, suc, ◌+◌, ◌-◌, ◌<◌, ◌≤◌, max, ◌==◌, nat_le, Bool, true, false, if◌then◌else◌, List, [], ◌∷◌, ◌++◌}
-use Rattle.std.proofs.Common.{length, take, Option, Some, None, slice_get, refl, sym, ap, ◌∙◌, subst, append-nil, length-append, arith}
+use Rattle.std.proofs.Common.{◌≡◌, ◌≢◌, ⊎_elim, inl, ℕ, zero, suc, ◌+◌, ◌-◌, ◌<◌, ◌≤◌, ◌==◌, nat_le, true, false, List, [], ◌∷◌, ◌++◌}
+use Rattle.std.proofs.Common.{length, Option, Some, None, slice_get, refl, sym, ap, ◌∙◌, subst, append-nil, length-append, arith}
 use Rattle.std.specs.Prelude.{All}
 use Rattle.std.specs.List.{flat_map}
 use Rattle.std.proofs.lemmas.Bool.Decides.{nat_tests}
@@ -19,16 +19,13 @@ use Rattle.am_group.specs.declared.event.Event.{Event}
 use Rattle.am_group.specs.declared.event.Record.{Record}
 use Rattle.am_group.specs.Deliveries.{name_of, taken_in, given_to, deliveries}
 use Rattle.am_group.specs.Journals.{item_at}
-use Rattle.am_sender.specs.declared.OwnSend.{OwnSend}
 use Rattle.am_chain_lists.specs.Whole.{Begins, IsGood}
 use Rattle.am_chain_lists.proofs.Prefixes.{begins_refl, begins_trans}
 use Rattle.am_chain_lists.proofs.Members.{good_begins}
 use Rattle.am_chain_moves.specs.Group as groups
 use Rattle.am_chain_moves.specs.Group.{Group, IsUp}
 use Rattle.am_chain_moves.specs.Kept.{Kept}
-use Rattle.am_model.specs.declared.status.Status.{Status}
-use Rattle.am_model.specs.declared.status.Status.TheVariants as status
-use Rattle.am_model.specs.Node.{Node, set_at, waiting, is_member, is_asking, founder, stranger, founders_view, lowest_or_first}
+use Rattle.am_model.specs.Node.{Node, set_at, waiting, is_asking, founder, stranger, founders_view, lowest_or_first}
 use Rattle.am_model.specs.Emit.{Step}
 use Rattle.am_model.specs.Group.{sent_in, accepted_sends, has_log}
 use Rattle.am_model.specs.Lawful.{whole}
@@ -36,7 +33,7 @@ use Rattle.am_model.specs.World.{World, record_of, is_stopped, has_departed, gro
 use Rattle.am_model.specs.Claims.{heard_by, welcomes}
 use Rattle.am_model.proofs.Greatest.{split}
 use Rattle.am_effects.specs.Causes.{Cause, hears}
-use Rattle.am_effects.specs.Changes.{Change, Changes, unchanged, changed, MayBeWelcomed}
+use Rattle.am_effects.specs.Changes.{Changes, unchanged, changed}
 use Rattle.am_effects.specs.Effects.{Effect, Answers, HasTaken, AnswersAsk, WasSettled}
 use Rattle.am_effects.specs.Letters.{LetterSays}
 use Rattle.am_effects.specs.Events.{actor, IsCause, IsIdle, WasSentTo}
@@ -53,14 +50,15 @@ use Rattle.am_promises.specs.Ballots.{IsOfBallot, LastOk}
 use Rattle.am_promises.proofs.Ballots.{ballots_are_own}
 use Rattle.am_watched.proofs.Lists.{lists_go_on}
 use Rattle.am_unballoted.proofs.Chains.{front, Gave, nothing, took, began, at_least}
-use Rattle.am_unballoted.proofs.Kept.{At, at_more, BeginsOk, begins_more, SendOk, IsSettled, sends_more}
+use Rattle.am_unballoted.proofs.Kept.{At, BeginsOk, begins_more, SendOk, IsSettled, sends_more}
 use Rattle.am_unballoted.proofs.Lists.{item_within}
-use Rattle.am_unballoted.proofs.Records.{idle_takes, idle_welcomes, idle_sends, deliveries_push, given_same, not_given, idle_gives, given_more, accepted_more, accepted_and}
+use Rattle.am_unballoted.proofs.Records.{idle_takes, idle_welcomes, idle_sends, deliveries_push, given_same, not_given, idle_gives, given_more, accepted_more}
+use Rattle.am_unballoted.proofs.Records.{accepted_and}
 use Rattle.am_unballoted.proofs.Records.{welcome_in, welcomes_push, idle_welcome, other_welcome, record_up}
 use Rattle.am_unballoted.proofs.Steps.{taken_or, nil_of}
 use Rattle.am_unballoted.proofs.Welcomes.{record_step, welcomed_step}
 use Rattle.am_unballoted.proofs.Worlds.{GivenOk, begins_at, RecordOk, StandsAt}
-use Rattle.am_stands.specs.Standing.{NameStands, Stands}
+use Rattle.am_stands.specs.Standing.{NameStands}
 use Rattle.am_stands.specs.Moving.{Moves}
 use Rattle.am_stands.specs.Growing.{Grows}
 use Rattle.am_stands.proofs.Onward.{group_kept}
@@ -117,7 +115,8 @@ pub record Same (w v : World) : Type 0 where
 
 pub told_same : (rules : Rules) (w v : World) → Same w v → v.records ≡ w.records → Told rules w → Told rules v
 told_same rules w v is records h =
-    let all : (P : (ℕ → Node) → List Letter → List Entry → List Record → Type 0) → P w.nodes w.letters w.group w.records → P v.nodes v.letters v.group v.records = λ P x.
+    let all : (P : (ℕ → Node) → List Letter → List Entry → List Record → Type 0) → P w.nodes w.letters w.group w.records → P v.nodes v.letters v.group
+    v.records = λ P x.
     subst (λ n. P n v.letters v.group v.records) (sym is.nodes) (subst (λ l. P w.nodes l v.group v.records) (sym is.letters)
     (subst (λ g. P w.nodes w.letters g v.records) (sym is.group) (subst (P w.nodes w.letters w.group) (sym records) x))) in
     record {
@@ -150,7 +149,8 @@ told_idle rules w v r is idle records h =
           (All-push (RecordOk (length w.letters)) w.records r h.heard (λ some. absurd (some (idle_welcomes r.outcome idle))));
       accepted = all (λ n l g rs. All (StandsAt g (length g)) (accepted_sends rs))
           (accepted_and w.group (length w.group) w.records r
-          (subst (All (StandsAt w.group (length w.group))) (sym (idle_sends (name_of r) r.outcome idle)) (All-nil (StandsAt w.group (length w.group)))) h.accepted);
+          (subst (All (StandsAt w.group (length w.group))) (sym (idle_sends (name_of r) r.outcome idle)) (All-nil (StandsAt w.group (length w.group))))
+          h.accepted);
     }
 
 -- ---- a step: within it
@@ -251,9 +251,11 @@ module _ (rules : Rules) (events : List Event) (e : Event) (c : Cause) (step : S
       let views = (run_owned rules events may).blanks in
       let k = views.views.each i few in
       let num = (numbers_hold rules events).each i in
-      inside_chain (run rules events).group i c step.outcome before before step.node (heard_names rules (run rules events) e c views.views cause) effect.changes k.names
+      inside_chain (run rules events).group i c step.outcome before before step.node (heard_names rules (run rules events) e c views.views cause)
+      effect.changes k.names
       k.balloted (views.each i few)
-      (inside_start rules (run rules events).group i c step.outcome before num.kept num.given (λ none. (blank_holds rules events i may few none).acc) (h.each i))
+      (inside_start rules (run rules events).group i c step.outcome before num.kept num.given (λ none. (blank_holds rules events i may few none).acc)
+      (h.each i))
 
   -- whose front stays is given nothing
   none_taken : (number : ℕ) (x : Entry) → step.outcome ≡ said.Took number x → front step.node ≡ front before → ⊥
@@ -415,7 +417,8 @@ module _ (rules : Rules) (events : List Event) (e : Event) (c : Cause) (step : S
             some = up;
             founder = λ y. absurd (let z = (h.each i).founder y in cc);
             joiner = λ no. (let sent : WasSentTo w i e.act (packet.Welcome from stamp base join image) = subst (IsCause w i e.act) heard cause in
-                let there = welcome_joins rules w s i (heard_by e.act) sent.letter from stamp base join image old (group_good) h.opens h.any few runs (asks join says) sent.there
+                let there = welcome_joins rules w s i (heard_by e.act) sent.letter from stamp base join image old (group_good) h.opens h.any few runs
+                (asks join says) sent.there
                 sent.addressed sent.is no in
                 let there_v = item_begins join (Join i) group_grows there in
                 let low = item_within v.group join (Join i) there_v in record { low = low.1; there = there_v });
@@ -427,7 +430,8 @@ module _ (rules : Rules) (events : List Event) (e : Event) (c : Cause) (step : S
           asks : (join : ℕ) → step.outcome ≡ said.Welcomed join → is_asking m.status ≡ true
           asks join says = was_asking c join (subst (λ (z : Cause). Answers m z n (said.Welcomed join)) heard (subst (Answers m c n) says effect.answer))
             where
-              was_asking : (c : Cause) (join : ℕ) → Answers m (hears (packet.Welcome from stamp base join image)) n (said.Welcomed join) → is_asking m.status ≡ true
+              was_asking : (c : Cause) (join : ℕ) → Answers m (hears (packet.Welcome from stamp base join image)) n (said.Welcomed join)
+                  → is_asking m.status ≡ true
               was_asking c join z = z.asked
 
   name_now : NameTold rules v.group i n
@@ -455,7 +459,8 @@ module _ (rules : Rules) (events : List Event) (e : Event) (c : Cause) (step : S
 
   given_before : GivenOk v.group (length v.group) m (deliveries w.records i)
   given_before = subst (λ g. GivenOk g (length g) m (deliveries w.records i)) group_grows.same
-      (let long = length-append w.group more in given_more w.group more (length w.group) (length (w.group ++ more)) m (deliveries w.records i) (omega arith) (h.given i))
+      (let long = length-append w.group more in given_more w.group more (length w.group) (length (w.group ++ more)) m (deliveries w.records i) (omega arith)
+      (h.given i))
 
   given_now : GivenOk v.group (length v.group) n (deliveries w.records i ++ taken_in step.outcome)
   given_now = by_way inside.gave
@@ -519,7 +524,8 @@ module _ (rules : Rules) (events : List Event) (e : Event) (c : Cause) (step : S
       (name_more rules w.group more j (w.nodes j) (h.each j)) in
       let given_all : (j : ℕ) → GivenOk v.group (length v.group) (w.nodes j) (deliveries w.records j) = λ j.
       subst (λ g. GivenOk g (length g) (w.nodes j) (deliveries w.records j)) group_grows.same
-      (let l = length-append w.group more in given_more w.group more (length w.group) (length (w.group ++ more)) (w.nodes j) (deliveries w.records j) (omega arith) (h.given j)) in
+      (let l = length-append w.group more in given_more w.group more (length w.group) (length (w.group ++ more)) (w.nodes j) (deliveries w.records j)
+      (omega arith) (h.given j)) in
       record {
         opens = record { first = begins_trans h.opens.first group_grows };
         any = All-append AnyLetter w.letters step.letters h.any
@@ -533,15 +539,18 @@ module _ (rules : Rules) (events : List Event) (e : Event) (c : Cause) (step : S
             (λ f. welcomes_push w.letters step.letters i w.records r h.heard ∙ ap (λ l. l ++ welcome_in (w.letters ++ step.letters) i r) (h.welcomed i f)
             ∙ welcomed_step w i m n c r step.letters (by_own r own) cause effect.answer inside.gave)
             (λ x d f. welcomes_push w.letters step.letters x w.records r h.heard ∙ ap (λ l. l ++ welcome_in (w.letters ++ step.letters) x r) (h.welcomed x f)
-            ∙ ap (λ l. begins_at (w.nodes x) ++ l) (other_welcome (w.letters ++ step.letters) x r (λ same. d (by_number r own same))) ∙ append-nil (begins_at (w.nodes x))) j;
+            ∙ ap (λ l. begins_at (w.nodes x) ++ l) (other_welcome (w.letters ++ step.letters) x r (λ same. d (by_number r own same))) ∙ append-nil
+            (begins_at (w.nodes x))) j;
         heard = All-push (RecordOk (length (w.letters ++ step.letters))) w.records r
             (All-weaker (RecordOk (length w.letters)) (RecordOk (length (w.letters ++ step.letters)))
             (λ x. record_up (length w.letters) (length (w.letters ++ step.letters)) x (omega arith)) w.records h.heard)
             (record_step w i m n c r (length (w.letters ++ step.letters)) cause (omega arith) effect.answer);
-        accepted = accepted_and v.group (length v.group) w.records r (subst (λ k. All (StandsAt v.group (length v.group)) (sent_in k step.outcome)) (sym (by_own r own))
+        accepted = accepted_and v.group (length v.group) w.records r (subst (λ k. All (StandsAt v.group (length v.group)) (sent_in k step.outcome))
+            (sym (by_own r own))
             (sent_now step.outcome effect.answer))
             (subst (λ g. All (StandsAt g (length g)) (accepted_sends w.records)) group_grows.same
-            (let l = length-append w.group more in accepted_more w.group more (length w.group) (length (w.group ++ more)) (accepted_sends w.records) (omega arith) h.accepted));
+            (let l = length-append w.group more in accepted_more w.group more (length w.group) (length (w.group ++ more)) (accepted_sends w.records)
+            (omega arith) h.accepted));
       }
     where
       by_own : (r : Record) → (name_of r == i) ≡ true → name_of r ≡ i

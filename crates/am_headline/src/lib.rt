@@ -2,8 +2,7 @@
 //! name is moves of the group that stands for its world (`am_steps`).
 #![tactic(auto)]
 
-ghost use Rattle.am_headline.specs.Claims.{HeadlineWhereStepsMove};
-ghost use Rattle.am_model.specs.Claims.{HeadlineHolds};
+ghost use Rattle.am_model.specs.Claims.{HeadlineHolds, ViewsFit};
 
 /// Up to its lawful front each run keeps the headline: each name is given a gapless segment of the group's list, which has each accepted send
 /// once, and only what was sent before, each sender's requests in turn; and a complete view keeps what was given out before it. And each node is
@@ -12,7 +11,7 @@ pub fn the_headline_holds()
     ensures { HeadlineHolds }
 {}
 
-/// It follows where each step is moves of the group (`StepsMove`), from what is proved of every other event, and of moves.
-pub fn the_headline_holds_where_steps_move()
-    ensures { HeadlineWhereStepsMove }
+/// Up to there a View that leaves somebody out always fits: each entry lies so far above its node's base that there is room for it.
+pub fn views_fit()
+    ensures { ViewsFit }
 {}

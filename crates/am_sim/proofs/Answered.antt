@@ -2,7 +2,7 @@
 use Rattle.std.proofs.Common.{◌≡◌, ℕ, ◌≤◌, List, [], ◌∷◌, ◌++◌, length, Bool, true, false, Option, Some, None, append-nil, subst, Ok, ◌∙◌, sym, ap, refl, arith}
 use Rattle.std.specs.Io.KnownBytes.{Consumes}
 use Rattle.am_io.specs.Outside.{ReadToEnd, GaveAtMost}
-use Rattle.am_base.specs.Founding.{Rules}
+use Rattle.am_base.specs.Founding.{Rules, MayFound}
 use Rattle.am_group.specs.declared.event.Event.{Event}
 use Rattle.am_model.specs.World.{run}
 use Rattle.am_model.specs.Lawful.{Watch, watch_start, watch, watch_all, watched}
@@ -23,7 +23,7 @@ use Rattle.am_script.specs.Limits.{ScriptWithin}
 use Rattle.am_sim.specs.declared.simulate.Unplayed.{Unplayed}
 use Rattle.am_sim.specs.declared.simulate.Unplayed.TheVariants as unplayed
 use Rattle.am_sim.specs.Playing.{done_of, IsRunText}
-use Rattle.am_sim.specs.Simulation.{Played, Generated, IsText, IsUnrun, IsUnplayed, script_text}
+use Rattle.am_sim.specs.Simulation.{Keeps, Played, Generated, IsText, IsUnrun, IsUnplayed, script_text}
 
 -- ---- a run that is settled behind its own events
 
@@ -40,7 +40,14 @@ text_is rules events true =
     let world = watched_is_run rules events in
     ap (watched_text rules) (watched_then (watch_start rules) events (settle_events rules (run rules events)) ∙ ap (λ w. watch_all s (settle_events rules w)) (sym world))
 
--- its run keeps what is claimed
+-- each run keeps what is claimed
+keeps_all : (rules : Rules) (events : List Event) → MayFound rules → Keeps rules events
+keeps_all rules events may = record {
+  headline = headline_holds rules events may;
+  sent = sent_holds rules events may;
+  unballoted = λ none. unballoted_holds rules events may none;
+}
+
 pub played_by : (bytes text : List ℕ) (script : Script) → reading key.Play bytes ≡ Ok script → ScriptWithin script → IsText script text → Played bytes text
 unfolding IsRunText
 played_by bytes text (Play founding events settles) is within same =
@@ -53,9 +60,7 @@ played_by bytes text (Play founding events settles) is within same =
       script = is;
       written = same.0 ∙ text_is founding events settles;
       few = same.1;
-      headline = headline_holds founding done may;
-      sent = sent_holds founding done may;
-      unballoted = λ none. unballoted_holds founding done may none;
+      keeps = keeps_all founding done may;
     }
 played_by bytes text (Race plan) is within same = absurd same
 
@@ -70,7 +75,6 @@ unplayed_by bytes (Race plan) unplayed.NoMemory is h = absurd h
 
 -- ---- a generated run
 
--- its run keeps what is claimed
 pub generated_by : (numbers : Numbers) (text : List ℕ) → text ≡ summary_text_of generated_rules (generated numbers.seed numbers.count)
     → length (generated numbers.seed numbers.count) ≡ numbers.count → Generated numbers text
 generated_by numbers text is many =
@@ -78,9 +82,7 @@ generated_by numbers text is many =
     record {
       written = is;
       count = many;
-      headline = headline_holds generated_rules done may_found;
-      sent = sent_holds generated_rules done may_found;
-      unballoted = λ none. unballoted_holds generated_rules done may_found none;
+      keeps = keeps_all generated_rules done may_found;
     }
 
 -- ---- what was given

@@ -35,10 +35,15 @@ asked words = form_of (map (λ word. word.now) words)
 abbrev pub script_text : Rules → List Event → Bool → List ℕ
 script_text rules events settles = if settles then settled_text_of rules events else text_of rules events
 
--- what was read is a script, what was written is the text of its run, which has at most 100,000 events, and that run keeps what is claimed of
--- every run: no node ever kept more than it may, everything in the one group list was sent before it stood there, and up to its lawful front
--- each name was given a gapless segment of that list, accepted sends stand there once, in their senders' order, and what was given before a
--- complete view stands in it. Where nobody began a ballot, that holds of the whole run, but for the last
+-- What is claimed of every run: the headline, which is up to its lawful front, and that no node ever kept more than it may. Besides, of the whole
+-- run, whoever stops: everything in the one group list was sent before it stood there; and where nobody began a ballot, all but what the
+-- headline says of complete views.
+pub record Keeps (rules : Rules) (events : List Event) : Type 0 where
+  pub headline : Headline rules events
+  pub sent : Sent rules events
+  pub unballoted : NoBallot (run rules events) → HoldsUnballoted rules events
+
+-- what was read is a script, what was written is the text of its run, which has at most 100,000 events, and that run keeps what is claimed
 pub record Played (bytes text : List ℕ) : Type 0 where
   pub founding : Rules
   pub events : List Event
@@ -46,17 +51,13 @@ pub record Played (bytes text : List ℕ) : Type 0 where
   pub script : reading key.Play bytes ≡ Ok (Play founding events settles)
   pub written : text ≡ script_text founding events settles
   pub few : length (done_of founding events settles) ≤ most_events
-  pub headline : Headline founding (done_of founding events settles)
-  pub sent : Sent founding (done_of founding events settles)
-  pub unballoted : NoBallot (run founding (done_of founding events settles)) → HoldsUnballoted founding (done_of founding events settles)
+  pub keeps : Keeps founding (done_of founding events settles)
 
--- what was written is the summary of the run of two numbers, and that run keeps what is claimed of every run
+-- what was written is the summary of the run of two numbers, and that run keeps what is claimed
 pub record Generated (numbers : Numbers) (text : List ℕ) : Type 0 where
   pub written : text ≡ summary_text_of generated_rules (generated numbers.seed numbers.count)
   pub count : length (generated numbers.seed numbers.count) ≡ numbers.count
-  pub headline : Headline generated_rules (generated numbers.seed numbers.count)
-  pub sent : Sent generated_rules (generated numbers.seed numbers.count)
-  pub unballoted : NoBallot (run generated_rules (generated numbers.seed numbers.count)) → HoldsUnballoted generated_rules (generated numbers.seed numbers.count)
+  pub keeps : Keeps generated_rules (generated numbers.seed numbers.count)
 
 -- a text is that of the script that was read to the end of what was left
 abbrev pub IsPlayed : Option (List ℕ) → Option (List ℕ) → List ℕ → Type 0

@@ -1,4 +1,4 @@
-use Rattle.am_headline.proofs.Headline.{headline_holds}
+use Rattle.am_headline.proofs.Holds.{headline_holds}
 use Rattle.am_headline.proofs.the_headline_holds.Goals as goal
 
 pub returns : goal.returns
