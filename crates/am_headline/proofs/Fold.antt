@@ -167,6 +167,8 @@ moves_mark (moves move ok rest) = moves_mark rest ∙ move_marks move
 pub record Quiet (w v : World) (s t : Group) : Type 0 where
   pub stays : Stays w v
   pub grows : Grows s t
+  pub current : t.views.current ≡ s.views.current
+  pub chosen : t.views.chosen ≡ s.views.chosen
   pub idle : (v.records ≡ w.records) ⊎ ((r : Record) × IsIdle r.outcome × (v.records ≡ w.records ++ r ∷ []))
 
 -- ---- what is so of a world and the group that follows it, besides: kept by steps, and by what changes no node
@@ -218,7 +220,7 @@ quiet_after P rules keeps events w v r is h same views idle records (no_move sta
       ready = ready_given rules v s (stays_follows rules w v s before same stands) h.shaped;
       same = refl;
       noted = λ k d at. ap (λ (l : List Decided). slice_get l k) views ∙ at;
-      is = keeps.by_quiet w v s (given s) (record { stays = same; grows = grows_given s; idle = inr (r, idle, records) })
+      is = keeps.by_quiet w v s (given s) (record { stays = same; grows = grows_given s; current = refl; chosen = refl; idle = inr (r, idle, records) })
           (subst (λ x. P x s) (sym is) h.is);
     }
 quiet_after P rules keeps events w v r is h same views idle records (stop i stands) =
@@ -229,7 +231,7 @@ quiet_after P rules keeps events w v r is h same views idle records (stop i stan
       ready = ready_halted rules w v s i before h.shaped same stands;
       same = refl;
       noted = λ k d at. ap (λ (l : List Decided). slice_get l k) views ∙ at;
-      is = keeps.by_quiet w v s (halted s i) (record { stays = same; grows = grows_halted s i; idle = inr (r, idle, records) })
+      is = keeps.by_quiet w v s (halted s i) (record { stays = same; grows = grows_halted s i; current = refl; chosen = refl; idle = inr (r, idle, records) })
           (subst (λ x. P x s) (sym is) h.is);
     }
 
@@ -291,7 +293,7 @@ module _ (P : World → Group → Type 0) (rules : Rules) (keeps : KeptBy P rule
         ready = ready_given rules v f.to f.is shaped;
         same = moves_mark f.path;
         noted = λ k d at. views_stay w.views (w.nodes (actor w e)) step.node k d at;
-        is = keeps.by_quiet v v f.to (given f.to) (record { stays = stays_same v; grows = grows_given f.to; idle = inl refl })
+        is = keeps.by_quiet v v f.to (given f.to) (record { stays = stays_same v; grows = grows_given f.to; current = refl; chosen = refl; idle = inl refl })
             (keeps.by_step events e c step s f.to may runs cause effect is h.follows f.path f.grows shaped f.is h.is);
       }
 
@@ -335,7 +337,7 @@ module _ (P : World → Group → Type 0) (rules : Rules) (keeps : KeptBy P rule
             })
             (h.became d) c;
         is = subst (λ x. P x (marked b.to marks)) there (keeps.by_quiet new.world new.world b.to (marked b.to marks)
-            (record { stays = stays_same new.world; grows = grows_marked b.to marks; idle = inl refl }) b.is);
+            (record { stays = stays_same new.world; grows = grows_marked b.to marks; current = refl; chosen = refl; idle = inl refl }) b.is);
       }
     where
       small_run : (rules : Rules) (events : List Event) → MayFound rules → Small (run rules events).views

@@ -1,0 +1,296 @@
+-- Whose storage counts behind the last View, where a run may be repaired: each of them is a member still.
+use Rattle.std.proofs.Common.{◌≡◌, ◌≢◌, ◌⊎◌, ⊎_elim, inl, inr, ℕ, zero, suc, ◌+◌, ◌-◌, ◌<◌, ◌≤◌, max, ◌==◌, Bool, true, false}
+use Rattle.std.proofs.Common.{List, [], ◌∷◌, ◌++◌, length, take, drop, Option, Some, None, slice_get, slice_index, All, refl, sym, ap, ◌∙◌, subst, arith}
+use Rattle.std.proofs.lemmas.Bool.Decides.{nat_tests}
+use Rattle.std.proofs.lemmas.List.Elements.{All-nil, All-cons}
+use Rattle.am_base.specs.declared.entry.Entry.{Entry}
+use Rattle.am_base.specs.declared.entry.Entry.TheVariants.{Data, Join, Leave, View}
+use Rattle.am_base.specs.declared.image.Image.{Image}
+use Rattle.am_base.specs.Founding.{Rules, MayFound}
+use Rattle.am_base.specs.Names.{IsSet, has, place_of, life_of, name_at, names_from, names_of}
+use Rattle.am_base.specs.Lists.{after, fold, blank, members_of}
+use Rattle.am_base.specs.Fronts.{counted_of, counted_at}
+use Rattle.am_group.specs.declared.event.Event.{Event}
+use Rattle.am_fronts.proofs.Views.{view_grows}
+use Rattle.am_chain_lists.specs.Whole.{Begins, IsGood, told, mem, view_of, key}
+use Rattle.am_chain_lists.proofs.Rows.{Spares}
+use Rattle.am_chain_lists.proofs.Prefixes.{begins_refl, begins_take, begins_more, begins_trans, begins_both, begins_length, length_take, length_push, begins_push, take_begins}
+use Rattle.am_chain_lists.proofs.Members.{good_begins, told_push, mem_push, viewed_mem, ends_of, Ends}
+use Rattle.am_chain_moves.specs.Group as groups
+use Rattle.am_chain_moves.specs.Group.{Group, Leads, counted, opening, chain_of, current_of}
+use Rattle.am_chain_moves.specs.Kept.{Kept}
+use Rattle.am_model.specs.Node.{Node, top, told as told_at, view, members, is_member, is_sequencer, lowest_or_first}
+use Rattle.am_model.specs.Receiving.{is_view}
+use Rattle.am_model.specs.Claims.{MayRepair}
+use Rattle.am_model.specs.World.{World, current, has_departed, run}
+use Rattle.am_model.proofs.Folds.{fold_append}
+use Rattle.am_model.proofs.Greatest.{split, and_both}
+use Rattle.am_laws.proofs.Named.{names_hold}
+use Rattle.am_laws.proofs.RunCounts.{numbers_hold}
+use Rattle.am_laws.proofs.TakenRuns.{taken_holds}
+use Rattle.am_laws.proofs.ViewSteps.{after_same, after_view}
+use Rattle.am_stands.specs.Standing.{NameStands}
+use Rattle.am_stands.specs.Moving.{NamesNamed}
+use Rattle.am_stands.specs.Running.{Following}
+use Rattle.am_stands.proofs.Changes.{told_all, long_all}
+use Rattle.am_stands.proofs.ChainNames.{counts_names}
+use Rattle.am_stands.proofs.Counting.{name_small}
+use Rattle.am_stands.proofs.Onward.{group_kept}
+use Rattle.am_stands.proofs.Parts.{counted_whole, next_part, part_number, number_low}
+use Rattle.am_stands.proofs.Results.{last_view_at}
+use Rattle.am_steps.proofs.Steps.{steps_move}
+use Rattle.am_headline.proofs.Begun.{held}
+use Rattle.am_repaired.proofs.Left.{LeavesAsked, AllLeft, GoneBy, accepted, last, once, runs_left}
+use Rattle.am_repaired.proofs.OneList.{lawful_events, small_name, leading}
+use Rattle.am_repaired.proofs.Upheld.{Upheld, upheld_start, upheld_keeps}
+
+-- ---- who counts for a number
+
+-- a beginning of the list that reaches at least to before the number, and has the last View, where the name is a member
+record Stood (list : List Entry) (n name : ℕ) : Type 0 where
+  upto : List Entry
+  begins_ : Begins upto list
+  near : n ≤ length upto + 1
+  from : (told list).view_number ≤ length upto
+  member : mem upto name ≡ true
+
+plain_number : (a : List Entry) (e : Entry) → is_view e ≡ false → (told (a ++ e ∷ [])).view_number ≡ (told a).view_number
+plain_number a e f = ap (λ (g : Image). g.view_number) (told_push a e) ∙ (after_same (told a) (1 + length a) e f).number
+
+plain_counts : (e : Entry) (before : List ℕ) → is_view e ≡ false → counted_of (Some e) before ≡ before
+plain_counts (Data from req body) before f = refl
+plain_counts (Join name) before f = refl
+plain_counts (Leave name) before f = refl
+plain_counts (View stamp names resilience) before f = absurd (cc)
+
+no_none : (list : List Entry) (n : ℕ) → n < length list → slice_get list n ≡ None → ⊥
+no_none [] n low is = omega arith
+no_none (e ∷ list) zero low is = cc
+no_none (e ∷ list) (suc n) low is = no_none list n (omega arith) is
+
+stood_view : (list : List Entry) (n name : ℕ) (e : Entry) → IsGood list → n < length list → (told list).view_number ≤ n + 1
+    → is_view e ≡ true → slice_get list n ≡ Some e → has (counted_of (Some e) (members_of (told (take n list)))) name ≡ true → Stood list (n + 1) name
+stood_view list n name (Data from req body) good low high t is h = absurd (cc)
+stood_view list n name (Join joiner) good low high t is h = absurd (cc)
+stood_view list n name (Leave leaver) good low high t is h = absurd (cc)
+stood_view list n name (View stamp names resilience) good low high t is h =
+    let part = next_part list n (View stamp names resilience) low is in
+    let long : length (take (n + 1) list) ≡ n + 1 = length_take (n + 1) list (omega arith) in
+    let good_part : IsGood (take n list ++ View stamp names resilience ∷ []) = subst IsGood part (good_begins (begins_take (n + 1) list) good) in
+    record {
+      upto = take (n + 1) list;
+      begins_ = begins_take (n + 1) list;
+      near = omega arith;
+      from = omega arith;
+      member = subst (λ l. mem l name ≡ true) (sym part) (viewed_mem (take n list) stamp names resilience name good_part h);
+    }
+
+stood_plain : (list : List Entry) (n name : ℕ) (e : Entry) → n < length list → (told list).view_number ≤ n + 1
+    → is_view e ≡ false → slice_get list n ≡ Some e → has (counted_of (Some e) (members_of (told (take n list)))) name ≡ true → Stood list (n + 1) name
+unfolding mem
+stood_plain list n name e low high f is h =
+    let part = next_part list n e low is in
+    let long : length (take n list) ≡ n = length_take n list (omega arith) in
+    let same = part_number list (n + 1) (omega arith) high in
+    let before = ap (λ l. (told l).view_number) part ∙ plain_number (take n list) e f in
+    let short = number_low (take n list) in
+    record {
+      upto = take n list;
+      begins_ = begins_take n list;
+      near = omega arith;
+      from = omega arith;
+      member = ap (λ set. has set name) (sym (plain_counts e (members_of (told (take n list))) f)) ∙ h;
+    }
+
+stood_in : (list : List Entry) (n name : ℕ) (o : Option Entry) → IsGood list → n < length list → (told list).view_number ≤ n + 1
+    → slice_get list n ≡ o → has (counted_of o (members_of (told (take n list)))) name ≡ true → Stood list (n + 1) name
+stood_in list n name None good low high is h = absurd (no_none list n low is)
+stood_in list n name (Some e) good low high is h = split (is_view e)
+    (λ t. stood_view list n name e good low high t is h)
+    (λ f. stood_plain list n name e low high f is h)
+
+stood : (list : List Entry) (n name : ℕ) → IsGood list → 0 < n → n ≤ length list → (told list).view_number ≤ n → has (counted list n) name ≡ true → Stood list n name
+stood list n name good low high view_ h =
+    let one : n - 1 + 1 ≡ n = omega arith in
+    subst (λ k. Stood list k name) one (stood_in list (n - 1) name (slice_get list (n - 1)) good (omega arith) (omega arith) refl h)
+
+-- ---- how a membership ends behind the last View
+
+-- by its own Leave, as no View stands there
+leaves_last : (list before : List Entry) (name : ℕ) (e : Entry) → IsGood list → Begins (before ++ e ∷ []) list → (told list).view_number ≤ length before
+    → mem before name ≡ true → mem (before ++ e ∷ []) name ≡ false → e ≡ Leave name
+leaves_last list before name (Data from req body) good within view_ is none =
+    absurd (let z = mem_push before (Data from req body) name (good_begins within good) tt is in cc)
+leaves_last list before name (Join joiner) good within view_ is none =
+    absurd (let z = mem_push before (Join joiner) name (good_begins within good) tt is in cc)
+leaves_last list before name (Leave leaver) good within view_ is none = split (leaver == name)
+    (λ t. ap (λ k. Leave k) (same leaver name t))
+    (λ f. absurd (let z = mem_push before (Leave leaver) name (good_begins within good) (other leaver name f) is in cc))
+  where
+    same : (a b : ℕ) → (a == b) ≡ true → a ≡ b
+    same a b t = grind (arith, nat_tests)
+
+    other : (a b : ℕ) → (a == b) ≡ false → a ≢ b
+    other a b f = λ u. grind (arith, nat_tests)
+leaves_last list before name (View stamp names resilience) good within view_ is none = absurd (
+    let a = before ++ View stamp names resilience ∷ [] in
+    let long = length_push before (View stamp names resilience) in
+    let its = after_view (told before) (1 + length before) stamp names resilience in
+    let here : (told a).view_number ≡ 1 + length before = ap (λ (g : Image). g.view_number) (told_push before (View stamp names resilience)) ∙ its.1 in
+    let all : told list ≡ fold (told a) (1 + length a) within.rest = ap told (sym within.same) ∙ fold_append blank 1 a within.rest in
+    let number = ap (λ (g : Image). g.view_number) all in
+    let more = view_grows (told a) (1 + length a) within.rest (omega arith) in
+    omega arith)
+
+-- ---- of a group
+
+-- who counts for a number that the sequencer hasn't accepted, behind the last View, is a member at the list's end
+stays_member : (s : Group) (q : ℕ) (list : List Entry) (n name : ℕ) → Kept s → AllLeft s → Leads q (s.node q) → list ≡ chain_of s.views
+    → length s.group < n → n ≤ length list → (told list).view_number ≤ n → ((s.node name).leaving ≡ true → (s.node name).departed ≡ true)
+    → has (counted list n) name ≡ true → mem list name ≡ true
+stays_member s q list n name k left leads is low high view_ leaves h = split (mem list name)
+    (λ t. t)
+    (λ f. absurd (
+    let good : IsGood list = subst IsGood (sym is) k.views.good in
+    let at = stood list n name good (omega arith) high view_ h in
+    let e = ends_of name at.begins_ at.member f in
+    let reach = begins_length e.above in
+    let view_low = at.from in
+    let near = at.near in
+    let by = leaves_last list e.before name e.last good e.within (omega arith) e.member e.ended in
+    let there : Begins (e.before ++ Leave name ∷ []) list = subst (λ x. Begins (e.before ++ x ∷ []) list) by e.within in
+    let asked = left.asked e.before name (subst (Begins (e.before ++ Leave name ∷ [])) is there) in
+    by_gone e.before good there (omega arith) (left.gone name (leaves asked))))
+  where
+    by_gone : (before : List Entry) → IsGood list → Begins (before ++ Leave name ∷ []) list → n ≤ length before + 1 → GoneBy s name → ⊥
+    by_gone before good there far (accepted earlier begins_) =
+        let size = begins_length begins_ in
+        let long = length_push earlier (Leave name) in
+        let on : Begins (earlier ++ Leave name ∷ []) list = subst (Begins (earlier ++ Leave name ∷ [])) (sym is) (begins_trans begins_ k.group) in
+        once list earlier before name good on there (omega arith)
+    by_gone before good there far (last earlier chain none) = none q ((k.each q).leads leads).member
+
+-- ---- all the names of a set
+
+all_from : (P : ℕ → Type 0) (from : ℕ) (lives : List ℕ) → ((k : ℕ) → k < length lives → 0 < slice_index lives k → P (name_at (from + k) (slice_index lives k)))
+    → All P (names_from from lives)
+all_from P from [] h = All-nil P
+all_from P from (zero ∷ lives) h = all_from P (from + 1) lives (λ k low some.
+    let at : from + suc k ≡ from + 1 + k = omega arith in
+    subst (λ i. P (name_at i (slice_index lives k))) at (h (suc k) (omega arith) some))
+all_from P from (suc b ∷ lives) h = All-cons P (name_at from (suc b)) (names_from (from + 1) lives)
+    (let at : from + zero ≡ from = omega arith in subst (λ i. P (name_at i (suc b))) at (h zero (omega arith) (omega arith)))
+    (all_from P (from + 1) lives (λ k low some.
+    let at : from + suc k ≡ from + 1 + k = omega arith in
+    subst (λ i. P (name_at i (slice_index lives k))) at (h (suc k) (omega arith) some)))
+
+all_names : (P : ℕ → Type 0) (set : List ℕ) → IsSet set → ((name : ℕ) → has set name ≡ true → P name) → All P (names_of set)
+all_names P set is h = all_from P 0 set (λ k low some.
+    let long = is.places in
+    let small : k < 16 = omega arith in
+    let life = slice_index set k in
+    let name = name_at (0 + k) life in
+    let place : place_of name ≡ k = omega arith in
+    let its : life_of name ≡ life = omega arith in
+    let there : has set name ≡ true = (let at : slice_index set (place_of name) ≡ life = ap (slice_index set) place in grind (arith, nat_tests)) in
+    h name there)
+
+-- ---- in every run
+
+module _ (rules : Rules) (events : List Event) (place : ℕ) (may : MayFound rules) (low : place < 16) (repair : MayRepair (run rules events) place) where
+  abbrev w : World
+  w = run rules events
+
+  abbrev q : ℕ
+  q = current w place
+
+  abbrev m : Node
+  m = w.nodes q
+
+  module _ (s : Group) (left : AllLeft s) (old : Following rules w s) (up : Upheld w s) (number : ℕ) (above : m.core.acc < number) (within : number ≤ top m)
+      (view_ : (told_at m).view_number ≤ number) where
+    abbrev list : List Entry
+    list = (s.node q).list
+
+    few : q < 256
+    few = small_name rules events place may low
+
+    own : m.core.who ≡ q
+    own = (names_hold rules events may).who q
+
+    kept : Kept s
+    kept = group_kept rules.founders (lowest_or_first rules.founders) rules.resilience s old.group
+
+    stands : NameStands w q m (s.node q)
+    stands = old.stands.each q few
+
+    leads : Leads q (s.node q)
+    leads = leading rules w s place old repair few own
+
+    is : list ≡ chain_of s.views
+    is = ((kept.each q).leads leads).chain
+
+    numbered : (told list).view_number ≡ (told_at m).view_number
+    numbered = ap (λ (g : Image). g.view_number) (told_all w q m (s.node q) stands)
+
+    viewed : view_of list ≡ s.views.current
+    viewed = ap view_of is ∙ kept.views.view
+
+    -- what the group accepted lies below the number
+    behind : length s.group < number
+    behind =
+        let ch = current_of s.views in
+        let good : IsGood list = subst IsGood (sym is) kept.views.good in
+        let stamp = kept.views.stamps (key s.views.current) kept.views.now in
+        let opens : Begins (opening ch) list = subst (Begins (opening ch)) (sym is) kept.views.opens in
+        let by : s.views.current.by ≡ q = ap (λ u. u.by) (sym viewed) ∙ leads.by in
+        let acc = ap (λ k. (w.nodes k).core.acc) by in
+        let size = ap length old.stands.group in
+        let reach = reached ch.before opens in
+        let num = numbered in
+        omega arith
+      where
+        reached : (before : List Entry) → Begins (before ++ View (current_of s.views).stamp (current_of s.views).members (current_of s.views).resilience ∷ []) list
+            → length before < (told list).view_number
+        reached before on =
+            let e = View (current_of s.views).stamp (current_of s.views).members (current_of s.views).resilience in
+            let a = before ++ e ∷ [] in
+            let long = length_push before e in
+            let its = after_view (told before) (1 + length before) (current_of s.views).stamp (current_of s.views).members (current_of s.views).resilience in
+            let here : (told a).view_number ≡ 1 + length before = ap (λ (g : Image). g.view_number) (told_push before e) ∙ its.1 in
+            let all : told list ≡ fold (told a) (1 + length a) on.rest = ap told (sym on.same) ∙ fold_append blank 1 a on.rest in
+            let same = ap (λ (g : Image). g.view_number) all in
+            let more = view_grows (told a) (1 + length a) on.rest (omega arith) in
+            omega arith
+
+    start_low : m.core.log.start < number
+    start_low =
+        let num = (numbers_hold rules events).each q in
+        let a = num.kept in
+        let b = taken_holds rules events q may few in
+        let c = num.given in
+        omega arith
+
+    each : (name : ℕ) → name < 256 → has (counted_at m.core.log number) name ≡ true → has (members m) name ≡ true
+    unfolding mem
+    each name small h =
+        let long = long_all w q m (s.node q) stands in
+        let num = numbered in
+        let counts : has (counted list number) name ≡ true = ap (λ set. has set name) (sym (counted_whole w q number m (s.node q) stands start_low)) ∙ h in
+        let b = old.stands.each name small in
+        let leaves : (s.node name).leaving ≡ true → (s.node name).departed ≡ true = λ t. b.departed ∙ repair.nobody_leaves name (sym b.leaving ∙ t) in
+        let there : mem list name ≡ true = stays_member s q list number name kept left leads is behind (omega arith) (omega arith) leaves counts in
+        ap (λ (g : Image). has (members_of g) name) (sym (told_all w q m (s.node q) stands)) ∙ there
+
+    all_count : All (λ name. has (members m) name ≡ true) (names_of (counted_at m.core.log number))
+    all_count =
+        let named : All NamesNamed list = subst (All NamesNamed) (sym is) old.group.named in
+        let set : IsSet (counted_at m.core.log number) = counts_names w q m (s.node q) stands named number start_low in
+        all_names (λ name. has (members m) name ≡ true) (counted_at m.core.log number) set (λ name t. each name (name_small (counted_at m.core.log number) name set t) t)
+
+  pub repairable_counts : (number : ℕ) → m.core.acc < number → number ≤ top m → (told_at m).view_number ≤ number
+      → All (λ name. has (members m) name ≡ true) (names_of (counted_at m.core.log number))
+  repairable_counts number above within view_ =
+      let h = held Upheld rules (upheld_keeps rules) steps_move may (λ t f. upheld_start rules t may f) events (lawful_events rules events place repair) in
+      let left = runs_left rules.founders (lowest_or_first rules.founders) rules.resilience h.to h.follows.group.run in
+      all_count h.to left h.follows h.is number above within view_

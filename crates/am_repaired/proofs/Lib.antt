@@ -1,0 +1,4 @@
+pub mod OneList
+pub mod Left
+pub mod Upheld
+pub mod Counted

@@ -1,0 +1,377 @@
+-- What the group accepted behind the last View its coordinator accepted.
+use Rattle.std.proofs.Common.{◌≡◌, ◌≢◌, ◌⊎◌, ⊎_elim, inl, inr, ℕ, zero, suc, ◌+◌, ◌-◌, ◌<◌, ◌≤◌, max, min, ◌==◌, ◌&&◌, nat_lt, Bool, true, false, if◌then◌else◌}
+use Rattle.std.proofs.Common.{List, [], ◌∷◌, ◌++◌, length, take, drop, Some, slice_get, refl, sym, ap, ◌∙◌, subst, arith, length-append, append_assoc}
+use Rattle.std.proofs.lemmas.Bool.Decides.{nat_tests}
+use Rattle.std.proofs.lemmas.List.{take-append-drop, length-take, take_all}
+use Rattle.std.proofs.Math.Seq.{take-append-add}
+use Rattle.am_base.specs.declared.entry.Entry.{Entry}
+use Rattle.am_base.specs.declared.entry.Entry.TheVariants.{View}
+use Rattle.am_base.specs.declared.name.Stamp.{Stamp}
+use Rattle.am_base.specs.declared.outcome.Outcome.{Outcome}
+use Rattle.am_base.specs.declared.outcome.Outcome.TheVariants as said
+use Rattle.am_base.specs.Founding.{Rules, MayFound}
+use Rattle.am_base.specs.Names.{has}
+use Rattle.am_group.specs.declared.event.Event.{Event}
+use Rattle.am_chain_lists.specs.Whole.{Begins, IsGood, view_of, key}
+use Rattle.am_chain_lists.proofs.Order.{key_by, view_small, view_up, view_viewed}
+use Rattle.am_chain_lists.proofs.Prefixes.{begins_refl, begins_take, begins_trans, begins_both, begins_same, begins_length, length_take, length_push}
+use Rattle.am_chain_moves.specs.Group as groups
+use Rattle.am_chain_moves.specs.Group.{Group, IsUp, opening, current_of, chain_of}
+use Rattle.am_chain_moves.specs.Kept.{Kept}
+use Rattle.am_model.specs.declared.status.Status.{Status}
+use Rattle.am_model.specs.declared.status.Status.TheVariants as status
+use Rattle.am_model.specs.Node.{Node, top, view, is_asking, is_member, founder, founding_stamp, lowest_or_first}
+use Rattle.am_model.specs.Group.{has_log}
+use Rattle.am_model.specs.Emit.{Step}
+use Rattle.am_model.specs.Calls.{is_unfinished}
+use Rattle.am_packet.specs.Boxes.{Letter}
+use Rattle.am_model.specs.Lawful.{whole}
+use Rattle.am_model.specs.World.{Decided, World, start, founders_decided, is_stopped, has_departed, grown, group_after, stepped, happens, run}
+use Rattle.am_model.proofs.Greatest.{split, and_both}
+use Rattle.am_effects.specs.Causes.{Cause}
+use Rattle.am_effects.specs.Changes.{Change, Changes, unchanged, changed}
+use Rattle.am_effects.specs.Courses.{Ending, at_end, let_go, closing}
+use Rattle.am_effects.specs.Effects.{Effect}
+use Rattle.am_effects.specs.Events.{actor, IsCause}
+use Rattle.am_effects.proofs.Items.{all_get}
+use Rattle.am_effects.proofs.Receiving.{asking}
+use Rattle.am_effects.proofs.Rests.{rests_refresh, rests_closed, settle_is}
+use Rattle.am_effects.proofs.Statuses.{asking_log}
+use Rattle.am_laws.proofs.Named.{few_names}
+use Rattle.am_laws.proofs.RunCounts.{numbers_hold}
+use Rattle.am_laws.proofs.Founders.{first_founder}
+use Rattle.am_laws.proofs.TakenRuns.{run_owned}
+use Rattle.am_laws.proofs.Views.{IsNoted}
+use Rattle.am_watched.proofs.Lists.{lists_go_on}
+use Rattle.am_stands.specs.Standing.{NameStands}
+use Rattle.am_stands.specs.States.{LinesOpen}
+use Rattle.am_stands.specs.Moving.{Moves, none, moves}
+use Rattle.am_stands.specs.Growing.{Grows, NewView}
+use Rattle.am_stands.specs.Keeping.{GroupOk}
+use Rattle.am_stands.specs.Running.{Following}
+use Rattle.am_stands.proofs.Changes.{told_all, long_all}
+use Rattle.am_stands.proofs.Ends.{taken_more}
+use Rattle.am_stands.proofs.Onward.{group_kept, move_on}
+use Rattle.am_stands.proofs.Opens.{runs_open}
+use Rattle.am_steps.proofs.Departed.{rests_step, rests_course}
+use Rattle.am_steps.proofs.Statuses.{departed_is}
+use Rattle.am_headline.proofs.Fold.{Quiet, KeptBy, run_push}
+use Rattle.am_headline.proofs.Shapes.{ListGoes, same, up, gone, move_goes, Shaped}
+use Rattle.am_headline.proofs.Ways as ways
+use Rattle.am_headline.proofs.Ways.{Kind, kind_of}
+
+-- ---- a name's list has what was accepted
+
+-- so far as the group list was at the beginning
+abbrev Part : Group → Group → ℕ → Type 0
+Part r t i = Begins (take (length r.group) (t.node i).list) r.group
+
+part_chain : (r t : Group) (i : ℕ) → Begins r.group t.group → Kept t → Begins (t.node i).list (chain_of t.views) → Part r t i
+part_chain r t i grows k on =
+    let l = length-take (length r.group) (t.node i).list in
+    begins_both (begins_trans (begins_take (length r.group) (t.node i).list) on) (begins_trans grows k.group) (omega arith)
+
+part_move : (r s t : Group) (i : ℕ) → Begins r.group t.group → Kept t → ListGoes s t i → Part r s i → Part r t i
+part_move r s t i grows k (same is) h = subst (λ l. Begins (take (length r.group) l) r.group) (sym is) h
+part_move r s t i grows k (up there) h = part_chain r t i grows k ((k.each i).list there)
+part_move r s t i grows k (gone on) h = part_chain r t i grows k on
+
+part_moves : (founders : List ℕ) (first resilience : ℕ) (r s t : Group) (i : ℕ) → Begins r.group s.group → GroupOk founders first resilience s → Moves s t
+    → Part r s i → Part r t i
+part_moves founders first resilience r s t i grows g none h = h
+part_moves founders first resilience r s t i grows g (moves {t = u} move ok rest) h =
+    let on = move_on founders first resilience s u g move ok in
+    let more = begins_trans grows on.grows.group in
+    part_moves founders first resilience r u t i more on.group_ rest
+    (part_move r s u i more (group_kept founders first resilience u on.group_) (move_goes s u move (group_kept founders first resilience s g) i) h)
+
+-- ---- how far a name accepted
+
+record Upward (low : ℕ) (x : Node) : Type 0 where
+  listed : has_log x.status ≡ true
+  acc : low ≤ x.core.acc
+
+upward_kind : (low : ℕ) (c : Cause) (o : Outcome) (x y : Node) → Kind c o x y → Upward low x → Upward low y
+upward_kind low c o x y (ways.alike a) h = record { listed = ap has_log a.status ∙ h.listed; acc = let l = h.acc in let e = a.acc in omega arith }
+upward_kind low c o x y ways.refreshed h =
+    let r = (rests_refresh x).rests in
+    let u = r.acc in
+    record { listed = ap has_log r.status ∙ h.listed; acc = let l = h.acc in omega arith }
+upward_kind low c o x y ways.settled h = subst (Upward low) (sym (settle_is x)) (record { listed = h.listed; acc = h.acc })
+upward_kind low c o x y (ways.began s v base join image is says may) h = absurd (let none_ = asking_log x.status (asking x s v base join image may) in
+    let some = h.listed in cc)
+upward_kind low c o x y (ways.left member leaves) h = record { listed = refl; acc = h.acc }
+upward_kind low c o x y (ways.sent body stays) h = record { listed = h.listed; acc = h.acc }
+upward_kind low c o x y (ways.collected req) h = record { listed = h.listed; acc = h.acc }
+upward_kind low c o x y (ways.took e says member some) h = record { listed = h.listed; acc = h.acc }
+upward_kind low c o x y (ways.asked_in was) h = absurd (let some = h.listed in let z = ap has_log was in cc)
+upward_kind low c o x y (ways.asked_out was done) h = record { listed = h.listed; acc = h.acc }
+upward_kind low c o x y (ways.gone member leaves) h = let r = rests_closed x in let u = r.acc in record { listed = refl; acc = let l = h.acc in omega arith }
+
+upward : (low : ℕ) (c : Cause) (o : Outcome) (x y : Node) → Changes c o x y → Upward low x → Upward low y
+upward low c o x y unchanged h = h
+upward low c o x y (changed {n = z} one rest) h = upward low c o z y rest (upward_kind low c o x z (kind_of x z one) h)
+
+-- ---- what is kept
+
+abbrev pub Upheld : World → Group → Type 0
+Upheld w s = length w.group ≤ max (length (current_of s.views).before) ((w.nodes s.views.current.by).core.acc)
+
+current_small : (s : Group) → Kept s → s.views.current.by < 256
+current_small s k = subst (λ u. u.by < 256) k.views.view (view_small (chain_of s.views) k.views.good)
+
+-- the coordinator of the current view has a list
+current_listed : (rules : Rules) (events : List Event) (s : Group) → MayFound rules → Following rules (run rules events) s → Kept s
+    → has_log ((run rules events).nodes s.views.current.by).status ≡ true
+current_listed rules events s may old k =
+    let was = old.stands.views.decided (key s.views.current) k.views.now in
+    let noted = all_get (IsNoted (run rules events).nodes) (run rules events).views was.index was.view (run_owned rules events may).blanks.views.noted was.there in
+    let same_by = key_by was.view.stamp s.views.current noted.by (current_small s k) was.is in
+    subst (λ j. has_log ((run rules events).nodes j).status ≡ true) same_by noted.log_
+
+-- the list that a sequencer added to the group's is that of its own list
+grown_begins : (w v : World) (s t : Group) (i : ℕ) (n : Node) → NameStands v i n (t.node i) → s.group ≡ w.group → Begins w.group v.group → Part s t i
+    → n.core.log.start ≤ length w.group → length w.group ≤ length (t.node i).list → v.group ≡ grown w.group n.core → Begins v.group (t.node i).list
+grown_begins w v s t i n stands group grows part start long is =
+    let list = (t.node i).list in
+    let g = length w.group in
+    let front = take n.core.log.start w.group in
+    let front_v : take n.core.log.start v.group ≡ front = taken_more n.core.log.start w.group v.group grows start in
+    let whole_ : list ≡ front ++ n.core.log.entries = stands.list ∙ ap (λ l. l ++ n.core.log.entries) front_v in
+    let part_w : Begins (take g list) w.group = subst (λ l. Begins (take (length l) list) l) group part in
+    let taken = length_take g list long in
+    let all : take g list ≡ w.group = begins_same part_w (omega arith) in
+    let front_long = length_take n.core.log.start w.group start in
+    let d = g - n.core.log.start in
+    let at : g ≡ length front + d = omega arith in
+    let pieces : take g list ≡ front ++ take d n.core.log.entries = ap (take g) whole_ ∙ ap (λ k. take k (front ++ n.core.log.entries)) at
+    ∙ take-append-add front n.core.log.entries d in
+    let rest = drop d n.core.log.entries in
+    let split_ : list ≡ w.group ++ rest = whole_ ∙ ap (λ l. front ++ l) (sym (take-append-drop d n.core.log.entries))
+    ∙ sym (append_assoc front (take d n.core.log.entries) rest) ∙ ap (λ l. l ++ rest) (sym pieces ∙ all) in
+    let k = n.core.acc - g in
+    record {
+      rest = drop k rest;
+      same = ap (λ l. l ++ drop k rest) is ∙ append_assoc w.group (take k rest) (drop k rest) ∙ ap (λ l. w.group ++ l) (take-append-drop k rest) ∙ sym split_;
+    }
+
+-- who had departed accepts no more
+departed_low : {c : Cause} {o : Outcome} (m n : Node) (letters : List Letter) → Ending c o m letters n → m.status ≡ status.Departed → is_unfinished m.ballot ≡ false
+    → n.core.acc ≤ max m.core.acc m.core.told
+departed_low m n letters (at_end {x = x} deeds) was none_ = (rests_step m x was none_ deeds).low
+departed_low m n letters (let_go s v number is heard_ leaves) was none_ = absurd (let a = (and_both _ (is_member m.status) heard_).1 in cc)
+departed_low m n letters (closing {x = x} ev call course leads leaves alone room same_) was none_ = absurd (
+    let r = rests_course m x was course in
+    let a = (and_both (is_member x.status) _ (and_both _ _ leads).0).0 in
+    let b = r.status ∙ was in cc)
+
+-- ---- a step
+
+module _ (rules : Rules) (events : List Event) (e : Event) (c : Cause) (step : Step) (s t : Group) (may : MayFound rules)
+    (runs : is_stopped (run rules events) (actor (run rules events) e) ≡ false) (cause : IsCause (run rules events) (actor (run rules events) e) e.act c)
+    (effect : Effect ((run rules events).nodes (actor (run rules events) e)) c step)
+    (is : stepped (run rules events) e (actor (run rules events) e) step ≡ happens (run rules events) e)
+    (old : Following rules (run rules events) s) (path : Moves s t) (grows : Grows s t) (shaped : Shaped t)
+    (new : Following rules (stepped (run rules events) e (actor (run rules events) e) step) t)
+    (h : Upheld (run rules events) s) where
+  abbrev w : World
+  w = run rules events
+
+  abbrev i : ℕ
+  i = actor w e
+
+  abbrev m : Node
+  m = w.nodes i
+
+  abbrev n : Node
+  n = step.node
+
+  abbrev v : World
+  v = stepped w e i step
+
+  few : i < 256
+  few = few_names rules w e (run_owned rules events may).blanks.views.named
+
+  kept_s : Kept s
+  kept_s = group_kept rules.founders (lowest_or_first rules.founders) rules.resilience s old.group
+
+  kept_t : Kept t
+  kept_t = group_kept rules.founders (lowest_or_first rules.founders) rules.resilience t new.group
+
+  opens_t : LinesOpen t
+  opens_t = runs_open rules.founders (lowest_or_first rules.founders) rules.resilience t new.group.run
+
+  itself : (k : ℕ) → (k == k) ≡ true
+  itself k = grind (arith, nat_tests)
+
+  node_v : v.nodes i ≡ n
+  unfolding stepped
+  node_v = let u : (i == i) ≡ true = itself i in rw u refl
+
+  others_v : (j : ℕ) → (j == i) ≡ false → v.nodes j ≡ w.nodes j
+  unfolding stepped
+  others_v j f = rw f refl
+
+  stands_n : NameStands v i n (t.node i)
+  stands_n = subst (λ x. NameStands v i x (t.node i)) node_v (new.stands.each i few)
+
+  group_v : v.group ≡ group_after w.group n
+  unfolding stepped
+  group_v = refl
+
+  group_grows : Begins w.group v.group
+  group_grows = subst (λ g. Begins g v.group) old.stands.group (subst (Begins s.group) new.stands.group grows.group)
+
+  -- nobody accepts less than it did
+  acc_up : (j : ℕ) → has_log (w.nodes j).status ≡ true → (w.nodes j).core.acc ≤ (v.nodes j).core.acc
+  acc_up j log = split (j == i)
+      (λ u.
+      let same : j ≡ i = grind (arith, nat_tests) in
+      let log_m : has_log m.status ≡ true = subst (λ k. has_log (w.nodes k).status ≡ true) same log in
+      let up_ = upward m.core.acc c step.outcome m n effect.changes (record { listed = log_m; acc = omega arith }) in
+      subst (λ k. (w.nodes k).core.acc ≤ (v.nodes k).core.acc) (sym same)
+      (subst (λ (x : Node). m.core.acc ≤ x.core.acc) (sym node_v) up_.acc))
+      (λ f. subst (λ (x : Node). (w.nodes j).core.acc ≤ x.core.acc) (sym (others_v j f)) (omega arith))
+
+  -- as long as the group list doesn't grow
+  still : length v.group ≤ length w.group → Upheld v t
+  still low = ⊎_elim
+      (λ (was : s.views.decided (key t.views.current) ≡ true).
+      (let low_s = kept_s.views.order (key t.views.current) was in
+      let on = grows.decided (key s.views.current) kept_s.views.now in
+      let low_t = kept_t.views.order (key s.views.current) on.0 in
+      let same : key t.views.current ≡ key s.views.current = omega arith in
+      let by = key_by t.views.current s.views.current (current_small t kept_t) (current_small s kept_s) same in
+      let chosen : current_of t.views ≡ current_of s.views = ap t.views.chosen same ∙ on.1 in
+      let before = ap (λ (x : groups.Chosen). length x.before) chosen in
+      let up_ = acc_up s.views.current.by (current_listed rules events s may old kept_s) in
+      let there = ap (λ k. (v.nodes k).core.acc) by in
+      omega arith))
+      (λ (fresh : NewView s t (key t.views.current)).
+      (let front = begins_length fresh.accepted in
+      let size = ap length old.stands.group in
+      omega arith))
+      (grows.new (key t.views.current) kept_t.views.now)
+
+  -- who had departed adds nothing
+  departed_adds : has_departed m.status ≡ true → n.core.acc ≤ length w.group
+  departed_adds d =
+      let low = departed_low m n step.letters effect.ending (departed_is m.status d) (old.gone i few d) in
+      let num = (numbers_hold rules events).each i in
+      let a = num.acc in
+      let b = num.told in
+      omega arith
+
+  part_t : has_departed m.status ≡ false → Part s t i
+  part_t stays =
+      let a = old.stands.each i few in
+      part_moves rules.founders (lowest_or_first rules.founders) rules.resilience s s t i (begins_refl s.group) old.group path (split (s.node i).has_log
+      (λ log. part_chain s s i (begins_refl s.group) kept_s
+      ((kept_s.each i).list (record { log = log; there = record { goes = a.stopped ∙ runs; stays = a.departed ∙ stays } })))
+      (λ f. subst (λ l. Begins (take (length s.group) l) s.group) (sym ((kept_s.each i).blank f)) (nil_part (length s.group) s.group)))
+    where
+      nil_part : (k : ℕ) (l : List Entry) → Begins (take k []) l
+      nil_part k l = subst (λ x. Begins x l) (sym (take_all k [] (omega arith))) (record { rest = l; same = refl })
+
+  acc_low : n.core.acc ≤ top n
+  acc_low =
+      let same_ : (run rules (events ++ e ∷ [])).nodes i ≡ n = ap (λ (x : World). x.nodes i) (run_push rules events e ∙ sym is) ∙ node_v in
+      subst (λ (x : Node). x.core.acc ≤ top x) same_ ((numbers_hold rules (events ++ e ∷ [])).each i).accepted
+
+  view_n : view_of (t.node i).list ≡ view n
+  unfolding view_of
+  view_n = ap (λ g. g.view) (told_all v i n (t.node i) stands_n)
+
+  -- where it does, its name is the current view's, or it reaches no further than the View
+  adds : length w.group < length v.group → v.group ≡ grown w.group n.core → (view n).by ≡ n.core.who → length v.group ≤ n.core.acc → Upheld v t
+  adds more is_ own high =
+      let adds_ = lists_go_on rules events e c step may runs cause effect in
+      let stays : has_departed m.status ≡ false = split (has_departed m.status) (λ d. absurd (let z = departed_adds d in omega arith)) (λ f. f) in
+      let long = long_all v i n (t.node i) stands_n in
+      let acc_ = acc_low in
+      let begins_ = grown_begins w v s t i n stands_n old.stands.group group_grows (part_t stays) adds_.begins (omega arith) is_ in
+      let same_group : t.group ≡ v.group = new.stands.group in
+      ⊎_elim
+      (λ (low : length v.group ≤ length (current_of t.views).before). omega arith)
+      (λ (above : length (current_of t.views).before < length v.group).
+      (let ch = current_of t.views in
+      let open_ = opening ch in
+      let open_long = length_push ch.before (View ch.stamp ch.members ch.resilience) in
+      let in_chain = subst (λ g. Begins g (chain_of t.views)) same_group kept_t.group in
+      let front : Begins open_ v.group = begins_both kept_t.views.opens in_chain (omega arith) in
+      let mine = begins_trans front begins_ in
+      let good = shaped.good i in
+      let risen = view_up good mine in
+      let stamp = kept_t.views.stamps (key t.views.current) kept_t.views.now in
+      let opened = ap key (view_viewed ch.before ch.stamp ch.members ch.resilience) in
+      let some : (t.node i).list ≢ [] = λ nil. (let z = begins_length mine in let y = ap length nil in let k : 0 < length open_ = omega arith in omega arith) in
+      let on = shaped.lines i some in
+      let decided = (opens_t on.view (t.node i).list on.decided some on.line).decided in
+      let most = kept_t.views.order (key (view_of (t.node i).list)) decided in
+      let viewed = view_n in
+      let by : (view_of (t.node i).list).by ≡ t.views.current.by = key_by (view_of (t.node i).list) t.views.current (view_small (t.node i).list good)
+      (current_small t kept_t) (omega arith) in
+      let mine_by : i ≡ t.views.current.by = sym (ap (λ u. u.by) viewed ∙ own ∙ adds_.own) ∙ by in
+      let there : n.core.acc ≡ (v.nodes t.views.current.by).core.acc = ap (λ (x : Node). x.core.acc) (sym node_v) ∙ ap (λ k. (v.nodes k).core.acc) mine_by in
+      omega arith))
+      (two (length v.group) (length (current_of t.views).before))
+    where
+      two : (a b : ℕ) → (a ≤ b) ⊎ (b < a)
+      two a b = grind arith
+
+  grown_low : (g : List Entry) → length (grown g n.core) ≤ max (length g) n.core.acc
+  grown_low g =
+      let rest = drop (length g - n.core.log.start) n.core.log.entries in
+      let a = length-append g (take (n.core.acc - length g) rest) in
+      let b = length-take (n.core.acc - length g) rest in
+      omega arith
+
+  pub upheld_step : Upheld v t
+  upheld_step = ⊎_elim
+      (λ (low : length v.group ≤ length w.group). still low)
+      (λ (more : length w.group < length v.group). split ((view n).by == n.core.who)
+      (λ u.
+      let own : (view n).by ≡ n.core.who = grind (arith, nat_tests) in
+      let is_ : v.group ≡ grown w.group n.core = group_v ∙ ap (λ b. if b then grown w.group n.core else w.group) u in
+      let size = ap length is_ in
+      let most = grown_low w.group in
+      adds more is_ own (omega arith))
+      (λ f. absurd (let size = ap length (group_v ∙ ap (λ b. if b then grown w.group n.core else w.group) f) in omega arith)))
+      (two (length v.group) (length w.group))
+    where
+      two : (a b : ℕ) → (a ≤ b) ⊎ (b < a)
+      two a b = grind arith
+
+-- ---- in every run
+
+pub upheld_start : (rules : Rules) (t : Group) → MayFound rules → Following rules (start rules) t → Upheld (start rules) t
+upheld_start rules t may f =
+    let k = group_kept rules.founders (lowest_or_first rules.founders) rules.resilience t f.group in
+    let was = f.stands.views.decided (key t.views.current) k.views.now in
+    let first = only was.index was.view was.there in
+    let few = (first_founder rules may).few in
+    let by = key_by (founding_stamp rules) t.views.current (omega arith) (current_small t k) (ap (λ (d : Decided). key d.stamp) first ∙ was.is) in
+    let there = (first_founder rules may).founds in
+    let acc : ((start rules).nodes t.views.current.by).core.acc ≡ 1 = ap (λ j. ((start rules).nodes j).core.acc) (sym by) ∙ rw there refl in
+    omega arith
+  where
+    only : (j : ℕ) (d : Decided) → slice_get (start rules).views j ≡ Some d → founders_decided rules ≡ d
+    only zero d at = cc
+    only (suc j) d at = absurd (cc)
+
+pub upheld_keeps : (rules : Rules) → KeptBy Upheld rules
+upheld_keeps rules = record {
+  by_step = λ events e c step s t may runs cause effect is old path grows shaped new h.
+      upheld_step rules events e c step s t may runs cause effect is old path grows shaped new h;
+  by_quiet = λ w v s t q h. by_parts w v s t q.stays.group q.stays.nodes q.current q.chosen h;
+}
+  where
+    by_parts : (w v : World) (s t : Group) → v.group ≡ w.group → v.nodes ≡ w.nodes → t.views.current ≡ s.views.current → t.views.chosen ≡ s.views.chosen
+        → Upheld w s → Upheld v t
+    by_parts w v s t group nodes current chosen h =
+        let size = ap length group in
+        let before : length (current_of t.views).before ≡ length (current_of s.views).before = ap (λ f. length (f (key t.views.current)).before) chosen
+        ∙ ap (λ u. length (s.views.chosen (key u)).before) current in
+        let acc : (v.nodes t.views.current.by).core.acc ≡ (w.nodes s.views.current.by).core.acc = ap (λ f. (f t.views.current.by).core.acc) nodes
+        ∙ ap (λ u. (w.nodes u.by).core.acc) current in
+        omega arith
