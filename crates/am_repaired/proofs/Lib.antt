@@ -1,3 +1,5 @@
+pub mod Came
+pub mod Knew
 pub mod OneList
 pub mod Left
 pub mod Upheld
