@@ -4,3 +4,4 @@ pub mod OneList
 pub mod Left
 pub mod Upheld
 pub mod Counted
+pub mod Settled

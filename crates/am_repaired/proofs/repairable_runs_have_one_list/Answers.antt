@@ -1,6 +1,4 @@
 use Rattle.am_repaired.proofs.OneList.{repairable_is_one_list}
-use Rattle.am_repaired.proofs.Left.{runs_left}
-use Rattle.am_repaired.proofs.Counted.{repairable_counts}
 use Rattle.am_repaired.proofs.repairable_runs_have_one_list.Goals as goal
 
 pub returns : goal.returns
