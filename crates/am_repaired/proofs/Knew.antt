@@ -50,7 +50,7 @@ lead_same : (m : Node) (name : ℕ) → (name == m.core.who) ≡ false → (lead
 unfolding lead own_report tell go_on let_go accepts pass_over
 lead_same m name other = rw other refl
 
-refresh_same : (m : Node) (name : ℕ) → (name == m.core.who) ≡ false → (refresh m).reports name ≡ m.reports name
+pub refresh_same : (m : Node) (name : ℕ) → (name == m.core.who) ≡ false → (refresh m).reports name ≡ m.reports name
 unfolding refresh
 refresh_same m name other = split (is_sequencer m) (λ t. rw t (lead_same m name other)) (λ f. rw f refl)
 

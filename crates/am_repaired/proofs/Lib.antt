@@ -1,5 +1,6 @@
 pub mod Came
 pub mod Knew
+pub mod Asked
 pub mod Fresh
 pub mod OneList
 pub mod Left
