@@ -43,7 +43,7 @@ join_none image name f h = ⊎_elim
     (λ (x : Past (at_place image name) (life_of name)). let j = x.joined in ⊎_elim
     (λ (y : life_of name < (at_place image name).life). let z : ⊥ = grind (arith, nat_tests) in z)
     (λ (y : ((at_place image name).life ≡ life_of name) × (0 < (at_place image name).left)). let a = y.0 in let b = y.1 in let z : ⊥ = grind
-        (arith, nat_tests) in z)
+    (arith, nat_tests) in z)
     x.gone)
     h
 
@@ -116,7 +116,7 @@ module _ (rules : Rules) (w : World) (s : Group) (q j : ℕ) (old : Following ru
   pub no_welcome : (base : ℕ) → is_stopped w j ≡ false → (h : Welcomed w j base) → GoesSo h.letter → ⊥
   no_welcome base goes h any =
       let says : PacketSays w s h.letter.to (packet.Welcome h.from h.stamp base h.join h.image) = subst (PacketSays w s h.letter.to) h.is
-          (old.letters h.number h.letter h.there) in
+      (old.letters h.number h.letter h.there) in
       let plain : h.letter.any ≡ false = any ∙ ap (λ p. kind_of p == 9) h.is in
       let to : has h.letter.to j ≡ true = rw plain at h.addressed in
       said h.from h.stamp base h.join h.image goes (says.1 j to)
