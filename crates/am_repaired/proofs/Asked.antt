@@ -61,8 +61,12 @@ row_asked m s q leads =
     (λ a. plan_if m s ((q.life == life_of s) && nat_lt 0 q.left) _ _ (λ t. same_plan m s _ refl refl)
     (λ b. plan_if m s (nat_lt q.life (life_of s) && (nat_lt 0 q.life && ((q.left == 0) || nat_lt m.core.acc q.left))) _ _ (λ t. same_plan m s _ refl refl)
     (λ c. plan_if m s (fits (told m) (Join s) && not (has_room m)) _ _ (λ t. same_plan m s _ refl refl)
-    (λ d. plan_if m s (fits (told m) (Join s)) _ _ (λ fit. record { stays = refl; who = refl; asked = admitted_ leads fit (begins_at m s)
-        (λ j other apart. rw apart refl) })
+    (λ d. plan_if m s (fits (told m) (Join s)) _ _ (λ fit. record {
+      stays = refl;
+      who = refl;
+      asked = admitted_ leads fit (begins_at m s)
+          (λ j other apart. rw apart refl);
+    })
     (λ e. plan_if m s (nat_le q.joined (m.reports s).stored || nat_lt m.core.acc q.joined) _ _ (λ t. same_plan m s _ refl refl)
     (λ t. same_plan m s _ refl refl))))))
   where

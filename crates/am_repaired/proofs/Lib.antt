@@ -2,6 +2,7 @@ pub mod Came
 pub mod Knew
 pub mod Asked
 pub mod Fresh
+pub mod Began
 pub mod Trims
 pub mod OneList
 pub mod Left

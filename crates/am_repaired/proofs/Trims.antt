@@ -155,7 +155,7 @@ module _ (rules : Rules) (events : List Event) (e : Event) (c : Cause) (step : S
           let sent : WasSentTo w i e.act (packet.Piece s_ v_ base_ number x) = was in
           let at = item_get w.letters (heard_by e.act) sent.letter sent.there in
           let says : PacketSays w s sent.letter.to (packet.Piece s_ v_ base_ number x) = subst (PacketSays w s sent.letter.to) sent.is
-              (old.letters at.0 sent.letter at.1) in
+          (old.letters at.0 sent.letter at.1) in
           piece_decided s_ v_ number x (names.senders (packet.Piece s_ v_ base_ number x) refl) by says.1
       by_kind (by_result s_ v_ base_ number names_ resilience) was names =
           let sent : WasSentTo w i e.act (packet.Result s_ v_ base_ number names_ resilience) = was in
