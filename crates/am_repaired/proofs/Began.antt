@@ -44,8 +44,16 @@ abbrev pub Blank : Cause → Node → Type 0
 Blank c y = (has_log y.status ≡ false) ⊎ Began c y
 
 began_up : (c : Cause) (x y : Node) → x.core.taken ≤ y.core.taken → Began c x → Began c y
-began_up c x y up b = record { from = b.from; stamp = b.stamp; base = b.base; join = b.join; image = b.image; says = b.says; taken = let t = b.taken in omega
-    arith }
+began_up c x y up b = record {
+  from = b.from;
+  stamp = b.stamp;
+  base = b.base;
+  join = b.join;
+  image = b.image;
+  says = b.says;
+  taken = let t = b.taken in omega
+      arith;
+}
 
 on : (c : Cause) (x y : Node) → x.core.taken ≤ y.core.taken → (has_log x.status ≡ false → has_log y.status ≡ false) → Blank c x → Blank c y
 on c x y up none h = ⊎_elim (λ (f : has_log x.status ≡ false). inl (none f)) (λ (b : Began c x). inr (began_up c x y up b)) h

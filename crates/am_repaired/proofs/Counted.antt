@@ -290,7 +290,7 @@ module _ (rules : Rules) (events : List Event) (place : ℕ) (may : MayFound rul
         let named : All NamesNamed list = subst (All NamesNamed) (sym is) old.group.named in
         let set : IsSet (counted_at m.core.log number) = counts_names w q m (s.node q) stands named number start_low in
         all_names (λ name. has (members m) name ≡ true) (counted_at m.core.log number) set
-            (λ name t. each name (name_small (counted_at m.core.log number) name set t) t)
+        (λ name t. each name (name_small (counted_at m.core.log number) name set t) t)
 
   pub repairable_counts : (number : ℕ) → m.core.acc < number → number ≤ top m → (told_at m).view_number ≤ number
       → All (λ name. has (members m) name ≡ true) (names_of (counted_at m.core.log number))

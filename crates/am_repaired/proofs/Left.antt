@@ -67,7 +67,7 @@ once list a b d good h k less =
     let long = length_push a (Leave d) in
     let front : Begins (a ++ Leave d ∷ []) b = begins_both h (begins_trans (begins_more b (Leave d ∷ [])) k) (omega arith) in
     leaver_out a d good_a (mem_between d (good_begins (begins_more b (Leave d ∷ [])) good_b) (begins_more a (Leave d ∷ [])) front (leaver_in a d good_a)
-        (leaver_in b d good_b))
+    (leaver_in b d good_b))
 
 -- ---- Leaves
 
@@ -205,11 +205,11 @@ gone_move s t (closes i n leads leaving alone may) k kt h = λ d gone.
     (let before = none_more (s.node i).list i j (subst (λ l. mem l j ≡ true) is member) in
     let same = alone j before in
     leaver_out (s.node i).list i (subst IsGood is kt.good) (subst (λ x. mem ((s.node i).list ++ Leave i ∷ []) x ≡ true) same (subst (λ l. mem l j ≡ true) is
-        member))))))
+    member))))))
     (put_gone s i m d gone))
 gone_move s t (decides i members resilience may) k kt h = λ d gone.
     gone_decided s t i members resilience k kt may.up may.needed (put_same s.views.line (key (s.node i).promise) (opening (choice_of (s.node i) members
-        resilience)))
+    resilience)))
     (begins_refl s.group) d gone (h d (not_now s i _ d refl gone))
 gone_move s t (departs i before may) k kt h = λ d gone. ⊎_elim
     (λ (old : (s.node d).departed ≡ true). gone_same s t refl (begins_refl s.group) d (h d old))

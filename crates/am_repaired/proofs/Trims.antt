@@ -17,15 +17,16 @@ use Rattle.am_chain_lists.specs.Whole.{key, view_of}
 use Rattle.am_chain_lists.proofs.Order.{key_by}
 use Rattle.am_chain_moves.specs.Group.{Group}
 use Rattle.am_chain_moves.specs.Kept.{Kept}
-use Rattle.am_model.specs.Node.{Node, view, acts, is_sequencer, lowest_or_first}
+use Rattle.am_model.specs.Node.{Node, view, acts, is_member, is_sequencer, lowest_or_first}
 use Rattle.am_model.specs.Group.{has_log}
 use Rattle.am_model.specs.Emit.{Step}
 use Rattle.am_model.specs.World.{World, is_stopped, has_departed, stepped, happens, run}
 use Rattle.am_model.specs.Claims.{heard_by}
-use Rattle.am_model.proofs.Greatest.{split}
+use Rattle.am_model.proofs.Greatest.{split, and_both}
 use Rattle.am_effects.specs.Causes.{Cause, hears}
 use Rattle.am_effects.specs.Effects.{Effect}
 use Rattle.am_effects.specs.Events.{actor, WasSentTo, IsCause, steps}
+use Rattle.am_effects.proofs.Statuses.{logged}
 use Rattle.am_laws.proofs.Named.{few_names}
 use Rattle.am_laws.proofs.Views.{heard_names}
 use Rattle.am_laws.proofs.ViewNames.{HeardNames}
@@ -167,3 +168,15 @@ module _ (rules : Rules) (events : List Event) (e : Event) (c : Cause) (step : S
           let sent : WasSentTo w i e.act (packet.Welcome s_ v_ base_ join image) = was in
           let at = item_get w.letters (heard_by e.act) sent.letter sent.there in
           h.welcomes at.0 sent.letter s_ v_ base_ join image at.1 sent.is
+
+-- ---- what it gives
+
+-- who acts in the sequencer's view has taken what it trimmed
+pub settled_trims : (w : World) (q j : ℕ) → Settles w q → j < 256 → (j == q) ≡ false → acts (w.nodes j) ≡ true → view (w.nodes j) ≡ view (w.nodes q)
+    → is_stopped w j ≡ false → (w.nodes q).core.base ≤ ((w.nodes q).reports j).taken → (w.nodes q).core.base ≤ (w.nodes j).core.taken
+settled_trims w q j h few other act same goes known = by_kind (h.knows j few other)
+  where
+    by_kind : Knows w h.low (w.nodes q) j → (w.nodes q).core.base ≤ (w.nodes j).core.taken
+    by_kind (took most) = let a = h.acting j few act same in omega arith
+    by_kind (joins none low welcomes) = absurd (let t = logged (w.nodes j).status (and_both (is_member (w.nodes j).status) _ act).0 in cc)
+    by_kind (halts t) = absurd (cc)
