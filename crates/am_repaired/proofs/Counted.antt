@@ -14,7 +14,8 @@ use Rattle.am_group.specs.declared.event.Event.{Event}
 use Rattle.am_fronts.proofs.Views.{view_grows}
 use Rattle.am_chain_lists.specs.Whole.{Begins, IsGood, told, mem, view_of, key}
 use Rattle.am_chain_lists.proofs.Rows.{Spares}
-use Rattle.am_chain_lists.proofs.Prefixes.{begins_refl, begins_take, begins_more, begins_trans, begins_both, begins_length, length_take, length_push, begins_push, take_begins}
+use Rattle.am_chain_lists.proofs.Prefixes.{begins_refl, begins_take, begins_more, begins_trans, begins_both, begins_length, length_take, length_push}
+use Rattle.am_chain_lists.proofs.Prefixes.{begins_push, take_begins}
 use Rattle.am_chain_lists.proofs.Members.{good_begins, told_push, mem_push, viewed_mem, ends_of, Ends}
 use Rattle.am_chain_moves.specs.Group as groups
 use Rattle.am_chain_moves.specs.Group.{Group, Leads, counted, opening, chain_of, current_of}
@@ -109,7 +110,8 @@ stood_in list n name (Some e) good low high is h = split (is_view e)
     (λ t. stood_view list n name e good low high t is h)
     (λ f. stood_plain list n name e low high f is h)
 
-stood : (list : List Entry) (n name : ℕ) → IsGood list → 0 < n → n ≤ length list → (told list).view_number ≤ n → has (counted list n) name ≡ true → Stood list n name
+stood : (list : List Entry) (n name : ℕ) → IsGood list → 0 < n → n ≤ length list → (told list).view_number ≤ n → has (counted list n) name ≡ true
+    → Stood list n name
 stood list n name good low high view_ h =
     let one : n - 1 + 1 ≡ n = omega arith in
     subst (λ k. Stood list k name) one (stood_in list (n - 1) name (slice_get list (n - 1)) good (omega arith) (omega arith) refl h)
@@ -250,7 +252,8 @@ module _ (rules : Rules) (events : List Event) (place : ℕ) (may : MayFound rul
         let num = numbered in
         omega arith
       where
-        reached : (before : List Entry) → Begins (before ++ View (current_of s.views).stamp (current_of s.views).members (current_of s.views).resilience ∷ []) list
+        reached : (before : List Entry)
+            → Begins (before ++ View (current_of s.views).stamp (current_of s.views).members (current_of s.views).resilience ∷ []) list
             → length before < (told list).view_number
         reached before on =
             let e = View (current_of s.views).stamp (current_of s.views).members (current_of s.views).resilience in
@@ -286,7 +289,8 @@ module _ (rules : Rules) (events : List Event) (place : ℕ) (may : MayFound rul
     all_count =
         let named : All NamesNamed list = subst (All NamesNamed) (sym is) old.group.named in
         let set : IsSet (counted_at m.core.log number) = counts_names w q m (s.node q) stands named number start_low in
-        all_names (λ name. has (members m) name ≡ true) (counted_at m.core.log number) set (λ name t. each name (name_small (counted_at m.core.log number) name set t) t)
+        all_names (λ name. has (members m) name ≡ true) (counted_at m.core.log number) set
+        (λ name t. each name (name_small (counted_at m.core.log number) name set t) t)
 
   pub repairable_counts : (number : ℕ) → m.core.acc < number → number ≤ top m → (told_at m).view_number ≤ number
       → All (λ name. has (members m) name ≡ true) (names_of (counted_at m.core.log number))

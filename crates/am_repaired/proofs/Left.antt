@@ -66,7 +66,8 @@ once list a b d good h k less =
     let good_b = good_begins k good in
     let long = length_push a (Leave d) in
     let front : Begins (a ++ Leave d ∷ []) b = begins_both h (begins_trans (begins_more b (Leave d ∷ [])) k) (omega arith) in
-    leaver_out a d good_a (mem_between d (good_begins (begins_more b (Leave d ∷ [])) good_b) (begins_more a (Leave d ∷ [])) front (leaver_in a d good_a) (leaver_in b d good_b))
+    leaver_out a d good_a (mem_between d (good_begins (begins_more b (Leave d ∷ [])) good_b) (begins_more a (Leave d ∷ [])) front (leaver_in a d good_a)
+    (leaver_in b d good_b))
 
 -- ---- Leaves
 
@@ -75,7 +76,8 @@ put_leaving : (s : Group) (i : ℕ) (m : groups.Node) → ((s.node i).leaving �
 put_leaving s i m f j = put_at (λ k n. (s.node k).leaving ≡ true → n.leaving ≡ true) s.node i m f (λ k other z. z) j
 
 -- the chain stays
-asked_same : (s t : Group) → chain_of t.views ≡ chain_of s.views → ((j : ℕ) → (s.node j).leaving ≡ true → (t.node j).leaving ≡ true) → LeavesAsked s → LeavesAsked t
+asked_same : (s t : Group) → chain_of t.views ≡ chain_of s.views → ((j : ℕ) → (s.node j).leaving ≡ true → (t.node j).leaving ≡ true) → LeavesAsked s
+    → LeavesAsked t
 asked_same s t chain leaving h a j begins_ = leaving j (h a j (subst (Begins (a ++ Leave j ∷ [])) chain begins_))
 
 -- it gets an entry
@@ -87,7 +89,8 @@ asked_more s t e chain leaving new h a j begins_ = leaving j (⊎_elim
     (begins_pushed e (subst (Begins (a ++ Leave j ∷ [])) chain begins_)))
 
 -- the chain of a sequencer's group, with an entry more
-chain_more : (s : Group) (i : ℕ) (list : List Entry) → Kept s → Leads i (s.node i) → put s.views.line (key (view_of (s.node i).list)) list (key s.views.current) ≡ list
+chain_more : (s : Group) (i : ℕ) (list : List Entry) → Kept s → Leads i (s.node i)
+    → put s.views.line (key (view_of (s.node i).list)) list (key s.views.current) ≡ list
 chain_more s i list k leads =
     let ok = (k.each i).leads leads in
     let viewed : view_of (s.node i).list ≡ s.views.current = ap view_of ok.chain ∙ k.views.view in
@@ -161,7 +164,8 @@ record Ends (t : Group) : Type 0 where
 
 -- nor decides a ballot, as that would want the last Leave
 gone_decided : (s t : Group) (i : ℕ) (members : List ℕ) (resilience : ℕ) → Kept s → Ends t → groups.IsUp (s.node i) → mem (s.node i).list i ≡ true
-    → chain_of t.views ≡ opening (choice_of (s.node i) members resilience) → Begins s.group t.group → (d : ℕ) → (t.node d).departed ≡ true → GoneBy s d → GoneBy t d
+    → chain_of t.views ≡ opening (choice_of (s.node i) members resilience) → Begins s.group t.group → (d : ℕ) → (t.node d).departed ≡ true → GoneBy s d
+    → GoneBy t d
 gone_decided s t i members resilience k kt up member is group d gone (accepted before h) = accepted before (begins_trans h group)
 gone_decided s t i members resilience k kt up member is group d gone (last before chain none) = absurd (
     let m = s.node i in
@@ -188,7 +192,8 @@ gone_decided s t i members resilience k kt up member is group d gone (last befor
     two a b = grind arith
 
 gone_move : (s t : Group) → Move s t → Kept s → Ends t → AllGone s → AllGone t
-gone_move s t (numbers i e leads fit may) k kt h = λ d gone. gone_led s t i k leads (begins_refl s.group) d (h d (not_now s i (longer (s.node i) e) d refl gone))
+gone_move s t (numbers i e leads fit may) k kt h = λ d gone. gone_led s t i k leads (begins_refl s.group) d
+    (h d (not_now s i (longer (s.node i) e) d refl gone))
 gone_move s t (accepts i n leads may) k kt h = λ d gone. gone_led s t i k leads (moves_grow s t (accepts i n leads may) k tt).group d (h d gone)
 gone_move s t (closes i n leads leaving alone may) k kt h = λ d gone.
     (let m = record (longer (s.node i) (Leave i)) { departed = true } in
@@ -199,22 +204,27 @@ gone_move s t (closes i n leads leaving alone may) k kt h = λ d gone.
     (λ (now : (d ≡ i) × (m.departed ≡ true)). subst (GoneBy t) (sym now.0) (last (s.node i).list is (λ j member.
     (let before = none_more (s.node i).list i j (subst (λ l. mem l j ≡ true) is member) in
     let same = alone j before in
-    leaver_out (s.node i).list i (subst IsGood is kt.good) (subst (λ x. mem ((s.node i).list ++ Leave i ∷ []) x ≡ true) same (subst (λ l. mem l j ≡ true) is member))))))
+    leaver_out (s.node i).list i (subst IsGood is kt.good) (subst (λ x. mem ((s.node i).list ++ Leave i ∷ []) x ≡ true) same (subst (λ l. mem l j ≡ true) is
+    member))))))
     (put_gone s i m d gone))
 gone_move s t (decides i members resilience may) k kt h = λ d gone.
-    gone_decided s t i members resilience k kt may.up may.needed (put_same s.views.line (key (s.node i).promise) (opening (choice_of (s.node i) members resilience)))
+    gone_decided s t i members resilience k kt may.up may.needed (put_same s.views.line (key (s.node i).promise) (opening (choice_of (s.node i) members
+    resilience)))
     (begins_refl s.group) d gone (h d (not_now s i _ d refl gone))
 gone_move s t (departs i before may) k kt h = λ d gone. ⊎_elim
     (λ (old : (s.node d).departed ≡ true). gone_same s t refl (begins_refl s.group) d (h d old))
     (λ (now : (d ≡ i) × (true ≡ true)). subst (GoneBy t) (sym now.0) (accepted before may.accepted))
     (put_gone s i (record (s.node i) { departed = true }) d gone)
-gone_move s t (stores i e up decided other stays next) k kt h = λ d gone. gone_same s t refl (begins_refl s.group) d (h d (not_now s i (longer (s.node i) e) d refl gone))
-gone_move s t (learns i told_ acc up rises within before up_to given low) k kt h = λ d gone. gone_same s t refl (begins_refl s.group) d (h d (not_now s i _ d refl gone))
+gone_move s t (stores i e up decided other stays next) k kt h = λ d gone. gone_same s t refl (begins_refl s.group) d
+    (h d (not_now s i (longer (s.node i) e) d refl gone))
+gone_move s t (learns i told_ acc up rises within before up_to given low) k kt h = λ d gone. gone_same s t refl (begins_refl s.group) d
+    (h d (not_now s i _ d refl gone))
 gone_move s t (begins i few up stays member) k kt h = λ d gone. gone_same s t refl (begins_refl s.group) d (h d (not_now s i _ d refl gone))
 gone_move s t (raises i stamp there above) k kt h = λ d gone. gone_same s t refl (begins_refl s.group) d (h d (not_now s i _ d refl gone))
 gone_move s t (shows i there small other begun unshown) k kt h = λ d gone. gone_same s t refl (begins_refl s.group) d (h d gone)
 gone_move s t (serves i list up shown others) k kt h = λ d gone. gone_same s t refl (begins_refl s.group) d (h d gone)
-gone_move s t (fetches i f list e up ballot served shown next) k kt h = λ d gone. gone_same s t refl (begins_refl s.group) d (h d (not_now s i (longer (s.node i) e) d refl gone))
+gone_move s t (fetches i f list e up ballot served shown next) k kt h = λ d gone. gone_same s t refl (begins_refl s.group) d
+    (h d (not_now s i (longer (s.node i) e) d refl gone))
 gone_move s t (gives_over i) k kt h = λ d gone. gone_same s t refl (begins_refl s.group) d (h d (not_now s i _ d refl gone))
 gone_move s t (welcomes j stamp base join may) k kt h = λ d gone. gone_same s t refl (begins_refl s.group) d (h d (not_now s j _ d refl gone))
 gone_move s t (asks i up unballoted) k kt h = λ d gone. gone_same s t refl (begins_refl s.group) d (h d (not_now s i _ d refl gone))

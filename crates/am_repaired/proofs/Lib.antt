@@ -1,3 +1,11 @@
+pub mod Came
+pub mod Knew
+pub mod Asked
+pub mod Fresh
+pub mod Began
+pub mod Sends
+pub mod One
+pub mod Trims
 pub mod OneList
 pub mod Left
 pub mod Upheld

@@ -1,5 +1,6 @@
 -- Where a run may be repaired, its sequencer has the whole chain, and each member's list begins it.
-use Rattle.std.proofs.Common.{◌≡◌, ◌≢◌, ◌⊎◌, ⊎_elim, ℕ, ◌+◌, ◌-◌, ◌*◌, ◌<◌, ◌≤◌, ◌==◌, ◌&&◌, nat_lt, Bool, true, false, List, length, take, None, refl, sym, ap, ◌∙◌, subst, arith}
+use Rattle.std.proofs.Common.{◌≡◌, ◌≢◌, ◌⊎◌, ⊎_elim, ℕ, ◌+◌, ◌-◌, ◌*◌, ◌<◌, ◌≤◌, ◌==◌, ◌&&◌, nat_lt, Bool, true, false, List, length, take, None, refl, sym, ap}
+use Rattle.std.proofs.Common.{◌∙◌, subst, arith}
 use Rattle.std.proofs.lemmas.Bool.Decides.{nat_tests}
 use Rattle.am_base.specs.Founding.{Rules, MayFound}
 use Rattle.am_base.specs.Names.{place_of, life_of}
@@ -112,7 +113,8 @@ module _ (rules : Rules) (w : World) (s : Group) (place : ℕ) (old : Following 
         record {
           within = a.begins.within;
           image = a.begins.image;
-          begins = subst (λ l. Begins l (whole w (w.nodes q))) a.list (subst (Begins (s.node name).list) (chain_is own) ((kept.each name).list (up name low member)));
+          begins = subst (λ l. Begins l (whole w (w.nodes q))) a.list (subst (Begins (s.node name).list) (chain_is own) ((kept.each name).list
+              (up name low member)));
         });
     listed = λ name member. (let low = small name member in
         let there = up name low member in

@@ -125,7 +125,8 @@ current_listed : (rules : Rules) (events : List Event) (s : Group) → MayFound 
     → has_log ((run rules events).nodes s.views.current.by).status ≡ true
 current_listed rules events s may old k =
     let was = old.stands.views.decided (key s.views.current) k.views.now in
-    let noted = all_get (IsNoted (run rules events).nodes) (run rules events).views was.index was.view (run_owned rules events may).blanks.views.noted was.there in
+    let noted = all_get (IsNoted (run rules events).nodes) (run rules events).views was.index was.view (run_owned rules events may).blanks.views.noted
+    was.there in
     let same_by = key_by was.view.stamp s.views.current noted.by (current_small s k) was.is in
     subst (λ j. has_log ((run rules events).nodes j).status ≡ true) same_by noted.log_
 
@@ -156,7 +157,8 @@ grown_begins w v s t i n stands group grows part start long is =
     }
 
 -- who had departed accepts no more
-departed_low : {c : Cause} {o : Outcome} (m n : Node) (letters : List Letter) → Ending c o m letters n → m.status ≡ status.Departed → is_unfinished m.ballot ≡ false
+departed_low : {c : Cause} {o : Outcome} (m n : Node) (letters : List Letter) → Ending c o m letters n → m.status ≡ status.Departed
+    → is_unfinished m.ballot ≡ false
     → n.core.acc ≤ max m.core.acc m.core.told
 departed_low m n letters (at_end {x = x} deeds) was none_ = (rests_step m x was none_ deeds).low
 departed_low m n letters (let_go s v number is heard_ leaves) was none_ = absurd (let a = (and_both _ (is_member m.status) heard_).1 in cc)

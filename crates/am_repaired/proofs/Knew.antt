@@ -1,0 +1,130 @@
+-- What a sequencer knows of others to be taken, through a step that neither decides a view nor hears a request to join.
+use Rattle.std.proofs.Common.{◌≡◌, ℕ, ◌+◌, ◌≤◌, ◌==◌, max, nat_lt, true, false, List, refl, sym, ap, ◌∙◌, subst, arith}
+use Rattle.std.proofs.lemmas.Bool.Decides.{nat_tests}
+use Rattle.am_base.specs.declared.image.Report.{Report}
+use Rattle.am_base.specs.declared.name.Stamp.{Stamp}
+use Rattle.am_base.specs.declared.entry.Entry.TheVariants.{Leave}
+use Rattle.am_base.specs.declared.outcome.Outcome.{Outcome}
+use Rattle.am_base.specs.Founding.{Rules}
+use Rattle.am_base.specs.Stamps.{stamp_lt}
+use Rattle.am_core.specs.Cores.{accept as accepts, pass_over}
+use Rattle.am_fronts.specs.Refresh.{go_on, let_go, tell, own_report}
+use Rattle.am_model.specs.Node.{Node, Ballot, view, told, pushed, is_sequencer, with_report}
+use Rattle.am_model.specs.Ballots.{Verdict, trimmed_for, left_in, need_of}
+use Rattle.am_model.specs.Refresh.{lead, refresh, settle, refresh_at_end}
+use Rattle.am_model.proofs.Greatest.{split}
+use Rattle.am_effects.specs.Causes.{Cause, BringsReport, with_send, by_request, by_spread, by_ack, by_nack, by_leave_ask}
+use Rattle.am_effects.specs.Looks.{Looks, finds_itself_out, waits, fetches_from_best, finds_too_few, finds_no_room, decides}
+use Rattle.am_effects.specs.Changes.{Change, refreshes, settles, takes_report, admits, numbers, keeps_body, notes, stores, begins_list, departs, promises}
+use Rattle.am_effects.specs.Changes.{opens}
+use Rattle.am_effects.specs.Changes.{looks, fetches, stores_view, queues, collects, takes, asks_to_join, asks_to_leave, closes}
+use Rattle.am_effects.specs.Changes.{Changes, unchanged, changed}
+use Rattle.am_effects.proofs.Rests.{settle_is, rests_refresh, rests_at_end}
+use Rattle.am_laws.proofs.Stamps.{not_above_itself, at_most, at_most_below, below}
+use Rattle.am_laws.proofs.ViewNames.{HeardNames}
+use Rattle.am_laws.proofs.ViewSteps.{view_last}
+use Rattle.am_laws.proofs.ViewChanges.{Balloted, looked_at}
+use Rattle.am_laws.proofs.Taken.{HeardUsed}
+use Rattle.am_laws.proofs.TakenRuns.{Along, along_changes}
+use Rattle.am_repair.proofs.Knowing.{NoJoin}
+use Rattle.am_repair.proofs.Reported.{CauseTaken}
+use Rattle.am_repaired.proofs.Came.{view_rises}
+
+-- no more than before, or than was taken
+abbrev pub Knew : (ℕ → Node) → Node → Node → Type 0
+Knew nodes m y = (j : ℕ) → (j == m.core.who) ≡ false → (y.reports j).taken ≤ max (m.reports j).taken (nodes j).core.taken
+
+pub data Know (nodes : ℕ → Node) (m y : Node) : Type 0 where
+  knew : y.core.who ≡ m.core.who → Knew nodes m y → Know nodes m y
+  anew : stamp_lt (view m) (view y) ≡ true → Know nodes m y
+
+told_so : (nodes : ℕ → Node) (c : Cause) (s : ℕ) (v : Stamp) (report : Report) → BringsReport c s v report → CauseTaken nodes c
+    → report.taken ≤ (nodes s).core.taken
+told_so nodes c s v report (with_send s_ v_ report_ req body (by_request s1 v1 report1 req1 body1)) h = h
+told_so nodes c s v report (with_send s_ v_ report_ req body (by_spread s1 v1 report1 req1 body1)) h = h
+told_so nodes c s v report (by_ack s_ v_ report_) h = h
+told_so nodes c s v report (by_nack s_ v_ report_) h = h
+told_so nodes c s v report (by_leave_ask s_ v_ report_) h = h
+
+lead_same : (m : Node) (name : ℕ) → (name == m.core.who) ≡ false → (lead m).reports name ≡ m.reports name
+unfolding lead own_report tell go_on let_go accepts pass_over
+lead_same m name other = rw other refl
+
+pub refresh_same : (m : Node) (name : ℕ) → (name == m.core.who) ≡ false → (refresh m).reports name ≡ m.reports name
+unfolding refresh
+refresh_same m name other = split (is_sequencer m) (λ t. rw t (lead_same m name other)) (λ f. rw f refl)
+
+refresh_who : (m : Node) → (refresh m).core.who ≡ m.core.who
+refresh_who m = (rests_refresh m).rests.who
+
+-- with reports that stay
+same : (nodes : ℕ → Node) (x y : Node) → y.core.who ≡ x.core.who → ((j : ℕ) → (j == x.core.who) ≡ false → y.reports j ≡ x.reports j) → Know nodes x y
+same nodes x y who is = knew who (λ j other. let b = ap (λ (r : Report). r.taken) (is j other) in omega arith)
+
+know_look : (nodes : ℕ → Node) (x : Node) (b : Ballot) (v : Verdict) → Looks x b v → stamp_lt (view x) b.stamp ≡ true → Know nodes x v.node
+know_look nodes x b v (finds_itself_out w) above = same nodes x v.node refl (λ j other. refl)
+know_look nodes x b v (waits w u) above = same nodes x v.node refl (λ j other. refl)
+know_look nodes x b v (fetches_from_best w u z) above = same nodes x v.node refl (λ j other. refl)
+know_look nodes x b v (finds_too_few w u) above = same nodes x v.node refl (λ j other. refl)
+know_look nodes x b v (finds_no_room w) above = same nodes x v.node refl (λ j other. refl)
+know_look nodes x b v (decides may) above =
+    let is : view v.node ≡ b.stamp = view_last (trimmed_for x b (left_in b (need_of x b))) b.stamp (left_in b (need_of x b))
+    (max b.resilience (told x).resilience) in
+    anew (ap (stamp_lt (view x)) is ∙ above)
+
+closed_same : (x : Node) (j : ℕ) → (j == x.core.who) ≡ false → (refresh_at_end (pushed x (Leave x.core.who))).reports j ≡ x.reports j
+unfolding refresh_at_end
+closed_same x j other = ap (λ (n : Node). n.reports j) (settle_is (refresh (pushed x (Leave x.core.who)))) ∙ refresh_same (pushed x (Leave x.core.who)) j other
+
+know_change : (nodes : ℕ → Node) (c : Cause) (o : Outcome) (x y : Node) → NoJoin c → CauseTaken nodes c → Balloted x → Change c o x y → Know nodes x y
+know_change nodes c o x y none w k refreshes = same nodes x y (refresh_who x) (refresh_same x)
+know_change nodes c o x y none w k settles = subst (Know nodes x) (sym (settle_is x)) (same nodes x _ refl (λ j other. refl))
+know_change nodes c o x y none w k (takes_report s v report brings may) =
+    knew refl (λ j other. let a = told_so nodes c s v report brings w in split (j == s)
+    (λ t. let e : j ≡ s = grind (arith, nat_tests) in rw (t, e) (omega arith))
+    (λ f. rw f (omega arith)))
+know_change nodes c o x y none w k (admits s v is leads fit) = absurd (none s v is)
+know_change nodes c o x y none w k (numbers e leads room why) = same nodes x y refl (λ j other. refl)
+know_change nodes c o x y none w k (keeps_body s v report req body is heard) = same nodes x y refl (λ j other. refl)
+know_change nodes c o x y none w k (notes s v base acc brings heard) = same nodes x y refl (λ j other. refl)
+know_change nodes c o x y none w k (stores s v base acc number e carries heard plain may) = same nodes x y refl (λ j other. refl)
+know_change nodes c o x y none w k (begins_list s v base join image is says may) = same nodes x y refl (λ j other. refl)
+know_change nodes c o x y none w k (departs s v number is heard leaves) = same nodes x y refl (λ j other. refl)
+know_change nodes c o x y none w k (promises v low why) = same nodes x y refl (λ j other. refl)
+know_change nodes c o x y none w k (opens least resilience begins may) = same nodes x y refl (λ j other. refl)
+know_change nodes c o x y none w k (looks b verdict over why look is) = know_look nodes x b verdict look (looked_at x b why k).open_.above
+know_change nodes c o x y none w k (fetches s v base number e is heard promise below_ why may) = same nodes x y refl (λ j other. refl)
+know_change nodes c o x y none w k (stores_view s v base number names resilience is heard own other promise below_ may) = same nodes x y refl (λ j other_. refl)
+know_change nodes c o x y none w k (queues body is says member stays few) = same nodes x y refl (λ j other. refl)
+know_change nodes c o x y none w k (collects req is) = same nodes x y refl (λ j other. refl)
+know_change nodes c o x y none w k (takes e is says member some there) = same nodes x y refl (λ j other. refl)
+know_change nodes c o x y none w k (asks_to_join is was) = same nodes x y refl (λ j other. refl)
+know_change nodes c o x y none w k (asks_to_leave is was stays done) = same nodes x y refl (λ j other. refl)
+know_change nodes c o x y none w k (closes leads leaves alone room) =
+    same nodes x y (rests_at_end (pushed x (Leave x.core.who))).rests.who (closed_same x)
+
+then_know : (nodes : ℕ → Node) (m x y : Node) → stamp_lt (view x) (view m) ≡ false → stamp_lt (view y) (view x) ≡ false → Know nodes m x → Know nodes x y
+    → Know nodes m y
+then_know nodes m x y low high (anew up) z = anew (below (view m) (view x) (view y) up high)
+then_know nodes m x y low high (knew mine h) (anew up) = anew (at_most_below (view m) (view x) (view y) low up)
+then_know nodes m x y low high (knew mine h) (knew his k) = knew (his ∙ mine) (λ j other.
+    let o : (j == x.core.who) ≡ false = ap (λ i. j == i) mine ∙ other in
+    let a = h j other in
+    let b = k j o in
+    omega arith)
+
+know_along : (rules : Rules) (nodes : ℕ → Node) {c : Cause} {o : Outcome} (m x n : Node) → NoJoin c → CauseTaken nodes c → HeardNames c → HeardUsed c
+    → Changes c o x n
+    → Along rules x → stamp_lt (view x) (view m) ≡ false → Know nodes m x → Know nodes m n
+know_along rules nodes m x n none w heard used unchanged a low h = h
+know_along rules nodes m x n none w heard used (changed {n = y} one more) a low h =
+    let up = view_rises x y a.blanked heard a.names a.balloted one in
+    know_along rules nodes m y n none w heard used more (along_changes rules x y heard used (changed one unchanged) a)
+    (at_most (view m) (view x) (view y) low up)
+    (then_know nodes m x y low up h (know_change nodes _ _ x y none w a.balloted one))
+
+pub know : (rules : Rules) (nodes : ℕ → Node) {c : Cause} {o : Outcome} (m n : Node) → NoJoin c → CauseTaken nodes c → HeardNames c → HeardUsed c
+    → Changes c o m n
+    → Along rules m → Know nodes m n
+know rules nodes m n none w heard used all a =
+    know_along rules nodes m m n none w heard used all a (not_above_itself (view m)) (same nodes m m refl (λ j other. refl))

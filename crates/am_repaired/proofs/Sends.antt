@@ -1,0 +1,97 @@
+-- A step's letters tell of the node after it: who departs in it, or had departed, sends nothing.
+use Rattle.std.proofs.Common.{◌≡◌, ◌⊎◌, inl, inr, ⊎_elim, ℕ, ◌<◌, true, false, List, [], refl, sym, ap, ◌∙◌, subst}
+use Rattle.am_base.specs.declared.outcome.Outcome.{Outcome}
+use Rattle.am_base.specs.Founding.{Rules, MayFound}
+use Rattle.am_packet.specs.Boxes.{Letter}
+use Rattle.am_group.specs.declared.event.Event.{Event}
+use Rattle.am_chain_moves.specs.Group.{Group}
+use Rattle.am_model.specs.declared.status.Status.{Status}
+use Rattle.am_model.specs.declared.status.Status.TheVariants as status
+use Rattle.am_model.specs.Ballots.{Verdict}
+use Rattle.am_model.specs.Emit.{Step}
+use Rattle.am_model.specs.Node.{Node, Ballot, with_report}
+use Rattle.am_model.specs.Refresh.{refresh, refresh_at_end}
+use Rattle.am_model.specs.World.{World, has_departed, stepped, happens, run}
+use Rattle.am_model.proofs.Greatest.{split}
+use Rattle.am_effects.specs.Causes.{Cause}
+use Rattle.am_effects.specs.Looks.{Looks, finds_itself_out, waits, fetches_from_best, finds_too_few, finds_no_room, decides}
+use Rattle.am_effects.specs.Changes.{Change, refreshes, settles, takes_report, admits, numbers, keeps_body, notes, stores, begins_list, departs, promises}
+use Rattle.am_effects.specs.Changes.{opens}
+use Rattle.am_effects.specs.Changes.{looks, fetches, stores_view, queues, collects, takes, asks_to_join, asks_to_leave, closes}
+use Rattle.am_effects.specs.Courses.{IsPlain, Course, nothing_yet, used_report, and_then, Deeds, plainly, looked, Ending, at_end, let_go, closing}
+use Rattle.am_effects.specs.Effects.{Effect}
+use Rattle.am_effects.specs.Events.{actor}
+use Rattle.am_effects.proofs.Rests.{rests_refresh, rests_at_end, settle_is}
+use Rattle.am_stands.specs.Running.{Following}
+use Rattle.am_stands.proofs.Silent.{departed_silent}
+use Rattle.am_steps.proofs.Silent.{departed_quiet}
+use Rattle.am_steps.proofs.Statuses.{departed_is}
+
+abbrev Here : Node → Type 0
+Here x = has_departed x.status ≡ false
+
+here_change : (c : Cause) (o : Outcome) (x y : Node) (z : Change c o x y) → IsPlain z → Here x → Here y
+here_change c o x y refreshes plain h = absurd plain
+here_change c o x y settles plain h = ap (λ (n : Node). has_departed n.status) (settle_is x) ∙ h
+here_change c o x y (takes_report s v report brings may) plain h = h
+here_change c o x y (admits s v is leads fit) plain h = h
+here_change c o x y (numbers e leads room why) plain h = h
+here_change c o x y (keeps_body s v report req body is heard) plain h = h
+here_change c o x y (notes s v base acc brings heard) plain h = h
+here_change c o x y (stores s v base acc number e carries heard no_view may) plain h = h
+here_change c o x y (begins_list s v base join image is says may) plain h = refl
+here_change c o x y (departs s v number is heard leaves) plain h = absurd plain
+here_change c o x y (promises v low why) plain h = h
+here_change c o x y (opens least resilience begins may) plain h = h
+here_change c o x y (looks b verdict over why look is) plain h = absurd plain
+here_change c o x y (fetches s v base number e is heard promise below why may) plain h = h
+here_change c o x y (stores_view s v base number names resilience is heard own other promise below may) plain h = h
+here_change c o x y (queues body is says member stays few) plain h = h
+here_change c o x y (collects req is) plain h = h
+here_change c o x y (takes e is says member some there) plain h = h
+here_change c o x y (asks_to_join is was) plain h = refl
+here_change c o x y (asks_to_leave is was stays done) plain h = h
+here_change c o x y (closes leads leaves alone room) plain h = absurd plain
+
+here_course : {c : Cause} {o : Outcome} (m x : Node) → Course c o m x → Here m → Here x
+here_course m x nothing_yet h = h
+here_course m x (used_report s v report brings may) h = ap has_departed (rests_refresh (with_report m s report)).rests.status ∙ h
+here_course m x (and_then {n = y} course z plain) h = here_change _ _ y x z plain (here_course m y course h)
+
+here_look : (x : Node) (b : Ballot) (v : Verdict) → Looks x b v → Here x → Here v.node
+here_look x b v (finds_itself_out w) h = h
+here_look x b v (waits w u) h = h
+here_look x b v (fetches_from_best w u z) h = h
+here_look x b v (finds_too_few w u) h = h
+here_look x b v (finds_no_room w) h = h
+here_look x b v (decides may) h = h
+
+here_deeds : {c : Cause} {o : Outcome} (m x : Node) → Deeds c o m x → Here m → Here x
+here_deeds m x (plainly course) h = here_course m x course h
+here_deeds m x (looked {n = y} b verdict course over why look is) h = here_look y b verdict look (here_course m y course h)
+
+none_or_here : {c : Cause} {o : Outcome} (m : Node) (letters : List Letter) (n : Node) → Ending c o m letters n → Here m → (letters ≡ []) ⊎ Here n
+none_or_here m letters n (at_end {x = x} deeds) h = inr (ap has_departed (rests_at_end x).rests.status ∙ here_deeds m x deeds h)
+none_or_here m letters n (let_go s v number is heard leaves) h = inl refl
+none_or_here m letters n (closing {x = x} event call course leads leaves alone room same) h = inl refl
+
+-- who is there after the step is who sent
+same_sender : (m : Node) (c : Cause) (step : Step) → (effect : Effect m c step) → Here step.node → effect.sender ≡ step.node
+same_sender m c step effect h = ⊎_elim
+    (λ (same : step.node.status ≡ effect.sender.status). sym (effect.is ∙ ap (λ (t : Status). record effect.sender { status = t }) same))
+    (λ (gone : step.node.status ≡ status.Departed). absurd (let z = sym h ∙ ap has_departed gone in cc))
+    effect.stays
+
+pub sent_by : (rules : Rules) (events : List Event) (e : Event) (c : Cause) (step : Step) (s : Group)
+    → (effect : Effect ((run rules events).nodes (actor (run rules events) e)) c step)
+    → stepped (run rules events) e (actor (run rules events) e) step ≡ happens (run rules events) e → actor (run rules events) e < 256
+    → Following rules (run rules events) s → (step.letters ≡ []) ⊎ (effect.sender ≡ step.node)
+sent_by rules events e c step s effect is few old =
+    let w = run rules events in
+    let m = w.nodes (actor w e) in
+    split (has_departed m.status)
+    (λ t. inl (departed_quiet w e step (departed_silent m (departed_is m.status t) (old.gone (actor w e) few t)) (sym is)))
+    (λ f. ⊎_elim
+    (λ (none : step.letters ≡ []). inl none)
+    (λ (here : Here step.node). inr (same_sender m c step effect here))
+    (none_or_here m step.letters step.node effect.ending f))
