@@ -1,5 +1,5 @@
 -- Who left: whose Leave stands on the chain asked to leave, and who departed has its Leave accepted, unless nobody is left.
-use Rattle.std.proofs.Common.{◌≡◌, ◌≢◌, ◌⊎◌, ⊎_elim, inl, inr, ℕ, ◌+◌, ◌<◌, ◌≤◌, List, [], ◌∷◌, ◌++◌, length, true, false, refl, sym, ap, ◌∙◌, subst, arith}
+use Rattle.std.proofs.Common.{◌≡◌, ◌⊎◌, ⊎_elim, inl, inr, ℕ, ◌+◌, ◌<◌, ◌≤◌, List, [], ◌∷◌, ◌++◌, length, true, false, refl, sym, ap, ◌∙◌, subst, arith}
 use Rattle.am_base.specs.declared.entry.Entry.{Entry}
 use Rattle.am_base.specs.declared.entry.Entry.TheVariants.{Data, Join, Leave, View}
 use Rattle.am_base.specs.declared.image.Image.{Image}
@@ -13,10 +13,10 @@ use Rattle.am_chain_moves.specs.Group.{Group, Views, put, opening, Leads, chain_
 use Rattle.am_chain_moves.specs.Moves.{Move, MayNumber, choice_of, longer, numbers, stores, accepts, learns, begins, raises, shows, serves}
 use Rattle.am_chain_moves.specs.Moves.{fetches, decides, gives_over, welcomes, asks, departs, closes, stops}
 use Rattle.am_chain_moves.specs.Kept.{Kept}
-use Rattle.am_chain_moves.specs.Runs.{Run, founded, more, start, first_stamp}
-use Rattle.am_chain_moves.proofs.Puts.{put_cases, put_same, put_at}
+use Rattle.am_chain_moves.specs.Runs.{Run, founded, more, first_stamp}
+use Rattle.am_chain_moves.proofs.Puts.{put_same, put_at}
 use Rattle.am_chain.proofs.Runs.{run_keeps}
-use Rattle.am_stands.proofs.Growing.{leads_line, moves_grow}
+use Rattle.am_stands.proofs.Growing.{moves_grow}
 use Rattle.am_stands.proofs.Joins.{Becomes, stayed, joins, founds, became}
 
 -- ---- what is kept
@@ -67,7 +67,7 @@ once list a b d good h k less =
     let long = length_push a (Leave d) in
     let front : Begins (a ++ Leave d ∷ []) b = begins_both h (begins_trans (begins_more b (Leave d ∷ [])) k) (omega arith) in
     leaver_out a d good_a (mem_between d (good_begins (begins_more b (Leave d ∷ [])) good_b) (begins_more a (Leave d ∷ [])) front (leaver_in a d good_a)
-        (leaver_in b d good_b))
+    (leaver_in b d good_b))
 
 -- ---- Leaves
 
@@ -205,11 +205,11 @@ gone_move s t (closes i n leads leaving alone may) k kt h = λ d gone.
     (let before = none_more (s.node i).list i j (subst (λ l. mem l j ≡ true) is member) in
     let same = alone j before in
     leaver_out (s.node i).list i (subst IsGood is kt.good) (subst (λ x. mem ((s.node i).list ++ Leave i ∷ []) x ≡ true) same (subst (λ l. mem l j ≡ true) is
-        member))))))
+    member))))))
     (put_gone s i m d gone))
 gone_move s t (decides i members resilience may) k kt h = λ d gone.
     gone_decided s t i members resilience k kt may.up may.needed (put_same s.views.line (key (s.node i).promise) (opening (choice_of (s.node i) members
-        resilience)))
+    resilience)))
     (begins_refl s.group) d gone (h d (not_now s i _ d refl gone))
 gone_move s t (departs i before may) k kt h = λ d gone. ⊎_elim
     (λ (old : (s.node d).departed ≡ true). gone_same s t refl (begins_refl s.group) d (h d old))
