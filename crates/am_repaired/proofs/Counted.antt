@@ -1,6 +1,6 @@
 -- Whose storage counts behind the last View, where a run may be repaired: each of them is a member still.
-use Rattle.std.proofs.Common.{◌≡◌, ◌≢◌, ◌⊎◌, ⊎_elim, inl, inr, ℕ, zero, suc, ◌+◌, ◌-◌, ◌<◌, ◌≤◌, max, ◌==◌, Bool, true, false}
-use Rattle.std.proofs.Common.{List, [], ◌∷◌, ◌++◌, length, take, drop, Option, Some, None, slice_get, slice_index, All, refl, sym, ap, ◌∙◌, subst, arith}
+use Rattle.std.proofs.Common.{◌≡◌, ◌≢◌, ℕ, zero, suc, ◌+◌, ◌-◌, ◌<◌, ◌≤◌, ◌==◌, true, false}
+use Rattle.std.proofs.Common.{List, [], ◌∷◌, ◌++◌, length, take, Option, Some, None, slice_get, slice_index, All, refl, sym, ap, ◌∙◌, subst, arith}
 use Rattle.std.proofs.lemmas.Bool.Decides.{nat_tests}
 use Rattle.std.proofs.lemmas.List.Elements.{All-nil, All-cons}
 use Rattle.am_base.specs.declared.entry.Entry.{Entry}
@@ -8,24 +8,21 @@ use Rattle.am_base.specs.declared.entry.Entry.TheVariants.{Data, Join, Leave, Vi
 use Rattle.am_base.specs.declared.image.Image.{Image}
 use Rattle.am_base.specs.Founding.{Rules, MayFound}
 use Rattle.am_base.specs.Names.{IsSet, has, place_of, life_of, name_at, names_from, names_of}
-use Rattle.am_base.specs.Lists.{after, fold, blank, members_of}
+use Rattle.am_base.specs.Lists.{fold, blank, members_of}
 use Rattle.am_base.specs.Fronts.{counted_of, counted_at}
 use Rattle.am_group.specs.declared.event.Event.{Event}
 use Rattle.am_fronts.proofs.Views.{view_grows}
 use Rattle.am_chain_lists.specs.Whole.{Begins, IsGood, told, mem, view_of, key}
-use Rattle.am_chain_lists.proofs.Rows.{Spares}
-use Rattle.am_chain_lists.proofs.Prefixes.{begins_refl, begins_take, begins_more, begins_trans, begins_both, begins_length, length_take, length_push}
-use Rattle.am_chain_lists.proofs.Prefixes.{begins_push, take_begins}
-use Rattle.am_chain_lists.proofs.Members.{good_begins, told_push, mem_push, viewed_mem, ends_of, Ends}
-use Rattle.am_chain_moves.specs.Group as groups
+use Rattle.am_chain_lists.proofs.Prefixes.{begins_take, begins_trans, begins_length, length_take, length_push}
+use Rattle.am_chain_lists.proofs.Members.{good_begins, told_push, mem_push, viewed_mem, ends_of}
 use Rattle.am_chain_moves.specs.Group.{Group, Leads, counted, opening, chain_of, current_of}
 use Rattle.am_chain_moves.specs.Kept.{Kept}
-use Rattle.am_model.specs.Node.{Node, top, told as told_at, view, members, is_member, is_sequencer, lowest_or_first}
+use Rattle.am_model.specs.Node.{Node, top, told as told_at, members, lowest_or_first}
 use Rattle.am_model.specs.Receiving.{is_view}
 use Rattle.am_model.specs.Claims.{MayRepair}
-use Rattle.am_model.specs.World.{World, current, has_departed, run}
+use Rattle.am_model.specs.World.{World, current, run}
 use Rattle.am_model.proofs.Folds.{fold_append}
-use Rattle.am_model.proofs.Greatest.{split, and_both}
+use Rattle.am_model.proofs.Greatest.{split}
 use Rattle.am_laws.proofs.Named.{names_hold}
 use Rattle.am_laws.proofs.RunCounts.{numbers_hold}
 use Rattle.am_laws.proofs.TakenRuns.{taken_holds}
@@ -38,10 +35,9 @@ use Rattle.am_stands.proofs.ChainNames.{counts_names}
 use Rattle.am_stands.proofs.Counting.{name_small}
 use Rattle.am_stands.proofs.Onward.{group_kept}
 use Rattle.am_stands.proofs.Parts.{counted_whole, next_part, part_number, number_low}
-use Rattle.am_stands.proofs.Results.{last_view_at}
 use Rattle.am_steps.proofs.Steps.{steps_move}
 use Rattle.am_headline.proofs.Begun.{held}
-use Rattle.am_repaired.proofs.Left.{LeavesAsked, AllLeft, GoneBy, accepted, last, once, runs_left}
+use Rattle.am_repaired.proofs.Left.{AllLeft, GoneBy, accepted, last, once, runs_left}
 use Rattle.am_repaired.proofs.OneList.{lawful_events, small_name, leading}
 use Rattle.am_repaired.proofs.Upheld.{Upheld, upheld_start, upheld_keeps}
 

@@ -1,5 +1,5 @@
 -- Who left: whose Leave stands on the chain asked to leave, and who departed has its Leave accepted, unless nobody is left.
-use Rattle.std.proofs.Common.{◌≡◌, ◌≢◌, ◌⊎◌, ⊎_elim, inl, inr, ℕ, ◌+◌, ◌<◌, ◌≤◌, List, [], ◌∷◌, ◌++◌, length, true, false, refl, sym, ap, ◌∙◌, subst, arith}
+use Rattle.std.proofs.Common.{◌≡◌, ◌⊎◌, ⊎_elim, inl, inr, ℕ, ◌+◌, ◌<◌, ◌≤◌, List, [], ◌∷◌, ◌++◌, length, true, false, refl, sym, ap, ◌∙◌, subst, arith}
 use Rattle.am_base.specs.declared.entry.Entry.{Entry}
 use Rattle.am_base.specs.declared.entry.Entry.TheVariants.{Data, Join, Leave, View}
 use Rattle.am_base.specs.declared.image.Image.{Image}
@@ -13,10 +13,10 @@ use Rattle.am_chain_moves.specs.Group.{Group, Views, put, opening, Leads, chain_
 use Rattle.am_chain_moves.specs.Moves.{Move, MayNumber, choice_of, longer, numbers, stores, accepts, learns, begins, raises, shows, serves}
 use Rattle.am_chain_moves.specs.Moves.{fetches, decides, gives_over, welcomes, asks, departs, closes, stops}
 use Rattle.am_chain_moves.specs.Kept.{Kept}
-use Rattle.am_chain_moves.specs.Runs.{Run, founded, more, start, first_stamp}
-use Rattle.am_chain_moves.proofs.Puts.{put_cases, put_same, put_at}
+use Rattle.am_chain_moves.specs.Runs.{Run, founded, more, first_stamp}
+use Rattle.am_chain_moves.proofs.Puts.{put_same, put_at}
 use Rattle.am_chain.proofs.Runs.{run_keeps}
-use Rattle.am_stands.proofs.Growing.{leads_line, moves_grow}
+use Rattle.am_stands.proofs.Growing.{moves_grow}
 use Rattle.am_stands.proofs.Joins.{Becomes, stayed, joins, founds, became}
 
 -- ---- what is kept

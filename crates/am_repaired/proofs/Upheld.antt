@@ -1,35 +1,30 @@
 -- What the group accepted behind the last View its coordinator accepted.
-use Rattle.std.proofs.Common.{◌≡◌, ◌≢◌, ◌⊎◌, ⊎_elim, inl, inr, ℕ, zero, suc, ◌+◌, ◌-◌, ◌<◌, ◌≤◌, max, min, ◌==◌, ◌&&◌, nat_lt, Bool, true, false, if◌then◌else◌}
+use Rattle.std.proofs.Common.{◌≡◌, ◌≢◌, ◌⊎◌, ⊎_elim, ℕ, zero, suc, ◌+◌, ◌-◌, ◌<◌, ◌≤◌, max, ◌==◌, true, false, if◌then◌else◌}
 use Rattle.std.proofs.Common.{List, [], ◌∷◌, ◌++◌, length, take, drop, Some, slice_get, refl, sym, ap, ◌∙◌, subst, arith, length-append, append_assoc}
 use Rattle.std.proofs.lemmas.Bool.Decides.{nat_tests}
 use Rattle.std.proofs.lemmas.List.{take-append-drop, length-take, take_all}
 use Rattle.std.proofs.Math.Seq.{take-append-add}
 use Rattle.am_base.specs.declared.entry.Entry.{Entry}
 use Rattle.am_base.specs.declared.entry.Entry.TheVariants.{View}
-use Rattle.am_base.specs.declared.name.Stamp.{Stamp}
 use Rattle.am_base.specs.declared.outcome.Outcome.{Outcome}
-use Rattle.am_base.specs.declared.outcome.Outcome.TheVariants as said
 use Rattle.am_base.specs.Founding.{Rules, MayFound}
-use Rattle.am_base.specs.Names.{has}
 use Rattle.am_group.specs.declared.event.Event.{Event}
-use Rattle.am_chain_lists.specs.Whole.{Begins, IsGood, view_of, key}
+use Rattle.am_chain_lists.specs.Whole.{Begins, view_of, key}
 use Rattle.am_chain_lists.proofs.Order.{key_by, view_small, view_up, view_viewed}
 use Rattle.am_chain_lists.proofs.Prefixes.{begins_refl, begins_take, begins_trans, begins_both, begins_same, begins_length, length_take, length_push}
 use Rattle.am_chain_moves.specs.Group as groups
 use Rattle.am_chain_moves.specs.Group.{Group, IsUp, opening, current_of, chain_of}
 use Rattle.am_chain_moves.specs.Kept.{Kept}
-use Rattle.am_model.specs.declared.status.Status.{Status}
 use Rattle.am_model.specs.declared.status.Status.TheVariants as status
-use Rattle.am_model.specs.Node.{Node, top, view, is_asking, is_member, founder, founding_stamp, lowest_or_first}
+use Rattle.am_model.specs.Node.{Node, top, view, is_member, founding_stamp, lowest_or_first}
 use Rattle.am_model.specs.Group.{has_log}
 use Rattle.am_model.specs.Emit.{Step}
 use Rattle.am_model.specs.Calls.{is_unfinished}
 use Rattle.am_packet.specs.Boxes.{Letter}
-use Rattle.am_model.specs.Lawful.{whole}
 use Rattle.am_model.specs.World.{Decided, World, start, founders_decided, is_stopped, has_departed, grown, group_after, stepped, happens, run}
 use Rattle.am_model.proofs.Greatest.{split, and_both}
 use Rattle.am_effects.specs.Causes.{Cause}
-use Rattle.am_effects.specs.Changes.{Change, Changes, unchanged, changed}
+use Rattle.am_effects.specs.Changes.{Changes, unchanged, changed}
 use Rattle.am_effects.specs.Courses.{Ending, at_end, let_go, closing}
 use Rattle.am_effects.specs.Effects.{Effect}
 use Rattle.am_effects.specs.Events.{actor, IsCause}
@@ -55,7 +50,7 @@ use Rattle.am_stands.proofs.Onward.{group_kept, move_on}
 use Rattle.am_stands.proofs.Opens.{runs_open}
 use Rattle.am_steps.proofs.Departed.{rests_step, rests_course}
 use Rattle.am_steps.proofs.Statuses.{departed_is}
-use Rattle.am_headline.proofs.Fold.{Quiet, KeptBy, run_push}
+use Rattle.am_headline.proofs.Fold.{KeptBy, run_push}
 use Rattle.am_headline.proofs.Shapes.{ListGoes, same, up, gone, move_goes, Shaped}
 use Rattle.am_headline.proofs.Ways as ways
 use Rattle.am_headline.proofs.Ways.{Kind, kind_of}
