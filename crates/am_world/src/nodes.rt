@@ -19,11 +19,11 @@ use am_letter::out_box::OutBox;
 use am_node::node::Node;
 use std::alloc::Global;
 
-/// An empty box for the letters of a step: the spare one, or a new one.
-pub fn empty_box(alloc: Global, spare: &mut Option<OutBox>) -> Result<OutBox, NoMemory>
+/// An empty box for the letters of a step: a spare one, or a new one.
+pub fn empty_box(alloc: Global, spare: &mut Vec<OutBox>) -> Result<OutBox, NoMemory>
     ensures { IfOk result (λ b. b ≡ []) }
 {
-    match spare.take() {
+    match spare.pop() {
         Some(mut out) => {
             out.clear();
             Ok(out)
@@ -32,12 +32,12 @@ pub fn empty_box(alloc: Global, spare: &mut Option<OutBox>) -> Result<OutBox, No
     }
 }
 
-/// The letters of a step. A box in which there are none is spare for the next step.
-pub fn packets_of(alloc: Global, out: OutBox, spare: &mut Option<OutBox>) -> Items<Letter>
+/// The letters of a step. A box in which there are none is spare for the next step, where there is memory to keep it.
+pub fn packets_of(alloc: Global, out: OutBox, spare: &mut Vec<OutBox>) -> Items<Letter>
     ensures { result ≡ out }
 {
     if out.letters().is_empty() {
-        *spare = Some(out);
+        let _ = spare.push(out);
         return Items::new(alloc);
     }
     out.into_letters()

@@ -92,7 +92,7 @@ pub struct Run {
     stopped: [bool; 256],
     journal: Journal,
     group: Vec<Entry>,
-    out: Option<OutBox>,
+    spare: Vec<OutBox>,
 }
 
 impl Model for Run {
@@ -130,7 +130,7 @@ impl Run {
             stopped: [false; 256],
             journal: Journal::new(alloc, founding),
             group,
-            out: None,
+            spare: Vec::new(alloc),
         })
     }
 
@@ -271,7 +271,7 @@ impl Run {
         let mut record = new_record(self.alloc, event, name.life(), Outcome::Idle)?;
         let spare = spare_entry(self.alloc)?;
         make_room(&mut self.group, self.journal.records().len() + 2)?;
-        let mut out = empty_box(self.alloc, &mut self.out)?;
+        let mut out = empty_box(self.alloc, &mut self.spare)?;
         record.outcome = step_at(
             &mut self.nodes,
             name,
@@ -280,7 +280,7 @@ impl Run {
             &mut self.group,
             &mut out,
         );
-        record.packets = packets_of(self.alloc, out, &mut self.out);
+        record.packets = packets_of(self.alloc, out, &mut self.spare);
         self.journal.push(record);
         Ok(())
     }
