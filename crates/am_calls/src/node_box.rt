@@ -558,7 +558,7 @@ impl<N: Racing> NodeBox<N> {
     fn is_ready(&self, act: &Act, came: &Option<Came>) -> bool
         requires open_ { self.now.closed ≡ None }
         ensures ready { (own : Option Record) → IsCame act.now came.now own → result ≡ is_ready (node_by N.plan self.now.seen self.now.name) own }
-        ensures told { result ≡ true → EndTells (node_by N.plan self.now.seen self.now.name) act.now came.now }
+        ensures told { (own : Option Record) → IsCame act.now came.now own → result ≡ true → EndTells (node_by N.plan self.now.seen self.now.name) act.now came.now }
     {
         match came {
             None => may_take(&self.node),
