@@ -1,5 +1,5 @@
 -- One look at a node: a turn, an own act or an end, and what the caller's hand is then.
-use Rattle.std.proofs.Common.{◌≡◌, ℕ, zero, suc, ◌+◌, ◌<◌, ◌≤◌, List, [], ◌∷◌, ◌++◌, length, filter, cond, max, Bool, true, false, true≢false, Option, Some, None, is_some, sym, refl, ap, ◌∙◌, subst, arith, eq-eqb, nat_lt, count_by, sum_by}
+use Rattle.std.proofs.Common.{◌≡◌, ℕ, zero, suc, ◌+◌, ◌<◌, ◌≤◌, List, [], ◌∷◌, ◌++◌, length, filter, cond, max, Bool, true, false, true≢false, Option, Some, None, is_some, Result, Ok, Err, IfOk, IfErr, sym, refl, ap, ◌∙◌, subst, arith, eq-eqb, nat_lt, count_by, sum_by}
 use Rattle.std.specs.Prelude.{◌==◌, ◌&&◌, if◌then◌else◌, not}
 use Rattle.std.proofs.lemmas.Bool.{lt-ltb}
 use Rattle.std.proofs.lemmas.List.Sums.{sum_by-cons, sum_by-append}
@@ -52,10 +52,10 @@ use Rattle.am_calls.specs.Callings.{IsHand, luck_after}
 use Rattle.am_calls.specs.Plans.{is_call}
 use Rattle.am_calls.specs.Boxes.{what_of, Steps, MayAct, Hears, Boxed, Keeps, IsBox, IsShareOf, IsTurn, IsRecord, Acted, IsRefused, refused, Looks, node_by, lost_in, event_at}
 use Rattle.am_calls.specs.Boxes as boxes
-use Rattle.am_calls.specs.Going.{by_of, end_act, end_part, told_at_end, IsOwn, IsCame, luck_behind, is_asked, ToldBy, EndTells, Grown, Asked, Began, Turned, Ended, HasLooked, WasRefused, Grows}
+use Rattle.am_calls.specs.Going.{by_of, end_act, end_part, told_at_end, IsOwn, IsCame, luck_behind, is_asked, ToldBy, EndTells, Grown, Asked, Began, Turned, Ended, HasSpent, HasEnded, HasLooked, WasRefused, Grows}
 use Rattle.am_calls.proofs.Acting.{told_is_run, events_of}
 use Rattle.am_calls.proofs.Boxing.{own_key, same_closed}
-use Rattle.am_calls.proofs.Growing.{one_grown, not_grown}
+use Rattle.am_calls.proofs.Growing.{one_grown, not_grown, call_grows}
 use Rattle.am_calls.proofs.Requests.{requests_once, Once}
 use Rattle.am_calls.proofs.Telling.{after_tells, take_tells}
 
@@ -80,6 +80,12 @@ luck_drawn luck (Some n) last a l = by_tests (nat_lt (draw luck.words 100) luck.
     by_tests false true None h = one_word luck (act.Hear n) 0 (let s = some in omega arith)
     by_tests false true (Some k) h = one_word luck (act.Hear k) 0 (let s = h k refl in omega arith)
     by_tests false false o h = one_word luck (act.Hear n) 0 (let s = some in omega arith)
+
+-- as a box chooses
+pub drawn_by : (luck luck' : Luck) (ahead last : Option ℕ) (said : Choice) (a : Act) (lost : ℕ) → ((n : ℕ) → ahead ≡ Some n → 0 < n) → ((k : ℕ) → last ≡ Some k → 0 < k)
+    → luck' ≡ pump.luck_after luck ahead → said ≡ choice_of luck ahead last → a ≡ act_of said → lost ≡ lost_in said → luck' ≡ luck_behind luck a lost
+drawn_by luck luck' ahead last said a lost high low drew is did lost_is =
+    drew ∙ luck_drawn luck ahead last high low ∙ (λ i. luck_behind luck (sym (did ∙ ap act_of is) i) (sym (lost_is ∙ ap lost_in is) i))
 
 pub last_high : (number k : ℕ) → unless_nought number ≡ Some k → 0 < k
 last_high zero k e = absurd (true≢false (ap is_none_ e))
@@ -334,8 +340,197 @@ pub refused_for : (seen : List Record) (name : ℕ) (refusal : WireRefusal) → 
 refused_for seen name refusals.NoMemory full = tt
 refused_for seen name refusals.Spent full = full refl
 
+pub refused_as : (name : ℕ) (seen shown : List Record) (refusal : WireRefusal) (its : Answer) → shown ≡ seen → (refusal ≡ refusals.Spent → length seen ≡ most_events) → its ≡ refused refusal
+    → IsRefused shown name its
+refused_as name seen shown refusal its same full is =
+    subst (λ (a : Answer). IsRefused shown name a) (sym is) (refused_for shown name refusal (λ e. ap length same ∙ full e))
+
 pub nothing_since : (caller : ℕ) (seen : List Record) → GoesOn (Caller caller ∷ []) seen seen
 nothing_since caller seen = goes_same (Caller caller ∷ []) seen
 
 pub goes_since : (caller : ℕ) (x y z : List Record) → GoesOn (Caller caller ∷ []) x y → GoesOn (Caller caller ∷ []) y z → GoesOn (Caller caller ∷ []) x z
 goes_since caller x y z p q = through caller x y z p q
+
+-- ---- turns
+
+-- a turn of a call, which its box found, may be done
+pub turn_is_may : (plan : RacePlan) (old new : Boxed) (a : Act) (by : By) (heard heard' : Option Letter) → Looks old new → heard' ≡ heard → has_stopped new.seen new.name ≡ false
+    → is_turn (plan_by (terms_of plan)) new.seen (event_at old.name a) by ≡ true → ((number : ℕ) → a ≡ act.Hear number → Hears new.seen new.name number heard)
+    → MayAct new.seen new.name a heard'
+turn_is_may plan old new a by heard heard' looks same runs turn hears =
+    subst (MayAct new.seen new.name a) (sym same)
+    (may_turn (plan_by (terms_of plan)) new.seen new.name a by heard runs (subst (λ (n : ℕ). is_turn (plan_by (terms_of plan)) new.seen (event_at n a) by ≡ true) (sym looks.name) turn) hears)
+
+module _ (wire : TableId) (plan : RacePlan) (tag : Tag) (old middle new : Boxed) (share between share' : Known) (luck luck' : Luck) (a : Act) (lost : ℕ) (by : By)
+    (hand : IsHand wire plan tag.caller share luck) (looks : Looks old middle) (sees : Sees share between) (its : IsShareOf wire plan by.caller share')
+    (is : by ≡ by_of tag (Turn lost)) where
+  caller_is : by.caller ≡ tag.caller
+  caller_is = ap (λ (b : By). b.caller) is
+
+  its_share : IsShareOf wire plan tag.caller share'
+  its_share = subst (λ (n : ℕ). IsShareOf wire plan n share') caller_is its
+
+  since : GoesOn (Caller tag.caller ∷ []) share.seen between.seen
+  since = share_goes wire plan tag.caller share between (hand_share wire plan tag.caller share luck hand) sees
+
+  keys : between.keys ≡ Caller tag.caller ∷ []
+  keys = sees.keys ∙ hand.keys
+
+  grown : (came : Came) (did : Acted middle new between share' a by came) → Grown tag.caller share.seen share'.seen did.item
+  grown came did = grown_since tag.caller share.seen between.seen share'.seen did.item since (acted_grown middle new tag.caller between share' a by came keys did)
+
+  pub turn_hand : (came : Came) → Acted middle new between share' a by came → luck' ≡ luck_behind luck a lost → IsHand wire plan tag.caller share' luck'
+  turn_hand came did drew =
+      hand_turns wire plan (by_of tag (Turn lost)) share share' luck luck' a lost did.item hand its_share (grown came did) (did.is.by_ ∙ is) refl did.is.act_ drew
+
+  pub turn_grown : (came : Came) → Acted middle new between share' a by came → Turned old.name tag came.outcome share.seen share'.seen
+  turn_grown came did = record {
+    item = did.item;
+    grown = grown came did;
+    node = did.is.node ∙ looks.name;
+    caller = ap (λ (b : By). b.caller) (did.is.by_ ∙ is);
+    call = ap (λ (b : By). b.call) (did.is.by_ ∙ is);
+    part = ap (λ (b : By). is_turn_part b.part) (did.is.by_ ∙ is);
+    came = did.is.outcome;
+  }
+
+  pub turn_refused : GoesOn between.keys between.seen share'.seen → GoesOn (Caller tag.caller ∷ []) share.seen share'.seen
+  turn_refused goes = goes_since tag.caller share.seen between.seen share'.seen since (subst (λ (ks : List Key). GoesOn ks between.seen share'.seen) keys goes)
+
+  pub refused_hand : GoesOn between.keys between.seen share'.seen → IsHand wire plan tag.caller share' luck
+  refused_hand goes = hand_sees wire plan tag.caller share share' luck hand its_share (turn_refused goes)
+
+-- ---- own acts and ends
+
+module _ (wire : TableId) (plan : RacePlan) (old new : Boxed) (share share' : Known) (luck : Luck) (a : Act) (by : By)
+    (hand : IsHand wire plan by.caller share luck) (its : IsShareOf wire plan by.caller share') where
+  pub ask_hand : (came : Came) → is_turn_part by.part ≡ false → Acted old new share share' a by came → IsHand wire plan by.caller share' luck
+  ask_hand came no_turn did =
+      hand_asks wire plan by share share' luck did.item hand its (acted_grown old new by.caller share share' a by came hand.keys did) did.is.by_ no_turn
+
+  pub ask_done : (came : Came) → share.seen ≡ old.seen → Acted old new share share' a by came → ToldBy (what_of a None) (node_by plan old.seen old.name) came.outcome
+      → Asked plan old.name a by came share.seen share'.seen
+  ask_done came met did told_ = record {
+    item = did.item;
+    grown = acted_grown old new by.caller share share' a by came hand.keys did;
+    is = did.is;
+    told = subst (λ (rs : List Record). ToldBy (what_of a None) (node_by plan rs old.name) came.outcome) (sym met) told_;
+  }
+
+  pub ask_goes : GoesOn share.keys share.seen share'.seen → GoesOn (Caller by.caller ∷ []) share.seen share'.seen
+  ask_goes goes = subst (λ (ks : List Key). GoesOn ks share.seen share'.seen) hand.keys goes
+
+  pub ask_refused : GoesOn share.keys share.seen share'.seen → IsHand wire plan by.caller share' luck
+  ask_refused goes = hand_sees wire plan by.caller share share' luck hand its (ask_goes goes)
+
+-- ---- one look as a whole
+
+pub hand_meets : (wire : TableId) (plan : RacePlan) (caller : ℕ) (share share' : Known) (luck : Luck) → IsHand wire plan caller share luck → Sees share share' → IsHand wire plan caller share' luck
+hand_meets wire plan caller share share' luck hand sees =
+    let its = hand_share wire plan caller share luck hand in
+    hand_sees wire plan caller share share' luck hand (share_still wire plan caller share share' its sees) (share_goes wire plan caller share share' its sees)
+
+pub meets_goes : (wire : TableId) (plan : RacePlan) (caller : ℕ) (share share' : Known) (luck : Luck) → IsHand wire plan caller share luck → Sees share share'
+    → GoesOn (Caller caller ∷ []) share.seen share'.seen
+meets_goes wire plan caller share share' luck hand sees = share_goes wire plan caller share share' (hand_share wire plan caller share luck hand) sees
+
+pub meets_refused : (name caller : ℕ) (old new seen : List Record) (new_name : ℕ) (r : Result (Unit {0}) Answer) → GoesOn (Caller caller ∷ []) old new → new ≡ seen → new_name ≡ name
+    → IfErr r (IsRefused seen new_name) → IfErr r (WasRefused name caller old new)
+meets_refused name caller old new seen new_name (Ok x) goes both named err = tt
+meets_refused name caller old new seen new_name (Err its) goes both named err =
+    (goes, subst (λ (n : ℕ). IsRefused new n its) named (subst (λ (rs : List Record). IsRefused rs new_name its) (sym both) err))
+
+refused_since : (name caller : ℕ) (old middle new : List Record) (its : Answer) → GoesOn (Caller caller ∷ []) old middle → WasRefused name caller middle new its → WasRefused name caller old new its
+refused_since name caller old middle new its goes was = (through caller old middle new goes was.0, was.1)
+
+pub all_refused_since : {A : Type 0} (name caller : ℕ) (old middle new : List Record) (r : Result A Answer) → GoesOn (Caller caller ∷ []) old middle → IfErr r (WasRefused name caller middle new)
+    → IfErr r (WasRefused name caller old new)
+all_refused_since name caller old middle new (Ok x) goes err = tt
+all_refused_since name caller old middle new (Err its) goes err = refused_since name caller old middle new its goes err
+
+pub began_all : (plan : RacePlan) (name : ℕ) (tag : Tag) (a : Act) (old middle new : List Record) (r : Result Came Answer) → GoesOn (Caller tag.caller ∷ []) old middle
+    → IfOk r (λ came. Asked plan name a (by_of tag Call) came middle new) → IfOk r (λ came. Began name tag a came old new)
+began_all plan name tag a old middle new (Err its) goes ok = tt
+began_all plan name tag a old middle new (Ok came) goes asked = record {
+  item = asked.item;
+  grown = grown_since tag.caller old middle new asked.item goes asked.grown;
+  node = asked.is.node;
+  by_ = asked.is.by_;
+  own = record {
+    part = ap (λ (b : By). is_own b.part) asked.is.by_;
+    act_ = asked.is.act_;
+    outcome = asked.is.outcome;
+    round = asked.is.round;
+  };
+  stops = λ e. subst (λ (x : Act). ToldBy (what_of x None) (node_by plan middle name) came.outcome) e asked.told;
+}
+
+pub end_done : (plan : RacePlan) (name : ℕ) (tag : Tag) (a : Act) (came : Option Came) (did : Came) (old new : List Record) → Asked plan name (end_act a came) (by_of tag (end_part a)) did old new
+    → HasEnded plan name tag a came old new (looked.End did.outcome)
+end_done plan name tag a came did old new asked = (
+  λ tells. tells did.outcome asked.told,
+  record {
+    item = asked.item;
+    grown = asked.grown;
+    node = asked.is.node;
+    act_ = asked.is.act_;
+    by_ = asked.is.by_;
+    told = asked.is.outcome;
+  },
+)
+
+ended_since : (name : ℕ) (tag : Tag) (a : Act) (came : Option Came) (outcome : Outcome) (old middle new : List Record) → GoesOn (Caller tag.caller ∷ []) old middle
+    → Ended name tag a came outcome middle new → Ended name tag a came outcome old new
+ended_since name tag a came outcome old middle new goes e = record {
+  item = e.item;
+  grown = grown_since tag.caller old middle new e.item goes e.grown;
+  node = e.node;
+  act_ = e.act_;
+  by_ = e.by_;
+  told = e.told;
+}
+
+-- without a turn left
+pub last_looked : (plan : RacePlan) (name : ℕ) (tag : Tag) (a : Act) (came : Option Came) (has_turn : Bool) (old middle new : List Record) (r : Result Looked Answer) → has_turn ≡ false
+    → GoesOn (Caller tag.caller ∷ []) old middle → IfOk r (HasEnded plan name tag a came middle new) → IfOk r (HasLooked name tag a came has_turn old new)
+last_looked plan name tag a came has_turn old middle new (Err its) last goes ok = tt
+last_looked plan name tag a came has_turn old middle new (Ok (looked.Turn outcome)) last goes ok = absurd ok
+last_looked plan name tag a came has_turn old middle new (Ok (looked.End outcome)) last goes ok =
+    ((λ has. absurd (true≢false (sym has ∙ last))), ended_since name tag a came outcome old middle new goes ok.1)
+
+-- where it was ready
+pub ready_looked : (plan : RacePlan) (name : ℕ) (tag : Tag) (a : Act) (came : Option Came) (has_turn : Bool) (old middle new : List Record) (r : Result Looked Answer)
+    → EndTells (node_by plan middle name) a came → GoesOn (Caller tag.caller ∷ []) old middle → IfOk r (HasEnded plan name tag a came middle new) → IfOk r (HasLooked name tag a came has_turn old new)
+ready_looked plan name tag a came has_turn old middle new (Err its) tells goes ok = tt
+ready_looked plan name tag a came has_turn old middle new (Ok (looked.Turn outcome)) tells goes ok = absurd ok
+ready_looked plan name tag a came has_turn old middle new (Ok (looked.End outcome)) tells goes ok =
+    ((λ has. ok.0 tells), ended_since name tag a came outcome old middle new goes ok.1)
+
+-- where it made a turn
+pub turn_looked : (name : ℕ) (tag : Tag) (a : Act) (came : Option Came) (has_turn : Bool) (old middle new : List Record) (r : Result Looked Answer) → has_turn ≡ true
+    → GoesOn (Caller tag.caller ∷ []) old middle → IfOk r (HasSpent name tag middle new) → IfOk r (HasLooked name tag a came has_turn old new)
+turn_looked name tag a came has_turn old middle new (Err its) has goes ok = tt
+turn_looked name tag a came has_turn old middle new (Ok (looked.End outcome)) has goes ok = absurd ok
+turn_looked name tag a came has_turn old middle new (Ok (looked.Turn outcome)) has goes t = (
+  has,
+  record {
+    item = t.item;
+    grown = grown_since tag.caller old middle new t.item goes t.grown;
+    node = t.node;
+    caller = t.caller;
+    call = t.call;
+    part = t.part;
+    came = t.came;
+  },
+)
+
+-- what came of the own act is so, whatever others added
+pub came_since : (tag : Tag) (a : Act) (came : Option Came) (old new : List Record) → GoesOn (Caller tag.caller ∷ []) old new → IsCame a came (own_of (of_call tag.caller tag.call old))
+    → IsCame a came (own_of (of_call tag.caller tag.call new))
+came_since tag a came old new goes is =
+    subst (λ (l : List Record). IsCame a came (own_of l))
+    (sym (call_grows 0 tag old new [] (not_grown 0 tag old new goes) ∙ nothing_behind (of_call tag.caller tag.call old))) is
+  where
+    nothing_behind : (l : List Record) → l ++ [] ≡ l
+    nothing_behind [] = refl
+    nothing_behind (x ∷ l) = ap (λ (m : List Record). x ∷ m) (nothing_behind l)

@@ -150,6 +150,16 @@ pub record Ended (name : ℕ) (tag : Tag) (a : Act) (came : Option Came) (outcom
   pub by_ : item.by ≡ by_of tag (end_part a)
   pub told : item.outcome ≡ outcome
 
+-- a look was a turn
+abbrev pub HasSpent : ℕ → Tag → List Record → List Record → Looked → Type 0
+HasSpent name tag old new (looked.Turn outcome) = Turned name tag outcome old new
+HasSpent name tag old new (looked.End outcome) = ⊥
+
+-- a look was the end, which tells an answer where the node did before
+abbrev pub HasEnded : RacePlan → ℕ → Tag → Act → Option Came → List Record → List Record → Looked → Type 0
+HasEnded plan name tag a came old new (looked.Turn outcome) = ⊥
+HasEnded plan name tag a came old new (looked.End outcome) = (EndTells (node_by plan old name) a came → is_some (told_at_end a outcome) ≡ true) × Ended name tag a came outcome old new
+
 -- what a look did: a turn, where it had one; or the end, which has an answer where a turn was left
 abbrev pub HasLooked : ℕ → Tag → Act → Option Came → Bool → List Record → List Record → Looked → Type 0
 HasLooked name tag a came has_turn old new (looked.Turn outcome) = (has_turn ≡ true) × Turned name tag outcome old new
