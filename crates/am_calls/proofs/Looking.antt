@@ -534,3 +534,8 @@ came_since tag a came old new goes is =
     nothing_behind : (l : List Record) → l ++ [] ≡ l
     nothing_behind [] = refl
     nothing_behind (x ∷ l) = ap (λ (m : List Record). x ∷ m) (nothing_behind l)
+
+pub came_seen : (tag : Tag) (a : Act) (came : Option Came) (old shown seen : List Record) → GoesOn (Caller tag.caller ∷ []) old shown → shown ≡ seen
+    → IsCame a came (own_of (of_call tag.caller tag.call old)) → IsCame a came (own_of (of_call tag.caller tag.call seen))
+came_seen tag a came old shown seen goes same is =
+    subst (λ (rs : List Record). IsCame a came (own_of (of_call tag.caller tag.call rs))) same (came_since tag a came old shown goes is)

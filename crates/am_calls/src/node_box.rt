@@ -323,9 +323,10 @@ impl<N: Racing> NodeBox<N> {
         }
     }
 
-    /// The name of its node.
+    /// The name of its node, of its place's first life.
     pub fn name(&self) -> Name
-        ensures { result ≡ self.now.name }
+        ensures value { result ≡ self.now.name }
+        ensures place { result < 16 }
     {
         self.name
     }

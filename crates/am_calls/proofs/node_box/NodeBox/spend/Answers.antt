@@ -23,7 +23,7 @@ returns-in-Ok-act-clause-hand g c =
 
 pub returns-in-Ok-act-clause-ok : goal.returns-in-Ok-act-clause-ok
 returns-in-Ok-act-clause-ok g c =
-    turn_grown _ _ c.args.tag c.args.self.now c.turn-turn.new.self _ _ _ _ _ _ _ _ _ c.requires.hand c.turn-turn.ensures.looks c.turn-turn.ensures.share c.act.ensures.share c.with-by.ensures
+    turn_grown _ _ c.args.tag c.args.self.now c.turn-turn.new.self _ _ _ _ _ c.turn-turn.new.chooser _ _ _ c.requires.hand c.turn-turn.ensures.looks c.turn-turn.ensures.share c.act.ensures.share c.with-by.ensures
     c.in-Ok-act.came c.in-Ok-act.ensures.ok
 
 pub returns-in-Err-clause-hand : goal.returns-in-Err-clause-hand
