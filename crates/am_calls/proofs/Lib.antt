@@ -20,3 +20,4 @@ pub mod Growing
 pub mod Shapes
 pub mod Making
 pub mod Looking
+pub mod Starting

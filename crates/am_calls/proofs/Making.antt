@@ -1,5 +1,5 @@
 -- A call that is made: its turns so far, its end, and what its caller then has.
-use Rattle.std.proofs.Common.{◌≡◌, ℕ, zero, suc, ◌+◌, ◌-◌, ◌<◌, ◌≤◌, List, [], ◌∷◌, ◌++◌, length, take, drop, filter, cond, Bool, true, false, true≢false, Option, Some, None, is_some, sym, refl, ap, ◌∙◌, subst, arith, append_assoc, append-nil, length-append, eq-eqb, ne_eqb, nat_le, unwrap_or, slice_get}
+use Rattle.std.proofs.Common.{◌≡◌, ℕ, zero, suc, ◌+◌, ◌-◌, ◌<◌, ◌≤◌, List, [], ◌∷◌, ◌++◌, length, get_or, take, drop, filter, cond, Bool, true, false, true≢false, Option, Some, None, is_some, sym, refl, ap, ◌∙◌, subst, arith, append_assoc, append-nil, length-append, eq-eqb, ne_eqb, nat_le, unwrap_or, slice_get}
 use Rattle.std.specs.Prelude.{All, ◌==◌, ◌&&◌, if◌then◌else◌}
 use Rattle.std.specs.List.{list_all, prefix_len}
 use Rattle.std.proofs.lemmas.Bool.{le-leb, eqb-true}
@@ -28,7 +28,7 @@ use Rattle.am_calls.specs.Callings.{Calling, IsAnswer, HasMade, Called}
 use Rattle.am_calls.specs.Plans.{calls_of, is_call}
 use Rattle.am_calls.specs.Going.{by_of, has_check, end_act, end_part, told_at_end, request_in_call, IsOwn, IsCame, HasBegun, Grown, Began, Turned, Ended, HasLooked, WasRefused, Grows, Made}
 use Rattle.am_calls.proofs.Finishing.{none_called}
-use Rattle.am_calls.proofs.Growing.{both, all_more, just_one, none_of_call, call_grows, not_grown, one_grown, grows_through}
+use Rattle.am_calls.proofs.Growing.{both, left_of, right_of, all_more, just_one, none_of_call, call_grows, not_grown, one_grown, grows_through}
 use Rattle.am_calls.proofs.Shapes.{AreTurns, IsEnd, ended_answer, same_call, check_calls, turns_planned, end_planned, end_answers, own_answers, late_more, other_alone, other_call, is_plain, all_plain, plain_own, plain_at_end, plain_late, plain_lates, own_first, no_own, head_turn, tail_turns}
 
 -- ---- answers of records, and refusals
@@ -260,7 +260,7 @@ stuck turns n (a ∷ calls) r rs low is =
     last_of true false c e = absurd (true≢false (sym e))
     last_of false b c e = absurd (true≢false (sym e))
 
-AreOf : ℕ → List Record → Type 0
+pub AreOf : ℕ → List Record → Type 0
 AreOf call records = list_all (λ r. r.by.call == call) records ≡ true
 
 whole_prefix : (call : ℕ) (mine : List Record) → AreOf call mine → prefix_len (λ (r : Record). r.by.call == call) mine ≡ length mine
@@ -401,19 +401,12 @@ one_place place (r ∷ rs) all =
     first_two true b e = (refl, e)
     first_two false b e = absurd (true≢false (sym e))
 
-all_low : (call : ℕ) (mine : List Record) → AreOf call mine → All (λ r. r.by.call < call + 1) mine
+all_low : (call : ℕ) (mine : List Record) → AreOf call mine → (k : ℕ) (d : Record) → k < length mine → (get_or mine k d).by.call < call + 1
 unfolding AreOf
-all_low call [] own = λ k d h. absurd (omega arith)
-all_low call (r ∷ rs) own zero d h = let e : r.by.call ≡ call = eqb-true r.by.call call (first_is (r.by.call == call) (list_all (λ q. q.by.call == call) rs) own) in omega arith
-  where
-    first_is : (a b : Bool) → (a && b) ≡ true → a ≡ true
-    first_is true b e = refl
-    first_is false b e = absurd (true≢false (sym e))
-all_low call (r ∷ rs) own (suc k) d h = all_low call rs (rest_is (r.by.call == call) (list_all (λ q. q.by.call == call) rs) own) k d (omega arith)
-  where
-    rest_is : (a b : Bool) → (a && b) ≡ true → b ≡ true
-    rest_is true b e = e
-    rest_is false b e = absurd (true≢false (sym e))
+all_low call [] own k d h = absurd (omega arith)
+all_low call (r ∷ rs) own zero d h =
+    let e : r.by.call ≡ call = eqb-true r.by.call call (left_of (r.by.call == call) (list_all (λ q. q.by.call == call) rs) own) in omega arith
+all_low call (r ∷ rs) own (suc k) d h = all_low call rs (right_of (r.by.call == call) (list_all (λ q. q.by.call == call) rs) own) k d (omega arith)
 
 -- one call more was made
 pub has_made_more : (plan : RacePlan) (node number calls : ℕ) (a : Act) (old new : List Record) (its : Answer) → HasMade plan number calls old → slice_get (calls_of plan number) calls ≡ Some a

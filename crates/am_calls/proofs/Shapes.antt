@@ -99,7 +99,7 @@ pub other_call : (turns : ℕ) (a : Act) (records : List Record) → is_take a �
 other_call turns a records no_ = ap (λ (b : Bool). if b then is_receive turns records else is_other turns a records) no_
 
 receives : (turns : ℕ) (a : Act) (records : List Record) → is_take a ≡ true → is_one_call turns a records ≡ is_receive turns records
-receives turns a records yes = ap (λ (b : Bool). if b then is_receive turns records else is_other turns a records) yes
+receives turns a records yes_ = ap (λ (b : Bool). if b then is_receive turns records else is_other turns a records) yes_
 
 -- behind an own act without an answer
 other_goes : (turns : ℕ) (a : Act) (own : Record) (rest : List Record) → is_own own.by.part ≡ true → same_act a own.event.act ≡ true → own_answer a own.outcome ≡ None
@@ -177,7 +177,7 @@ turns_planned turns a (Some came) first ts begun all few =
     nothing_behind (x ∷ l) = ap (λ (m : List Record). x ∷ m) (nothing_behind l)
 
 part_of_take : (a : Act) → is_take a ≡ true → end_part a ≡ Call
-part_of_take a yes = ap (λ (b : Bool). if b then Call else Check) yes
+part_of_take a yes_ = ap (λ (b : Bool). if b then Call else Check) yes_
 
 part_of_check : (a : Act) → is_take a ≡ false → end_part a ≡ Check
 part_of_check a no_ = ap (λ (b : Bool). if b then Call else Check) no_
@@ -391,7 +391,7 @@ is_plain answer.Spent = false
 is_plain answer.NoMemory = false
 is_plain _ = true
 
-abbrev all_plain : Option Answer → Bool
+abbrev pub all_plain : Option Answer → Bool
 all_plain None = true
 all_plain (Some a) = is_plain a
 

@@ -150,7 +150,7 @@ impl<'g, N: Racing, G: Gate> Kernels<'g, N, G> {
     {
         let request = request_in_call(act, came);
         let mut late = Answer::Late { turns: self.turns };
-        for _spent in 0..self.turns {
+        for spent in 0..self.turns {
             match self.look(rt, hand, tag, node, act, came, true) {
                 Err(answer) => return answer,
                 Ok(Looked::End(outcome)) => return answer_at_end(act, request, &outcome, late),
