@@ -10,14 +10,8 @@ pub mod Names
 pub mod Turning
 pub mod Finding
 pub mod Finishing
-pub mod Counting
-pub mod Playing
-pub mod Joined
-pub mod Raced
 pub mod Requests
 pub mod Telling
 pub mod Growing
-pub mod Shapes
-pub mod Making
 pub mod Looking
 pub mod Starting

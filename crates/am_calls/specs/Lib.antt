@@ -8,7 +8,6 @@ pub mod Legal
 pub mod Plans
 pub mod Lawful
 pub mod Callings
-pub mod Ran
 pub mod Boxes
 pub mod Going
 pub mod Laws

@@ -40,7 +40,6 @@ use am_base::outcome::Outcome;
 use am_group::event::{Act, By, Event, Part, Record};
 use am_letter::letter::Letter;
 use am_letter::out_box::OutBox;
-use am_node::info::Info;
 use am_node::node::Node;
 use am_pump::chooser::{Choice, Chooser};
 use am_wire::wire::{Pass, Share, Wire, WireRefusal};
@@ -362,15 +361,6 @@ impl<N: Racing> NodeBox<N> {
             return Err(Answer::Stopped);
         }
         Ok(())
-    }
-
-    /// What its node knows.
-    pub fn info(&mut self, wire: &Wire<RaceLaw>, hand: &mut Hand) -> Result<Info, WireRefusal> {
-        wire.meet(&mut self.pass, &mut hand.share);
-        match self.closed {
-            Some(refusal) => Err(refusal),
-            None => Ok(self.node.info()),
-        }
     }
 
     /// Its node does an act of a caller, which both have then seen in the journal. Behind what both have seen it may do it, and a
