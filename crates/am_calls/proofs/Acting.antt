@@ -1,10 +1,9 @@
 -- What a node's step comes to in the world of which the records tell.
-use Rattle.std.proofs.Common.{◌≡◌, ◌≢◌, ℕ, zero, suc, ◌+◌, ◌-◌, ◌*◌, ◌%◌, ◌<◌, ◌≤◌, List, [], ◌∷◌, ◌++◌, length, map, Bool, true, false, true≢false, Option, Some, None, sym, refl, ap, ◌∙◌, subst, arith, append-nil, length-append}
-use Rattle.std.specs.Prelude.{if◌then◌else◌, not, ◌==◌, ◌&&◌, ◌||◌}
+use Rattle.std.proofs.Common.{◌≡◌, ℕ, ◌<◌, ◌≤◌, List, [], ◌∷◌, ◌++◌, length, map, Bool, true, false, true≢false, Option, Some, None, sym, refl, ap, ◌∙◌, subst, arith}
+use Rattle.std.specs.Prelude.{if◌then◌else◌, not, ◌==◌}
 use Rattle.std.proofs.lemmas.Bool.Decides.{nat_tests}
 use Rattle.std.proofs.lemmas.List.{length-map}
 use Rattle.am_base.specs.Most.{most_events}
-use Rattle.am_base.specs.declared.outcome.Outcome.{Outcome}
 use Rattle.am_base.specs.declared.outcome.Outcome.TheVariants as said
 use Rattle.am_base.specs.declared.event.NodeEvent.{NodeEvent}
 use Rattle.am_base.specs.declared.event.NodeEvent.TheVariants as does
@@ -13,7 +12,6 @@ use Rattle.am_base.specs.Names.{place_of, name_at}
 use Rattle.am_codec.specs.Limits.{IsPacket}
 use Rattle.am_codec.specs.Spelling.{spelling}
 use Rattle.am_core.specs.Cores.{IsInOrder}
-use Rattle.am_packet.specs.declared.packet.Packet.{Packet}
 use Rattle.am_packet.specs.Boxes.{Letter}
 use Rattle.am_group.specs.declared.event.Act.{Act}
 use Rattle.am_group.specs.declared.event.Act.TheVariants as act
@@ -23,10 +21,10 @@ use Rattle.am_group.specs.Addressed.{is_for}
 use Rattle.am_group.specs.Journals.{letters_of, letter_at}
 use Rattle.am_model.specs.Emit.{Step}
 use Rattle.am_model.specs.Step.{step, hear, row}
-use Rattle.am_model.specs.World.{World, is_stopped, unchanged, stepped, does_event, gives_up, stops, heard, acts_as, happens, record_of, current, no_caller, run, happen}
+use Rattle.am_model.specs.World.{World, is_stopped, unchanged, stepped, does_event, heard, acts_as, happens, record_of, current, no_caller, run, happen}
 use Rattle.am_model.specs.Node.{Node}
 use Rattle.am_model.specs.Group.{tagged}
-use Rattle.am_model.specs.Ends.{IsEndOf, ComesTo, Does}
+use Rattle.am_model.specs.Ends.{IsEndOf, Does}
 use Rattle.am_model.proofs.Bytes.{spelling_is_heard}
 use Rattle.am_node.specs.Nodes.{HasNumbersLeft}
 use Rattle.am_world.proofs.Acts.{step_end, end_high}
@@ -34,12 +32,12 @@ use Rattle.am_world.proofs.Goes.{replay_after}
 use Rattle.am_world.proofs.Numbers.{low}
 use Rattle.am_wire.specs.declared.rule.Terms.{Terms}
 use Rattle.am_wire.specs.Seats.{Follows}
-use Rattle.am_wire.specs.Stops.{is_stop, has_stopped}
-use Rattle.am_calls.specs.Told.{tells, told, IsNext}
-use Rattle.am_calls.specs.Lawful.{is_of_race, IsLawful}
-use Rattle.am_calls.specs.Boxes.{what_of, Steps, Hears, MayAct}
+use Rattle.am_wire.specs.Stops.{has_stopped}
+use Rattle.am_calls.specs.Told.{told, IsNext}
+use Rattle.am_calls.specs.Lawful.{IsLawful}
+use Rattle.am_calls.specs.Boxes.{what_of, MayAct}
 use Rattle.am_calls.proofs.Legality.{next_tells}
-use Rattle.am_calls.proofs.Knows.{Knows, knows, name_now, each_keeps, told_more}
+use Rattle.am_calls.proofs.Knows.{knows, name_now, each_keeps, told_more}
 
 -- ---- the run
 

@@ -1,7 +1,6 @@
 -- What an act of a box leaves: its record comes next, whatever others added, and the box stands behind it.
-use Rattle.std.proofs.Common.{◌≡◌, ◌≢◌, ℕ, zero, suc, ◌+◌, ◌-◌, ◌*◌, ◌%◌, ◌<◌, ◌≤◌, List, [], ◌∷◌, ◌++◌, length, take, drop, map, filter, get_or, max, Bool, true, false, true≢false, Option, Some, None, Result, Ok, Err, OnOk, OnErr, IfOk, IfErr, cond, sym, refl, ap, ◌∙◌, subst, arith, append_assoc, append-nil, length-append, eq-eqb, ne_eqb}
-use Rattle.std.specs.Prelude.{if◌then◌else◌, not, ◌==◌, ◌&&◌, ◌||◌, All}
-use Rattle.std.proofs.lemmas.Bool.{eqb-true}
+use Rattle.std.proofs.Common.{◌≡◌, ◌≢◌, ℕ, zero, suc, ◌<◌, ◌≤◌, List, [], ◌∷◌, ◌++◌, length, drop, map, get_or, max, Bool, true, false, true≢false, Option, Some, None, cond, sym, refl, ap, ◌∙◌, subst, arith, append-nil, length-append, eq-eqb}
+use Rattle.std.specs.Prelude.{if◌then◌else◌, ◌==◌, ◌&&◌, ◌||◌, All}
 use Rattle.std.proofs.Math.Seq.{drop-append_seam}
 use Rattle.std.proofs.lemmas.List.Elements.{filter-append}
 use Rattle.std.proofs.lemmas.Grind.{fold-append}
@@ -22,12 +21,11 @@ use Rattle.am_group.specs.declared.plan.RacePlan.{RacePlan}
 use Rattle.am_group.specs.Addressed.{is_for}
 use Rattle.am_group.specs.Deliveries.{name_of}
 use Rattle.am_group.specs.Journals.{letters_of, letter_at}
-use Rattle.std.specs.List.{flat_map}
 use Rattle.std.proofs.lemmas.List.Concat.{flat_map-append}
 use Rattle.am_model.specs.Claims.{heard_by}
 use Rattle.am_model.specs.Node.{Node}
 use Rattle.am_node.specs.Nodes.{HasNumbersLeft}
-use Rattle.am_model.specs.World.{World, is_stopped, unchanged, stops, acts_as, happens, current, no_caller, record_of}
+use Rattle.am_model.specs.World.{World, is_stopped, unchanged, acts_as, happens, current, no_caller, record_of}
 use Rattle.am_model.specs.Group.{tagged}
 use Rattle.am_model.specs.Ends.{IsEndOf}
 use Rattle.am_wire.specs.declared.rule.Key.{Key}
@@ -40,15 +38,15 @@ use Rattle.am_wire.specs.Passes.{Known, IsReady, Committed, Sees}
 use Rattle.am_wire.specs.Seats.{Follows, GoesOn}
 use Rattle.am_wire.specs.Stops.{is_stop, has_stopped}
 use Rattle.am_wire.proofs.Views.{rest_of, times_cons}
-use Rattle.am_calls.specs.Told.{tells, told, IsNext}
-use Rattle.am_calls.specs.Tags.{of_place, is_turn_part}
+use Rattle.am_calls.specs.Told.{told, IsNext}
+use Rattle.am_calls.specs.Tags.{of_place}
 use Rattle.am_calls.specs.Turns.{is_turn, greatest, passed, cursor, last_heard, lost_by, unless_nought, or_nought}
 use Rattle.am_calls.specs.Laws.{IsApart}
-use Rattle.am_calls.specs.Lawful.{is_of_race, plan_by, terms_of, IsLawful}
-use Rattle.am_calls.specs.Boxes.{what_of, Steps, Hears, MayAct, Boxed, Keeps, IsBox, IsShareOf, IsTurn, Acted, Looks, IsRefused, refused}
+use Rattle.am_calls.specs.Lawful.{plan_by, terms_of, IsLawful}
+use Rattle.am_calls.specs.Boxes.{what_of, Steps, MayAct, Boxed, Keeps, IsBox, IsShareOf, IsTurn, Acted, Looks, IsRefused, refused}
 use Rattle.am_calls.specs.declared.ready.Came.{Came}
 use Rattle.am_calls.specs.Ready.{round_in}
-use Rattle.am_calls.proofs.Knows.{Knows, knows, name_now, told_more, stopped_more}
+use Rattle.am_calls.proofs.Knows.{knows, name_now, told_more, stopped_more}
 use Rattle.am_calls.proofs.Legality.{next_tells}
 use Rattle.am_calls.proofs.Nexts.{nodes_stay, stopped_in_more, none_stop, or_true, or_none, item_more, lives_of, all_cons}
 use Rattle.am_calls.proofs.Stays.{turns_stay}

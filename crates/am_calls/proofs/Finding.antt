@@ -1,10 +1,9 @@
 -- A turn that a box finds is one of its call.
-use Rattle.std.proofs.Common.{◌≡◌, ◌≢◌, ◌⊎◌, inl, inr, ℕ, zero, suc, ◌+◌, ◌-◌, ◌*◌, ◌%◌, ◌<◌, List, [], ◌∷◌, ◌++◌, length, drop, get_or, Bool, true, false, true≢false, Option, Some, None, sym, refl, ap, ◌∙◌, subst, arith, append_assoc, append-nil, eq-eqb, ne_eqb, map}
+use Rattle.std.proofs.Common.{◌≡◌, ◌≢◌, inl, inr, ℕ, zero, suc, ◌<◌, List, [], ◌∷◌, ◌++◌, length, drop, get_or, Bool, true, false, true≢false, Option, Some, None, sym, refl, ap, ◌∙◌, subst, arith, append_assoc, append-nil, eq-eqb, map}
 use Rattle.std.specs.Prelude.{if◌then◌else◌, not, ◌==◌, ◌&&◌, ◌||◌, All, count_by, nat_lt, is_none}
-use Rattle.std.specs.List.{list_any, flat_map}
-use Rattle.std.proofs.lemmas.List.Folds.{list_any-append}
+use Rattle.std.specs.List.{list_any}
 use Rattle.std.proofs.lemmas.List.Concat.{flat_map-append}
-use Rattle.am_base.specs.Names.{place_of, name_at, name_lt, names_of, has}
+use Rattle.am_base.specs.Names.{place_of, name_at, name_lt, names_of}
 use Rattle.am_packet.specs.Boxes.{Letter}
 use Rattle.am_group.specs.declared.event.Act.{Act}
 use Rattle.am_group.specs.declared.event.Act.TheVariants as act
@@ -25,20 +24,20 @@ use Rattle.am_wire.specs.declared.rule.Terms.{Terms}
 use Rattle.am_wire.specs.Seats.{Follows}
 use Rattle.am_wire.specs.Stops.{has_stopped}
 use Rattle.am_calls.specs.Told.{told}
-use Rattle.am_calls.specs.Tags.{of_place, of_caller, of_call, own_of, is_turn_part, known, is_either}
+use Rattle.am_calls.specs.Tags.{of_place, of_call, own_of, is_turn_part, known, is_either}
 use Rattle.am_calls.specs.Ready.{is_ready}
-use Rattle.am_calls.specs.Turns.{cursor, last_heard, words_drawn, chosen, follows, is_waited, is_least, waits_in_vain, is_choice, is_turn_of, turns_at, is_turn, lost_by, greatest, passed, unless_nought}
+use Rattle.am_calls.specs.Turns.{cursor, last_heard, words_drawn, chosen, follows, is_waited, is_least, waits_in_vain, is_choice, is_turn_of, turns_at, is_turn, greatest, passed, unless_nought}
 use Rattle.am_model.specs.Claims.{heard_by}
 use Rattle.am_calls.specs.Laws.{IsApart, IsLeft}
 use Rattle.am_calls.specs.Lawful.{IsLawful, plan_by, terms_of}
 use Rattle.am_calls.specs.Callings.{luck_after}
-use Rattle.am_calls.specs.Boxes.{node_by, GivesUp, lost_in, Gave, Chose, Found, Picked, event_at, turn_by, Boxed, IsBox, IsShareOf, Looks}
+use Rattle.am_calls.specs.Boxes.{node_by, lost_in, Gave, Found, event_at, turn_by, Boxed, IsBox, IsShareOf, Looks}
 use Rattle.atomic_table.specs.Seated.{TableId}
 use Rattle.am_wire.specs.Passes.{Known, Sees}
 use Rattle.am_wire.specs.declared.rule.Key.{Key}
 use Rattle.am_wire.specs.declared.wire.WireRefusal.{WireRefusal}
 use Rattle.am_wire.specs.declared.rule.Key.TheVariants.{Place, Caller}
-use Rattle.am_wire.specs.Keys.{is_of, of_key}
+use Rattle.am_wire.specs.Keys.{of_key}
 use Rattle.am_wire.specs.Seats.{GoesOn}
 use Rattle.am_wire.proofs.Views.{rest_of, goes_through}
 use Rattle.am_calls.proofs.Apart.{others_are_apart}

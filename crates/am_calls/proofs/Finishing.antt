@@ -1,13 +1,12 @@
 -- What a race leaves at its end.
-use Rattle.std.proofs.Common.{◌≡◌, ℕ, zero, suc, ◌+◌, ◌*◌, ◌<◌, ◌≤◌, List, [], ◌∷◌, ◌++◌, length, map, get_or, filter, Bool, true, false, true≢false, cond, Option, Some, None, sym, refl, ap, ◌∙◌, subst, arith, inl, inr, ⊎_elim, ne_eqb, slice_get}
+use Rattle.std.proofs.Common.{◌≡◌, ℕ, zero, suc, ◌+◌, ◌<◌, ◌≤◌, List, [], ◌∷◌, length, Bool, true, false, true≢false, cond, sym, refl, ap, ◌∙◌, subst, arith, inl, inr, ⊎_elim, ne_eqb}
 use Rattle.std.specs.Prelude.{All, if◌then◌else◌, ◌&&◌, ◌==◌, ◌⊎◌}
-use Rattle.std.specs.List.{list_all, range_with_len}
 use Rattle.atomic_table.specs.Seated.{TableId}
 use Rattle.am_group.specs.declared.event.Act.{Act}
 use Rattle.am_group.specs.declared.event.Record.{Record}
 use Rattle.am_group.specs.declared.plan.RacePlan.{RacePlan}
 use Rattle.am_pump.specs.Choices.{Luck, words_of}
-use Rattle.am_wire.specs.declared.rule.Key.TheVariants.{Place, Caller}
+use Rattle.am_wire.specs.declared.rule.Key.TheVariants.{Caller}
 use Rattle.am_wire.specs.Passes.{Known, fresh}
 use Rattle.am_wire.specs.Seats.{Follows}
 use Rattle.am_calls.specs.Tags.{of_caller}

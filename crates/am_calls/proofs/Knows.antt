@@ -1,7 +1,7 @@
 -- What is known of the world of which a lawful journal tells.
-use Rattle.std.proofs.Common.{◌≡◌, ◌≢◌, ℕ, ◌+◌, ◌-◌, ◌*◌, ◌%◌, ◌<◌, List, [], ◌∷◌, ◌++◌, Bool, true, false, true≢false, Option, Some, None, cond, sym, refl, ap, ◌∙◌, subst, arith, append_assoc, append-nil, eq-eqb, ne_eqb}
-use Rattle.std.specs.Prelude.{if◌then◌else◌, not, ◌==◌, ◌&&◌, ◌||◌, fold}
-use Rattle.std.specs.List.{list_any, flat_map}
+use Rattle.std.proofs.Common.{◌≡◌, ℕ, List, [], ◌∷◌, ◌++◌, Bool, true, false, true≢false, Option, Some, None, sym, refl, ap, ◌∙◌, subst, append_assoc, append-nil}
+use Rattle.std.specs.Prelude.{if◌then◌else◌, not, ◌==◌, ◌&&◌, ◌||◌}
+use Rattle.std.specs.List.{list_any}
 use Rattle.std.proofs.lemmas.List.Folds.{list_any-append}
 use Rattle.std.proofs.lemmas.Grind.{fold-append}
 use Rattle.std.proofs.lemmas.List.Concat.{flat_map-append}
@@ -22,11 +22,11 @@ use Rattle.am_group.specs.Deliveries.{name_of}
 use Rattle.am_group.specs.Journals.{letters_of, letter_at}
 use Rattle.am_model.specs.Emit.{Step}
 use Rattle.am_model.specs.Step.{step, hear}
-use Rattle.am_model.specs.World.{World, start, is_stopped, hear_cut, unchanged, stepped, does_event, gives_up, stops, heard, acts_as, happens, current}
+use Rattle.am_model.specs.World.{World, start, is_stopped, unchanged, stepped, does_event, gives_up, heard, acts_as, happens, current}
 use Rattle.am_wire.specs.declared.rule.Terms.{Terms}
 use Rattle.am_wire.specs.Seats.{Follows}
 use Rattle.am_wire.specs.Stops.{is_stop, has_stopped}
-use Rattle.am_calls.specs.Told.{tells, told, IsNext}
+use Rattle.am_calls.specs.Told.{tells, told}
 use Rattle.am_calls.specs.Lawful.{is_of_race, IsLawful}
 
 -- ---- journals by record

@@ -1,7 +1,7 @@
 -- A journal is legal where each of its records comes next.
-use Rattle.std.proofs.Common.{◌≡◌, ℕ, ◌+◌, List, [], ◌∷◌, ◌++◌, map, Bool, true, false, true≢false, Option, Some, None, cond, sym, refl, ap, ◌∙◌, subst, append-nil, append_assoc, drop, length}
+use Rattle.std.proofs.Common.{◌≡◌, ℕ, ◌+◌, List, [], ◌∷◌, ◌++◌, map, Bool, true, false, true≢false, Option, Some, None, sym, refl, ap, ◌∙◌, subst, append-nil, append_assoc, drop, length}
 use Rattle.std.proofs.Math.Seq.{drop-append_seam}
-use Rattle.std.specs.Prelude.{◌↔◌, fold, if◌then◌else◌, not, ◌==◌, ◌||◌}
+use Rattle.std.specs.Prelude.{fold, if◌then◌else◌, not, ◌==◌, ◌||◌}
 use Rattle.am_base.specs.declared.outcome.Outcome.{Outcome}
 use Rattle.am_base.specs.declared.outcome.Outcome.TheVariants as said
 use Rattle.am_base.specs.declared.event.NodeEvent.{NodeEvent}
@@ -18,9 +18,8 @@ use Rattle.am_group.specs.Addressed.{is_for}
 use Rattle.am_group.specs.Journals.{letter_at}
 use Rattle.am_model.specs.Emit.{Step}
 use Rattle.am_model.specs.Step.{step, hear}
-use Rattle.am_model.specs.World.{World, start, is_stopped, has_departed, hear_cut, unchanged, stepped, does_event, gives_up, stops, heard, lives_on, returned, acts_as, happens, happen, run, record_of, no_caller, current}
+use Rattle.am_model.specs.World.{World, start, is_stopped, has_departed, hear_cut, unchanged, stepped, does_event, gives_up, stops, heard, lives_on, returned, acts_as, happens, happen, record_of, no_caller, current}
 use Rattle.am_model.specs.Group.{tagged}
-use Rattle.am_model.specs.Legal.{IsLegal}
 use Rattle.am_calls.specs.Told.{tells, told, IsNext}
 use Rattle.am_calls.specs.Laws.{EachIsNext}
 

@@ -1,15 +1,13 @@
 -- One look at a node: a turn, an own act or an end, and what the caller's hand is then.
-use Rattle.std.proofs.Common.{◌≡◌, ℕ, zero, suc, ◌+◌, ◌<◌, ◌≤◌, List, [], ◌∷◌, ◌++◌, length, filter, cond, max, Bool, true, false, true≢false, Option, Some, None, is_some, Result, Ok, Err, IfOk, IfErr, sym, refl, ap, ◌∙◌, subst, arith, eq-eqb, nat_lt, count_by, sum_by}
+use Rattle.std.proofs.Common.{◌≡◌, ℕ, zero, suc, ◌+◌, ◌<◌, List, [], ◌∷◌, ◌++◌, length, cond, max, Bool, true, false, true≢false, Option, Some, None, Result, Ok, Err, IfOk, IfErr, sym, refl, ap, ◌∙◌, subst, arith, nat_lt, count_by, sum_by}
 use Rattle.std.specs.Prelude.{◌==◌, ◌&&◌, if◌then◌else◌, not}
 use Rattle.std.proofs.lemmas.Bool.{lt-ltb}
 use Rattle.std.proofs.lemmas.List.Sums.{sum_by-cons, sum_by-append}
 use Rattle.atomic_table.specs.Seated.{TableId}
 use Rattle.am_base.specs.Most.{most_events}
 use Rattle.am_base.specs.declared.outcome.Outcome.{Outcome}
-use Rattle.am_base.specs.declared.outcome.Outcome.TheVariants as said
 use Rattle.am_base.specs.declared.event.NodeEvent.{NodeEvent}
 use Rattle.am_base.specs.Names.{place_of}
-use Rattle.am_core.specs.Cores.{IsInOrder}
 use Rattle.am_packet.specs.Boxes.{Letter}
 use Rattle.am_group.specs.declared.event.Act.{Act}
 use Rattle.am_group.specs.declared.event.Act.TheVariants as act
@@ -21,7 +19,7 @@ use Rattle.am_group.specs.declared.event.Record.{Record}
 use Rattle.am_group.specs.declared.plan.RacePlan.{RacePlan}
 use Rattle.am_model.specs.Claims.{heard_by}
 use Rattle.am_model.specs.Node.{Node}
-use Rattle.am_model.specs.World.{World, current, run}
+use Rattle.am_model.specs.World.{World, current}
 use Rattle.am_model.specs.Ends.{IsEndOf}
 use Rattle.am_pump.specs.declared.chooser.Choice.{Choice}
 use Rattle.am_pump.specs.declared.chooser.Choice.TheVariants as choice
@@ -29,15 +27,14 @@ use Rattle.am_pump.specs.Choices.{Luck, again, turn_by, draw, drawn, choice_of, 
 use Rattle.am_pump.specs.Choices as pump
 use Rattle.am_world.proofs.Acts.{step_end}
 use Rattle.am_wire.specs.declared.rule.Key.{Key}
-use Rattle.am_wire.specs.declared.rule.Key.TheVariants.{Place, Caller}
+use Rattle.am_wire.specs.declared.rule.Key.TheVariants.{Caller}
 use Rattle.am_wire.specs.declared.wire.WireRefusal.{WireRefusal}
 use Rattle.am_wire.specs.declared.wire.WireRefusal.TheVariants as refusals
 use Rattle.am_wire.specs.Passes.{Known, Sees}
-use Rattle.am_wire.specs.Seats.{Follows, GoesOn}
+use Rattle.am_wire.specs.Seats.{GoesOn}
 use Rattle.am_wire.specs.Stops.{has_stopped}
 use Rattle.am_wire.proofs.Views.{goes_through, goes_same}
 use Rattle.am_calls.specs.declared.answer.Answer.{Answer}
-use Rattle.am_calls.specs.declared.answer.Answer.TheVariants as answer
 use Rattle.am_calls.specs.declared.caller.Tag.{Tag}
 use Rattle.am_calls.specs.declared.node_box.Looked.{Looked}
 use Rattle.am_calls.specs.declared.node_box.Looked.TheVariants as looked
@@ -45,16 +42,15 @@ use Rattle.am_calls.specs.declared.ready.Came.{Came}
 use Rattle.am_calls.specs.Told.{told}
 use Rattle.am_calls.specs.Tags.{of_caller, of_call, own_of, is_own, is_turn_part, known}
 use Rattle.am_calls.specs.Answers.{is_take}
-use Rattle.am_calls.specs.Turns.{passed, lost_by, words_drawn, later, is_waited, is_least, waits_in_vain, is_turn_of, turns_at, is_turn, unless_nought}
-use Rattle.am_calls.specs.Ready.{is_ready, is_ready_after, may_take, round_in}
-use Rattle.am_calls.specs.Lawful.{IsLawful, is_of_race, plan_by, terms_of}
+use Rattle.am_calls.specs.Turns.{passed, lost_by, words_drawn, later, is_waited, is_least, is_turn_of, is_turn, unless_nought}
+use Rattle.am_calls.specs.Ready.{is_ready, is_ready_after, may_take}
+use Rattle.am_calls.specs.Lawful.{is_of_race, plan_by, terms_of}
 use Rattle.am_calls.specs.Callings.{IsHand, luck_after}
 use Rattle.am_calls.specs.Plans.{is_call}
-use Rattle.am_calls.specs.Boxes.{what_of, Steps, MayAct, Hears, Boxed, Keeps, IsBox, IsShareOf, IsTurn, IsRecord, Acted, IsRefused, refused, Looks, node_by, lost_in, event_at}
-use Rattle.am_calls.specs.Boxes as boxes
-use Rattle.am_calls.specs.Going.{by_of, end_act, end_part, told_at_end, IsOwn, IsCame, luck_behind, is_asked, ToldBy, EndTells, Grown, Asked, Began, Turned, Ended, HasSpent, HasEnded, HasLooked, WasRefused, Grows}
+use Rattle.am_calls.specs.Boxes.{what_of, Steps, MayAct, Hears, Boxed, Keeps, IsBox, IsShareOf, IsTurn, Acted, IsRefused, refused, Looks, node_by, lost_in, event_at}
+use Rattle.am_calls.specs.Going.{by_of, end_act, end_part, IsOwn, IsCame, luck_behind, is_asked, ToldBy, EndTells, Grown, Asked, Began, Turned, Ended, HasSpent, HasEnded, HasLooked, WasRefused, Grows}
 use Rattle.am_calls.proofs.Acting.{told_is_run, events_of}
-use Rattle.am_calls.proofs.Boxing.{own_key, same_closed}
+use Rattle.am_calls.proofs.Boxing.{same_closed}
 use Rattle.am_calls.proofs.Growing.{one_grown, not_grown, call_grows}
 use Rattle.am_calls.proofs.Requests.{requests_once, Once}
 use Rattle.am_calls.proofs.Telling.{after_tells, take_tells}

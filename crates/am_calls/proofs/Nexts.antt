@@ -1,38 +1,19 @@
 -- What others' records leave of a name: its node, whether it stopped, and the letters that were sent.
-use Rattle.std.proofs.Common.{◌≡◌, ◌≢◌, ℕ, zero, suc, ◌+◌, ◌-◌, ◌*◌, ◌%◌, ◌<◌, List, [], ◌∷◌, ◌++◌, length, take, drop, get_or, Bool, true, false, true≢false, Option, Some, None, cond, sym, refl, ap, ◌∙◌, subst, arith, append_assoc, append-nil, eq-eqb, ne_eqb, length-append}
-use Rattle.std.specs.Prelude.{if◌then◌else◌, not, ◌==◌, ◌&&◌, ◌||◌, All, slice_get}
-use Rattle.std.specs.List.{list_any, flat_map}
+use Rattle.std.proofs.Common.{◌≡◌, ◌≢◌, ℕ, zero, suc, ◌<◌, List, [], ◌∷◌, ◌++◌, Bool, true, false, true≢false, Option, Some, None, sym, refl, ap, ◌∙◌, subst, arith, append_assoc, append-nil, ne_eqb}
+use Rattle.std.specs.Prelude.{◌==◌, ◌&&◌, ◌||◌, All, slice_get}
 use Rattle.std.proofs.lemmas.List.Folds.{list_any-append}
-use Rattle.std.proofs.lemmas.List.Concat.{flat_map-append}
-use Rattle.am_base.specs.declared.outcome.Outcome.{Outcome}
-use Rattle.am_base.specs.declared.outcome.Outcome.TheVariants as said
-use Rattle.am_base.specs.declared.event.NodeEvent.{NodeEvent}
-use Rattle.am_base.specs.declared.event.NodeEvent.TheVariants as does
 use Rattle.am_base.specs.Founding.{Rules}
 use Rattle.am_base.specs.Names.{place_of, name_at}
-use Rattle.am_packet.specs.declared.packet.Packet.{Packet}
-use Rattle.am_packet.specs.Boxes.{Letter}
-use Rattle.am_group.specs.declared.event.Act.{Act}
-use Rattle.am_group.specs.declared.event.Act.TheVariants as act
-use Rattle.am_group.specs.declared.event.Event.{Event}
 use Rattle.am_group.specs.declared.event.Record.{Record}
-use Rattle.am_group.specs.Addressed.{is_for}
 use Rattle.am_group.specs.Deliveries.{name_of}
-use Rattle.am_group.specs.Journals.{letters_of, letter_at, item_at}
-use Rattle.am_model.specs.Emit.{Step}
-use Rattle.am_model.specs.Step.{step, hear}
-use Rattle.am_model.specs.World.{World, is_stopped, unchanged, stepped, does_event, gives_up, stops, heard, acts_as, happens, record_of, current, no_caller}
-use Rattle.am_model.specs.Node.{Node}
-use Rattle.am_model.specs.Group.{tagged}
+use Rattle.am_group.specs.Journals.{item_at}
 use Rattle.am_wire.specs.declared.rule.Terms.{Terms}
 use Rattle.am_wire.specs.Seats.{Follows}
 use Rattle.am_wire.specs.Stops.{is_stop, has_stopped}
-use Rattle.am_calls.specs.Told.{told, IsNext}
-use Rattle.am_calls.specs.Laws.{IsApart}
-use Rattle.am_calls.specs.Lawful.{is_of_race, IsLawful}
+use Rattle.am_calls.specs.Told.{told}
+use Rattle.am_calls.specs.Lawful.{IsLawful}
 use Rattle.am_calls.proofs.Others.{others_stay}
-use Rattle.am_calls.proofs.Knows.{Knows, knows, name_now}
-use Rattle.am_calls.proofs.Stays.{first_apart, same_place, place_of_life}
+use Rattle.am_calls.proofs.Stays.{first_apart, same_place}
 
 -- ---- others' records
 

@@ -1,5 +1,5 @@
 -- A box of a node to which nothing has happened.
-use Rattle.std.proofs.Common.{◌≡◌, ℕ, zero, suc, ◌+◌, ◌<◌, ◌≤◌, List, [], ◌∷◌, ◌++◌, length, Bool, true, false, true≢false, Option, Some, None, if◌then◌else◌, sym, refl, ap, ◌∙◌, subst, arith, length-append}
+use Rattle.std.proofs.Common.{◌≡◌, ℕ, ◌<◌, List, [], ◌∷◌, ◌++◌, length, Bool, true, false, true≢false, Option, Some, None, if◌then◌else◌, sym, refl, ap, subst, arith, length-append}
 use Rattle.atomic_table.specs.Seated.{TableId}
 use Rattle.am_base.specs.Founding.{Rules}
 use Rattle.am_base.specs.Names.{has}

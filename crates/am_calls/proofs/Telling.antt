@@ -1,6 +1,6 @@
 -- Where a call is ready, its end tells its answer.
-use Rattle.std.proofs.Common.{◌≡◌, ℕ, zero, suc, ◌+◌, ◌-◌, ◌<◌, ◌≤◌, ◌==◌, not, Bool, true, false, true≢false, List, [], ◌∷◌, length, find, get_or, Option, Some, None, is_some, nat_lt, refl, sym, ap, ◌∙◌, subst, arith, slice_get}
-use Rattle.std.specs.Prelude.{if◌then◌else◌, ◌&&◌, ◌||◌}
+use Rattle.std.proofs.Common.{◌≡◌, ℕ, ◌+◌, ◌-◌, ◌<◌, ◌==◌, Bool, true, false, true≢false, List, [], ◌∷◌, length, get_or, Option, Some, None, is_some, nat_lt, refl, sym, ap, ◌∙◌, subst, arith}
+use Rattle.std.specs.Prelude.{if◌then◌else◌}
 use Rattle.std.proofs.lemmas.Bool.{ltb-true, ne_eqb}
 use Rattle.std.proofs.lemmas.Option.{slice_get-get_or}
 use Rattle.am_base.specs.declared.entry.Entry.{Entry}
@@ -12,30 +12,26 @@ use Rattle.am_base.specs.Lists.{entry_at}
 use Rattle.am_core.specs.Cores.{IsInOrder}
 use Rattle.am_core.proofs.Ends.{end-entry}
 use Rattle.am_effects.proofs.Ballots.{entry_is}
-use Rattle.am_sender.specs.declared.OwnSend.{OwnSend}
 use Rattle.am_sender.specs.Sends.{Sends, collected_of, outcome_of, collect_outcome, is_settled}
 use Rattle.am_group.specs.declared.event.Act.{Act}
 use Rattle.am_group.specs.declared.event.Act.TheVariants as act
-use Rattle.am_group.specs.declared.event.Record.{Record}
 use Rattle.am_model.specs.declared.status.Status.{Status}
 use Rattle.am_model.specs.declared.status.Status.TheVariants as status
 use Rattle.am_model.specs.Node.{Node, Ballot, is_member}
-use Rattle.am_model.specs.Emit.{Plan, quiet, finish}
+use Rattle.am_model.specs.Emit.{quiet, finish}
 use Rattle.am_model.specs.Refresh.{refresh_at_end}
 use Rattle.am_model.specs.Calls.{done_row, take_row, given, state_by, state_row, ask_of, ask_row}
 use Rattle.am_model.specs.Step.{row, step}
 use Rattle.am_model.specs.Ends.{IsEndOf}
 use Rattle.am_model.specs.Group.{has_log}
 use Rattle.am_model.specs.World.{has_departed}
-use Rattle.am_model.proofs.Greatest.{split, and_both}
+use Rattle.am_model.proofs.Greatest.{and_both}
 use Rattle.am_node.specs.Info.{ballot_end, end_of}
 use Rattle.am_node.specs.declared.info.BallotEnd.TheVariants.{Going, Ended}
-use Rattle.am_calls.specs.declared.answer.Answer.{Answer}
 use Rattle.am_calls.specs.declared.ready.Came.{Came}
-use Rattle.am_calls.specs.Answers.{own_answer, end_answer, ballot_answer, left_answer, request_in, is_take}
-use Rattle.am_calls.specs.Boxes.{what_of}
+use Rattle.am_calls.specs.Answers.{own_answer, end_answer, ballot_answer, request_in, is_take}
 use Rattle.am_calls.specs.Ready.{is_sent, is_ended, is_ready_after, may_take}
-use Rattle.am_calls.specs.Going.{end_act, told_at_end, IsCame, ToldBy, EndTells}
+use Rattle.am_calls.specs.Going.{told_at_end, EndTells}
 use Rattle.am_calls.proofs.Requests.{Once, settled_send}
 
 -- what a step answers, where its row answers one thing

@@ -1,11 +1,11 @@
 -- What a turn finds: who is waited for in vain, and the letters for a name.
-use Rattle.std.proofs.Common.{◌≡◌, ◌≢◌, ◌⊎◌, inl, inr, ℕ, zero, suc, ◌+◌, ◌-◌, ◌*◌, ◌/◌, ◌%◌, ◌<◌, ◌≤◌, max, List, [], ◌∷◌, ◌++◌, length, drop, Bool, true, false, true≢false, Option, Some, None, cond, sym, refl, ap, ◌∙◌, subst, arith, append_assoc, append-nil, eq-eqb, ne_eqb, map}
+use Rattle.std.proofs.Common.{◌≡◌, ◌≢◌, ◌⊎◌, inl, inr, ℕ, zero, suc, ◌+◌, ◌<◌, max, List, [], ◌∷◌, ◌++◌, length, drop, Bool, true, false, true≢false, Option, Some, None, cond, sym, refl, ap, ◌∙◌, subst, arith, append-nil, map}
 use Rattle.atomic_table.specs.Seated.{TableId}
 use Rattle.am_wire.specs.Passes.{Known}
 use Rattle.am_wire.specs.declared.wire.WireRefusal.{WireRefusal}
-use Rattle.std.specs.Prelude.{IfSome, IfNone, if◌then◌else◌, not, ◌==◌, ◌&&◌, ◌||◌, slice_index, slice_get, nat_lt}
-use Rattle.std.specs.List.{list_any, flat_map}
-use Rattle.std.proofs.lemmas.Bool.{eqb-true, ltb-true, lt-ltb, le-ltb}
+use Rattle.std.specs.Prelude.{IfSome, IfNone, if◌then◌else◌, not, ◌==◌, ◌&&◌, ◌||◌, slice_index, slice_get}
+use Rattle.std.specs.List.{list_any}
+use Rattle.std.proofs.lemmas.Bool.{eqb-true, ltb-true}
 use Rattle.std.proofs.lemmas.List.Concat.{flat_map-append}
 use Rattle.am_base.specs.Names.{place_of, life_of, name_at, name_lt, rank_of, has, names_of, names_from, lowest_of, first_of}
 use Rattle.am_packet.specs.Boxes.{Letter}
@@ -15,7 +15,7 @@ use Rattle.am_group.specs.declared.event.Record.{Record}
 use Rattle.am_group.specs.declared.plan.RacePlan.{RacePlan}
 use Rattle.am_group.specs.Addressed.{is_for, first_for, next_for}
 use Rattle.am_group.specs.Deliveries.{name_of}
-use Rattle.am_group.specs.Journals.{letters_of, letter_at, item_at}
+use Rattle.am_group.specs.Journals.{letters_of, letter_at}
 use Rattle.am_core.proofs.Folds.{slice_get-drop}
 use Rattle.am_model.specs.Claims.{heard_by}
 use Rattle.am_model.specs.Ends.{IsEndOf}

@@ -1,17 +1,15 @@
 -- A caller's records are those of its calls, one behind the other.
-use Rattle.std.specs.Prelude.{ℕ, ◌+◌, ◌-◌, List, [], ◌∷◌, length, drop, take_while, Option, Some, None, is_some, Bool, true, false, not, ◌&&◌, ◌==◌, nat_lt, if◌then◌else◌}
+use Rattle.std.specs.Prelude.{ℕ, ◌+◌, ◌-◌, List, [], ◌∷◌, length, drop, take_while, Option, Some, None, is_some, Bool, true, false, ◌&&◌, ◌==◌, nat_lt, if◌then◌else◌}
 use Rattle.std.specs.List.{list_all}
 use Rattle.am_base.specs.declared.outcome.Outcome.{Outcome}
-use Rattle.am_base.specs.declared.outcome.Outcome.TheVariants as said
 use Rattle.am_base.specs.Names.{place_of}
 use Rattle.am_packet.specs.Boxes.{Letter}
 use Rattle.am_group.specs.declared.event.Act.{Act}
 use Rattle.am_group.specs.declared.event.Act.TheVariants as act
 use Rattle.am_group.specs.declared.event.Record.{Record}
-use Rattle.am_group.specs.declared.plan.ThreadPlan.{ThreadPlan}
 use Rattle.am_calls.specs.declared.answer.Answer.{Answer}
 use Rattle.am_calls.specs.declared.answer.Answer.TheVariants as answer
-use Rattle.am_calls.specs.Tags.{of_caller, is_own, is_turn_part, is_check}
+use Rattle.am_calls.specs.Tags.{is_own, is_turn_part, is_check}
 use Rattle.am_calls.specs.Answers.{own_answer, answer_of, request_in, is_take}
 use Rattle.am_calls.specs.Ready.{round_in}
 

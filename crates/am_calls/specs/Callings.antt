@@ -1,16 +1,15 @@
 -- Callers as contracts see them, and what a blocking call leaves.
-use Rattle.std.specs.Prelude.{◌≡◌, ℕ, ◌+◌, ◌≤◌, ◌<◌, List, [], ◌∷◌, ◌++◌, length, Option, Some, None, All, Bool, true, ◌==◌}
+use Rattle.std.specs.Prelude.{◌≡◌, ℕ, ◌+◌, ◌≤◌, ◌<◌, List, [], ◌∷◌, ◌++◌, length, Some, All, true, ◌==◌}
 use Rattle.std.specs.List.{list_all}
 use Rattle.am_base.specs.Most.{most_events}
 use Rattle.atomic_table.specs.Seated.{TableId}
 use Rattle.am_base.specs.Names.{place_of}
-use Rattle.am_group.specs.declared.event.Act.{Act}
 use Rattle.am_group.specs.declared.event.Record.{Record}
 use Rattle.am_group.specs.declared.plan.RacePlan.{RacePlan}
 use Rattle.am_pump.specs.Choices.{Luck, words_of}
 use Rattle.am_wire.specs.declared.rule.Key.TheVariants.{Caller}
 use Rattle.am_wire.specs.Passes.{Known}
-use Rattle.am_wire.specs.Seats.{StartsWith, Follows}
+use Rattle.am_wire.specs.Seats.{StartsWith}
 use Rattle.am_wire.specs.Stops.{has_stopped}
 use Rattle.am_calls.specs.declared.answer.Answer.{Answer}
 use Rattle.am_calls.specs.declared.answer.Answer.TheVariants as answer
@@ -19,7 +18,7 @@ use Rattle.am_calls.specs.Answers.{answer_of}
 use Rattle.am_calls.specs.Turns.{words_drawn, later}
 use Rattle.am_calls.specs.Callers.{is_callers}
 use Rattle.am_calls.specs.Plans.{calls_of}
-use Rattle.am_calls.specs.Lawful.{IsLawful, terms_of}
+use Rattle.am_calls.specs.Lawful.{terms_of}
 
 -- a caller: its number, how many calls it has made, and what it has seen
 pub record Calling : Type 0 where

@@ -1,6 +1,6 @@
 -- A turn: what a call does at its node between two looks. It gives up a stopped name that the node waits for, or does what
 -- the chooser says with the letters for the node.
-use Rattle.std.specs.Prelude.{ℕ, zero, suc, List, [], ◌∷◌, map, max, fold, count_by, Option, Some, None, is_none, Bool, true, false, not, ◌&&◌, ◌==◌, nat_lt, if◌then◌else◌}
+use Rattle.std.specs.Prelude.{ℕ, zero, suc, List, map, max, fold, count_by, Option, Some, None, is_none, Bool, false, not, ◌&&◌, ◌==◌, nat_lt}
 use Rattle.std.specs.List.{list_any}
 use Rattle.am_base.specs.Names.{place_of, name_lt, names_of, has}
 use Rattle.rand_pcg.specs.Lcg.{Lcg}
@@ -20,7 +20,7 @@ use Rattle.am_model.specs.World.{World, current}
 use Rattle.am_node.specs.Info.{waited_for}
 use Rattle.am_pump.specs.declared.chooser.Choice.{Choice}
 use Rattle.am_pump.specs.declared.chooser.Choice.TheVariants as choice
-use Rattle.am_pump.specs.Choices.{Luck, words_of, drawn, choice_of}
+use Rattle.am_pump.specs.Choices.{words_of, drawn, choice_of}
 use Rattle.am_wire.specs.Stops.{has_stopped}
 use Rattle.am_calls.specs.Told.{told}
 use Rattle.am_calls.specs.Tags.{of_place, of_caller, of_call, own_of, is_turn_part, known}

@@ -1,4 +1,3 @@
-use Rattle.std.proofs.Common.{◌≡◌}
 use Rattle.am_calls.proofs.Finishing.{fresh_hand}
 use Rattle.am_calls.proofs.caller.Caller.new.Goals as goal
 

@@ -1,4 +1,3 @@
-use Rattle.std.proofs.Common.{◌≡◌}
 use Rattle.am_calls.proofs.Finishing.{fresh_luck}
 use Rattle.am_calls.proofs.caller.Hand.new.Goals as goal
 

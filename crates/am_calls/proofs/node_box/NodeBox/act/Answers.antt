@@ -1,10 +1,8 @@
-use Rattle.std.proofs.Common.{rules, ◌≡◌, List, [], ◌++◌, sym, ap, ◌∙◌}
-use Rattle.std.specs.Option.{option_copied}
+use Rattle.std.proofs.Common.{rules, ◌≡◌, List, ◌++◌, ap, ◌∙◌}
 use Rattle.am_packet.specs.Boxes.{Letter}
 use Rattle.am_group.specs.declared.event.Record.{Record}
-use Rattle.am_node.specs.Stands.{state_of}
 use Rattle.am_calls.specs.Ready.{round_in}
-use Rattle.am_calls.proofs.Boxing.{Doing, doing, item_of, box_numbers, box_ready, box_after, box_acted}
+use Rattle.am_calls.proofs.Boxing.{doing, box_numbers, box_ready, box_after, box_acted}
 use Rattle.am_calls.proofs.Looking.{act_told}
 use Rattle.am_calls.proofs.node_box.NodeBox.act.Goals as goal
 

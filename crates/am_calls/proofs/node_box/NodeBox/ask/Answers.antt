@@ -1,4 +1,3 @@
-use Rattle.std.proofs.Common.{rules, ◌≡◌, sym, refl, ap, ◌∙◌}
 use Rattle.am_calls.proofs.Looking.{may_ask, no_turn_asked, ask_hand, ask_done, ask_goes, ask_refused, refused_as}
 use Rattle.am_calls.proofs.node_box.NodeBox.ask.Goals as goal
 

@@ -1,10 +1,7 @@
-use Rattle.std.proofs.Common.{rules, ◌≡◌, ℕ, ◌<◌, sym, ap, ◌∙◌, arith}
-use Rattle.am_node.specs.Stands.{state_of}
-use Rattle.am_calls.specs.Boxes.{IsBox}
+use Rattle.std.proofs.Common.{ℕ, ◌<◌, sym, ◌∙◌, arith}
 use Rattle.am_calls.proofs.Boxing.{sees_more, same_closed, goes_place}
 use Rattle.am_calls.proofs.Turning.{choice_sent, looks_through, ahead_is_sent}
 use Rattle.am_calls.proofs.Looking.{drawn_by, last_high}
-use Rattle.am_calls.proofs.Finding.{given_turn, chosen_turn}
 use Rattle.am_calls.proofs.node_box.NodeBox.choose.Goals as goal
 
 pub invariant_of-self : goal.invariant_of-self

@@ -1,8 +1,7 @@
-use Rattle.std.proofs.Common.{rules, ◌≡◌, sym, refl, ap, ◌∙◌, subst}
+use Rattle.std.proofs.Common.{ap, ◌∙◌, subst}
 use Rattle.am_group.specs.declared.event.Act.{Act}
 use Rattle.am_group.specs.declared.event.By.{By}
-use Rattle.am_group.specs.declared.event.Part.{Part}
-use Rattle.am_calls.specs.Going.{by_of, is_asked, end_act, end_part, Asked}
+use Rattle.am_calls.specs.Going.{by_of, is_asked, end_part, Asked}
 use Rattle.am_calls.specs.Tags.{is_turn_part}
 use Rattle.am_calls.proofs.Looking.{end_asks, end_no_turn, end_done}
 use Rattle.am_calls.proofs.node_box.NodeBox.end.Goals as goal

@@ -1,8 +1,7 @@
-use Rattle.std.proofs.Common.{◌≡◌, sym, ap, ◌∙◌}
 use Rattle.am_node.specs.Stands.{state_of}
 use Rattle.am_calls.specs.Boxes.{IsBox}
 use Rattle.am_calls.proofs.Boxing.{sees_more, same_closed}
-use Rattle.am_calls.proofs.Turning.{if_some, if_none, gives_up_by, nobody_by, alone_by}
+use Rattle.am_calls.proofs.Turning.{if_some, if_none, gives_up_by, nobody_by}
 use Rattle.am_calls.proofs.node_box.NodeBox.in_vain.Given.{Over}
 use Rattle.am_calls.proofs.node_box.NodeBox.in_vain.Goals as goal
 

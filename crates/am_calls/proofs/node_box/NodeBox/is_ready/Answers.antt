@@ -1,4 +1,4 @@
-use Rattle.std.proofs.Common.{◌≡◌, Option, None, Some, sym, ap, ◌∙◌, subst}
+use Rattle.std.proofs.Common.{Option, sym, ◌∙◌, subst}
 use Rattle.am_calls.specs.declared.ready.Came.{Came}
 use Rattle.am_calls.specs.Boxes.{node_by}
 use Rattle.am_calls.specs.Going.{IsCame, EndTells}

@@ -1,10 +1,8 @@
-use Rattle.std.proofs.Common.{rules, ◌≡◌, ℕ, List, Result, IfOk, IfErr, true, false, not, Bool, sym, refl, ap, ◌∙◌, subst}
+use Rattle.std.proofs.Common.{ℕ, List, IfOk, IfErr, sym, ◌∙◌, subst}
 use Rattle.am_group.specs.declared.event.Record.{Record}
-use Rattle.am_calls.specs.declared.node_box.Looked.{Looked}
 use Rattle.am_calls.specs.Boxes.{node_by}
 use Rattle.am_calls.specs.Tags.{of_call, own_of}
-use Rattle.am_calls.specs.Ready.{is_ready}
-use Rattle.am_calls.specs.Going.{IsCame, HasEnded, HasSpent, HasLooked, WasRefused, EndTells}
+use Rattle.am_calls.specs.Going.{HasLooked, WasRefused, EndTells}
 use Rattle.am_calls.proofs.Looking.{came_seen, last_looked, ready_looked, turn_looked, all_refused_since}
 use Rattle.am_calls.proofs.node_box.NodeBox.look.Goals as goal
 

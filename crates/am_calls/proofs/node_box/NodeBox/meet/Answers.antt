@@ -1,7 +1,5 @@
-use Rattle.std.proofs.Common.{rules, ◌≡◌, Bool, true, false, None, List, sym, ap, ◌∙◌, subst}
-use Rattle.am_base.specs.declared.outcome.Outcome.TheVariants as said
-use Rattle.am_node.specs.Stands.{state_of}
-use Rattle.am_calls.specs.Boxes.{IsBox, IsRefused}
+use Rattle.std.proofs.Common.{rules, sym, ◌∙◌, subst}
+use Rattle.am_calls.specs.Boxes.{IsRefused}
 use Rattle.am_calls.specs.declared.answer.Answer.{Answer}
 use Rattle.am_calls.proofs.Boxing.{box_sees, refusal_of}
 use Rattle.am_calls.proofs.node_box.NodeBox.meet.Goals as goal

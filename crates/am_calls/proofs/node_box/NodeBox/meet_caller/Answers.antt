@@ -1,4 +1,3 @@
-use Rattle.std.proofs.Common.{rules, ◌≡◌, sym, refl, ap, ◌∙◌}
 use Rattle.am_calls.proofs.Looking.{hand_meets, meets_goes, meets_refused}
 use Rattle.am_calls.proofs.node_box.NodeBox.meet_caller.Goals as goal
 

@@ -1,13 +1,8 @@
-use Rattle.std.proofs.Common.{rules, ◌≡◌, List, sym, refl, ap, ◌∙◌, subst}
-use Rattle.am_group.specs.declared.event.Record.{Record}
+use Rattle.std.proofs.Common.{ap, ◌∙◌}
 use Rattle.am_pump.specs.Choices.{Luck}
-use Rattle.am_wire.specs.declared.rule.Key.TheVariants.{Caller}
-use Rattle.am_wire.specs.declared.wire.WireRefusal.TheVariants as refusals
-use Rattle.am_calls.specs.declared.answer.Answer.{Answer}
-use Rattle.am_calls.specs.Boxes.{IsRefused}
 use Rattle.am_calls.specs.Going.{luck_behind}
 use Rattle.am_calls.proofs.Boxing.{still_runs}
-use Rattle.am_calls.proofs.Looking.{turn_is_may, turn_hand, turn_grown, turn_refused, refused_hand, refused_as, nothing_since}
+use Rattle.am_calls.proofs.Looking.{turn_is_may, turn_hand, turn_grown, turn_refused, refused_hand, refused_as}
 use Rattle.am_calls.proofs.node_box.NodeBox.spend.Goals as goal
 
 pub act-requires-clause-may : goal.act-requires-clause-may

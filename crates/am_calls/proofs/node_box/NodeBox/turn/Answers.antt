@@ -1,4 +1,3 @@
-use Rattle.std.proofs.Common.{sym, ap, ◌∙◌}
 use Rattle.am_calls.proofs.Boxing.{box_sees}
 use Rattle.am_calls.proofs.Finding.{turn_by_box}
 use Rattle.am_calls.proofs.node_box.NodeBox.turn.Goals as goal
