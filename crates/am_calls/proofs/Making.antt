@@ -348,15 +348,17 @@ all_drop P (suc k) (x ∷ xs) all = all_drop P k xs (λ i d h. all (suc i) d (om
 pub calls_more : (turns n call : ℕ) (calls : List Act) (a : Act) (done mine : List Record) → n ≤ call → slice_get calls (call - n) ≡ Some a → are_calls turns n calls done ≡ true
     → All (λ r. r.by.call < call) done → AreOf call mine → is_one_call turns a mine ≡ true → at_one_place mine ≡ true → are_calls turns n calls (done ++ mine) ≡ true
 unfolding are_calls
-calls_more turns n call [] a done mine le there is low own one at = absurd (none_there (call - n) there)
+calls_more turns n call [] a done mine le there is low own one at = absurd (none_there there)
   where
-    none_there : (i : ℕ) → slice_get {A = Act} [] i ≡ Some a → ⊥
-    none_there i e = true≢false (ap is_none_ e)
-      where
-        is_none_ : Option Act → Bool
-        is_none_ None = true
-        is_none_ (Some x) = false
-calls_more turns n call (b ∷ calls) a done mine le there is low own one at = by_order (call - n) refl there
+    is_none_ : Option Act → Bool
+    is_none_ None = true
+    is_none_ (Some x) = false
+
+    none_there : None ≡ Some a → ⊥
+    none_there e = true≢false (ap is_none_ e)
+calls_more turns n call (b ∷ calls) a done mine le there is low own one at =
+    by_order (call - n) refl there (λ next at_ rest.
+    calls_more turns (n + 1) call calls a (behind n done) mine next at_ rest (all_drop (λ (r : Record). r.by.call < call) (length (first_call n done)) done low) own one at)
   where
     parts : (x y z : Bool) → (x && (y && z)) ≡ true → (x ≡ true) × (y ≡ true) × (z ≡ true)
     parts true true z e = (refl, refl, e)
@@ -376,18 +378,18 @@ calls_more turns n call (b ∷ calls) a done mine le there is low own one at = b
         (both (at_one_place mine) (are_calls turns (n + 1) calls []) at (none_called turns (n + 1) calls))
     here e same (r ∷ rs) so below = absurd (stuck turns n (b ∷ calls) r rs (let l : r.by.call < call = below 0 r (omega arith) in omega arith) so)
 
-    by_order : (k : ℕ) → call - n ≡ k → slice_get (b ∷ calls) k ≡ Some a → are_calls turns n (b ∷ calls) (done ++ mine) ≡ true
-    by_order zero e at_ = here (omega arith) (sym (ap (some_act b) at_)) done is low
-    by_order (suc k) e at_ =
+    by_order : (k : ℕ) → call - n ≡ k → slice_get (b ∷ calls) k ≡ Some a
+        → (n + 1 ≤ call → slice_get calls (call - (n + 1)) ≡ Some a → are_calls turns (n + 1) calls (behind n done) ≡ true → are_calls turns (n + 1) calls (behind n done ++ mine) ≡ true)
+        → are_calls turns n (b ∷ calls) (done ++ mine) ≡ true
+    by_order zero e at_ deeper = here (omega arith) (sym (ap (some_act b) at_)) done is low
+    by_order (suc k) e at_ deeper =
         let p = parts (is_one_call turns b (first_call n done)) (at_one_place (first_call n done)) (are_calls turns (n + 1) calls (behind n done)) is in
         let further : n < call = omega arith in
         let next : call - (n + 1) ≡ k = omega arith in
         ap (λ (l : List Record). is_one_call turns b l && (at_one_place l && are_calls turns (n + 1) calls (behind n (done ++ mine)))) (first_apart n call done mine further own)
         ∙ ap (λ (l : List Record). is_one_call turns b (first_call n done) && (at_one_place (first_call n done) && are_calls turns (n + 1) calls l)) (behind_apart n call done mine further own)
         ∙ both (is_one_call turns b (first_call n done)) (at_one_place (first_call n done) && are_calls turns (n + 1) calls (behind n done ++ mine)) p.0
-        (both (at_one_place (first_call n done)) (are_calls turns (n + 1) calls (behind n done ++ mine)) p.1
-        (calls_more turns (n + 1) call calls a (behind n done) mine (omega arith) (ap (slice_get calls) next ∙ at_) p.2
-        (all_drop (λ (r : Record). r.by.call < call) (length (first_call n done)) done low) own one at))
+        (both (at_one_place (first_call n done)) (are_calls turns (n + 1) calls (behind n done ++ mine)) p.1 (deeper (omega arith) (ap (slice_get calls) next ∙ at_) p.2))
 
 -- ---- the caller behind a call
 
@@ -442,3 +444,27 @@ was_called plan node number calls a old new its has made =
       spent = λ e. subst (λ (l : List Record). length l ≤ plan.turns + 1) (sym mine) (made.spent e);
       answer_ = subst (λ (l : List Record). IsAnswer plan.turns l new node its) (sym mine) made.answer_;
     }
+
+-- ---- a call of a caller
+
+module _ (plan : RacePlan) (number calls : ℕ) (old : List Record) (c : Calling) (tag : Tag) (view : record { number = number; calls = calls; seen = old } ≡ c)
+    (is : tag ≡ record { caller = c.number; call = c.calls }) (has : HasMade plan number calls old) where
+  its_tag : tag ≡ record { caller = number; call = calls }
+  its_tag = let t : Calling → Tag = λ x. record { caller = x.number; call = x.calls } in is ∙ ap t (sym view)
+
+  pub make_fresh : of_call tag.caller tag.call old ≡ []
+  make_fresh = subst (λ (t : Tag). of_call t.caller t.call old ≡ []) (sym its_tag) (fresh_call plan number calls old has)
+
+  pub make_caller : tag.caller ≡ number
+  make_caller = ap (λ (t : Tag). t.caller) its_tag
+
+  pub make_has : (node : ℕ) (a : Act) (new : List Record) (its : Answer) → slice_get (calls_of plan c.number) c.calls ≡ Some a → Made plan node tag a [] old new its → HasMade plan number (calls + 1) new
+  make_has node a new its planned made =
+      has_made_more plan node number calls a old new its has (subst (λ (x : Calling). slice_get (calls_of plan x.number) x.calls ≡ Some a) (sym view) planned)
+      (subst (λ (t : Tag). Made plan node t a [] old new its) its_tag made)
+
+  pub make_called : (node : ℕ) (a : Act) (new : List Record) (its : Answer) → Made plan node tag a [] old new its
+      → Called plan node c (record { number = number; calls = calls + 1; seen = new }) its
+  make_called node a new its made =
+      subst (λ (x : Calling). Called plan node x (record { number = number; calls = calls + 1; seen = new }) its) view
+      (was_called plan node number calls a old new its has (subst (λ (t : Tag). Made plan node t a [] old new its) its_tag made))
