@@ -4,6 +4,7 @@ use Rattle.std.specs.Io.KnownBytes.{Consumes}
 use Rattle.am_io.specs.Outside.{ReadToEnd, GaveAtMost}
 use Rattle.am_base.specs.Founding.{Rules}
 use Rattle.am_group.specs.declared.event.Event.{Event}
+use Rattle.am_group.specs.declared.plan.RacePlan.{RacePlan}
 use Rattle.am_model.specs.World.{run}
 use Rattle.am_model.specs.Lawful.{Watch, watch_start, watch, watch_all, watched}
 use Rattle.am_model.specs.Play.{watched_text, text_of, summary_text_of}
@@ -19,11 +20,12 @@ use Rattle.am_script.specs.declared.script.Script.{Script}
 use Rattle.am_script.specs.declared.script.Script.TheVariants.{Play, Race}
 use Rattle.am_script.specs.declared.key.Key.TheVariants as key
 use Rattle.am_script.specs.Scripts.{reading}
-use Rattle.am_script.specs.Limits.{ScriptWithin}
+use Rattle.am_script.specs.Limits.{RaceWithin, ScriptWithin}
 use Rattle.am_sim.specs.declared.simulate.Unplayed.{Unplayed}
 use Rattle.am_sim.specs.declared.simulate.Unplayed.TheVariants as unplayed
 use Rattle.am_sim.specs.Playing.{done_of, IsRunText}
-use Rattle.am_sim.specs.Simulation.{Played, Generated, IsText, IsUnrun, IsUnplayed, script_text}
+use Rattle.am_sim.specs.Racing.{events_of, IsRaceText}
+use Rattle.am_sim.specs.Simulation.{Played, Raced, Generated, IsText, IsUnrun, IsUnplayed, run_text}
 
 -- ---- a run that is settled behind its own events
 
@@ -33,7 +35,7 @@ watched_then s [] ys = refl
 watched_then s (x ∷ xs) ys = watched_then (watch s x) xs ys
 
 -- its text is that of all that was done
-text_is : (rules : Rules) (events : List Event) (settles : Bool) → text_of rules (done_of rules events settles) ≡ script_text rules events settles
+text_is : (rules : Rules) (events : List Event) (settles : Bool) → text_of rules (done_of rules events settles) ≡ run_text rules events settles
 text_is rules events false = refl
 text_is rules events true =
     let s = watched rules events in
@@ -58,6 +60,22 @@ played_by bytes text (Play founding events settles) is within same =
       unballoted = λ none. unballoted_holds founding done may none;
     }
 played_by bytes text (Race plan) is within same = absurd same
+
+-- a race's run keeps what is claimed
+pub raced_by : (bytes text : List ℕ) (plan : RacePlan) → reading key.Race bytes ≡ Ok (Race plan) → RaceWithin plan → IsRaceText plan text → Raced bytes text
+raced_by bytes text plan is within (journal, raced, same) =
+    let may = within.may_found in
+    let done = events_of journal in
+    record {
+      plan = plan;
+      script = is;
+      journal = journal;
+      raced = raced;
+      written = same;
+      bounded = bounded_holds plan.founding done may;
+      sent = sent_holds plan.founding done may;
+      unballoted = λ none. unballoted_holds plan.founding done may none;
+    }
 
 -- why there is no text
 pub unplayed_by : (bytes : List ℕ) (script : Script) (e : Unplayed) → reading key.Play bytes ≡ Ok script → IsUnrun script e → IsUnplayed bytes e
