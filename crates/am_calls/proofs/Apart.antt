@@ -24,7 +24,7 @@ any_left test before r fails =
     let alone : list_any test (r ∷ []) ≡ false = ap (λ (b : Bool). b || false) fails in
     list_any-append test before (r ∷ []) ∙ ap (λ (b : Bool). list_any test before || b) alone ∙ or_false (list_any test before)
 
-known_left : (place caller : ℕ) (before : List Record) (r : Record) → is_either place caller r ≡ false → known place caller (before ++ r ∷ []) ≡ known place caller before
+pub known_left : (place caller : ℕ) (before : List Record) (r : Record) → is_either place caller r ≡ false → known place caller (before ++ r ∷ []) ≡ known place caller before
 unfolding known
 known_left place caller [] r fails = ap (λ (b : Bool). if b || false then r ∷ [] else []) fails
 known_left place caller (q ∷ before) r fails =

@@ -149,6 +149,10 @@ same_world w r next =
     let letters : w.letters ++ r.packets ≡ (happens w r.event).letters = ap (λ (q : Record). w.letters ++ q.packets) (sym item) ∙ sym a.letters in
     λ i. record (happens w r.event) { letters = letters i }
 
+pub next_tells : (rules : Rules) (before : List Record) (r : Record) → IsNext rules before r → tells (told rules before) r ≡ happens (told rules before) r.event
+unfolding NextAt
+next_tells rules before r next = same_world (told rules before) r next
+
 -- the first record, and those behind it
 first_next : (w : World) (r : Record) (rest : List Record) → LegalFrom w (r ∷ rest) → NextAt w r × LegalFrom (happens w r.event) rest
 unfolding LegalFrom NextAt happen

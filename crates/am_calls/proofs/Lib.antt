@@ -1,3 +1,16 @@
 pub mod Legality
 pub mod Others
 pub mod Apart
+pub mod Stays
+pub mod Knows
+pub mod Nexts
+pub mod Acting
+pub mod Boxing
+pub mod Names
+pub mod Turning
+pub mod Finding
+pub mod Finishing
+pub mod Counting
+pub mod Playing
+pub mod Joined
+pub mod Raced

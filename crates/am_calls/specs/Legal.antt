@@ -25,4 +25,4 @@ pub record IsLegalWithTags (plan : RacePlan) (calls : ℕ → List Act) (journal
 abbrev pub is_played : ℕ → ThreadPlan → ℕ → List Record → Bool
 is_played turns thread caller journal =
     list_all (λ r. place_of r.event.node == place_of thread.node) (of_caller caller journal)
-    && are_finished turns (has_stopped journal thread.node) 0 thread.calls (of_caller caller journal)
+    && are_finished turns (has_stopped journal (place_of thread.node)) 0 thread.calls (of_caller caller journal)

@@ -49,6 +49,10 @@ abbrev pub unless_nought : ℕ → Option ℕ
 unless_nought zero = None
 unless_nought (suc before) = Some (suc before)
 
+abbrev pub or_nought : Option ℕ → ℕ
+or_nought None = 0
+or_nought (Some number) = number
+
 -- the last letter that it heard
 abbrev pub last_heard : ℕ → List Record → Option ℕ
 last_heard place records = unless_nought (greatest (map (λ r. heard_by r.event.act) (of_place place records)))

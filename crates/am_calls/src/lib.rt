@@ -2,4 +2,15 @@
 #![tactic(auto)]
 
 pub mod answer;
+pub mod caller;
+mod dealing;
+pub mod gate;
+pub mod kernels;
 pub mod laws;
+pub mod naming;
+pub mod node_box;
+pub mod outcomes;
+pub mod race;
+pub mod ready;
+#[cfg(test)]
+mod tests;

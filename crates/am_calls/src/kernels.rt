@@ -1,0 +1,321 @@
+ghost use Rattle.std.specs.Prelude.{◌≡◌, ◌+◌, ◌<◌, ◌≤◌, [], ◌∷◌, Some, slice_get, IfOk, vec_len, map, length, All};
+ghost use Rattle.std.specs.List.{range_with_len};
+ghost use Rattle.am_base.specs.Names.{place_of};
+ghost use Rattle.am_group.specs.declared.event.Act.TheVariants as acts;
+ghost use Rattle.am_model.specs.World.{first_node};
+ghost use Rattle.am_node.specs.Stands.{state_of};
+ghost use Rattle.am_wire.specs.declared.rule.Key.TheVariants.{Place};
+ghost use Rattle.am_wire.specs.Keys.{place_keys, caller_keys};
+ghost use Rattle.am_wire.specs.Passes.{fresh};
+ghost use Rattle.am_calls.specs.Callings.{Called};
+ghost use Rattle.am_calls.specs.Lawful.{terms_of};
+ghost use Rattle.am_calls.specs.Legal.{IsLegalWithTags};
+ghost use Rattle.am_calls.specs.Plans.{calls_of};
+ghost use Rattle.am_calls.specs.Ran.{fresh_callers, numbers_of, EndsFor, HasPlaces, IsIn};
+
+use crate::answer::Answer;
+use crate::caller::Caller;
+use crate::dealing::{all_places, boxes_of, callers_of, with_callers};
+use crate::gate::Gate;
+use crate::naming::{RaceLaw, Racing};
+use crate::node_box::{Call, Looked, NodeBox};
+use crate::outcomes::{end_answer, is_take, own_answer, request_in};
+use crate::ready::Came;
+use am_base::NoMemory;
+use am_base::body::Body;
+use am_base::founding::Founding;
+use am_base::name::Name;
+use am_base::outcome::Outcome;
+use am_group::event::Act;
+use am_group::journal::Journal;
+use am_group::plan::RacePlan;
+use am_node::info::Info;
+use am_node::node::Node;
+use am_wire::wire::{Pass, Share, Wire, WireRefusal};
+use std::alloc::Global;
+use std::sync::{Mutex, Wait};
+
+/// The nodes of a race, each in its box under a lock, over one journal; its callers make blocking calls at them.
+#[derive(Drop)]
+pub struct Kernels<'g, N: Racing, G: Gate> {
+    alloc: Global,
+    wire: Wire<RaceLaw>,
+    boxes: Vec<Mutex<NodeBox<N>>>,
+    gate: &'g G,
+    turns: u32,
+    ghost named: { wire.id ≡ N.wire },
+    ghost planned: { wire.terms ≡ terms_of N.plan },
+    ghost turned: { turns ≡ N.plan.turns },
+    ghost sixteen: { vec_len boxes ≡ 16 },
+}
+
+/// The sequencer's last refusal of a call's request, if there was one.
+fn put_off(req: u32, outcome: &Outcome) -> Option<Answer> {
+    match outcome {
+        Outcome::PutOff {
+            req: its,
+            base,
+            top,
+        } if *its == req => Some(Answer::PutOff {
+            req,
+            base: *base,
+            top: *top,
+        }),
+        _ => None,
+    }
+}
+
+/// What the end of a call answers; None where the call has used its turns for nothing.
+fn answer_at_end(act: &Act, outcome: &Outcome) -> Option<Answer> {
+    if is_take(act) {
+        return own_answer(act, outcome);
+    }
+    end_answer(act, outcome)
+}
+
+impl<'g, N: Racing, G: Gate> Kernels<'g, N, G> {
+    /// The nodes of a plan's founding, to which nothing has happened, and a caller for each of its threads. The wire, its
+    /// passes and its shares are fresh.
+    pub fn start(
+        alloc: Global,
+        plan: &RacePlan,
+        gate: &'g G,
+        wire: Wire<RaceLaw>,
+        passes: Vec<Pass>,
+        shares: Vec<Share>,
+    ) -> Result<(Kernels<'g, N, G>, Vec<Caller<N>>), NoMemory>
+        requires plan { plan.now ≡ N.plan }
+        requires few { length N.plan.threads ≤ 16 }
+        requires wire { wire ≡ record { id = N.wire; terms = terms_of N.plan } }
+        requires passes { passes.items ≡ map (fresh N.wire (terms_of N.plan)) place_keys }
+        requires shares { shares.items ≡ map (fresh N.wire (terms_of N.plan)) (caller_keys (length N.plan.threads)) }
+        ensures { IfOk result (λ r. r.1.items ≡ fresh_callers (length N.plan.threads)) }
+    {
+        let boxes = boxes_of(alloc, &plan.founding, passes)?;
+        let callers = callers_of(alloc, plan, shares)?;
+        let kernels = Kernels {
+            alloc,
+            wire,
+            boxes,
+            gate,
+            turns: plan.turns,
+        };
+        Ok((kernels, callers))
+    }
+
+    /// The first look of a call.
+    fn begin<R: Wait>(
+        &self,
+        rt: &R,
+        caller: &mut Caller<N>,
+        node: Name,
+        call: &Call,
+    ) -> Result<Came, Answer> {
+        for _ in rt.forever() {
+            let mut guard = self.boxes[usize::from(node.place())].lock(rt);
+            if guard.name().place() == node.place() {
+                return guard.begin(
+                    rt,
+                    self.alloc,
+                    &self.wire,
+                    self.gate,
+                    &mut caller.hand,
+                    call,
+                );
+            }
+        }
+        unreachable!()
+    }
+
+    /// A further look of a call.
+    fn look<R: Wait>(
+        &self,
+        rt: &R,
+        caller: &mut Caller<N>,
+        node: Name,
+        call: &Call,
+        has_turn: bool,
+    ) -> Result<Looked, Answer> {
+        for _ in rt.forever() {
+            let mut guard = self.boxes[usize::from(node.place())].lock(rt);
+            if guard.name().place() == node.place() {
+                return guard.look(
+                    rt,
+                    self.alloc,
+                    &self.wire,
+                    self.gate,
+                    &mut caller.hand,
+                    call,
+                    has_turn,
+                );
+            }
+        }
+        unreachable!()
+    }
+
+    /// Looks at the node until the call has its answer.
+    fn go_on<R: Wait>(
+        &self,
+        rt: &R,
+        caller: &mut Caller<N>,
+        node: Name,
+        call: &Call,
+        req: u32,
+    ) -> Answer {
+        let mut late = Answer::Late { turns: self.turns };
+        for spent in 0..self.turns {
+            match self.look(rt, caller, node, call, true) {
+                Err(answer) => return answer,
+                Ok(Looked::End(outcome)) => {
+                    return answer_at_end(call.act, &outcome).unwrap_or(late);
+                }
+                Ok(Looked::Turn(outcome)) => {
+                    if let Some(answer) = put_off(req, &outcome) {
+                        late = answer;
+                    }
+                }
+            }
+        }
+        match self.look(rt, caller, node, call, false) {
+            Err(answer) => answer,
+            Ok(Looked::End(outcome) | Looked::Turn(outcome)) => {
+                answer_at_end(call.act, &outcome).unwrap_or(late)
+            }
+        }
+    }
+
+    fn made<R: Wait>(&self, rt: &R, caller: &mut Caller<N>, node: Name, act: &Act) -> Answer {
+        let call = Call {
+            caller: caller.number,
+            number: caller.calls,
+            act,
+            came: None,
+        };
+        if is_take(act) {
+            return self.go_on(rt, caller, node, &call, 0);
+        }
+        let came = match self.begin(rt, caller, node, &call) {
+            Err(answer) => return answer,
+            Ok(came) => came,
+        };
+        if let Some(answer) = own_answer(act, &came.outcome) {
+            return answer;
+        }
+        let behind = Call {
+            caller: call.caller,
+            number: call.number,
+            act,
+            came: Some(&came),
+        };
+        self.go_on(rt, caller, node, &behind, request_in(&came.outcome))
+    }
+
+    /// Makes a call, which is the caller's next planned one, and answers by its records (docs/PROTOCOL.md, "Races"). It ends
+    /// after its own act, at most as many turns as the race says, and its check.
+    pub fn make<R: Wait>(&self, rt: &R, caller: &mut Caller<N>, node: Name, act: &Act) -> Answer
+        requires planned { slice_get (calls_of N.plan caller.old.number) caller.old.calls ≡ Some act.now }
+        requires room { caller.old.calls < 4294967295 }
+        ensures { Called N.plan node caller.old caller.new result }
+    {
+        let answer = self.made(rt, caller, node, act);
+        caller.calls += 1;
+        answer
+    }
+
+    /// Sends a body to the group. Sent with its number in the list; Late or PutOff where its turns were used before.
+    pub fn send<R: Wait>(&self, rt: &R, caller: &mut Caller<N>, node: Name, body: Body) -> Answer
+        requires planned { slice_get (calls_of N.plan caller.old.number) caller.old.calls ≡ Some (acts.Send body) }
+        requires room { caller.old.calls < 4294967295 }
+        ensures { Called N.plan node caller.old caller.new result }
+    {
+        match Act::send(self.alloc, body) {
+            Ok(act) => self.make(rt, caller, node, &act),
+            Err(_) => {
+                caller.calls += 1;
+                Answer::NoMemory
+            }
+        }
+    }
+
+    /// Takes the next accepted entry. Took with it; Late where its turns were used before there was one.
+    pub fn receive<R: Wait>(&self, rt: &R, caller: &mut Caller<N>, node: Name) -> Answer
+        requires planned { slice_get (calls_of N.plan caller.old.number) caller.old.calls ≡ Some acts.Take }
+        requires room { caller.old.calls < 4294967295 }
+        ensures { Called N.plan node caller.old caller.new result }
+    {
+        self.make(rt, caller, node, &Act::Take)
+    }
+
+    /// Joins the group. Joined with the number of its Join; Late where its turns were used before.
+    pub fn join<R: Wait>(&self, rt: &R, caller: &mut Caller<N>, node: Name) -> Answer
+        requires planned { slice_get (calls_of N.plan caller.old.number) caller.old.calls ≡ Some acts.Join }
+        requires room { caller.old.calls < 4294967295 }
+        ensures { Called N.plan node caller.old caller.new result }
+    {
+        self.make(rt, caller, node, &Act::Join)
+    }
+
+    /// Leaves the group. Left, or Late where its turns were used before.
+    pub fn leave<R: Wait>(&self, rt: &R, caller: &mut Caller<N>, node: Name) -> Answer
+        requires planned { slice_get (calls_of N.plan caller.old.number) caller.old.calls ≡ Some acts.Leave }
+        requires room { caller.old.calls < 4294967295 }
+        ensures { Called N.plan node caller.old caller.new result }
+    {
+        self.make(rt, caller, node, &Act::Leave)
+    }
+
+    /// Rebuilds the group with at least so many members. Decided with its new view; else why there is none, or Late.
+    pub fn reset<R: Wait>(
+        &self,
+        rt: &R,
+        caller: &mut Caller<N>,
+        node: Name,
+        least: u8,
+        resilience: u8,
+    ) -> Answer
+        requires planned { slice_get (calls_of N.plan caller.old.number) caller.old.calls ≡ Some (acts.Reset least resilience) }
+        requires room { caller.old.calls < 4294967295 }
+        ensures { Called N.plan node caller.old caller.new result }
+    {
+        self.make(rt, caller, node, &Act::Reset { least, resilience })
+    }
+
+    /// Stops the node for good.
+    pub fn stop<R: Wait>(&self, rt: &R, caller: &mut Caller<N>, node: Name) -> Answer
+        requires planned { slice_get (calls_of N.plan caller.old.number) caller.old.calls ≡ Some acts.Stop }
+        requires room { caller.old.calls < 4294967295 }
+        ensures { Called N.plan node caller.old caller.new result }
+    {
+        self.make(rt, caller, node, &Act::Stop)
+    }
+
+    /// What a node knows of itself and of its group. It is an error where the node's box was closed by one.
+    pub fn info<R: Wait>(
+        &self,
+        rt: &R,
+        caller: &mut Caller<N>,
+        node: Name,
+    ) -> Result<Info, WireRefusal> {
+        for _ in rt.forever() {
+            let mut guard = self.boxes[usize::from(node.place())].lock(rt);
+            if guard.name().place() == node.place() {
+                return guard.info(&self.wire, &mut caller.hand);
+            }
+        }
+        unreachable!()
+    }
+
+    /// Ends a race, to which all its callers are handed in: the journal that they leave.
+    pub fn finish<R: Wait>(self, rt: &R, callers: Vec<Caller<N>>) -> Journal
+        requires callers { numbers_of callers.items ≡ range_with_len 0 (length N.plan.threads) }
+        ensures founding { result.founding ≡ N.plan.founding }
+        ensures legal { IsLegalWithTags N.plan (calls_of N.plan) result.records }
+        ensures ends { All (EndsFor result.records) callers.items }
+        ensures callers { All (λ r. r.by.caller < length N.plan.threads) result.records }
+    {
+        let Kernels { wire, boxes, .. } = self;
+        let pass = all_places(rt, &wire, boxes);
+        let pass = with_callers(&wire, pass, callers);
+        wire.close(pass)
+    }
+}
