@@ -11,35 +11,49 @@ import pathlib
 import subprocess
 import sys
 
+# so many seconds may a race or a play take
+MOST_SECONDS = 110
 
-def ran(program, word, data):
-    return subprocess.run([program, word], input=data, capture_output=True, timeout=110, check=False)
+
+class Wrong(Exception):
+    """What a race or a play shouldn't have done."""
 
 
-def faults(program, race):
-    """What is wrong with one run of a race."""
-    done = ran(program, "race", race.read_bytes())
-    if (done.returncode, done.stderr) != (0, b""):
-        yield f"status {done.returncode}, {done.stderr!r}"
-        return
-    line, _, text = done.stdout.partition(b"\n")
-    again = ran(program, "play", line)
-    if (again.returncode, again.stdout) != (0, text):
-        yield f"play of its first line doesn't write the other lines: status {again.returncode}, {again.stderr!r}, {line[:200]!r}"
-    wanted = race.with_suffix(".txt")
-    if wanted.exists() and wanted.read_bytes() != done.stdout:
-        yield f"its text isn't {wanted}"
+def written(program, word, data):
+    """What a program writes for a script, where all was done and nothing said."""
+    try:
+        ran = subprocess.run([program, word], input=data, capture_output=True, timeout=MOST_SECONDS, check=False)
+    except subprocess.TimeoutExpired as late:
+        raise Wrong(f"{program} {word} doesn't end in {MOST_SECONDS} seconds") from late
+    if (ran.returncode, ran.stderr) != (0, b""):
+        raise Wrong(f"{program} {word} ends with status {ran.returncode}, {ran.stderr!r}")
+    return ran.stdout
+
+
+def raced(program, data, players):
+    """What is written of a race, and the text of its run, which all players must write of its first line."""
+    whole = written(program, "race", data)
+    line, _, text = whole.partition(b"\n")
+    for player in players:
+        if written(player, "play", line) != text:
+            raise Wrong(f"{player} play of its first line doesn't write the other lines: {line.decode()}")
+    return whole, text.decode()
 
 
 def main(program, folder, times="3"):
     passed, failed = 0, 0
     races = sorted(pathlib.Path(folder).glob("*.json"))
     for race in races:
+        wanted = race.with_suffix(".txt")
         for _ in range(int(times)):
-            wrong = list(faults(program, race))
-            passed, failed = passed + (not wrong), failed + len(wrong)
-            for line in wrong:
-                print(f"{race}: {line}")
+            try:
+                whole, _ = raced(program, race.read_bytes(), [program])
+                if wanted.exists() and wanted.read_bytes() != whole:
+                    raise Wrong(f"its text isn't {wanted}")
+                passed += 1
+            except Wrong as wrong:
+                print(f"{race}: {wrong}")
+                failed += 1
     print(f"{len(races)} races, {passed} runs passed, {failed} failed")
     return 1 if failed or not races else 0
 

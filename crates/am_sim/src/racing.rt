@@ -1,7 +1,6 @@
 ghost use Rattle.std.specs.Prelude.{◌≡◌, ◌≤◌, ◌++◌, List, length, IfOk, string_bytes};
 ghost use Rattle.am_base.specs.Most.{most_events};
 ghost use Rattle.am_group.specs.declared.event.Record.{Record};
-ghost use Rattle.am_model.specs.Text.{newline};
 ghost use Rattle.am_model.specs.Play.{text_of};
 ghost use Rattle.am_report.specs.Schedules.{script_text};
 ghost use Rattle.am_script.specs.Limits.{RaceWithin};
@@ -43,9 +42,7 @@ fn events_of_race<R: Threads + Wait + Sync, G: Gate + Sync>(
     requires { RaceWithin plan.now }
     ensures { IfOk result (λ events. (journal : List Record) × IsRaced plan.now journal × (events ≡ events_of journal)) }
 {
-    let Ok(journal) = race(rt, alloc, plan, gate) else {
-        return Err(NoMemory);
-    };
+    let journal = race(rt, alloc, plan, gate)?;
     events_of(alloc, journal.records())
 }
 

@@ -228,10 +228,10 @@ fn race_script<R: Threads + Wait + Sync, S: Source, K: Sink, G: Gate + Sync>(
         Err(Unplayed::Spent) => unreachable!(),
         Err(Unplayed::NoMemory) => return Status::NoMemory,
     };
-    if write_all(sink, text.as_bytes()).is_err() {
-        return Status::WriteFault;
+    match write_all(sink, text.as_bytes()) {
+        Ok(()) => Status::Done,
+        Err(_) => Status::WriteFault,
     }
-    Status::Done
 }
 
 /// The plan of the race that bytes are.
@@ -336,11 +336,19 @@ mod tests {
 
     const TICKED: &str = "1 tick 0 : ticked\ngroup 1 view 1.0 0\nlog 0 empty\nlawful\n";
 
+    const RACE: &str = "{\"race\":{\"founders\":[0],\"seed\":1,\"threads\":[{\"node\":0,\"calls\":[{\"do\":\"stop\"}]}]}}";
+
+    const RACED: &str = "{\"play\":{\"events\":[{\"do\":\"stop\",\"node\":0}],\"founders\":[0],\"pb_up_to\":256,\"resilience\":0,\"window\":64}}\n1 stop 0 : stopped\ngroup 1 view 1.0 0\nlog 0 empty\nvoid from 1\n";
+
+    const SUMMARY: &str = "events 50\npackets 18\nentries 2\ntook 5\nsent 0\nheld 0\nlawful\n";
+
+    const GEN: &[&str] = &["gen", "--seed", "1", "--count", "50"];
+
     const TEXT: &str = "group 1 view 1.0 0,1\nlog 0 empty\nlog 1 empty\nlawful\n";
 
     /// The words, the input, the reads and the writes that fail, the sink's size, the status and what is written, where a
     /// read gives 16 bytes at most and a write takes 20.
-    const CALLS: [(&[&str], &str, &[u64], &[u64], usize, Status, &str); 10] = [
+    const CALLS: [(&[&str], &str, &[u64], &[u64], usize, Status, &str); 17] = [
         (&["play"], SCRIPT, &[], &[], 52, Status::Done, TEXT),
         (&["play"], SCRIPT, &[2], &[], 52, Status::ReadFault, ""),
         (&["play"], SCRIPT, &[4], &[], 52, Status::ReadFault, ""),
@@ -373,6 +381,24 @@ mod tests {
             &[],
             52,
             Status::BadScript(ScriptRefusal::NotJson),
+            "",
+        ),
+        (GEN, "", &[1], &[], 59, Status::Done, SUMMARY),
+        (GEN, "", &[], &[2], 59, Status::WriteFault, "events 50\npackets 18"),
+        (&["gen", "--seed", "1", "--count", "0"], "", &[], &[], 59, Status::Usage, ""),
+        (&["race"], RACE, &[], &[], 164, Status::Done, RACED),
+        (&["race"], RACE, &[2], &[], 164, Status::ReadFault, ""),
+        (&["race"], RACE, &[], &[1], 164, Status::WriteFault, ""),
+        (
+            &["race"],
+            SCRIPT,
+            &[],
+            &[],
+            164,
+            Status::BadScript(ScriptRefusal::Missing {
+                key: Key::Race,
+                place: 0,
+            }),
             "",
         ),
     ];
