@@ -10,6 +10,7 @@ pub mod laws;
 pub mod naming;
 pub mod node_box;
 pub mod outcomes;
+pub mod plans;
 pub mod race;
 pub mod ready;
 #[cfg(test)]
