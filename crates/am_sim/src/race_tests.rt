@@ -1,8 +1,11 @@
 use crate::simulate::{Status, simulate, simulate_alone};
-use am_calls::gate::NoGate;
+use am_base::name::Name;
+use am_calls::gate::{Gate, NoGate};
+use am_group::event::By;
 use am_io::memory::{MemSink, MemSource};
 use std::alloc::{AllocError, Global};
 use std::sync::Wait;
+use std::sync::atomic::{AtomicBool, Ordering};
 use std::test::Fail;
 use std::thread::Threads;
 
@@ -38,15 +41,43 @@ fn busy_race(alloc: Global) -> Result<String, AllocError> {
     Ok(text)
 }
 
+/// Two nodes, at each of which a thread takes.
+const TWO_TAKES: &str =
+    r#"{"race":{"founders":[0,1],"seed":1,"threads":[{"node":0,"calls":[{"do":"take"}]},{"node":1,"calls":[{"do":"take"}]}]}}"#;
+
+/// How often a node looks for the other.
+const MOST_LOOKS: u32 = 100_000_000;
+
+/// Each of two nodes waits under its lock until the other is there too.
+#[derive(Drop)]
+struct Meeting {
+    here: [AtomicBool; 2],
+    met: [AtomicBool; 2],
+}
+
+impl Gate for Meeting {
+    fn between(&self, node: Name, _by: &By) {
+        let mine = usize::from(node.place() % 2);
+        self.here[mine].store(true, Ordering::SeqCst);
+        for _ in 0..MOST_LOOKS {
+            if self.here[1 - mine].load(Ordering::SeqCst) {
+                self.met[mine].store(true, Ordering::SeqCst);
+                return;
+            }
+        }
+    }
+}
+
 /// What a race writes, with its status.
-fn raced<R: Threads + Wait + Sync>(
+fn raced<R: Threads + Wait + Sync, G: Gate + Sync>(
     rt: &R,
     alloc: Global,
+    gate: &G,
     text: &str,
 ) -> Result<(Status, MemSink<'static>), AllocError> {
     let mut source = MemSource::new(text.as_bytes(), &[], 1024);
     let mut sink = MemSink::new(alloc, &[], 4096, ROOM)?;
-    let status = simulate(rt, alloc, &NoGate, &["race"], &mut source, &mut sink);
+    let status = simulate(rt, alloc, gate, &["race"], &mut source, &mut sink);
     Ok((status, sink))
 }
 
@@ -60,7 +91,7 @@ fn played(alloc: Global, text: &[u8]) -> Result<(Option<Status>, MemSink<'static
 
 #[test]
 fn smallest_race(rt: HostRuntime) -> Result<(), Fail> {
-    let (status, sink) = raced(&rt, rt.alloc(), SMALLEST)?;
+    let (status, sink) = raced(&rt, rt.alloc(), &NoGate, SMALLEST)?;
     assert!(rt; status == Status::Done);
     assert!(rt; sink.bytes() == SMALLEST_TEXT.as_bytes());
     Ok(())
@@ -69,7 +100,7 @@ fn smallest_race(rt: HostRuntime) -> Result<(), Fail> {
 #[test]
 fn a_race_is_a_play_again(rt: HostRuntime) -> Result<(), Fail> {
     let race = busy_race(rt.alloc())?;
-    let (status, sink) = raced(&rt, rt.alloc(), race.as_str())?;
+    let (status, sink) = raced(&rt, rt.alloc(), &NoGate, race.as_str())?;
     assert!(rt; status == Status::Done);
     let written = sink.bytes();
     let Some(end) = written.iter().position(|byte| *byte == b'\n') else {
@@ -87,5 +118,17 @@ fn a_race_is_for_several(rt: HostRuntime) -> Result<(), Fail> {
     let mut sink = MemSink::new(rt.alloc(), &[], 20, 500)?;
     let status = simulate_alone(rt.alloc(), &["race"], &mut source, &mut sink);
     assert!(rt; status.is_none() && sink.bytes().is_empty());
+    Ok(())
+}
+
+#[test]
+fn two_nodes_at_once(rt: HostRuntime) -> Result<(), Fail> {
+    let gate = Meeting {
+        here: [AtomicBool::new(false), AtomicBool::new(false)],
+        met: [AtomicBool::new(false), AtomicBool::new(false)],
+    };
+    let (status, _sink) = raced(&rt, rt.alloc(), &gate, TWO_TAKES)?;
+    assert!(rt; status == Status::Done);
+    assert!(rt; gate.met[0].load(Ordering::SeqCst) && gate.met[1].load(Ordering::SeqCst));
     Ok(())
 }
