@@ -32,12 +32,11 @@ abbrev pub luck_after : RacePlan → ℕ → ℕ → Luck
 luck_after plan caller count = record { words = later count (words_of plan.seed_number caller); loss = plan.loss; repeat = plan.repeat }
 
 -- what a caller acts with: its share, and its chooser, which stands behind the words that its turns drew
-pub record IsHand (wire : TableId) (plan : RacePlan) (number : ℕ) (share : Known) (luck : Luck) (drawn : ℕ) : Type 0 where
+pub record IsHand (wire : TableId) (plan : RacePlan) (number : ℕ) (share : Known) (luck : Luck) : Type 0 where
   pub own : share.wire ≡ wire
   pub terms : share.terms ≡ terms_of plan
   pub keys : share.keys ≡ Caller number ∷ []
-  pub words : drawn ≡ words_drawn number share.seen
-  pub luck_ : luck ≡ luck_after plan number drawn
+  pub luck_ : luck ≡ luck_after plan number (words_drawn number share.seen)
 
 -- its records are those of its planned calls, as many as it has made
 pub record HasMade (plan : RacePlan) (number calls : ℕ) (seen : List Record) : Type 0 where

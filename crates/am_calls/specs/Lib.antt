@@ -10,4 +10,5 @@ pub mod Lawful
 pub mod Callings
 pub mod Ran
 pub mod Boxes
+pub mod Going
 pub mod Laws

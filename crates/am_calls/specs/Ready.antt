@@ -1,5 +1,5 @@
 -- Where a blocking call is ready: its end would tell its answer, so that it makes no turn.
-use Rattle.std.specs.Prelude.{ℕ, List, [], ◌∷◌, Option, Some, None, Bool, true, false, ◌&&◌, nat_lt, if◌then◌else◌}
+use Rattle.std.specs.Prelude.{ℕ, List, [], ◌∷◌, Option, Some, None, is_some, Bool, true, false, ◌&&◌, nat_lt, if◌then◌else◌}
 use Rattle.am_base.specs.declared.outcome.Outcome.{Outcome}
 use Rattle.am_base.specs.declared.outcome.Outcome.TheVariants as said
 use Rattle.am_packet.specs.declared.packet.Packet.{Packet}
@@ -15,6 +15,7 @@ use Rattle.am_model.specs.Group.{has_log}
 use Rattle.am_node.specs.declared.info.BallotEnd.{BallotEnd}
 use Rattle.am_node.specs.declared.info.BallotEnd.TheVariants.{Going, Ended}
 use Rattle.am_node.specs.Info.{ballot_end}
+use Rattle.am_calls.specs.Answers.{ballot_answer}
 
 -- the round of an Invite
 abbrev pub invited : Packet → Option ℕ
@@ -30,15 +31,16 @@ abbrev pub round_in : List Letter → ℕ
 round_in [] = 0
 round_in (letter ∷ letters) = or_else_round (invited letter.packet) (round_in letters)
 
+-- a ballot that is over has an answer
 abbrev pub is_ended : Option BallotEnd → Bool
 is_ended None = false
 is_ended (Some (Going outcome)) = false
-is_ended (Some (Ended outcome)) = true
+is_ended (Some (Ended outcome)) = is_some (ballot_answer outcome)
 
 -- a queued send is settled
 abbrev pub is_sent : Node → Outcome → Bool
 is_sent m (said.Queued req) = is_settled req m.sends
-is_sent m _ = true
+is_sent m _ = false
 
 -- behind its own act, of which this came, with a ballot of this round
 abbrev pub is_ready_after : Node → Act → Outcome → ℕ → Bool
@@ -46,7 +48,7 @@ is_ready_after m (act.Send body) outcome round = is_sent m outcome
 is_ready_after m act.Join outcome round = has_log m.status
 is_ready_after m act.Leave outcome round = has_departed m.status
 is_ready_after m (act.Reset least resilience) outcome round = is_ended (ballot_end round m.ballot)
-is_ready_after m _ outcome round = true
+is_ready_after m _ outcome round = false
 
 -- a receive makes its act at its end
 abbrev pub may_take : Node → Bool

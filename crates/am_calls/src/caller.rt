@@ -2,24 +2,41 @@ ghost use Rattle.std.specs.Prelude.{◌≡◌, ◌<◌, [], ◌∷◌};
 ghost use Rattle.am_wire.specs.declared.rule.Key.TheVariants.{Caller as CallerKey};
 ghost use Rattle.am_wire.specs.Passes.{fresh};
 ghost use Rattle.am_calls.specs.Callings.{HasMade, luck_after};
+ghost use Rattle.am_calls.specs.Going.{by_of};
 ghost use Rattle.am_calls.specs.Lawful.{terms_of};
 
 use crate::naming::Racing;
+use am_group::event::{By, Part};
 use am_group::plan::RacePlan;
 use am_pump::chooser::Chooser;
 use am_wire::wire::Share;
 use std::marker::{Model, PhantomData};
 
-/// What a caller acts with: its share, and its chooser, which has drawn so many words.
+/// Which call it is: whose, and the number of the call.
+#[derive(Clone, Copy, PartialEq, Eq, Debug)]
+pub struct Tag {
+    pub caller: u32,
+    pub call: u32,
+}
+
+impl Tag {
+    /// The tag of a record of the call, of this part.
+    pub fn with(self, part: Part) -> By
+        ensures { result ≡ by_of self part }
+    {
+        By {
+            caller: self.caller,
+            call: self.call,
+            part,
+        }
+    }
+}
+
+/// What a caller acts with: its share, and its chooser, which stands behind the words that its turns drew.
 #[derive(Drop)]
 pub struct Hand {
     pub share: Share,
     pub chooser: Chooser,
-    pub drawn: u32,
-    seed: u64,
-    stream: u32,
-    loss: u32,
-    repeat: u32,
 }
 
 impl Hand {
@@ -27,26 +44,11 @@ impl Hand {
     fn new(plan: &RacePlan, number: u32, share: Share) -> Hand
         ensures share { result.share ≡ share }
         ensures chooser { result.chooser ≡ luck_after plan.now number 0 }
-        ensures drawn { result.drawn ≡ 0 }
     {
         Hand {
             share,
             chooser: Chooser::new(plan.seed_number, u64::from(number), plan.loss, plan.repeat),
-            drawn: 0,
-            seed: plan.seed_number,
-            stream: number,
-            loss: plan.loss,
-            repeat: plan.repeat,
         }
-    }
-
-    /// The chooser stands behind the words of the turns that were done, again.
-    pub fn rewind(&mut self) {
-        let mut chooser = Chooser::new(self.seed, u64::from(self.stream), self.loss, self.repeat);
-        for _word in 0..self.drawn {
-            chooser.choose(Some(1), None);
-        }
-        self.chooser = chooser;
     }
 }
 
@@ -68,7 +70,7 @@ impl<N: Racing> Model for Caller<N> {
 
     ghost view = { λ c. record { number = c.number; calls = c.calls; seen = c.hand.share.seen } };
 
-    ghost invariant = { λ c. IsHand N.wire N.plan c.number c.hand.share c.hand.chooser c.hand.drawn × HasMade N.plan c.number c.calls c.hand.share.seen };
+    ghost invariant = { λ c. IsHand N.wire N.plan c.number c.hand.share c.hand.chooser × HasMade N.plan c.number c.calls c.hand.share.seen };
 }
 
 impl<N: Racing> Caller<N> {
@@ -91,6 +93,16 @@ impl<N: Racing> Caller<N> {
         ensures { result ≡ self.now.number }
     {
         self.number
+    }
+
+    /// Its next call.
+    pub fn next_call(&self) -> Tag
+        ensures { result ≡ record { caller = self.now.number; call = self.now.calls } }
+    {
+        Tag {
+            caller: self.number,
+            call: self.calls,
+        }
     }
 
     /// Its share alone.

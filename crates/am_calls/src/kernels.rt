@@ -1,4 +1,4 @@
-ghost use Rattle.std.specs.Prelude.{◌≡◌, ◌+◌, ◌<◌, ◌≤◌, [], ◌∷◌, Some, slice_get, IfOk, vec_len, map, length, All};
+ghost use Rattle.std.specs.Prelude.{◌≡◌, ◌+◌, ◌<◌, ◌≤◌, [], ◌∷◌, Some, slice_get, IfOk, IfErr, true, vec_len, map, length, All};
 ghost use Rattle.std.specs.List.{range_with_len};
 ghost use Rattle.am_base.specs.Names.{place_of};
 ghost use Rattle.am_group.specs.declared.event.Act.TheVariants as acts;
@@ -7,19 +7,21 @@ ghost use Rattle.am_node.specs.Stands.{state_of};
 ghost use Rattle.am_wire.specs.declared.rule.Key.TheVariants.{Place};
 ghost use Rattle.am_wire.specs.Keys.{place_keys, caller_keys};
 ghost use Rattle.am_wire.specs.Passes.{fresh};
-ghost use Rattle.am_calls.specs.Callings.{Called};
+ghost use Rattle.am_calls.specs.Callings.{Called, IsHand};
+ghost use Rattle.am_calls.specs.Going.{IsCame, HasBegun, Began, HasLooked, WasRefused, Made};
+ghost use Rattle.am_calls.specs.Tags.{of_call, own_of};
 ghost use Rattle.am_calls.specs.Lawful.{terms_of};
 ghost use Rattle.am_calls.specs.Legal.{IsLegalWithTags};
-ghost use Rattle.am_calls.specs.Plans.{calls_of};
+ghost use Rattle.am_calls.specs.Plans.{calls_of, is_call};
 ghost use Rattle.am_calls.specs.Ran.{fresh_callers, numbers_of, EndsFor, HasPlaces, IsIn};
 
 use crate::answer::Answer;
-use crate::caller::Caller;
+use crate::caller::{Caller, Hand, Tag};
 use crate::dealing::{all_places, boxes_of, callers_of, with_callers};
 use crate::gate::Gate;
 use crate::naming::{RaceLaw, Racing};
-use crate::node_box::{Call, Looked, NodeBox};
-use crate::outcomes::{end_answer, is_take, own_answer, request_in};
+use crate::node_box::{Looked, NodeBox};
+use crate::outcomes::{answer_at_end, is_take, late_after, own_answer, request_in_call};
 use crate::ready::Came;
 use am_base::NoMemory;
 use am_base::body::Body;
@@ -47,30 +49,6 @@ pub struct Kernels<'g, N: Racing, G: Gate> {
     ghost planned: { wire.terms ≡ terms_of N.plan },
     ghost turned: { turns ≡ N.plan.turns },
     ghost sixteen: { vec_len boxes ≡ 16 },
-}
-
-/// The sequencer's last refusal of a call's request, if there was one.
-fn put_off(req: u32, outcome: &Outcome) -> Option<Answer> {
-    match outcome {
-        Outcome::PutOff {
-            req: its,
-            base,
-            top,
-        } if *its == req => Some(Answer::PutOff {
-            req,
-            base: *base,
-            top: *top,
-        }),
-        _ => None,
-    }
-}
-
-/// What the end of a call answers; None where the call has used its turns for nothing.
-fn answer_at_end(act: &Act, outcome: &Outcome) -> Option<Answer> {
-    if is_take(act) {
-        return own_answer(act, outcome);
-    }
-    end_answer(act, outcome)
 }
 
 impl<'g, N: Racing, G: Gate> Kernels<'g, N, G> {
@@ -103,25 +81,25 @@ impl<'g, N: Racing, G: Gate> Kernels<'g, N, G> {
         Ok((kernels, callers))
     }
 
-    /// The first look of a call.
+    /// The first look of a call that is no receive: its own act.
     fn begin<R: Wait>(
         &self,
         rt: &R,
-        caller: &mut Caller<N>,
+        hand: &mut Hand,
+        tag: Tag,
         node: Name,
-        call: &Call,
-    ) -> Result<Came, Answer> {
+        act: &Act,
+    ) -> Result<Came, Answer>
+        requires hand { IsHand N.wire N.plan tag.caller hand.old.share hand.old.chooser }
+        requires call { is_call act.now ≡ true }
+        ensures hand { IsHand N.wire N.plan tag.caller hand.new.share hand.new.chooser }
+        ensures ok { IfOk result (λ came. Began (place_of node) tag act.entry.now came hand.old.share.seen hand.new.share.seen) }
+        ensures err { IfErr result (WasRefused (place_of node) tag.caller hand.old.share.seen hand.new.share.seen) }
+    {
         for _ in rt.forever() {
             let mut guard = self.boxes[usize::from(node.place())].lock(rt);
             if guard.name().place() == node.place() {
-                return guard.begin(
-                    rt,
-                    self.alloc,
-                    &self.wire,
-                    self.gate,
-                    &mut caller.hand,
-                    call,
-                );
+                return guard.begin(rt, self.alloc, &self.wire, self.gate, hand, tag, act);
             }
         }
         unreachable!()
@@ -131,22 +109,24 @@ impl<'g, N: Racing, G: Gate> Kernels<'g, N, G> {
     fn look<R: Wait>(
         &self,
         rt: &R,
-        caller: &mut Caller<N>,
+        hand: &mut Hand,
+        tag: Tag,
         node: Name,
-        call: &Call,
+        act: &Act,
+        came: &Option<Came>,
         has_turn: bool,
-    ) -> Result<Looked, Answer> {
+    ) -> Result<Looked, Answer>
+        requires hand { IsHand N.wire N.plan tag.caller hand.old.share hand.old.chooser }
+        requires came { IsCame act.now came.now (own_of (of_call tag.caller tag.call hand.old.share.seen)) }
+        ensures hand { IsHand N.wire N.plan tag.caller hand.new.share hand.new.chooser }
+        ensures ok { IfOk result (HasLooked (place_of node) tag act.entry.now came.entry.now has_turn hand.old.share.seen hand.new.share.seen) }
+        ensures err { IfErr result (WasRefused (place_of node) tag.caller hand.old.share.seen hand.new.share.seen) }
+    {
         for _ in rt.forever() {
             let mut guard = self.boxes[usize::from(node.place())].lock(rt);
             if guard.name().place() == node.place() {
                 return guard.look(
-                    rt,
-                    self.alloc,
-                    &self.wire,
-                    self.gate,
-                    &mut caller.hand,
-                    call,
-                    has_turn,
+                    rt, self.alloc, &self.wire, self.gate, hand, tag, act, came, has_turn,
                 );
             }
         }
@@ -157,67 +137,63 @@ impl<'g, N: Racing, G: Gate> Kernels<'g, N, G> {
     fn go_on<R: Wait>(
         &self,
         rt: &R,
-        caller: &mut Caller<N>,
+        hand: &mut Hand,
+        tag: Tag,
         node: Name,
-        call: &Call,
-        req: u32,
-    ) -> Answer {
+        act: &Act,
+        came: &Option<Came>,
+    ) -> Answer
+        requires hand { IsHand N.wire N.plan tag.caller hand.old.share hand.old.chooser }
+        requires begun { HasBegun act.now came.now (of_call tag.caller tag.call hand.old.share.seen) }
+        ensures hand { IsHand N.wire N.plan tag.caller hand.new.share hand.new.chooser }
+        ensures made { Made N.plan node tag act.entry.now (of_call tag.caller tag.call hand.old.share.seen) hand.old.share.seen hand.new.share.seen result }
+    {
+        let request = request_in_call(act, came);
         let mut late = Answer::Late { turns: self.turns };
-        for spent in 0..self.turns {
-            match self.look(rt, caller, node, call, true) {
+        for _spent in 0..self.turns {
+            match self.look(rt, hand, tag, node, act, came, true) {
                 Err(answer) => return answer,
-                Ok(Looked::End(outcome)) => {
-                    return answer_at_end(call.act, &outcome).unwrap_or(late);
-                }
-                Ok(Looked::Turn(outcome)) => {
-                    if let Some(answer) = put_off(req, &outcome) {
-                        late = answer;
-                    }
-                }
+                Ok(Looked::End(outcome)) => return answer_at_end(act, request, &outcome, late),
+                Ok(Looked::Turn(outcome)) => late = late_after(request, late, &outcome),
             }
         }
-        match self.look(rt, caller, node, call, false) {
+        match self.look(rt, hand, tag, node, act, came, false) {
             Err(answer) => answer,
-            Ok(Looked::End(outcome) | Looked::Turn(outcome)) => {
-                answer_at_end(call.act, &outcome).unwrap_or(late)
-            }
+            Ok(Looked::End(outcome)) => answer_at_end(act, request, &outcome, late),
+            Ok(Looked::Turn(_)) => unreachable!(),
         }
     }
 
-    fn made<R: Wait>(&self, rt: &R, caller: &mut Caller<N>, node: Name, act: &Act) -> Answer {
-        let call = Call {
-            caller: caller.number,
-            number: caller.calls,
-            act,
-            came: None,
-        };
+    /// Makes a call of which nothing is done yet.
+    fn do_call<R: Wait>(&self, rt: &R, hand: &mut Hand, tag: Tag, node: Name, act: &Act) -> Answer
+        requires hand { IsHand N.wire N.plan tag.caller hand.old.share hand.old.chooser }
+        requires call { is_call act.now ≡ true }
+        requires fresh { of_call tag.caller tag.call hand.old.share.seen ≡ [] }
+        ensures hand { IsHand N.wire N.plan tag.caller hand.new.share hand.new.chooser }
+        ensures made { Made N.plan node tag act.entry.now [] hand.old.share.seen hand.new.share.seen result }
+    {
         if is_take(act) {
-            return self.go_on(rt, caller, node, &call, 0);
+            return self.go_on(rt, hand, tag, node, act, &None);
         }
-        let came = match self.begin(rt, caller, node, &call) {
-            Err(answer) => return answer,
-            Ok(came) => came,
-        };
-        if let Some(answer) = own_answer(act, &came.outcome) {
-            return answer;
+        match self.begin(rt, hand, tag, node, act) {
+            Err(answer) => answer,
+            Ok(came) => match own_answer(act, &came.outcome) {
+                Some(answer) => answer,
+                None => self.go_on(rt, hand, tag, node, act, &Some(came)),
+            },
         }
-        let behind = Call {
-            caller: call.caller,
-            number: call.number,
-            act,
-            came: Some(&came),
-        };
-        self.go_on(rt, caller, node, &behind, request_in(&came.outcome))
     }
 
     /// Makes a call, which is the caller's next planned one, and answers by its records (docs/PROTOCOL.md, "Races"). It ends
     /// after its own act, at most as many turns as the race says, and its check.
     pub fn make<R: Wait>(&self, rt: &R, caller: &mut Caller<N>, node: Name, act: &Act) -> Answer
         requires planned { slice_get (calls_of N.plan caller.old.number) caller.old.calls ≡ Some act.now }
+        requires call { is_call act.now ≡ true }
         requires room { caller.old.calls < 4294967295 }
         ensures { Called N.plan node caller.old caller.new result }
     {
-        let answer = self.made(rt, caller, node, act);
+        let tag = caller.next_call();
+        let answer = self.do_call(rt, &mut caller.hand, tag, node, act);
         caller.calls += 1;
         answer
     }

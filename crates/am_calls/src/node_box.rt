@@ -1,4 +1,4 @@
-ghost use Rattle.std.specs.Prelude.{◌≡◌, ℕ, ◌||◌, ◌+◌, ◌<◌, ◌≤◌, [], ◌∷◌, ◌++◌, None, Some, length, max, vec_len, vec_capacity, IfOk, IfErr, IfSome, IfNone, OnOk, OnErr, false};
+ghost use Rattle.std.specs.Prelude.{◌≡◌, ℕ, ◌||◌, ◌+◌, ◌<◌, ◌≤◌, [], ◌∷◌, ◌++◌, None, Some, length, max, vec_len, vec_capacity, IfOk, IfErr, IfSome, IfNone, OnOk, OnErr, Option, true, false};
 ghost use Rattle.std.specs.Option.{option_copied};
 ghost use Rattle.am_base.specs.Most.{most_events};
 ghost use Rattle.am_base.specs.declared.outcome.Outcome.TheVariants as said;
@@ -6,23 +6,25 @@ ghost use Rattle.am_model.specs.Claims.{heard_by};
 ghost use Rattle.am_model.specs.World.{first_node};
 ghost use Rattle.am_node.specs.Nodes.{HasNumbersLeft};
 ghost use Rattle.am_node.specs.Stands.{state_of};
+ghost use Rattle.am_group.specs.declared.event.Record.{Record};
 ghost use Rattle.am_wire.specs.declared.rule.Key.TheVariants.{Place};
 ghost use Rattle.am_wire.specs.declared.wire.WireRefusal.TheVariants as refusals;
 ghost use Rattle.am_wire.specs.Seats.{GoesOn};
 ghost use Rattle.am_wire.specs.Passes.{Sees, fresh};
 ghost use Rattle.am_wire.specs.Stops.{is_stop, has_stopped};
 ghost use Rattle.am_calls.specs.Boxes.{what_of, Steps, MayAct, IsShareOf, IsTurn, Acted, IsRefused, Looks, refused, Hears, GivesUp, node_by, IsLeastOf, InBoth, heard_in, lost_in, Picked, is_turn_act, Found, event_at, turn_by};
-ghost use Rattle.am_calls.specs.Callings.{luck_after};
+ghost use Rattle.am_calls.specs.Callings.{IsHand, luck_after};
+ghost use Rattle.am_calls.specs.Going.{end_act, end_part, luck_behind, is_asked, ToldBy, Asked, IsCame, EndTells, Began, Turned, HasLooked, WasRefused};
+ghost use Rattle.am_calls.specs.Plans.{is_call};
 ghost use Rattle.am_calls.specs.Ready.{is_ready};
-ghost use Rattle.am_calls.specs.Tags.{of_call, own_of};
+ghost use Rattle.am_calls.specs.Tags.{of_call, own_of, is_turn_part};
 ghost use Rattle.am_pump.specs.Choices.{act_of};
 ghost use Rattle.am_group.specs.declared.event.Act.TheVariants as acts;
-ghost use Rattle.std.specs.Prelude.{true};
 ghost use Rattle.am_calls.specs.Lawful.{IsSent, plan_by, terms_of};
 ghost use Rattle.am_calls.specs.Turns.{lost_by, unless_nought, or_nought, waits_in_vain, words_drawn, is_turn};
 
 use crate::answer::Answer;
-use crate::caller::Hand;
+use crate::caller::{Hand, Tag};
 use crate::gate::Gate;
 use crate::naming::{RaceLaw, Racing};
 use crate::outcomes::{is_take, request_in};
@@ -45,15 +47,6 @@ use am_wire::wire::{Pass, Share, Wire, WireRefusal};
 use std::alloc::Global;
 use std::marker::{Model, PhantomData};
 use std::sync::Wait;
-
-/// A call on its way at a node: whose it is, its act, and what came of that, where it was done.
-#[derive(Drop)]
-pub struct Call<'a> {
-    pub caller: u32,
-    pub number: u32,
-    pub act: &'a Act,
-    pub came: Option<&'a Came>,
-}
 
 /// What a look at a node did.
 #[derive(Drop)]
@@ -276,13 +269,26 @@ fn least_of_both(waited: Names, stopped: Names) -> Option<Name>
     None
 }
 
-/// What asks at a call's end.
-fn end_of(act: &Act, came: Option<&Came>) -> Act {
+/// What a call does at its end, by what came of its own act.
+fn end_act(act: &Act, came: &Option<Came>) -> Act
+    ensures { result ≡ end_act act.now came.now }
+{
     match (act, came) {
         (Act::Send(_), Some(came)) => Act::Done(request_in(&came.outcome)),
         (Act::Join | Act::Leave, _) => Act::State,
         (Act::Reset { .. }, Some(came)) => Act::Ask(came.round),
         _ => Act::Take,
+    }
+}
+
+/// The part of that.
+fn end_part(act: &Act) -> Part
+    ensures { result ≡ end_part act.now }
+{
+    if is_take(act) {
+        Part::Call
+    } else {
+        Part::Check
     }
 }
 
@@ -392,6 +398,7 @@ impl<N: Racing> NodeBox<N> {
         ensures ok { IfOk result (λ came. Acted self.old self.new share.old share.new act by came) }
         ensures place { OnErr result (GoesOn (Place self.old.name ∷ []) self.old.seen self.new.seen) }
         ensures caller { OnErr result (GoesOn share.old.keys share.old.seen share.new.seen) }
+        ensures told { IfOk result (λ came. ToldBy (what_of act (option_copied letter.entry)) (node_by N.plan self.old.seen self.old.name) came.outcome) }
         ensures spent { IfErr result (λ refusal. refusal ≡ refusals.Spent → length self.new.seen ≡ most_events) }
     {
         let Ok(room) = room_for(alloc, self.name, &act, letter, by) else {
@@ -492,6 +499,7 @@ impl<N: Racing> NodeBox<N> {
         ensures picked { Picked chooser.old self.old.name self.old.seen self.new.seen result.act result.lost }
         ensures hears { (number : ℕ) → result.act ≡ acts.Hear number → Hears self.new.seen self.new.name number result.letter }
         ensures turns { is_turn_act result.act ≡ true }
+        ensures drawn { chooser.new ≡ luck_behind chooser.old result.act result.lost }
     {
         let ahead = wire.next_for(rt, &mut self.pass, self.name, self.cursor);
         let choice = chooser.choose(ahead, self.last);
@@ -505,6 +513,7 @@ impl<N: Racing> NodeBox<N> {
         requires open_ { self.old.closed ≡ None }
         ensures looks { Looks self.old self.new }
         ensures found { Found N.plan chooser.old self.old.name self.old.seen self.new.seen result.act result.lost }
+        ensures drawn { chooser.new ≡ luck_behind chooser.old result.act result.lost }
         ensures hears { (number : ℕ) → result.act ≡ acts.Hear number → Hears self.new.seen self.new.name number result.letter }
     {
         match self.in_vain(rt, wire) {
@@ -524,34 +533,40 @@ impl<N: Racing> NodeBox<N> {
         wire: &Wire<RaceLaw>,
         share: &mut Share,
         chooser: &mut Chooser,
-        call: &Call,
+        tag: Tag,
     ) -> Turn
         requires own { wire.now.id ≡ N.wire }
         requires open_ { self.old.closed ≡ None }
-        requires share { IsShareOf N.wire N.plan call.now.caller share.old }
+        requires share { IsShareOf N.wire N.plan tag.caller share.old }
         requires met { share.old.seen ≡ self.old.seen }
-        requires luck { chooser.old ≡ luck_after N.plan call.now.caller (words_drawn call.now.caller self.old.seen) }
-        requires unready { is_ready (node_by N.plan self.old.seen self.old.name) (own_of (of_call call.now.caller call.now.number self.old.seen)) ≡ false }
+        requires luck { chooser.old ≡ luck_after N.plan tag.caller (words_drawn tag.caller self.old.seen) }
+        requires unready { is_ready (node_by N.plan self.old.seen self.old.name) (own_of (of_call tag.caller tag.call self.old.seen)) ≡ false }
         ensures looks { Looks self.old self.new }
         ensures share { Sees share.old share.new }
         ensures met { share.new.seen ≡ self.new.seen }
         ensures few { length self.new.seen ≤ most_events }
-        ensures turn { is_turn (plan_by (terms_of N.plan)) self.new.seen (event_at self.old.name result.act) (turn_by call.now.caller call.now.number result.lost) ≡ true }
+        ensures turn { is_turn (plan_by (terms_of N.plan)) self.new.seen (event_at self.old.name result.act) (turn_by tag.caller tag.call result.lost) ≡ true }
         ensures hears { (number : ℕ) → result.act ≡ acts.Hear number → Hears self.new.seen self.new.name number result.letter }
+        ensures drawn { chooser.new ≡ luck_behind chooser.old result.act result.lost }
     {
         let turn = self.find(rt, wire, chooser);
         wire.meet(&mut self.pass, share);
         turn
     }
 
-    fn is_ready(&self, call: &Call) -> bool {
-        match call.came {
+    /// Whether the end of a call would tell its answer, so that it makes no turn. Its node then tells one.
+    fn is_ready(&self, act: &Act, came: &Option<Came>) -> bool
+        requires open_ { self.now.closed ≡ None }
+        ensures ready { (own : Option Record) → IsCame act.now came.now own → result ≡ is_ready (node_by N.plan self.now.seen self.now.name) own }
+        ensures told { result ≡ true → EndTells (node_by N.plan self.now.seen self.now.name) act.now came.now }
+    {
+        match came {
             None => may_take(&self.node),
-            Some(came) => is_ready_after(&self.node, call.act, came),
+            Some(came) => is_ready_after(&self.node, act, came),
         }
     }
 
-    /// A turn of a caller's call.
+    /// A turn of a caller's call, which isn't ready.
     fn spend<R: Wait, G: Gate>(
         &mut self,
         rt: &R,
@@ -559,27 +574,28 @@ impl<N: Racing> NodeBox<N> {
         wire: &Wire<RaceLaw>,
         gate: &G,
         hand: &mut Hand,
-        call: &Call,
-    ) -> Result<Outcome, WireRefusal> {
-        let turn = self.turn(rt, wire, &mut hand.share, &mut hand.chooser, call);
-        let by = By {
-            caller: call.caller,
-            call: call.number,
-            part: Part::Turn(turn.lost),
+        tag: Tag,
+    ) -> Result<Outcome, WireRefusal>
+        requires own { wire.now.id ≡ N.wire }
+        requires hand { IsHand N.wire N.plan tag.caller hand.old.share hand.old.chooser }
+        requires open_ { self.old.closed ≡ None }
+        requires runs { has_stopped self.old.seen self.old.name ≡ false }
+        requires met { hand.old.share.seen ≡ self.old.seen }
+        requires unready { is_ready (node_by N.plan self.old.seen self.old.name) (own_of (of_call tag.caller tag.call self.old.seen)) ≡ false }
+        ensures hand { IsHand N.wire N.plan tag.caller hand.new.share hand.new.chooser }
+        ensures ok { IfOk result (λ outcome. Turned self.old.name tag outcome hand.old.share.seen hand.new.share.seen) }
+        ensures err { IfErr result (λ refusal. WasRefused self.old.name tag.caller hand.old.share.seen hand.new.share.seen (refused refusal)) }
+    {
+        let Ok(mut chooser) = hand.chooser.copied() else {
+            return Err(WireRefusal::NoMemory);
         };
+        let turn = self.turn(rt, wire, &mut hand.share, &mut chooser, tag);
+        let by = tag.with(Part::Turn(turn.lost));
         gate.between(self.name, &by);
-        let drew = 0 < heard_by(&turn.act) || 0 < turn.lost;
         let Turn { act, letter, .. } = turn;
-        match self.act(rt, alloc, wire, &mut hand.share, act, letter.as_ref(), by) {
-            Ok(came) => {
-                hand.drawn += u32::from(drew);
-                Ok(came.outcome)
-            }
-            Err(refusal) => {
-                hand.rewind();
-                Err(refusal)
-            }
-        }
+        let came = self.act(rt, alloc, wire, &mut hand.share, act, letter.as_ref(), by)?;
+        hand.chooser = chooser;
+        Ok(came.outcome)
     }
 
     /// A call's own act, or its check.
@@ -592,7 +608,19 @@ impl<N: Racing> NodeBox<N> {
         hand: &mut Hand,
         act: Act,
         by: By,
-    ) -> Result<Came, WireRefusal> {
+    ) -> Result<Came, WireRefusal>
+        requires own { wire.now.id ≡ N.wire }
+        requires hand { IsHand N.wire N.plan by.caller hand.old.share hand.old.chooser }
+        requires open_ { self.old.closed ≡ None }
+        requires runs { has_stopped self.old.seen self.old.name ≡ false }
+        requires few { length self.old.seen ≤ most_events }
+        requires met { hand.old.share.seen ≡ self.old.seen }
+        requires asks { is_asked act ≡ true }
+        requires no_turn { is_turn_part by.part ≡ false }
+        ensures hand { IsHand N.wire N.plan by.caller hand.new.share hand.new.chooser }
+        ensures ok { IfOk result (λ came. Asked N.plan self.old.name act by came hand.old.share.seen hand.new.share.seen) }
+        ensures err { IfErr result (λ refusal. WasRefused self.old.name by.caller hand.old.share.seen hand.new.share.seen (refused refusal)) }
+    {
         gate.between(self.name, &by);
         self.act(rt, alloc, wire, &mut hand.share, act, None, by)
     }
@@ -605,18 +633,21 @@ impl<N: Racing> NodeBox<N> {
         wire: &Wire<RaceLaw>,
         gate: &G,
         hand: &mut Hand,
-        call: &Call,
-    ) -> Result<Came, Answer> {
+        tag: Tag,
+        act: &Act,
+    ) -> Result<Came, Answer>
+        requires own { wire.now.id ≡ N.wire }
+        requires hand { IsHand N.wire N.plan tag.caller hand.old.share hand.old.chooser }
+        requires call { is_call act.now ≡ true }
+        ensures hand { IsHand N.wire N.plan tag.caller hand.new.share hand.new.chooser }
+        ensures ok { IfOk result (λ came. Began self.old.name tag act.entry.now came hand.old.share.seen hand.new.share.seen) }
+        ensures err { IfErr result (WasRefused self.old.name tag.caller hand.old.share.seen hand.new.share.seen) }
+    {
         self.meet(wire, &mut hand.share)?;
-        let by = By {
-            caller: call.caller,
-            call: call.number,
-            part: Part::Call,
-        };
-        let Ok(act) = call.act.copied() else {
+        let Ok(own) = act.copied() else {
             return Err(Answer::NoMemory);
         };
-        match self.ask(rt, alloc, wire, gate, hand, act, by) {
+        match self.ask(rt, alloc, wire, gate, hand, own, tag.with(Part::Call)) {
             Ok(came) => Ok(came),
             Err(refusal) => Err(answer_of(refusal)),
         }
@@ -630,27 +661,27 @@ impl<N: Racing> NodeBox<N> {
         wire: &Wire<RaceLaw>,
         gate: &G,
         hand: &mut Hand,
-        call: &Call,
+        tag: Tag,
+        act: &Act,
+        came: &Option<Came>,
         has_turn: bool,
-    ) -> Result<Looked, Answer> {
+    ) -> Result<Looked, Answer>
+        requires own { wire.now.id ≡ N.wire }
+        requires hand { IsHand N.wire N.plan tag.caller hand.old.share hand.old.chooser }
+        requires came { IsCame act.now came.now (own_of (of_call tag.caller tag.call hand.old.share.seen)) }
+        ensures hand { IsHand N.wire N.plan tag.caller hand.new.share hand.new.chooser }
+        ensures ok { IfOk result (HasLooked self.old.name tag act.entry.now came.entry.now has_turn hand.old.share.seen hand.new.share.seen) }
+        ensures err { IfErr result (WasRefused self.old.name tag.caller hand.old.share.seen hand.new.share.seen) }
+    {
         self.meet(wire, &mut hand.share)?;
-        if has_turn && !self.is_ready(call) {
-            return match self.spend(rt, alloc, wire, gate, hand, call) {
+        if has_turn && !self.is_ready(act, came) {
+            return match self.spend(rt, alloc, wire, gate, hand, tag) {
                 Ok(outcome) => Ok(Looked::Turn(outcome)),
                 Err(refusal) => Err(answer_of(refusal)),
             };
         }
-        let by = By {
-            caller: call.caller,
-            call: call.number,
-            part: if is_take(call.act) {
-                Part::Call
-            } else {
-                Part::Check
-            },
-        };
-        let act = end_of(call.act, call.came);
-        match self.ask(rt, alloc, wire, gate, hand, act, by) {
+        let end = end_act(act, came);
+        match self.ask(rt, alloc, wire, gate, hand, end, tag.with(end_part(act))) {
             Ok(came) => Ok(Looked::End(came.outcome)),
             Err(refusal) => Err(answer_of(refusal)),
         }

@@ -1,7 +1,9 @@
-ghost use Rattle.std.specs.Prelude.{◌≡◌};
-ghost use Rattle.am_calls.specs.Answers.{ballot_answer, join_answer, leave_answer, left_answer, send_answer, take_answer, stop_answer, own_answer, end_answer, request_in, is_take};
+ghost use Rattle.std.specs.Prelude.{◌≡◌, unwrap_or};
+ghost use Rattle.am_calls.specs.Answers.{ballot_answer, join_answer, leave_answer, left_answer, send_answer, take_answer, stop_answer, own_answer, end_answer, queued_in, request_in, put_off_in, late_after, is_take};
+ghost use Rattle.am_calls.specs.Going.{request_in_call, told_at_end};
 
 use crate::answer::Answer;
+use crate::ready::Came;
 use am_base::outcome::Outcome;
 use am_group::event::Act;
 
@@ -22,7 +24,17 @@ pub fn request_in(outcome: &Outcome) -> u32
     }
 }
 
-fn ballot_answer(outcome: &Outcome) -> Option<Answer>
+/// The request of a send that was queued.
+fn queued(outcome: &Outcome) -> Option<u32>
+    ensures { result ≡ queued_in outcome.now }
+{
+    match outcome {
+        Outcome::Queued { req } => Some(*req),
+        _ => None,
+    }
+}
+
+pub(crate) fn ballot_answer(outcome: &Outcome) -> Option<Answer>
     ensures { result ≡ ballot_answer outcome.now }
 {
     match outcome {
@@ -144,4 +156,61 @@ pub fn end_answer(act: &Act, outcome: &Outcome) -> Option<Answer>
         Act::Reset { .. } => ballot_answer(outcome),
         _ => None,
     }
+}
+
+/// The request of a call that goes on, by what came of its own act: of a send that was queued.
+pub fn request_in_call(act: &Act, came: &Option<Came>) -> Option<u32>
+    ensures { result ≡ request_in_call act.now came.now }
+{
+    match (act, came) {
+        (Act::Send(_), Some(came)) => queued(&came.outcome),
+        _ => None,
+    }
+}
+
+/// Where the sequencer had no room for a request.
+fn put_off_in(request: Option<u32>, outcome: &Outcome) -> Option<Answer>
+    ensures { result ≡ put_off_in request outcome.now }
+{
+    match (request, outcome) {
+        (
+            Some(req),
+            Outcome::PutOff {
+                req: its,
+                base,
+                top,
+            },
+        ) if *its == req => {
+            Some(Answer::PutOff {
+                req,
+                base: *base,
+                top: *top,
+            })
+        }
+        _ => None,
+    }
+}
+
+/// What a call that used its turns answers, behind one record more.
+pub fn late_after(request: Option<u32>, late: Answer, outcome: &Outcome) -> Answer
+    ensures { result ≡ late_after request late outcome.now }
+{
+    put_off_in(request, outcome).unwrap_or(late)
+}
+
+/// What the outcome of a call's end answers; None where it tells none.
+fn told_at_end(act: &Act, outcome: &Outcome) -> Option<Answer>
+    ensures { result ≡ told_at_end act.now outcome.now }
+{
+    if is_take(act) {
+        return own_answer(act, outcome);
+    }
+    end_answer(act, outcome)
+}
+
+/// What a call answers at its end, which is late where that tells nothing.
+pub fn answer_at_end(act: &Act, request: Option<u32>, outcome: &Outcome, late: Answer) -> Answer
+    ensures { result ≡ unwrap_or (told_at_end act.now outcome.now) (late_after request late outcome.now) }
+{
+    told_at_end(act, outcome).unwrap_or(late_after(request, late, outcome))
 }

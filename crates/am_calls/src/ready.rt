@@ -4,6 +4,7 @@ ghost use Rattle.am_model.specs.World.{has_departed};
 ghost use Rattle.am_node.specs.Stands.{state_of};
 ghost use Rattle.am_calls.specs.Ready.{invited, round_in, is_ended, is_sent, is_ready_after, may_take};
 
+use crate::outcomes::ballot_answer;
 use am_base::outcome::Outcome;
 use am_group::event::Act;
 use am_letter::letter::Letter;
@@ -59,10 +60,14 @@ fn has_departed(status: Status) -> bool
     }
 }
 
+/// Whether a ballot is over, with an answer.
 fn is_ended(end: &Option<BallotEnd>) -> bool
     ensures { result ≡ is_ended end.now }
 {
-    matches!(end, Some(BallotEnd::Ended(_)))
+    match end {
+        Some(BallotEnd::Ended(outcome)) => ballot_answer(outcome).is_some(),
+        Some(BallotEnd::Going(_)) | None => false,
+    }
 }
 
 fn is_sent(node: &Node, outcome: &Outcome) -> bool
@@ -70,7 +75,7 @@ fn is_sent(node: &Node, outcome: &Outcome) -> bool
 {
     match outcome {
         Outcome::Queued { req } => node.settled(*req),
-        _ => true,
+        _ => false,
     }
 }
 
@@ -93,6 +98,6 @@ pub fn is_ready_after(node: &Node, act: &Act, came: &Came) -> bool
         Act::Join => has_log(node.status()),
         Act::Leave => has_departed(node.status()),
         Act::Reset { .. } => is_ended(&node.ballot(came.round)),
-        _ => true,
+        _ => false,
     }
 }
