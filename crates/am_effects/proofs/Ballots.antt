@@ -18,14 +18,15 @@ use Rattle.am_model.specs.Calls.{reset_row, give_up_of, give_up_row}
 use Rattle.am_model.proofs.Greatest.{and_both}
 use Rattle.am_effects.specs.Causes.{Cause, calls}
 use Rattle.am_effects.specs.Looks.{HasLearned, Looks, finds_itself_out, waits, fetches_from_best, finds_too_few, finds_no_room, decides, MayBegin, BeginsBy, by_reset, by_hand_over, MayLook, was_reset, was_handed, HasOpen, Balloting, as_it_is, without_one}
-use Rattle.am_effects.specs.Changes.{unchanged, opens, looks}
+use Rattle.am_effects.specs.Changes.{opens}
+use Rattle.am_effects.specs.Courses.{nothing_yet, and_then, looked}
 use Rattle.am_effects.specs.Letters.{invite, fetch, result, MayInvite, has_begun, for_ballot, MayTell, decided}
 use Rattle.am_effects.specs.Letters as letters
 use Rattle.am_effects.specs.Effects.{Answers}
 use Rattle.am_effects.proofs.Tests.{not_false, not_true}
 use Rattle.am_effects.proofs.Items.{get_last}
 use Rattle.am_effects.proofs.Rests.{RestsWhole}
-use Rattle.am_effects.proofs.Plans.{and_then, AllSay, none_says, and_says, Comes, HasEffect, effect_if, effect_of, rows}
+use Rattle.am_effects.proofs.Plans.{AllSay, none_says, and_says, Comes, HasEffect, effect_if, effect_done, rows}
 use Rattle.am_effects.proofs.Says.{told_pushed}
 
 -- ---- a look
@@ -126,12 +127,8 @@ pub effect_answered : (m : Node) (c : Cause) (p : Node) (b : Ballot) (f : Node �
 effect_answered m c p b f comes over why says =
     let v = decide p b in
     let l = looks_at p b in
-    effect_of m c _ (record {
-      stays = refl;
-      changes = λ n. and_then (comes v.outcome) (looks {m = p} b v over why l refl);
-      answer = λ n r. answers_look m c n p b v l;
-      letters = λ n r. says_result m c n p b v (f n) l r (says n r);
-    })
+    effect_done m c _ refl (λ n. looked {n = p} b v (comes v.outcome) over why l refl) (λ n r. answers_look m c n p b v l)
+    (λ n r. says_result m c n p b v (f n) l r (says n r))
 
 -- the ballot is there once it was opened
 abbrev opened : Node → ℕ → ℕ → Node
@@ -151,7 +148,7 @@ row_begin m c least resilience by may =
     let p = opened m least resilience in
     let b = new_ballot (next_stamp m) least (min resilience 15) in
     let f : Node → List Letter = λ n. with_letter (others m) (invite_of n) [] in
-    let h : HasEffect m c (answered (decide p b) f) = effect_answered m c p b f (λ o. and_then unchanged (opens {m = m} least resilience by may)) refl (as_it_is b (record { last = refl; open_ = refl }) (looks_on m c p by))
+    let h : HasEffect m c (answered (decide p b) f) = effect_answered m c p b f (λ o. and_then nothing_yet (opens {m = m} least resilience by may) tt) refl (as_it_is b (record { last = refl; open_ = refl }) (looks_on m c p by))
     (λ n r. and_says m c n (others m) (invite_of n) [] (let new = ballot_look p b (decide p b) (looks_at p b) in invite (others m) (has_begun new.0 (r.rests.ballot ∙ new.1) (r.rests.promise ∙ promise_look p b (decide p b) (looks_at p b)))) (none_says m c n)) in
     subst (λ v. HasEffect m c (answered v f)) (sym (same_look m least resilience)) h
 
@@ -168,7 +165,7 @@ unfolding keep_vote
 row_keep_vote m c b name vote open_ why =
     let new = with_vote b name vote in
     let v = decide m new in
-    effect_answered m c m new (λ n. with_fetch v.outcome n (with_letter (newly_needed m b new) (invite_of n) [])) (λ o. unchanged) open_.open_ why
+    effect_answered m c m new (λ n. with_fetch v.outcome n (with_letter (newly_needed m b new) (invite_of n) [])) (λ o. nothing_yet) open_.open_ why
     (λ n r. says_fetch m c n m new v _ (looks_at m new) r (and_says m c n (newly_needed m b new) (invite_of n) [] (invite (newly_needed m b new) (letters.goes_on b open_)) (none_says m c n)))
 
 row_give_up : (m : Node) (b : Ballot) (name : ℕ) → HasOpen m b → (name == m.core.who) ≡ false → HasEffect m (calls (does.GiveUp name)) (give_up m b name)
@@ -177,7 +174,7 @@ row_give_up m b name open_ other =
     let c = calls (does.GiveUp name) in
     let new = without_voter b name in
     let v = decide m new in
-    effect_answered m c m new (λ n. with_fetch v.outcome n []) (λ o. unchanged) open_.open_ (without_one b name refl open_ other)
+    effect_answered m c m new (λ n. with_fetch v.outcome n []) (λ o. nothing_yet) open_.open_ (without_one b name refl open_ other)
     (λ n r. says_fetch m c n m new v [] (looks_at m new) r (none_says m c n))
 
 row_give_up_of : (m : Node) (name : ℕ) (b : Option Ballot) → m.ballot ≡ b → HasEffect m (calls (does.GiveUp name)) (give_up_of m name b)

@@ -5,6 +5,7 @@ pub mod Founders
 pub mod Rests
 pub mod Plans
 pub mod Says
+pub mod Alone
 pub mod Calls
 pub mod Ticks
 pub mod Ballots

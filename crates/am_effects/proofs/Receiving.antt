@@ -14,7 +14,6 @@ use Rattle.am_base.specs.Lists.{fits, row_of}
 use Rattle.am_packet.specs.declared.packet.Packet.TheVariants as packet
 use Rattle.am_sender.specs.declared.OwnSend.{OwnSend}
 use Rattle.am_bodies.specs.Bodies.{is_of, keep_body}
-use Rattle.am_model.specs.declared.status.Status.TheVariants as status
 use Rattle.am_model.specs.Node.{Node, top, told, view, only_name, acts, is_member, is_asking, has_own_leave, is_within_bound, waiting, pushed}
 use Rattle.am_model.specs.Emit.{quiet, ack_of, nack_of, fetch_of}
 use Rattle.am_model.specs.Sequencing.{row_at, risen}
@@ -23,12 +22,13 @@ use Rattle.am_model.specs.Joining.{begun, welcomed, welcome_row, gone_row}
 use Rattle.am_model.specs.Hearing.{hears_member, hears_asking, hears_in_view, hears_sequencer}
 use Rattle.am_model.proofs.Greatest.{split, and_both}
 use Rattle.am_effects.specs.Causes.{Cause, hears, BringsFronts, with_entry, with_number, alone}
-use Rattle.am_effects.specs.Changes.{MayStore, Carries, whole_entry, by_number, MayBeWelcomed, Changes, unchanged, keeps_body, notes, stores, begins_list, departs}
+use Rattle.am_effects.specs.Changes.{MayStore, Carries, whole_entry, by_number, MayBeWelcomed, keeps_body, notes, stores, begins_list}
+use Rattle.am_effects.specs.Courses.{Course, nothing_yet, and_then}
 use Rattle.am_effects.specs.Letters.{fetch, of_promise}
 use Rattle.am_effects.specs.Effects.{Answers}
 use Rattle.am_effects.proofs.Tests.{not_false, or_first, or_second}
 use Rattle.am_effects.proofs.Rests.{RestsWhole}
-use Rattle.am_effects.proofs.Plans.{and_then, Comes, HasEffect, effect_if, effect_of, does_quiet, does_saying, does_telling, does_where, rows}
+use Rattle.am_effects.proofs.Plans.{Comes, HasEffect, effect_if, effect_of, does_quiet, does_saying, does_telling, does_where, row_let_go, rows}
 use Rattle.am_effects.proofs.Says.{acts_pushed, tells_ack, tells_nack}
 use Rattle.am_effects.proofs.Calls.{Allows}
 
@@ -38,8 +38,8 @@ pub row_spread : (m : Node) (s : ℕ) (v : Stamp) (report : Report) (req : ℕ) 
 unfolding spread_row
 row_spread m s v report req body heard =
     let c = hears (packet.Spread s v report req body) in
-    effect_if m c (nat_le req (row_at m s).last || list_any (is_of s req) m.bodies) _ _ (λ t. effect_of m c _ (does_quiet RestsWhole m c m said.Known unchanged (λ n r. tt)))
-    (λ f. effect_of m c _ (does_quiet RestsWhole m c (record m { bodies = keep_body s req body m.bodies }) said.Kept (and_then unchanged (keeps_body {m = m} s v report req body refl heard)) (λ n r. tt)))
+    effect_if m c (nat_le req (row_at m s).last || list_any (is_of s req) m.bodies) _ _ (λ t. effect_of m c _ (does_quiet RestsWhole m c m said.Known nothing_yet (λ n r. tt)))
+    (λ f. effect_of m c _ (does_quiet RestsWhole m c (record m { bodies = keep_body s req body m.bodies }) said.Kept (and_then nothing_yet (keeps_body {m = m} s v report req body refl heard) tt) (λ n r. tt)))
 
 -- ---- entries
 
@@ -56,7 +56,7 @@ row_stored m c p s v base acc number e comes carries heard plain may =
     let o = said.Stored number in
     let acting : acts n ≡ true = acts_pushed p e plain ∙ heard_acts p s v heard in
     effect_of m c _ (does_where RestsWhole m c (acknowledges (pushed p e) s) (quiet n o) (only_name s) ack_of
-    (does_quiet RestsWhole m c n o (and_then (comes o) (stores {m = p} s v base acc number e carries heard plain may)) (λ k r. tt)) (λ k r t. tells_ack m c n (only_name s) acting k r))
+    (does_quiet RestsWhole m c n o (and_then (comes o) (stores {m = p} s v base acc number e carries heard plain may) tt) (λ k r. tt)) (λ k r t. tells_ack m c n (only_name s) acting k r))
 
 row_store : (m : Node) (c : Cause) (p : Node) (s : ℕ) (v : Stamp) (base acc number : ℕ) (e : Option Entry) (missing : Outcome) → Comes m c p → ((x : Entry) → e ≡ Some x → Carries c p s v base acc number x) → Allows m c missing → hears_sequencer p s v ≡ true → number ≡ top p + 1 → base ≤ p.core.taken → has_own_leave p ≡ false → HasEffect m c (store p s number e missing)
 row_store m c p s v base acc number None missing comes carries a heard next taken stays = effect_of m c _ (does_telling RestsWhole m c p missing (only_name s) nack_of (comes missing) (λ n r. a n) (tells_nack m c p (only_name s) (heard_acts p s v heard)))
@@ -82,7 +82,7 @@ row_received m c p s v base acc number e missing comes carries a heard =
     row_store m c p s v base acc number e missing comes carries a heard next taken stays))))
 
 comes_noted : (m : Node) (c : Cause) (s : ℕ) (v : Stamp) (base acc : ℕ) → BringsFronts c s v base acc → hears_sequencer m s v ≡ true → Comes m c (noted m base acc)
-comes_noted m c s v base acc by heard o = and_then unchanged (notes {m = m} s v base acc by heard)
+comes_noted m c s v base acc by heard o = and_then nothing_yet (notes {m = m} s v base acc by heard) tt
 
 some_is : {A : Type 0} (a b : A) → Some a ≡ Some b → a ≡ b
 some_is a b e = cc
@@ -150,7 +150,7 @@ row_welcomed m s v base join image may other =
     let c = hears (packet.Welcome s v base join image) in
     let p = begun m v base join image in
     let o = said.Welcomed join in
-    let h : Changes c o m p = and_then unchanged (begins_list {m = m} s v base join image refl refl may) in
+    let h : Course c o m p = and_then nothing_yet (begins_list {m = m} s v base join image refl refl may) tt in
     let a : (n : Node) → RestsWhole p n → Answers m c n o = λ n r. record { before = may.no_member; asked = asking m s v base join image may; member = r.rests.status; start = r.begins } in
     effect_if m c (stamp_eq (view p) v) _ _
     (λ t. effect_of m c _ (does_telling RestsWhole m c p o (only_name s) nack_of h a (tells_nack m c p (only_name s) (stamp_turned (view p) v t))))
@@ -163,7 +163,7 @@ pub row_welcome : (m : Node) (s : ℕ) (v : Stamp) (base join : ℕ) (image : Im
 unfolding welcome_row
 row_welcome m s v base join image heard own =
     let c = hears (packet.Welcome s v base join image) in
-    let quietly : (o : Outcome) → Allows m c o → HasEffect m c (quiet m o) = λ o b. effect_of m c _ (does_quiet RestsWhole m c m o unchanged (λ n r. b n)) in
+    let quietly : (o : Outcome) → Allows m c o → HasEffect m c (quiet m o) = λ o b. effect_of m c _ (does_quiet RestsWhole m c m o nothing_yet (λ n r. b n)) in
     let other = not_false_test (and_both (not (s == m.core.who)) _ heard).0 in
     effect_if m c (is_member m.status) _ _ (λ t. quietly said.Known (λ n. tt))
     (λ none. effect_if m c (stamp_lt v m.core.promise) _ _ (λ t. quietly said.Elsewhere (λ n. tt))
@@ -184,5 +184,5 @@ unfolding gone_row
 row_gone m s v number heard =
     let c = hears (packet.Gone s v number) in
     effect_if m c m.leaving _ _
-    (λ t. effect_of m c _ (does_quiet RestsWhole m c (record m { status = status.Departed }) said.Departed (and_then unchanged (departs {m = m} s v number refl heard t)) (λ n r. tt)))
-    (λ f. effect_of m c _ (does_quiet RestsWhole m c m said.Known unchanged (λ n r. tt)))
+    (λ t. row_let_go m c s v number refl heard t)
+    (λ f. effect_of m c _ (does_quiet RestsWhole m c m said.Known nothing_yet (λ n r. tt)))

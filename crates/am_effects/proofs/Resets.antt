@@ -20,11 +20,12 @@ use Rattle.am_model.specs.Hearing.{hears_member, hears_asking}
 use Rattle.am_model.proofs.Greatest.{and_both}
 use Rattle.am_effects.specs.Causes.{Cause, hears}
 use Rattle.am_effects.specs.Looks.{HasOpen, with_more, as_it_is, was_fetched}
-use Rattle.am_effects.specs.Changes.{MayStore, without_ballot, for_ballot, Changes, unchanged, invited, overtaken, told_result, promises, fetches, stores_view}
+use Rattle.am_effects.specs.Changes.{MayStore, without_ballot, for_ballot, invited, overtaken, told_result, promises, fetches, stores_view}
+use Rattle.am_effects.specs.Courses.{Course, nothing_yet, and_then}
 use Rattle.am_effects.specs.Letters.{vote, piece, ack, fetch, of_promise}
 use Rattle.am_effects.proofs.Tests.{not_false, not_true, or_first, or_second}
 use Rattle.am_effects.proofs.Rests.{RestsWhole}
-use Rattle.am_effects.proofs.Plans.{and_then, none_says, Comes, HasEffect, effect_if, effect_of, does_quiet, does_telling, does_where, rows}
+use Rattle.am_effects.proofs.Plans.{none_says, Comes, HasEffect, effect_if, effect_of, does_quiet, does_telling, does_where, rows}
 use Rattle.am_effects.proofs.Says.{told_pushed, says_served, tells_ack}
 use Rattle.am_effects.proofs.Ballots.{viewed, effect_answered, row_keep_vote}
 use Rattle.am_effects.proofs.Calls.{Allows}
@@ -47,8 +48,8 @@ unfolding invite_row
 row_invite m s v heard own =
     let c = hears (packet.Invite s v) in
     effect_if m c (stamp_lt v m.core.promise) _ _
-    (λ t. effect_of m c _ (does_telling RestsWhole m c m (said.Newer m.core.promise) (only_name s) vote_of unchanged (λ n r. tt) (λ n r. vote s v refl)))
-    (λ f. effect_of m c _ (does_telling RestsWhole m c (promised m v) said.Voted (only_name s) vote_of (and_then unchanged (promises {m = m} v f (invited s v refl heard own))) (λ n r. tt) (λ n r. vote s v refl)))
+    (λ t. effect_of m c _ (does_telling RestsWhole m c m (said.Newer m.core.promise) (only_name s) vote_of nothing_yet (λ n r. tt) (λ n r. vote s v refl)))
+    (λ f. effect_of m c _ (does_telling RestsWhole m c (promised m v) said.Voted (only_name s) vote_of (and_then nothing_yet (promises {m = m} v f (invited s v refl heard own)) tt) (λ n r. tt) (λ n r. vote s v refl)))
 
 row_voted_for : (m : Node) (s : ℕ) (v : Stamp) (show : Vote) (b : Option Ballot) → m.ballot ≡ b → hears_member m s ≡ true → stamp_lt m.core.promise v ≡ false → HasEffect m (hears (packet.Vote s v show)) (voted_for m s v show b)
 row_voted_for m s v show None is heard high = search rows
@@ -69,7 +70,7 @@ row_vote m s v show heard =
     effect_if m c (stamp_lt m.core.promise v) _ _
     (λ t.
     let f : stamp_lt v m.core.promise ≡ false = grind (arith, nat_tests) in
-    effect_of m c _ (does_quiet RestsWhole m c (promised m v) (said.Overtaken v) (and_then unchanged (promises {m = m} v f (overtaken s v show refl heard t))) (λ n r. tt)))
+    effect_of m c _ (does_quiet RestsWhole m c (promised m v) (said.Overtaken v) (and_then nothing_yet (promises {m = m} v f (overtaken s v show refl heard t)) tt) (λ n r. tt)))
     (λ f. row_voted_for m s v show m.ballot refl heard f)
 
 -- ---- fetching
@@ -85,7 +86,7 @@ row_fetch m s v low =
     let above : m.core.base ≤ low = grind (arith, nat_tests) in
     effect_of m c _ (record {
       stays = refl;
-      changes = λ n. unchanged;
+      changes = λ n. nothing_yet;
       answer = λ n r. tt;
       letters = λ n r. says_served m c m n (piece_of n) (only_name s) low above r.rests
           (λ number e stands. piece s v low number e refl ((λ i. stamp_eq v (r.rests.promise i) && ((v.by == s) || ((v.by == r.rests.who i) && stamp_eq (r.rests.view i) v))) ∙ not_false _ may) stands);
@@ -124,7 +125,7 @@ row_piece_promised m s v base number e h none =
     effect_if m c (not (v.by == s)) _ _ (λ t. search rows)
     (λ own. row_fetched m c v base number e false (caught_up s v number)
     (λ may past.
-    let change : Changes c (said.Stored number) m p = and_then unchanged (fetches {m = m} s v base number e refl h.heard h.promise h.below (without_ballot none (not_false _ own) past) may) in
+    let change : Course c (said.Stored number) m p = and_then nothing_yet (fetches {m = m} s v base number e refl h.heard h.promise h.below (without_ballot none (not_false _ own) past) may) tt in
     effect_of m c _ (does_where RestsWhole m c (λ n. stamp_eq (view n) v) (quiet p (said.Stored number)) (only_name s) ack_of (does_quiet RestsWhole m c p (said.Stored number) change (λ n r. tt))
     (λ n r t.
     let member : is_member n.status ≡ true = ap is_member r.rests.status ∙ member_heard m s h.heard in
@@ -142,7 +143,7 @@ row_piece_for m s v base number e (Some b) is h =
     effect_if m c (not (fetches_from b.answer s)) _ _ (λ t. search rows)
     (λ from. row_fetched m c v base number e true (fetched_for b)
     (λ may past.
-    let comes : Comes m c p = λ o. and_then unchanged (fetches {m = m} s v base number e refl h.heard h.promise h.below (for_ballot b has_open (not_false _ from) past) may) in
+    let comes : Comes m c p = λ o. and_then nothing_yet (fetches {m = m} s v base number e refl h.heard h.promise h.below (for_ballot b has_open (not_false _ from) past) may) tt in
     effect_answered m c p b (λ n. []) comes f (as_it_is b (record { last = is; open_ = f }) (was_fetched s v base number e refl h.promise)) (λ n r. none_says m c n))))
 
 pub row_piece : (m : Node) (s : ℕ) (v : Stamp) (base number : ℕ) (e : Entry) → hears_member m s ≡ true → HasEffect m (hears (packet.Piece s v base number e)) (piece_row m s v base number e)
@@ -165,7 +166,7 @@ row_hears_result m s v base number names resilience heard own other low =
     let p = promised m v in
     let e = View v names resilience in
     let member = member_heard m s heard in
-    let comes : Comes m c p = λ o. and_then unchanged (promises {m = m} v low (told_result s v base number names resilience refl heard own other)) in
+    let comes : Comes m c p = λ o. and_then nothing_yet (promises {m = m} v low (told_result s v base number names resilience refl heard own other)) tt in
     let quietly : (o : Outcome) → Allows m c o → HasEffect m c (quiet p o) = λ o b. effect_of m c _ (does_quiet RestsWhole m c p o (comes o) (λ n r. b n)) in
     let within = is_within_bound p (max p.core.base base) number in
     effect_if m c (stamp_eq (view p) v) _ _
@@ -188,7 +189,7 @@ row_hears_result m s v base number names resilience heard own other low =
     let may : MayStore p (max p.core.base base) base number e = record { next = next; taken = taken; stays = stays; fits = not_false _ (or_first (not (fits (told p) e)) (not within) f); within = not_false _ (or_second (not (fits (told p) e)) (not within) f) } in
     let stamp : view n ≡ v = ap (λ (i : Image). i.view) (told_pushed (trimmed p base) e) ∙ (viewed (told p) (top p + 1) v names resilience).1 in
     let same : stamp_eq v (view n) ≡ true = ap (stamp_eq v) stamp ∙ itself v in
-    effect_of m c _ (does_telling RestsWhole m c n (said.Stored number) (only_name s) ack_of (and_then (comes _) (stores_view {m = p} s v base number names resilience refl heard own other refl below may)) (λ k r. tt) (tells_ack m c n (only_name s) (rw (member, same) refl)))))))))
+    effect_of m c _ (does_telling RestsWhole m c n (said.Stored number) (only_name s) ack_of (and_then (comes _) (stores_view {m = p} s v base number names resilience refl heard own other refl below may) tt) (λ k r. tt) (tells_ack m c n (only_name s) (rw (member, same) refl)))))))))
 
 pub row_result : (m : Node) (s : ℕ) (v : Stamp) (base number : ℕ) (names : List ℕ) (resilience : ℕ) → hears_member m s ≡ true → (v.by == s) ≡ true → HasEffect m (hears (packet.Result s v base number names resilience)) (result_row m s v base number names resilience)
 unfolding result_row

@@ -17,12 +17,13 @@ use Rattle.am_model.specs.Sequencing.{row_at, is_unknown, reported, requested, r
 use Rattle.am_model.specs.Joining.{admitted, number_join, asks_to_join, join_ask_row, may_go, let_go, and_gone, asks_to_leave, counts_report, leave_ask_row}
 use Rattle.am_model.proofs.Greatest.{split, and_both}
 use Rattle.am_effects.specs.Causes.{Cause, hears, BringsSend, BringsReport, with_send, by_ack, by_nack, by_leave_ask}
-use Rattle.am_effects.specs.Changes.{MayReport, Changes, unchanged, refreshes, takes_report, admits, numbers, asked_send, asked_join, asked_leave}
+use Rattle.am_effects.specs.Changes.{MayReport, takes_report, admits, numbers, asked_send, asked_join, asked_leave}
+use Rattle.am_effects.specs.Courses.{Course, nothing_yet, used_report, and_then}
 use Rattle.am_effects.specs.Letters.{Stands, bcast, order, hold, welcome, gone, just_joined, asks_again}
 use Rattle.am_effects.specs.Effects.{Answers}
 use Rattle.am_effects.proofs.Tests.{not_false, or_first, or_second, and_first, and_second, then_other}
 use Rattle.am_effects.proofs.Rests.{RestsWhole, rests_refresh, leads_rests, stands_rests}
-use Rattle.am_effects.proofs.Plans.{and_then, Comes, Does, HasEffect, effect_if, effect_of, does_quiet, does_saying, does_polling, does_telling, does_and, does_where, does_numbering, rows}
+use Rattle.am_effects.proofs.Plans.{Comes, Does, HasEffect, effect_if, effect_of, does_quiet, does_saying, does_polling, does_telling, does_and, does_where, does_numbering, rows}
 use Rattle.am_effects.proofs.Says.{leads_pushed, stands_pushed, says_served}
 
 -- ---- reports
@@ -38,7 +39,7 @@ may_report m s v report h known fits = record { leads = h.leads; other = h.other
 
 -- the report is taken, and what follows from it
 comes_reported : (m : Node) (c : Cause) (s : ℕ) (v : Stamp) (report : Report) → BringsReport c s v report → MayReport m s v report → Comes m c (reported m s report)
-comes_reported m c s v report by may o = and_then (and_then unchanged (takes_report {m = m} s v report by may)) (refreshes {m = with_report m s report})
+comes_reported m c s v report by may o = used_report s v report by may
 
 rests_reported : (m : Node) (s : ℕ) (report : Report) → RestsWhole (with_report m s report) (reported m s report)
 rests_reported m s report = rests_refresh (with_report m s report)
@@ -67,7 +68,7 @@ row_requested m c p s v report req body by_order comes leads known by spread =
     let e = Data s req body in
     let next : req ≡ r.last + 1 = grind (arith, nat_tests) in
     effect_of m c _ (does_numbering RestsWhole m c p e (said.Numbered (top p + 1)) _
-    (and_then (comes _) (numbers {m = p} e leads (not_false _ room) (asked_send s v report req body by known left next))) (λ n k. tt)
+    (and_then (comes _) (numbers {m = p} e leads (not_false _ room) (asked_send s v report req body by known left next)) tt) (λ n k. tt)
     (λ n k.
     let lead = leads_rests k.rests ∙ leads_pushed p e refl ∙ leads in
     let stands = stands_rests m.core.base (top p + 1) e k.rests (stands_pushed p m.core.base e) in
@@ -88,7 +89,7 @@ row_ack m s v report from =
     let c = hears (packet.Ack s v report) in
     let k : is_unknown m s ≡ false → not (report_fits m report) ≡ false → HasEffect m c (record (quiet (with_report m s report) said.Noted) { outcome = risen m said.Noted (λ n. said.Accepted n.core.acc) }) = λ known f.
     effect_of m c _ (does_saying RestsWhole m c (with_report m s report) said.Noted (risen m said.Noted (λ n. said.Accepted n.core.acc))
-    (λ n. and_then unchanged (takes_report {m = m} s v report (by_ack s v report) (may_report m s v report from known (not_false _ f))))
+    (λ n. and_then nothing_yet (takes_report {m = m} s v report (by_ack s v report) (may_report m s v report from known (not_false _ f))) tt)
     (λ n r. split (nat_lt m.core.acc n.core.acc) (λ t. rw t tt) (λ g. rw g tt))) in
     search (rows, k) depth 9
 
@@ -121,7 +122,7 @@ does_number_join m s v leads other fit room =
     let p = admitted m s in
     let e = Join s in
     let o = said.Numbered (top m + 1) in
-    let h : Changes c o m (pushed p e) = and_then (and_then unchanged (admits {m = m} s v refl leads fit)) (numbers {m = p} e leads room (asked_join s v refl other fit)) in
+    let h : Course c o m (pushed p e) = and_then (and_then nothing_yet (admits {m = m} s v refl leads fit) tt) (numbers {m = p} e leads room (asked_join s v refl other fit)) tt in
     let lead : (n : Node) → RestsWhole (pushed p e) n → is_sequencer n ≡ true = λ n r. leads_rests r.rests ∙ leads_pushed p e refl ∙ leads in
     let stands : (n : Node) → RestsWhole (pushed p e) n → Stands n.core.log m.core.base (top m + 1) e = λ n r. stands_rests m.core.base (top m + 1) e r.rests (stands_pushed p m.core.base e) in
     let long = length-append m.core.log.entries (e ∷ []) in
@@ -160,11 +161,11 @@ row_asks_to_join : (m : Node) (s : ℕ) (v : Stamp) (q : Row) → at_place (told
 row_asks_to_join m s v q is leads other =
     let c = hears (packet.JoinAsk s v) in
     let fit = fits (told m) (Join s) in
-    let quietly : (o : Outcome) → ((n : Node) → Answers m c n o) → HasEffect m c (quiet m o) = λ o a. effect_of m c _ (does_quiet RestsWhole m c m o unchanged (λ n r. a n)) in
+    let quietly : (o : Outcome) → ((n : Node) → Answers m c n o) → HasEffect m c (quiet m o) = λ o a. effect_of m c _ (does_quiet RestsWhole m c m o nothing_yet (λ n r. a n)) in
     effect_if m c (nat_lt (life_of s) q.life) _ _ (λ t. quietly said.Stranger (λ n. tt))
     (λ low. effect_if m c ((q.life == life_of s) && nat_lt 0 q.left) _ _ (λ t. quietly said.Stranger (λ n. tt))
     (λ here. effect_if m c (nat_lt q.life (life_of s) && (nat_lt 0 q.life && ((q.left == 0) || nat_lt m.core.acc q.left))) _ _ (λ t. quietly (said.Occupied _) (λ n. tt))
-    (λ occupied. effect_if m c (fit && not (has_room m)) _ _ (λ t. effect_of m c _ (does_polling RestsWhole m c m _ unchanged (λ n r. tt)))
+    (λ occupied. effect_if m c (fit && not (has_room m)) _ _ (λ t. effect_of m c _ (does_polling RestsWhole m c m _ nothing_yet (λ n r. tt)))
     (λ room. effect_if m c fit _ _ (λ t. effect_of m c _ (does_number_join m s v leads other t (then_other fit (has_room m) room t)))
     (λ none. effect_if m c (nat_le q.joined (m.reports s).stored || nat_lt m.core.acc q.joined) _ _ (λ t. quietly said.Again (λ n. tt))
     (λ f.
@@ -174,7 +175,7 @@ row_asks_to_join m s v q is leads other =
     let k = known_join q.life q.joined q.left (life_of s) m.core.acc low here occupied no_fit in
     let accepted : q.joined ≤ m.core.acc = grind (arith, nat_tests) in
     let behind : (m.reports s).stored < q.joined = grind (arith, nat_tests) in
-    effect_of m c _ (does_telling RestsWhole m c m (said.Welcomed q.joined) (only_name s) (λ n. welcome_of n s) unchanged (λ n r. tt)
+    effect_of m c _ (does_telling RestsWhole m c m (said.Welcomed q.joined) (only_name s) (λ n. welcome_of n s) nothing_yet (λ n r. tt)
     (λ n r. welcome s (leads_rests r.rests ∙ leads) (asks_again r.log (rw is (k.0)) (rw is (k.1)) (rw is (k.2)) (rw is accepted) (rw is behind))))))))))
 
 pub row_join_ask : (m : Node) (s : ℕ) (v : Stamp) → is_sequencer m ≡ true → (s == m.core.who) ≡ false → HasEffect m (hears (packet.JoinAsk s v)) (join_ask_row m s)
@@ -196,7 +197,7 @@ row_asks_to_leave m p s v report comes leads other known =
     (λ room. effect_if m c stays _ _
     (λ t. effect_of m c _ (does_gone m c (numbering p e (said.Numbered (top p + 1)) (λ n. bcast_of n (top p + 1) e)) s (leads_pushed p e refl ∙ leads)
     (does_numbering RestsWhole m c p e (said.Numbered (top p + 1)) (λ n. bcast_of n (top p + 1) e)
-    (and_then (comes _) (numbers {m = p} e leads (then_other stays (has_room p) room t) (asked_leave s v report refl other known t))) (λ n r. tt)
+    (and_then (comes _) (numbers {m = p} e leads (then_other stays (has_room p) room t) (asked_leave s v report refl other known t)) tt) (λ n r. tt)
     (λ n r. bcast (others p) (top p + 1) e (leads_rests r.rests ∙ leads_pushed p e refl ∙ leads) (stands_rests m.core.base (top p + 1) e r.rests (stands_pushed p m.core.base e))))))
     (λ f. effect_of m c _ (does_gone m c (record (quiet p said.Again) { outcome = let_go p s }) s leads
     (does_saying RestsWhole m c p said.Again (let_go p s) (λ n. comes _) (λ n r. split (may_go n s) (λ t. rw t tt) (λ g. rw g tt))))))
@@ -207,10 +208,10 @@ row_leave_ask m s v report leads other =
     let c = hears (packet.LeaveAsk s v report) in
     let p = reported m s report in
     let who = (rests_reported m s report).rests.who in
-    effect_if m c (is_unknown m s) _ _ (λ t. effect_of m c _ (does_quiet RestsWhole m c m said.Stranger unchanged (λ n r. tt)))
+    effect_if m c (is_unknown m s) _ _ (λ t. effect_of m c _ (does_quiet RestsWhole m c m said.Stranger nothing_yet (λ n r. tt)))
     (λ known. effect_if m c (counts_report m v report) _ _
     (λ t.
     let both = and_both (stamp_eq v (view m)) (report_fits m report) t in
     let from : FromMember m s v = record { leads = leads; other = other; view = both.0 } in
     row_asks_to_leave m p s v report (comes_reported m c s v report (by_leave_ask s v report) (may_report m s v report from known both.1)) (leads_reported m s report leads) (ap (λ n. s == n) who ∙ other) (unknown_reported m s report known))
-    (λ f. row_asks_to_leave m m s v report (λ o. unchanged) leads other known))
+    (λ f. row_asks_to_leave m m s v report (λ o. nothing_yet) leads other known))

@@ -1,28 +1,31 @@
 -- The effect of the tick.
-use Rattle.std.proofs.Common.{◌≡◌, ◌==◌, ◌&&◌, nat_le, length, not, true, false, Option, Some, None, refl, sym, ap, ◌∙◌}
+use Rattle.std.proofs.Common.{◌≡◌, ◌==◌, ◌&&◌, nat_lt, nat_le, [], length, not, true, false, Option, Some, None, refl, sym, ap, ◌∙◌, arith}
+use Rattle.std.proofs.lemmas.Bool.Decides.{nat_tests}
 use Rattle.am_base.specs.declared.name.Stamp.{Stamp}
 use Rattle.am_base.specs.declared.outcome.Outcome.{Outcome}
 use Rattle.am_base.specs.declared.outcome.Outcome.TheVariants as said
 use Rattle.am_base.specs.declared.event.NodeEvent.TheVariants as does
 use Rattle.am_base.specs.declared.entry.Entry.TheVariants.{Data}
+use Rattle.am_base.specs.Names.{size}
 use Rattle.am_base.specs.Lists.{entry_at}
 use Rattle.am_sender.specs.declared.OwnSend.{OwnSend}
 use Rattle.am_model.specs.declared.status.Status.{Status}
 use Rattle.am_model.specs.declared.status.Status.TheVariants as status
-use Rattle.am_model.specs.Node.{Node, Ballot, told, view, only_name, acts, has_room, is_asking, is_member, is_sequencer, waiting}
+use Rattle.am_model.specs.Node.{Node, Ballot, told, view, others, only_name, acts, has_room, is_asking, is_member, is_sequencer, waiting}
 use Rattle.am_model.specs.Emit.{quiet, ack_of, invite_of, fetch_of, result_of}
 use Rattle.am_model.specs.Calls.{would_emit, emit, go}
 use Rattle.am_model.specs.Ticks.{tick_ballot, tick_promised, tick_member, put_off, behind_view, viewed_by, and_result, tick_sequencer, tick_acting, tick_with, tick_by, tick_row}
 use Rattle.am_model.proofs.Greatest.{split}
 use Rattle.am_effects.specs.Causes.{Cause, calls}
-use Rattle.am_effects.specs.Changes.{unchanged}
+use Rattle.am_effects.specs.Courses.{nothing_yet}
 use Rattle.am_effects.specs.Looks.{HasOpen}
 use Rattle.am_effects.specs.Letters.{Says, invite, fetch, result, goes_on, for_ballot, of_promise, leads}
 use Rattle.am_effects.specs.Effects.{Answers}
 use Rattle.am_effects.proofs.Tests.{not_false}
 use Rattle.am_effects.proofs.Rests.{Rests, RestsWhole, leads_rests}
 use Rattle.am_effects.proofs.Plans.{Does, and_says, HasEffect, effect_if, effect_of, does_quiet, does_telling, tightly, rows}
-use Rattle.am_effects.proofs.Says.{leads_pushed, tells_ack}
+use Rattle.am_effects.proofs.Alone.{IsAlone, gone, alone_after, sent_others, those_none}
+use Rattle.am_effects.proofs.Says.{leads_pushed, view_pushed, tells_ack}
 use Rattle.am_effects.proofs.Calls.{does_emit, comes_emit, node_if, row_ask_to_join, row_go}
 
 abbrev pub tick : Cause
@@ -35,15 +38,15 @@ pub open_rests : {p n : Node} {b : Ballot} → RestsWhole p n → HasOpen p b �
 open_rests r h = record { last = r.rests.ballot ∙ h.last; open_ = h.open_ }
 
 row_tick_ballot : (m : Node) (b : Ballot) (o : Outcome) → HasOpen m b → b.answer ≡ o → HasEffect m tick (tick_ballot m o)
-row_tick_ballot m b (said.Waiting names) h is = effect_of m tick _ (does_telling RestsWhole m tick m said.Ticked names invite_of unchanged (λ n r. tt) (λ n r. invite names (goes_on b h)))
-row_tick_ballot m b (said.Fetching from want) h is = effect_of m tick _ (does_telling RestsWhole m tick m said.Ticked (only_name from) fetch_of unchanged (λ n r. tt) (λ n r. fetch (only_name from) (for_ballot b (open_rests r h) from want is refl)))
+row_tick_ballot m b (said.Waiting names) h is = effect_of m tick _ (does_telling RestsWhole m tick m said.Ticked names invite_of nothing_yet (λ n r. tt) (λ n r. invite names (goes_on b h)))
+row_tick_ballot m b (said.Fetching from want) h is = effect_of m tick _ (does_telling RestsWhole m tick m said.Ticked (only_name from) fetch_of nothing_yet (λ n r. tt) (λ n r. fetch (only_name from) (for_ballot b (open_rests r h) from want is refl)))
 row_tick_ballot m b _ h is = search rows
 
 -- ---- who acts, or doesn't
 
 row_tick_promised : (m : Node) → HasEffect m tick (tick_promised m)
 row_tick_promised m = effect_if m tick (m.core.promise.by == m.core.who) _ _ (λ t. search rows)
-    (λ f. effect_of m tick _ (does_telling RestsWhole m tick m said.Ticked (only_name m.core.promise.by) fetch_of unchanged (λ n r. tt) (λ n r. fetches n r f)))
+    (λ f. effect_of m tick _ (does_telling RestsWhole m tick m said.Ticked (only_name m.core.promise.by) fetch_of nothing_yet (λ n r. tt) (λ n r. fetches n r f)))
   where
     fetches : (n : Node) → RestsWhole m n → (m.core.promise.by == m.core.who) ≡ false → Says m tick n (only_name m.core.promise.by) (fetch_of n)
     fetches n r f = fetch (only_name m.core.promise.by) (of_promise ((λ i. (r.rests.promise i).by == r.rests.who i) ∙ f) (ap (λ (v : Stamp). only_name v.by) (sym r.rests.promise)))
@@ -51,10 +54,10 @@ row_tick_promised m = effect_if m tick (m.core.promise.by == m.core.who) _ _ (λ
 row_tick_member : (m : Node) → is_member m.status ≡ true → acts m ≡ true → HasEffect m tick (tick_member m)
 row_tick_member m member acting =
     effect_if m tick m.leaving _ _
-    (λ t. row_go m tick (quiet m said.Ticked) (does_quiet Rests m tick m said.Ticked unchanged (λ n r. tt)) (λ o. unchanged) (λ x y z. tt) member t)
+    (λ t. row_go m tick (quiet m said.Ticked) does.Tick refl (does_quiet Rests m tick m said.Ticked nothing_yet (λ n r. tt)) (λ o. nothing_yet) (λ x y z. tt) (λ alone. refl) refl member t)
     (λ f. effect_if m tick (would_emit m (waiting m)) _ _
-    (λ t. effect_of m tick _ (tightly m tick _ (does_emit m tick m (waiting m) said.Ticked unchanged (λ n same. tt) refl)))
-    (λ g. effect_of m tick _ (does_telling RestsWhole m tick m said.Ticked (only_name (view m).by) ack_of unchanged (λ n r. tt) (tells_ack m tick m (only_name (view m).by) acting))))
+    (λ t. effect_of m tick _ (tightly m tick _ (does_emit m tick m (waiting m) said.Ticked nothing_yet (λ n same. tt) refl)))
+    (λ g. effect_of m tick _ (does_telling RestsWhole m tick m said.Ticked (only_name (view m).by) ack_of nothing_yet (λ n r. tt) (tells_ack m tick m (only_name (view m).by) acting))))
 
 -- ---- the sequencer
 
@@ -62,23 +65,48 @@ plain_put_off : (m : Node) (w : Option OwnSend) (n : Node) → Answers m tick n 
 plain_put_off m None n = tt
 plain_put_off m (Some s) n = split (would_emit m (Some s) && not (has_room m)) (λ t. rw t tt) (λ f. rw f tt)
 
--- a node that emits stays a sequencer, and a member, and goes on leaving
+-- a node that emits stays a sequencer, and a member, and goes on leaving, in its view
 abbrev Same : Node → Node → Type 0
-Same m p = (is_sequencer p ≡ is_sequencer m) × (p.status ≡ m.status) × (p.leaving ≡ m.leaving)
+Same m p = (is_sequencer p ≡ is_sequencer m) × (p.status ≡ m.status) × (p.leaving ≡ m.leaving) × (view p ≡ view m)
 
 same_emit : (m : Node) (w : Option OwnSend) (o : Outcome) → Same m (emit m w o).node
-same_emit m None o = (refl, refl, refl)
+same_emit m None o = (refl, refl, refl, refl)
 same_emit m (Some s) o =
-    node_if (Same m) (not (would_emit m (Some s))) _ _ (λ t. (refl, refl, refl))
-    (λ f. node_if (Same m) (not (is_sequencer m)) _ _ (λ t. node_if (Same m) (nat_le (length s.body) m.core.rules.pb_up_to) _ _ (λ u. (refl, refl, refl)) (λ u. (refl, refl, refl)))
-    (λ g. node_if (Same m) (has_room m) _ _ (λ t. (leads_pushed m (Data m.core.who s.req s.body) refl, refl, refl)) (λ k. (refl, refl, refl))))
+    node_if (Same m) (not (would_emit m (Some s))) _ _ (λ t. (refl, refl, refl, refl))
+    (λ f. node_if (Same m) (not (is_sequencer m)) _ _ (λ t. node_if (Same m) (nat_le (length s.body) m.core.rules.pb_up_to) _ _ (λ u. (refl, refl, refl, refl)) (λ u. (refl, refl, refl, refl)))
+    (λ g. node_if (Same m) (has_room m) _ _ (λ t. (leads_pushed m (Data m.core.who s.req s.body) refl, refl, refl, view_pushed m (Data m.core.who s.req s.body) refl)) (λ k. (refl, refl, refl, refl))))
+
+-- who is alone tells nobody of its send, nor of the last View
+quiet_emit : (m : Node) (w : Option OwnSend) (o : Outcome) (n : Node) → IsAlone (emit m w o).node → is_sequencer m ≡ true → (emit m w o).letters n ≡ []
+quiet_emit m None o n alone lead = refl
+quiet_emit m (Some s) o n alone lead = split (would_emit m (Some s))
+    (λ t. split (has_room m)
+    (λ u. let all = rw (t, lead, u) at alone in
+    let none : nat_lt 0 (size (others m)) ≡ false = ap (λ set. nat_lt 0 (size set)) (sym (sent_others m m.core.who s.req s.body)) ∙ all in
+    let nobody_ : (size (others m) == 0) ≡ true = grind (arith, nat_tests) in
+    rw (t, lead, u, nobody_) refl)
+    (λ g. rw (t, lead, g) refl))
+    (λ f. rw f refl)
+
+quiet_view : (n : Node) → size (others n) ≡ 0 → size (behind_view n) ≡ 0
+quiet_view n none = split (nat_lt n.core.base (told n).view_number)
+    (λ t. rw t (those_none (λ name. nat_lt (n.reports name).stored (told n).view_number) (others n) none))
+    (λ f. rw f refl)
+
+quiet_last : (m : Node) (o : Outcome) → is_sequencer m ≡ true → IsAlone (emit m (waiting m) o).node
+    → (and_result (record (emit m (waiting m) o) { polls = true })).letters (gone (emit m (waiting m) o).node) ≡ []
+quiet_last m o lead alone =
+    let n = gone (emit m (waiting m) o).node in
+    let none = quiet_view n (alone_after (emit m (waiting m) o).node alone) in
+    let nobody_ : (size (behind_view n) == 0) ≡ true = grind (arith, nat_tests) in
+    rw nobody_ (quiet_emit m (waiting m) o n alone lead)
 
 row_tick_sequencer : (m : Node) → is_member m.status ≡ true → is_sequencer m ≡ true → HasEffect m tick (tick_sequencer m)
 row_tick_sequencer m member lead =
     let o = put_off m (waiting m) in
     let e = emit m (waiting m) o in
     let p = and_result (record e { polls = true }) in
-    let d = does_emit m tick m (waiting m) o unchanged (λ n same. plain_put_off m (waiting m) n) refl in
+    let d = does_emit m tick m (waiting m) o nothing_yet (λ n same. plain_put_off m (waiting m) n) refl in
     let same = same_emit m (waiting m) o in
     let h : Does Rests m tick p = record {
       stays = d.stays;
@@ -88,7 +116,7 @@ row_tick_sequencer m member lead =
           (result (behind_view n) (told n).view_number (viewed_by (entry_at n.core.log (told n).view_number)) refl refl (leads (leads_rests r ∙ same.0 ∙ lead))) (d.letters n r);
     } in
     effect_if m tick m.leaving (go p) p
-    (λ t. row_go m tick p h (comes_emit m tick m (waiting m) o (λ k. unchanged) refl) (λ x y z. tt) (ap is_member same.1 ∙ member) (same.2 ∙ t))
+    (λ t. row_go m tick p does.Tick refl h (comes_emit m tick m (waiting m) o (λ k. nothing_yet) refl) (λ x y z. tt) (quiet_last m o lead) same.3 (ap is_member same.1 ∙ member) (same.2 ∙ t))
     (λ f. effect_of m tick p (tightly m tick p h))
 
 -- ---- the row
@@ -106,7 +134,7 @@ row_tick_with m (Some b) is member =
 
 row_tick_by : (m : Node) (s : Status) → m.status ≡ s → HasEffect m tick (tick_by m s)
 row_tick_by m status.Stranger is = search rows
-row_tick_by m status.Asking is = row_ask_to_join m tick m said.Ticked unchanged (λ n. tt) (ap is_asking is)
+row_tick_by m status.Asking is = row_ask_to_join m tick m said.Ticked nothing_yet (λ n. tt) (ap is_asking is)
 row_tick_by m status.Member is = row_tick_with m m.ballot refl (ap is_member is)
 row_tick_by m status.Departed is = search rows
 

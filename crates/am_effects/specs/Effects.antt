@@ -15,6 +15,7 @@ use Rattle.am_model.specs.Emit.{Step}
 use Rattle.am_model.specs.Step.{step, hear, refused}
 use Rattle.am_effects.specs.Causes.{Cause, calls, hears, refuses, cause_of}
 use Rattle.am_effects.specs.Changes.{Changes}
+use Rattle.am_effects.specs.Courses.{Ending}
 use Rattle.am_effects.specs.Letters.{LetterSays}
 
 -- ---- what an answer tells
@@ -73,10 +74,11 @@ Answers m c n _ = Unit {0}
 
 -- ---- an effect
 
--- What a node was, what made it do the step, and the step. Its letters tell of the node as it is then, but for its status where it
--- departs.
+-- What a node was, what made it do the step, and the step: its changes in turn, and in which order they come. Its letters tell of the node
+-- as it is then, but for its status where it departs.
 pub record Effect (m : Node) (c : Cause) (s : Step) : Type 0 where
   pub changes : Changes c s.outcome m s.node
+  pub ending : Ending c s.outcome m s.letters s.node
   pub answer : Answers m c s.node s.outcome
   pub sender : Node
   pub is : s.node ≡ record sender { status = s.node.status }

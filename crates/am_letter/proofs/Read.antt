@@ -4,7 +4,6 @@ use Rattle.am_packet.specs.declared.packet.Packet.{Packet}
 use Rattle.am_packet.specs.Kinds.{kind_of}
 use Rattle.am_codec.specs.Limits.{IsPacket}
 use Rattle.am_codec.specs.Spelling.{spelling}
-use Rattle.am_codec.specs.Reading.{reading}
 use Rattle.am_codec.proofs.Again.{spelling_again, length-spelling}
 use Rattle.am_letter.specs.Letters.{packet_in, read_packet, IsSpelled}
 

@@ -1,7 +1,5 @@
 -- The packet in a letter's bytes.
 use Rattle.std.specs.Prelude.{◌≡◌, ℕ, List, Ok, Err}
-use Rattle.am_base.specs.Names.{nobody}
-use Rattle.am_packet.specs.Boxes.{Letter, letter_to}
 use Rattle.am_packet.specs.declared.packet.Packet.{Packet}
 use Rattle.am_packet.specs.declared.packet.Packet.TheVariants.{Invite}
 use Rattle.am_codec.specs.Limits.{IsPacket}
@@ -21,7 +19,3 @@ packet_in bytes = read_packet (reading bytes)
 pub record IsSpelled (bytes : List ℕ) : Type 0 where
   pub packet : IsPacket (packet_in bytes)
   pub spelled : bytes ≡ spelling (packet_in bytes)
-
--- a letter for nobody
-abbrev pub blank_letter : Letter
-blank_letter = letter_to nobody (Invite 0 (record { round = 0; by = 0 }))

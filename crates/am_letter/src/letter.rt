@@ -5,7 +5,6 @@ ghost use Rattle.am_codec.specs.Limits.{IsWithin, IsPacket};
 ghost use Rattle.am_codec.specs.Spelling.{spelling};
 
 use am_base::body::PacketBytes;
-use am_base::name::{Name, Stamp};
 use am_base::names::Names;
 use am_codec::{decode, encode};
 use am_packet::packet::Packet;
@@ -35,25 +34,6 @@ impl Model for Letter {
     ghost view = { λ l. record { to = l.to; any = l.any; packet = packet_in l.bytes } };
 
     ghost invariant = { λ l. IsSpelled l.bytes };
-}
-
-impl Default for Letter {
-    ghost use Rattle.am_letter.specs.Letters.{blank_letter};
-
-    ghost is_default = { λ letter. letter ≡ blank_letter };
-
-    #[tactic(auto, unfolding(am_codec::specs::Limits::IsWithin))]
-    fn default() -> Letter {
-        let nobody = Name::of_byte(0);
-        let invite = Packet::Invite {
-            sender: nobody,
-            stamp: Stamp {
-                round: 0,
-                by: nobody,
-            },
-        };
-        Letter::of(Names::empty(), &invite)
-    }
 }
 
 impl Letter {

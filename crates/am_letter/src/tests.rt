@@ -31,7 +31,6 @@ fn a_letter_has_its_bytes(rt: HostRuntime) {
     assert_eq!(rt; letter.to().mask(), 6);
     assert_eq!(rt; letter.kind(), 9);
     assert_eq!(rt; letter.copied().packet().kind(), 9);
-    assert_eq!(rt; Letter::default().to().len(), 0);
 }
 
 #[tactic(auto, unfolding(am_codec::specs::Limits::IsWithin))]
@@ -69,8 +68,8 @@ fn nack() -> Packet
 }
 
 #[test]
-fn letters_stand_by_their_kinds(rt: HostRuntime) {
-    let mut out = OutBox::new();
+fn letters_stand_by_their_kinds(rt: HostRuntime) -> Result<(), Fail> {
+    let mut out = OutBox::new(rt.alloc())?;
     out.put(Names::of_mask(1), &nack());
     out.put(Names::of_mask(2), &ack());
     out.put(Names::of_mask(4), &nack());
@@ -83,6 +82,11 @@ fn letters_stand_by_their_kinds(rt: HostRuntime) {
         assert_eq!(rt; letter.to().mask(), mask);
         assert!(rt; !letter.is_for_any());
     }
+    let letters = out.into_letters();
+    assert_eq!(rt; letters.as_slice().len(), wanted.len());
+    let mut out = OutBox::new(rt.alloc())?;
+    out.put(Names::of_mask(1), &nack());
     out.clear();
     assert!(rt; out.letters().is_empty());
+    Ok(())
 }

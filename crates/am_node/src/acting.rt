@@ -1,4 +1,5 @@
 ghost use Rattle.std.specs.Prelude.{◌≡◌, ◌≤◌, [], length};
+ghost use Rattle.am_model.specs.Calls.{send_row};
 ghost use Rattle.am_model.specs.Step.{row};
 ghost use Rattle.am_model.specs.Ends.{Does};
 ghost use Rattle.am_handlers.specs.Parts.{node_of};
@@ -10,6 +11,7 @@ use am_acting::leaving::on_leave;
 use am_acting::sending::{on_done, on_send};
 use am_acting::taking::on_take;
 use am_acting::ticking::on_tick;
+use am_base::body::Body;
 use am_base::boxed::Boxed;
 use am_base::entry::Entry;
 use am_base::event::NodeEvent;
@@ -18,6 +20,16 @@ use am_handlers::parts::Parts;
 use am_letter::out_box::OutBox;
 use am_reset::voting::{on_ask, on_give_up, on_reset};
 
+/// Its application sends a body.
+#[inline(never)]
+fn sends(parts: &mut Parts, body: &Body, out: &mut OutBox) -> Outcome
+    requires numbers { HasNumbersLeft (node_of parts.old) }
+    requires empty { out.old ≡ [] }
+    ensures { Does (λ m. send_row m body.now) (node_of parts.old) result out.new (node_of parts.new) }
+{
+    on_send(parts, body.copied(), out)
+}
+
 /// What a node does where its application calls, where time passes, and where bytes come (docs/PROTOCOL.md, "Steps of a node").
 fn by_event(parts: &mut Parts, event: &NodeEvent, spare: Boxed<Entry>, out: &mut OutBox) -> Outcome
     requires numbers { HasNumbersLeft (node_of parts.old) }
@@ -25,7 +37,7 @@ fn by_event(parts: &mut Parts, event: &NodeEvent, spare: Boxed<Entry>, out: &mut
     ensures { Does (λ m. row m event.now) (node_of parts.old) result out.new (node_of parts.new) }
 {
     match event {
-        NodeEvent::Send(body) => on_send(parts, body.get().copied(), out),
+        NodeEvent::Send(body) => sends(parts, body.get(), out),
         NodeEvent::Done(req) => on_done(parts, *req, out),
         NodeEvent::Take => on_take(parts, spare, out),
         NodeEvent::Join => on_join(parts, out),

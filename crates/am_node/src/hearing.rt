@@ -169,6 +169,7 @@ pub fn on_packet(parts: &mut Parts, packet: &Packet, out: &mut OutBox) -> Outcom
 }
 
 /// Bytes come: what they spell is heard, and what spells no packet is refused by its cause.
+#[inline(never)]
 pub fn on_bytes(parts: &mut Parts, bytes: &[u8], out: &mut OutBox) -> Outcome
     requires numbers { HasNumbersLeft (node_of parts.old) }
     requires empty { out.old ≡ [] }

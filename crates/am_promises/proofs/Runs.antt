@@ -24,10 +24,10 @@ use Rattle.am_promises.specs.Claim.{AtMost, IsBegun, StampOk, PromisesAreBegun}
 use Rattle.am_promises.proofs.Stamps.{most_same, most_through}
 use Rattle.am_promises.proofs.Changes.{CauseBegun, Promised, promise_change, said_by}
 
-record AllBegun (w : World) : Type 0 where
-  who : (i : ℕ) → (w.nodes i).core.who ≡ i
-  each : (i : ℕ) → IsBegun w.nodes (w.nodes i).core.promise
-  letters : All (StampOk w.nodes) w.letters
+pub record AllBegun (w : World) : Type 0 where
+  pub who : (i : ℕ) → (w.nodes i).core.who ≡ i
+  pub each : (i : ℕ) → IsBegun w.nodes (w.nodes i).core.promise
+  pub letters : All (StampOk w.nodes) w.letters
 
 -- a name's promise rises
 most_up : (nodes : ℕ → Node) (i : ℕ) (n : Node) (v : Stamp) (name : ℕ) → AtMost (nodes i).core.promise n.core.promise → AtMost v (nodes name).core.promise → AtMost v (set_at nodes i n name).core.promise
@@ -41,7 +41,7 @@ begun_up nodes i n v up h = ⊎_elim (λ (x : v ≡ no_stamp). inl x) (λ (x : A
 stamp_up : (nodes : ℕ → Node) (i : ℕ) (n : Node) (l : Letter) → AtMost (nodes i).core.promise n.core.promise → StampOk nodes l → StampOk (set_at nodes i n) l
 stamp_up nodes i n l up h = record { sender = most_up nodes i n (stamp_of l.packet) (sender_of l.packet) up h.sender; begun = begun_up nodes i n (stamp_of l.packet) up h.begun }
 
-cause_begun : (w : World) (i : ℕ) (a : Act) (c : Cause) → All (StampOk w.nodes) w.letters → IsCause w i a c → CauseBegun w.nodes c
+pub cause_begun : (w : World) (i : ℕ) (a : Act) (c : Cause) → All (StampOk w.nodes) w.letters → IsCause w i a c → CauseBegun w.nodes c
 cause_begun w i a (calls ev) h is = tt
 cause_begun w i a (hears p) h is = subst (λ x. IsBegun w.nodes (stamp_of x)) is.is (all_item (StampOk w.nodes) w.letters (heard_by a) is.letter h is.there).begun
 cause_begun w i a refuses h is = tt
@@ -52,7 +52,7 @@ own_begun nodes i n p = ⊎_elim
     (λ (x : IsBegun nodes n.core.promise). begun_up nodes i n n.core.promise p.up x)
     p.begun
 
-each_keeps : EachKeeps AllBegun
+pub each_keeps : EachKeeps AllBegun
 unfolding unchanged stepped
 each_keeps w e v (idles o idle) h = record { who = h.who; each = h.each; letters = h.letters }
 each_keeps w e v (stops runs) h = record { who = h.who; each = h.each; letters = h.letters }
@@ -85,7 +85,7 @@ each_keeps w e v (steps c s runs cause effect) h =
 
 -- ---- the start
 
-start_begun : (rules : Rules) → MayFound rules → AllBegun (start rules)
+pub start_begun : (rules : Rules) → MayFound rules → AllBegun (start rules)
 start_begun rules may =
     let there : has rules.founders (founding_stamp rules).by ≡ true = lowest_founds rules may in
     let first : AtMost (founding_stamp rules) ((start rules).nodes (founding_stamp rules).by).core.promise = rw there (most_same (founding_stamp rules)) in

@@ -2,7 +2,7 @@
 use Rattle.std.proofs.Common.{◌≡◌, ℕ, ◌≤◌, List, [], ◌∷◌, ◌++◌, length, Bool, true, false, Option, Some, None, append-nil, subst, Ok, ◌∙◌, sym, ap, refl, arith}
 use Rattle.std.specs.Io.KnownBytes.{Consumes}
 use Rattle.am_io.specs.Outside.{ReadToEnd, GaveAtMost}
-use Rattle.am_base.specs.Founding.{Rules}
+use Rattle.am_base.specs.Founding.{Rules, MayFound}
 use Rattle.am_group.specs.declared.event.Event.{Event}
 use Rattle.am_group.specs.declared.plan.RacePlan.{RacePlan}
 use Rattle.am_model.specs.World.{run}
@@ -10,7 +10,7 @@ use Rattle.am_model.specs.Lawful.{Watch, watch_start, watch, watch_all, watched}
 use Rattle.am_model.specs.Play.{watched_text, text_of, summary_text_of}
 use Rattle.am_model.specs.Settle.{settle_events}
 use Rattle.am_model.proofs.Runs.{watched_is_run}
-use Rattle.am_bounded.proofs.Runs.{bounded_holds}
+use Rattle.am_headline.proofs.Headline.{headline_holds}
 use Rattle.am_sent.proofs.Runs.{sent_holds}
 use Rattle.am_unballoted.proofs.Holds.{unballoted_holds}
 use Rattle.am_pump.specs.Generating.{generated_rules, generated}
@@ -25,7 +25,7 @@ use Rattle.am_sim.specs.declared.simulate.Unplayed.{Unplayed}
 use Rattle.am_sim.specs.declared.simulate.Unplayed.TheVariants as unplayed
 use Rattle.am_sim.specs.Playing.{done_of, IsRunText}
 use Rattle.am_sim.specs.Racing.{events_of, IsRaceText}
-use Rattle.am_sim.specs.Simulation.{Played, Raced, Generated, IsText, IsUnrun, IsUnplayed, run_text}
+use Rattle.am_sim.specs.Simulation.{Keeps, Played, Raced, Generated, IsText, IsUnrun, IsUnplayed, run_text}
 
 -- ---- a run that is settled behind its own events
 
@@ -42,7 +42,14 @@ text_is rules events true =
     let world = watched_is_run rules events in
     ap (watched_text rules) (watched_then (watch_start rules) events (settle_events rules (run rules events)) ∙ ap (λ w. watch_all s (settle_events rules w)) (sym world))
 
--- its run keeps what is claimed
+-- each run keeps what is claimed
+keeps_all : (rules : Rules) (events : List Event) → MayFound rules → Keeps rules events
+keeps_all rules events may = record {
+  headline = headline_holds rules events may;
+  sent = sent_holds rules events may;
+  unballoted = λ none. unballoted_holds rules events may none;
+}
+
 pub played_by : (bytes text : List ℕ) (script : Script) → reading key.Play bytes ≡ Ok script → ScriptWithin script → IsText script text → Played bytes text
 unfolding IsRunText
 played_by bytes text (Play founding events settles) is within same =
@@ -55,27 +62,19 @@ played_by bytes text (Play founding events settles) is within same =
       script = is;
       written = same.0 ∙ text_is founding events settles;
       few = same.1;
-      bounded = bounded_holds founding done may;
-      sent = sent_holds founding done may;
-      unballoted = λ none. unballoted_holds founding done may none;
+      keeps = keeps_all founding done may;
     }
 played_by bytes text (Race plan) is within same = absurd same
 
--- a race's run keeps what is claimed
 pub raced_by : (bytes text : List ℕ) (plan : RacePlan) → reading key.Race bytes ≡ Ok (Race plan) → RaceWithin plan → IsRaceText plan text → Raced bytes text
-raced_by bytes text plan is within (journal, raced, same) =
-    let may = within.may_found in
-    let done = events_of journal in
-    record {
-      plan = plan;
-      script = is;
-      journal = journal;
-      raced = raced;
-      written = same;
-      bounded = bounded_holds plan.founding done may;
-      sent = sent_holds plan.founding done may;
-      unballoted = λ none. unballoted_holds plan.founding done may none;
-    }
+raced_by bytes text plan is within (journal, raced, same) = record {
+  plan = plan;
+  script = is;
+  journal = journal;
+  raced = raced;
+  written = same;
+  keeps = keeps_all plan.founding (events_of journal) within.may_found;
+}
 
 -- why there is no text
 pub unplayed_by : (bytes : List ℕ) (script : Script) (e : Unplayed) → reading key.Play bytes ≡ Ok script → IsUnrun script e → IsUnplayed bytes e
@@ -88,7 +87,6 @@ unplayed_by bytes (Race plan) unplayed.NoMemory is h = absurd h
 
 -- ---- a generated run
 
--- its run keeps what is claimed
 pub generated_by : (numbers : Numbers) (text : List ℕ) → text ≡ summary_text_of generated_rules (generated numbers.seed numbers.count)
     → length (generated numbers.seed numbers.count) ≡ numbers.count → Generated numbers text
 generated_by numbers text is many =
@@ -96,9 +94,7 @@ generated_by numbers text is many =
     record {
       written = is;
       count = many;
-      bounded = bounded_holds generated_rules done may_found;
-      sent = sent_holds generated_rules done may_found;
-      unballoted = λ none. unballoted_holds generated_rules done may_found none;
+      keeps = keeps_all generated_rules done may_found;
     }
 
 -- ---- what was given

@@ -9,7 +9,7 @@ use Rattle.am_group.specs.declared.event.Record.{Record}
 use Rattle.am_group.specs.declared.plan.RacePlan.{RacePlan}
 use Rattle.am_model.specs.World.{run}
 use Rattle.am_model.specs.Play.{text_of, settled_text_of, summary_text_of}
-use Rattle.am_model.specs.Claims.{Bounded, Sent, NoBallot, HoldsUnballoted}
+use Rattle.am_model.specs.Claims.{Headline, Sent, NoBallot, HoldsUnballoted}
 use Rattle.am_script.specs.Scripts.{reading}
 use Rattle.am_script.specs.declared.key.Key.{Key}
 use Rattle.am_script.specs.declared.key.Key.TheVariants as key
@@ -39,10 +39,15 @@ asked words = form_of (map (λ word. word.now) words)
 abbrev pub run_text : Rules → List Event → Bool → List ℕ
 run_text rules events settles = if settles then settled_text_of rules events else text_of rules events
 
--- what was read is a script, what was written is the text of its run, which has at most 100,000 events, and that run keeps
--- what is claimed of every run: no node ever kept more than it may, and everything in the one group list was sent before it
--- stood there. Where nobody began a ballot, each node besides gave out a gapless segment of the one group list, and accepted
--- sends stand there once, in their senders' order
+-- What is claimed of every run: the headline, which is up to its lawful front, and that no node ever kept more than it may. Besides, of the whole
+-- run, whoever stops: everything in the one group list was sent before it stood there; and where nobody began a ballot, all but what the
+-- headline says of complete views.
+pub record Keeps (rules : Rules) (events : List Event) : Type 0 where
+  pub headline : Headline rules events
+  pub sent : Sent rules events
+  pub unballoted : NoBallot (run rules events) → HoldsUnballoted rules events
+
+-- what was read is a script, what was written is the text of its run, which has at most 100,000 events, and that run keeps what is claimed
 pub record Played (bytes text : List ℕ) : Type 0 where
   pub founding : Rules
   pub events : List Event
@@ -50,29 +55,23 @@ pub record Played (bytes text : List ℕ) : Type 0 where
   pub script : reading key.Play bytes ≡ Ok (Play founding events settles)
   pub written : text ≡ run_text founding events settles
   pub few : length (done_of founding events settles) ≤ most_events
-  pub bounded : Bounded founding (done_of founding events settles)
-  pub sent : Sent founding (done_of founding events settles)
-  pub unballoted : NoBallot (run founding (done_of founding events settles)) → HoldsUnballoted founding (done_of founding events settles)
+  pub keeps : Keeps founding (done_of founding events settles)
 
 -- what was read is a race, what was written is what was done in it as a script, in one line, and the text of the run of that,
--- and that run keeps what is claimed of every run
+-- and that run keeps what is claimed
 pub record Raced (bytes text : List ℕ) : Type 0 where
   pub plan : RacePlan
   pub script : reading key.Race bytes ≡ Ok (Race plan)
   pub journal : List Record
   pub raced : IsRaced plan journal
   pub written : text ≡ race_text plan.founding (events_of journal)
-  pub bounded : Bounded plan.founding (events_of journal)
-  pub sent : Sent plan.founding (events_of journal)
-  pub unballoted : NoBallot (run plan.founding (events_of journal)) → HoldsUnballoted plan.founding (events_of journal)
+  pub keeps : Keeps plan.founding (events_of journal)
 
--- what was written is the summary of the run of two numbers, and that run keeps what is claimed of every run
+-- what was written is the summary of the run of two numbers, and that run keeps what is claimed
 pub record Generated (numbers : Numbers) (text : List ℕ) : Type 0 where
   pub written : text ≡ summary_text_of generated_rules (generated numbers.seed numbers.count)
   pub count : length (generated numbers.seed numbers.count) ≡ numbers.count
-  pub bounded : Bounded generated_rules (generated numbers.seed numbers.count)
-  pub sent : Sent generated_rules (generated numbers.seed numbers.count)
-  pub unballoted : NoBallot (run generated_rules (generated numbers.seed numbers.count)) → HoldsUnballoted generated_rules (generated numbers.seed numbers.count)
+  pub keeps : Keeps generated_rules (generated numbers.seed numbers.count)
 
 -- a text is that of the script that was read to the end of what was left
 abbrev pub IsPlayed : Option (List ℕ) → Option (List ℕ) → List ℕ → Type 0

@@ -15,12 +15,12 @@ use Rattle.am_effects.specs.Changes.{refreshes, settles, takes_report, admits, n
 use Rattle.am_effects.specs.Changes.{looks, fetches, stores_view, queues, collects, takes, asks_to_join, asks_to_leave, closes}
 use Rattle.am_effects.proofs.Rests.{rests_refresh, settle_is}
 use Rattle.am_stands.specs.Standing.{StandsBut, within}
-use Rattle.am_stands.specs.Moving.{Leads}
 use Rattle.am_model.specs.Node.{Ballot}
 use Rattle.am_model.specs.Ballots.{Verdict}
 use Rattle.am_effects.specs.Causes.{Cause}
 use Rattle.am_effects.specs.Looks.{Balloting, Looks, finds_itself_out, waits, fetches_from_best, finds_too_few, finds_no_room, decides}
 use Rattle.am_stands.specs.Steps.{MayMove, of_line, NeedsLook, after_look, ChangesStand}
+use Rattle.am_stands.proofs.Names.{Onto}
 use Rattle.am_stands.proofs.Decisions.{decision_stands}
 use Rattle.am_stands.proofs.Changes.{unmoved, promise_stands, open_stands, look_stands, looked_open, or_last, ask_stands, depart_stands}
 use Rattle.am_stands.proofs.Entries.{piece_stands, number_stands, welcome_stands}
@@ -36,7 +36,7 @@ hears_in_view_member x from v h = hears_member_member x from
 
 same_to_it : (w : World) (name : ℕ) (x y : Node) (s : Group) → y.core.log ≡ x.core.log → y.status ≡ x.status → y.leaving ≡ x.leaving
     → y.core.promise ≡ x.core.promise → y.ballot ≡ x.ballot → y.core.start ≡ x.core.start → StandsBut name (within w name x) s
-    → Leads (StandsBut name (within w name y)) s
+    → Onto name (within w name y) s
 same_to_it w name x y s log stays leaving promise ballot start_ h = unmoved w name x y s
     (record {
       log = log;
@@ -49,7 +49,7 @@ same_to_it w name x y s log stays leaving promise ballot start_ h = unmoved w na
     }) h
 
 looked : (w : World) (name : ℕ) (c : Cause) (x : Node) (b : Ballot) (v : Verdict) (s : Group) → MayMove w name c x s → Balloting c x b
-    → (look : Looks x b v) → NeedsLook s name look → StandsBut name (within w name x) s → Leads (StandsBut name (within (after_look look w) name v.node)) s
+    → (look : Looks x b v) → NeedsLook s name look → StandsBut name (within w name x) s → Onto name (within (after_look look w) name v.node) s
 looked w name c x b v s may why (finds_itself_out y) is h = look_stands w name c x b v s may (looked_open c x b why) (finds_itself_out y) (λ z. z) h
 looked w name c x b v s may why (waits y z) is h = look_stands w name c x b v s may (looked_open c x b why) (waits y z) (λ u. u) h
 looked w name c x b v s may why (fetches_from_best y z u) is h = look_stands w name c x b v s may (looked_open c x b why) (fetches_from_best y z u) (λ t. t) h
@@ -60,7 +60,7 @@ looked w name c x b v s may why (decides y) is h = decision_stands w name c x b 
 pub changes_stand : ChangesStand
 changes_stand w name c o x y s refreshes may is h = let r = rests_refresh x in
     same_to_it w name x (refresh x) s r.log r.rests.status r.rests.leaving r.rests.promise r.rests.ballot r.begins h
-changes_stand w name c o x y s settles may is h = subst (λ n. Leads (StandsBut name (within w name n)) s) (sym (settle_is x))
+changes_stand w name c o x y s settles may is h = subst (λ n. Onto name (within w name n) s) (sym (settle_is x))
     (same_to_it w name x _ s refl refl refl refl refl refl h)
 changes_stand w name c o x y s (takes_report from v report by may_) may is h = same_to_it w name x y s refl refl refl refl refl refl h
 changes_stand w name c o x y s (admits from v was leads fit) may is h = same_to_it w name x y s refl refl refl refl refl refl h

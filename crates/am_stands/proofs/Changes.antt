@@ -15,6 +15,7 @@ use Rattle.am_chain_moves.specs.Group as groups
 use Rattle.am_chain_moves.specs.Group.{Group, Views, put, IsThere, IsUp}
 use Rattle.am_chain_moves.specs.Moves.{Move, IsAbove, MayDepart, with_node, own_stamp}
 use Rattle.am_chain_moves.specs.Moves as group
+use Rattle.am_chain_moves.proofs.Puts.{put_same}
 use Rattle.am_model.specs.declared.status.Status.{Status}
 use Rattle.am_model.specs.declared.status.Status.TheVariants as status
 use Rattle.am_model.specs.Node as nodes
@@ -35,9 +36,9 @@ use Rattle.am_laws.proofs.Stamps.{equal_stamps}
 use Rattle.am_packet.specs.declared.packet.Packet.TheVariants as packet
 use Rattle.am_stands.specs.Standing.{NameStands, FrontsStand, StandsBut, within}
 use Rattle.am_stands.specs.Letters.{GoneSays, has_stopped, may_go}
-use Rattle.am_stands.specs.Moving.{MoveOk, Leads}
+use Rattle.am_stands.specs.Moving.{MoveOk}
 use Rattle.am_stands.specs.Steps.{MayMove}
-use Rattle.am_stands.proofs.Names.{one_move, no_move, name_in, views_in, lines_within, each_within, fronts_within}
+use Rattle.am_stands.proofs.Names.{Onto, onto_same, onto_move, name_in, views_in, lines_within, each_within, fronts_within}
 
 -- ---- a node that is the same to the group
 
@@ -76,15 +77,15 @@ others_same w name x y s u h i few = split (i == name)
     (λ f. let old : NameStands (within w name x) i (w.nodes i) (s.node i) = rw f at (h i few) in
     rw f (name_in (within w name x) (within w name y) i (w.nodes i) (s.node i) refl refl old))
 
-others_fronts : (w : World) (name : ℕ) (x y : Node) (s : Group)
+pub others_fronts : (w : World) (name : ℕ) (x y : Node) (s : Group)
     → ((i : ℕ) → i < 256 → i ≢ name → has_departed ((within w name x).nodes i).status ≡ false → FrontsStand ((within w name x).nodes i) (s.node i))
     → (i : ℕ) → i < 256 → i ≢ name → has_departed ((within w name y).nodes i).status ≡ false → FrontsStand ((within w name y).nodes i) (s.node i)
 others_fronts w name x y s h i few other = split (i == name)
     (λ t. absurd (let same : i ≡ name = grind (arith, nat_tests) in other same))
     (λ f. rw f (λ d. (let old : has_departed (w.nodes i).status ≡ false → FrontsStand (w.nodes i) (s.node i) = rw f at (h i few other) in old d)))
 
-pub unmoved : (w : World) (name : ℕ) (x y : Node) (s : Group) → Unmoved x y → StandsBut name (within w name x) s → Leads (StandsBut name (within w name y)) s
-unmoved w name x y s u h = no_move (StandsBut name (within w name y)) s (record {
+pub unmoved : (w : World) (name : ℕ) (x y : Node) (s : Group) → Unmoved x y → StandsBut name (within w name x) s → Onto name (within w name y) s
+unmoved w name x y s u h = onto_same name (within w name y) s (record {
   each = others_same w name x y s u h.each;
   fronts = others_fronts w name x y s h.fronts;
   views = views_in (within w name x) (within w name y) s.views refl (lines_within w name x y u.log) h.views;
@@ -94,14 +95,15 @@ unmoved w name x y s u h = no_move (StandsBut name (within w name y)) s (record 
 -- ---- a move of one node, whose list stays
 
 moved : (w : World) (name : ℕ) (x y : Node) (s : Group) (b : groups.Node) → y.core.log ≡ x.core.log → (move : Move s (with_node s name b)) → MoveOk move
-    → (NameStands (within w name x) name x (s.node name) → NameStands (within w name y) name y b)
-    → StandsBut name (within w name x) s → Leads (StandsBut name (within w name y)) s
-moved w name x y s b log move ok f h = one_move (StandsBut name (within w name y)) s (with_node s name b) move ok (record {
-  each = each_within w name x y s b f h.each;
-  fronts = fronts_within w name x y s b h.fronts;
-  views = views_in (within w name x) (within w name y) s.views refl (lines_within w name x y log) h.views;
-  group = h.group;
-})
+    → b.told ≡ (s.node name).told → b.acc ≡ (s.node name).acc → (NameStands (within w name x) name x (s.node name) → NameStands (within w name y) name y b)
+    → StandsBut name (within w name x) s → Onto name (within w name y) s
+moved w name x y s b log move ok told_ acc_ f h = onto_move name (within w name y) s (with_node s name b) move ok b (put_same s.node name b) told_ acc_
+    (record {
+      each = each_within w name x y s b f h.each;
+      fronts = fronts_within w name x y s b h.fronts;
+      views = views_in (within w name x) (within w name y) s.views refl (lines_within w name x y log) h.views;
+      group = h.group;
+    })
 
 is_itself : (name : ℕ) → (name == name) ≡ true
 is_itself name = grind (arith, nat_tests)
@@ -180,7 +182,7 @@ promiser_stays c x v (told_result s _ base number names resilience is heard own 
     (and_both (not (s == x.core.who)) (is_member x.status) heard).1
 
 pub promise_stands : (w : World) (name : ℕ) (c : Cause) (x : Node) (v : Stamp) (s : Group) → MayMove w name c x s → stamp_lt v x.core.promise ≡ false
-    → Promises c x v → StandsBut name (within w name x) s → Leads (StandsBut name (within w name (promised x v))) s
+    → Promises c x v → StandsBut name (within w name x) s → Onto name (within w name (promised x v)) s
 promise_stands w name c x v s may low why h =
     let old = own_name w name x s may.few h in
     let begun = may.stamps v why in
@@ -195,7 +197,7 @@ promise_stands w name c x v s may low why h =
     let ends : is_unfinished (overtaken v x.ballot) ≡ false = over v x.ballot
     (λ b is open_. subst (λ u. stamp_lt u v ≡ true) (sym (may.ballot b is open_)) t) in
     moved w name x (promised x v) s (record (s.node name) { promise = v; ballot = false }) refl
-    (group.raises name v (is_there w name x (s.node name) may.runs (promiser_stays c x v why) old) above) tt
+    (group.raises name v (is_there w name x (s.node name) may.runs (promiser_stays c x v why) old) above) tt refl refl
     (λ k. record {
       begins = record { within = k.begins.within; image = k.begins.image };
       list = k.list;
@@ -218,9 +220,9 @@ promise_stands w name c x v s may low why h =
 -- a ballot that ends without a decision
 pub given_over : (w : World) (name : ℕ) (x y : Node) (s : Group) → y.core.log ≡ x.core.log → y.status ≡ x.status → y.leaving ≡ x.leaving
     → y.core.promise ≡ x.core.promise → is_unfinished y.ballot ≡ false → y.core.start ≡ x.core.start → StandsBut name (within w name x) s
-    → Leads (StandsBut name (within w name y)) s
+    → Onto name (within w name y) s
 given_over w name x y s log stays leaving promise ends start_ h =
-    moved w name x y s (record (s.node name) { ballot = false }) log (group.gives_over name) tt
+    moved w name x y s (record (s.node name) { ballot = false }) log (group.gives_over name) tt refl refl
     (λ k. record {
       begins = record {
         within = subst (λ (l : Log). l.start ≤ length w.group) (sym log) k.begins.within;
@@ -239,7 +241,7 @@ given_over w name x y s log stays leaving promise ends start_ h =
 pub open_stands : (w : World) (name : ℕ) (c : Cause) (x y : Node) (s : Group) → MayMove w name c x s → is_member x.status ≡ true
     → has (members x) x.core.who ≡ true → x.leaving ≡ false → y.core.log ≡ x.core.log → y.status ≡ x.status → y.leaving ≡ x.leaving
     → y.core.promise ≡ next_stamp x → is_unfinished y.ballot ≡ true → y.core.start ≡ x.core.start → StandsBut name (within w name x) s
-    → Leads (StandsBut name (within w name y)) s
+    → Onto name (within w name y) s
 unfolding mem
 open_stands w name c x y s may member listed stays log same_status same_leaving promise open_ start_ h =
     let old = own_name w name x s may.few h in
@@ -249,7 +251,7 @@ open_stands w name c x y s may member listed stays log same_status same_leaving 
     ∙ ap (has (members x)) (sym who) ∙ listed in
     let own : own_stamp name (s.node name) ≡ y.core.promise = (λ i. record { round = (old.promise i).round + 1; by = sym who i }) ∙ sym promise in
     moved w name x y s (record (s.node name) { promise = own_stamp name (s.node name); ballot = true }) log
-    (group.begins name may.few up (old.leaving ∙ stays) in_list) tt
+    (group.begins name may.few up (old.leaving ∙ stays) in_list) tt refl refl
     (λ k. record {
       begins = record {
         within = subst (λ (l : Log). l.start ≤ length w.group) (sym log) k.begins.within;
@@ -272,7 +274,7 @@ IsDecision _ = ⊥
 -- a ballot that goes on is the same to the group, and one that ends is given over
 pub look_stands : (w : World) (name : ℕ) (c : Cause) (x : Node) (b : Ballot) (v : Verdict) (s : Group) → MayMove w name c x s
     → is_unfinished x.ballot ≡ true → (look : Looks x b v) → (IsDecision look → ⊥) → StandsBut name (within w name x) s
-    → Leads (StandsBut name (within w name v.node)) s
+    → Onto name (within w name v.node) s
 look_stands w name c x b v s may open_ (waits y z) nothing h = unmoved w name x v.node s
     (record { log = refl; log_ = refl; departed = refl; leaving = refl; promise = refl; ballot = sym open_; start = refl }) h
 look_stands w name c x b v s may open_ (fetches_from_best y z u) nothing h = unmoved w name x v.node s
@@ -294,11 +296,11 @@ or_last true b h = absurd (cc)
 or_last false b h = h
 
 pub ask_stands : (w : World) (name : ℕ) (c : Cause) (x : Node) (s : Group) → MayMove w name c x s → x.status ≡ status.Member
-    → is_unfinished x.ballot ≡ false → StandsBut name (within w name x) s → Leads (StandsBut name (within w name (record x { leaving = true }))) s
+    → is_unfinished x.ballot ≡ false → StandsBut name (within w name x) s → Onto name (within w name (record x { leaving = true })) s
 ask_stands w name c x s may was none h =
     let old = own_name w name x s may.few h in
     moved w name x (record x { leaving = true }) s (record (s.node name) { leaving = true }) refl
-    (group.asks name (is_up w name x (s.node name) may.runs (ap is_member was) old) (old.ballot ∙ none)) tt
+    (group.asks name (is_up w name x (s.node name) may.runs (ap is_member was) old) (old.ballot ∙ none)) tt refl refl
     (λ k. record {
       begins = record { within = k.begins.within; image = k.begins.image };
       list = k.list;
@@ -320,14 +322,14 @@ may_depart w name number x s runs up leaves old
 
 pub depart_stands : (w : World) (name from number : ℕ) (v : Stamp) (c : Cause) (x : Node) (s : Group) → MayMove w name c x s
     → c ≡ hears (packet.Gone from v number) → hears_member x from ≡ true → x.leaving ≡ true → StandsBut name (within w name x) s
-    → Leads (StandsBut name (within w name (record x { status = status.Departed }))) s
+    → Onto name (within w name (record x { status = status.Departed })) s
 depart_stands w name from number v c x s may is heard leaves h =
     let old = own_name w name x s may.few h in
     let member = (and_both (not (from == x.core.who)) (is_member x.status) heard).1 in
     let up = is_up w name x (s.node name) may.runs member old in
     let go = may_depart w name number x s may.runs up (old.leaving ∙ leaves) old (may.gone from v number is) in
     moved w name x (record x { status = status.Departed }) s (record (s.node name) { departed = true }) refl
-    (group.departs name go.0 go.1) tt
+    (group.departs name go.0 go.1) tt refl refl
     (λ k. record {
       begins = record { within = k.begins.within; image = k.begins.image };
       list = k.list;

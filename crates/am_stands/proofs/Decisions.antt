@@ -14,6 +14,7 @@ use Rattle.am_chain_moves.specs.Group as groups
 use Rattle.am_chain_moves.specs.Group.{Group, Views, put, opening}
 use Rattle.am_chain_moves.specs.Moves.{Move, with_choice, choice_of}
 use Rattle.am_chain_moves.specs.Moves as group
+use Rattle.am_chain_moves.proofs.Puts.{put_same}
 use Rattle.am_model.specs.Node as nodes
 use Rattle.am_model.specs.Node.{Node, Ballot, view, members, pushed, set_at}
 use Rattle.am_base.specs.declared.outcome.Outcome.TheVariants as said
@@ -29,9 +30,8 @@ use Rattle.am_effects.proofs.Items.{get_front, get_last, get_push}
 use Rattle.am_effects.proofs.Says.{told_pushed}
 use Rattle.am_laws.proofs.ViewSteps.{after_view}
 use Rattle.am_stands.specs.Standing.{NameStands, NotedStands, ViewsStand, StandsBut, within}
-use Rattle.am_stands.specs.Moving.{Leads}
 use Rattle.am_stands.specs.Steps.{MayMove, NeedsDecision, noting}
-use Rattle.am_stands.proofs.Names.{one_move, name_in, each_within, fronts_within}
+use Rattle.am_stands.proofs.Names.{Onto, onto_move, name_in, each_within, fronts_within}
 use Rattle.am_stands.proofs.Changes.{own_name, long_all}
 use Rattle.am_stands.proofs.Lines.{line_ends}
 use Rattle.am_stands.proofs.Entries.{noted_stands, line_here}
@@ -175,8 +175,8 @@ module _ (w : World) (name : ℕ) (x y : Node) (a : groups.Node) (views : Views)
 
 pub decision_stands : (w : World) (name : ℕ) (c : Cause) (x : Node) (b : Ballot) (s : Group) → MayMove w name c x s → Balloting c x b
     → NeedsDecision s name x b → StandsBut name (within w name x) s
-    → Leads (StandsBut name (within (noting w (last_view (restarted (looks.view_of x b)))) name
-    (record (restarted (looks.view_of x b)) { ballot = Some (finished b (said.Decided (nodes.top x + 1) (left_in b (need_of x b)))) }))) s
+    → Onto name (within (noting w (last_view (restarted (looks.view_of x b)))) name
+    (record (restarted (looks.view_of x b)) { ballot = Some (finished b (said.Decided (nodes.top x + 1) (left_in b (need_of x b)))) })) s
 unfolding next made
 decision_stands w name c x b s may why needs h =
     let names = left_in b (need_of x b) in
@@ -204,8 +204,8 @@ decision_stands w name c x b s may why needs h =
       ballot = refl;
       start = k.start;
     } in
-    one_move (StandsBut name (within w2 name y)) s (with_choice s name names r) (group.decides name names r needs.may) (needs.set, needs.voted)
-    (record {
+    onto_move name (within w2 name y) s (with_choice s name names r) (group.decides name names r needs.may) (needs.set, needs.voted)
+    chosen (put_same s.node name chosen) refl refl (record {
       each = λ i few. name_in (within w name y) (within w2 name y) i _ _ refl refl (each_within w name x y s chosen name_ h.each i few);
       fronts = fronts_within w name x y s chosen h.fronts;
       views = views_decided w name x y a s.views b.stamp names r promised mine old refl needs.members_ fresh unseen h.views;

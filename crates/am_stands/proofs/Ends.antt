@@ -23,7 +23,7 @@ use Rattle.am_stands.proofs.Names.{no_move, one_move, views_noted}
 
 -- ---- a longer group list
 
-take_front : {A : Type 0} (n : ℕ) (xs ys : List A) → n ≤ length xs → take n (xs ++ ys) ≡ take n xs
+pub take_front : {A : Type 0} (n : ℕ) (xs ys : List A) → n ≤ length xs → take n (xs ++ ys) ≡ take n xs
 take_front zero xs ys h = refl
 take_front (suc n) [] ys h = absurd (omega arith)
 take_front (suc n) (x ∷ xs) ys h = ap (λ l. x ∷ l) (take_front n xs ys (omega arith))
@@ -83,7 +83,7 @@ module _ (w : World) (e : Event) (name : ℕ) (step : Step) where
 
 -- ---- what is accepted
 
-accept_moves : (w : World) (s : Group) (name : ℕ) (n : Node) → s.group ≡ w.group → Accepts w s name n → Moves s (record s { group = group_after w.group n })
+pub accept_moves : (w : World) (s : Group) (name : ℕ) (n : Node) → s.group ≡ w.group → Accepts w s name n → Moves s (record s { group = group_after w.group n })
 accept_moves w s name n same (no_more is) = subst (λ (g : List Entry). Moves s (record s { group = g })) (same ∙ sym is) none
 accept_moves w s name n same (rises lead may is) = subst (λ (g : List Entry). Moves s (record s { group = g })) (sym is)
     (moves (group.accepts name n.core.acc lead may) tt none)

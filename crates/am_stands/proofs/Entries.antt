@@ -16,6 +16,7 @@ use Rattle.am_chain_moves.specs.Group as groups
 use Rattle.am_chain_moves.specs.Group.{Group, Views, put, IsUp, opening}
 use Rattle.am_chain_moves.specs.Moves.{Move, with_node, with_line, longer}
 use Rattle.am_chain_moves.specs.Moves as group
+use Rattle.am_chain_moves.proofs.Puts.{put_same}
 use Rattle.am_model.specs.Node.{Node, view, is_member, acts, is_sequencer, pushed}
 use Rattle.am_model.specs.Calls.{is_unfinished}
 use Rattle.am_model.specs.Receiving.{is_view}
@@ -30,8 +31,8 @@ use Rattle.am_effects.specs.Changes.{Numbers, asked_send, own_send, asked_join, 
 use Rattle.am_laws.proofs.Stamps.{same_stamp}
 use Rattle.am_stands.specs.Standing.{NameStands, NotedStands, ViewsStand, StandsBut, within}
 use Rattle.am_stands.specs.Moving.{MoveOk, Leads}
-use Rattle.am_stands.specs.Steps.{MayMove, NeedsNumber, IsOthers, NeedsEntry, NeedsPiece, of_line, of_shown, NeedsWelcome}
-use Rattle.am_stands.proofs.Names.{one_move, views_noted, each_within, fronts_within}
+use Rattle.am_stands.specs.Steps.{MayMove, NeedsNumber, IsOthers, NeedsEntry, NeedsPiece, of_line, of_shown, NeedsWelcome, FrontsBegin}
+use Rattle.am_stands.proofs.Names.{Onto, onto_move, one_move, views_noted, each_within, fronts_within}
 use Rattle.am_stands.proofs.Changes.{own_name, is_up, told_whole}
 use Rattle.am_stands.proofs.Lines.{HasViewOf, next_of_list, line_stays, line_ends, line_grows, opened}
 
@@ -107,11 +108,11 @@ lines_longer w name x y e a views l old others h k d at = split (d.stamp.by == n
 -- a move that makes one list longer, and no line of its own
 grows : (w : World) (name : ℕ) (x y : Node) (e : Entry) (s : Group) → name < 256 → Longer x y e → IsOthers name x e
     → (move : Move s (with_node s name (longer (s.node name) e))) → MoveOk move → StandsBut name (within w name x) s
-    → Leads (StandsBut name (within w name y)) s
+    → Onto name (within w name y) s
 grows w name x y e s few l others move ok h =
     let old = own_name w name x s few h in
     let b = longer (s.node name) e in
-    one_move (StandsBut name (within w name y)) s (with_node s name b) move ok (record {
+    onto_move name (within w name y) s (with_node s name b) move ok b (put_same s.node name b) refl refl (record {
       each = each_within w name x y s b (name_longer w name x y e (s.node name) l) h.each;
       fronts = fronts_within w name x y s b h.fronts;
       views = views_noted (within w name x) (within w name y) s.views refl (lines_longer w name x y e (s.node name) s.views l old others h.views) h.views;
@@ -121,14 +122,14 @@ grows w name x y e s few l others move ok h =
 -- ---- entries of a line, or of a list that was shown
 
 entry_stands : (w : World) (name : ℕ) (x y : Node) (e : Entry) (s : Group) → name < 256 → is_stopped w name ≡ false → is_member x.status ≡ true
-    → Longer x y e → NeedsEntry s name x e → StandsBut name (within w name x) s → Leads (StandsBut name (within w name y)) s
+    → Longer x y e → NeedsEntry s name x e → StandsBut name (within w name x) s → Onto name (within w name y) s
 entry_stands w name x y e s few runs member l needs h =
     let old = own_name w name x s few h in
     grows w name x y e s few l needs.others (group.stores name e
     (is_up w name x (s.node name) runs member old) needs.decided needs.other needs.stays needs.next) tt h
 
 pub piece_stands : (w : World) (name : ℕ) (x y : Node) (e : Entry) (s : Group) → name < 256 → is_stopped w name ≡ false → is_member x.status ≡ true
-    → Longer x y e → NeedsPiece s name x e → StandsBut name (within w name x) s → Leads (StandsBut name (within w name y)) s
+    → Longer x y e → NeedsPiece s name x e → StandsBut name (within w name x) s → Onto name (within w name y) s
 piece_stands w name x y e s few runs member l (of_line needs) h = entry_stands w name x y e s few runs member l needs h
 piece_stands w name x y e s few runs member l (of_shown open_ needs) h =
     let old = own_name w name x s few h in
@@ -137,7 +138,7 @@ piece_stands w name x y e s few runs member l (of_shown open_ needs) h =
 
 -- ---- a sequencer's own entry
 
-numbers_plain : (c : Cause) (m : Node) (e : Entry) → Numbers c m e → is_view e ≡ false
+pub numbers_plain : (c : Cause) (m : Node) (e : Entry) → Numbers c m e → is_view e ≡ false
 numbers_plain c m e (asked_send s v report req body by known stays next) = refl
 numbers_plain c m e (own_send s is last) = refl
 numbers_plain c m e (asked_join s v is other fit) = refl
@@ -243,16 +244,16 @@ numbered_stands w name x e s few leading small plain chain h =
     }
 
 pub number_stands : (w : World) (name : ℕ) (c : Cause) (x : Node) (e : Entry) (s : Group) → MayMove w name c x s → is_sequencer x ≡ true → Numbers c x e
-    → NeedsNumber s name x e → StandsBut name (within w name x) s → Leads (StandsBut name (within w name (pushed x e))) s
+    → NeedsNumber s name x e → StandsBut name (within w name x) s → Onto name (within w name (pushed x e)) s
 number_stands w name c x e s may leads why needs h =
     let y = pushed x e in
     let a = s.node name in
     let old = own_name w name x s may.few h in
     let leading = is_leading w name x a may.who leads old in
     let fit : fits (told a.list) e ≡ true = ap (λ (i : Image). fits i e) (told_whole w name name x a old) ∙ needs.fit in
-    one_move (StandsBut name (within w name y)) s (with_line s name (longer a e))
+    onto_move name (within w name y) s (with_line s name (longer a e))
     (group.numbers name e (record { up = is_up w name x a may.runs leading.member old; acts = leading.acts_; by = leading.by }) fit needs.may) needs.named
-    (numbered_stands w name x e s may.few leading may.noted (numbers_plain c x e why) needs.chain h)
+    (longer a e) (put_same s.node name (longer a e)) refl refl (numbered_stands w name x e s may.few leading may.noted (numbers_plain c x e why) needs.chain h)
 
 -- ---- a joiner's list begins
 
@@ -261,7 +262,8 @@ none_opens [] e h = let z = h.same in absurd (cc)
 none_opens (x ∷ before) e h = let z = h.same in absurd (cc)
 
 pub welcome_stands : (w : World) (name : ℕ) (c : Cause) (x : Node) (v : Stamp) (base join : ℕ) (image : Image) (s : Group) → MayMove w name c x s
-    → NeedsWelcome s name v base join image → StandsBut name (within w name x) s → Leads (StandsBut name (within w name (begun x v base join image))) s
+    → NeedsWelcome s name v base join image → StandsBut name (within w name x) s
+    → Leads (λ t. StandsBut name (within w name (begun x v base join image)) t × FrontsBegin name base t) s
 unfolding up_to_next
 welcome_stands w name c x v base join image s may needs h =
     let y = begun x v base join image in
@@ -279,20 +281,22 @@ welcome_stands w name c x v base join image s may needs h =
     let ch = s.views.chosen (key d.stamp) in
     absurd (none_opens ch.before (View ch.stamp ch.members ch.resilience) (subst (Begins (opening ch)) (n.line ∙ none) n.opens)))
     (λ f. rw f refl) in
-    one_move (StandsBut name (within w name y)) s (with_node s name b) (group.welcomes name v base join needs.may) tt
-    (record {
-      each = each_within w name x y s b (λ k. record {
-        begins = record { within = subst (λ (g : List Entry). base ≤ length g) h.group needs.within; image = needs.image_ ∙ ap told all_of };
-        list = all_of ∙ sym (append-nil (take base w.group));
-        log_ = refl;
-        stopped = k.stopped;
-        departed = needs.may.there.stays;
-        leaving = k.leaving;
-        promise = refl;
-        ballot = k.ballot;
-        start = λ t. refl;
-      }) h.each;
-      fronts = fronts_within w name x y s b h.fronts;
-      views = views_noted (within w name x) (within w name y) s.views refl lines h.views;
-      group = h.group;
-    })
+    one_move (λ t. StandsBut name (within w name y) t × FrontsBegin name base t) s (with_node s name b) (group.welcomes name v base join needs.may) tt (
+      record {
+        each = each_within w name x y s b (λ k. record {
+          begins = record { within = subst (λ (g : List Entry). base ≤ length g) h.group needs.within; image = needs.image_ ∙ ap told all_of };
+          list = all_of ∙ sym (append-nil (take base w.group));
+          log_ = refl;
+          stopped = k.stopped;
+          departed = needs.may.there.stays;
+          leaving = k.leaving;
+          promise = refl;
+          ballot = k.ballot;
+          start = λ t. refl;
+        }) h.each;
+        fronts = fronts_within w name x y s b h.fronts;
+        views = views_noted (within w name x) (within w name y) s.views refl lines h.views;
+        group = h.group;
+      },
+      record { told = ap (λ (m : groups.Node). m.told) (put_same s.node name b); acc = ap (λ (m : groups.Node). m.acc) (put_same s.node name b) },
+    )

@@ -50,7 +50,7 @@ grown_is v i n a h begins =
     let high : g + (n.core.acc - g) ≡ max g n.core.acc = omega arith in
     ap (λ l. v.group ++ take (n.core.acc - g) l) rest ∙ sym (take-append-add v.group begins.rest (n.core.acc - g)) ∙ (λ i. take (high i) (begins.same i))
 
-same_group : (group : List Entry) (core : CoreState) → core.acc ≤ length group → grown group core ≡ group
+pub same_group : (group : List Entry) (core : CoreState) → core.acc ≤ length group → grown group core ≡ group
 same_group group core low =
     let none : core.acc - length group ≡ 0 = omega arith in
     ap (λ k. group ++ take k (drop (length group - core.log.start) core.log.entries)) none ∙ append-nil group
@@ -69,7 +69,8 @@ unfolding refresh
 told_after x t within = rw t (lead_told x ∙ sym (lead_acc x within))
 
 -- and who follows accepts what it is told of
-advanced : (x : Node) → is_sequencer x ≡ false → ((refresh x).core.told ≡ x.core.told) × ((refresh x).core.acc ≡ max x.core.acc (min x.core.told (nodes.top x)))
+pub advanced : (x : Node) → is_sequencer x ≡ false
+    → ((refresh x).core.told ≡ x.core.told) × ((refresh x).core.acc ≡ max x.core.acc (min x.core.told (nodes.top x)))
 unfolding refresh accept pass_over
 advanced x f = rw f (refl, refl)
 

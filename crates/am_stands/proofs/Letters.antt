@@ -82,7 +82,7 @@ module _ (w v : World) (s t : Group) (g : Grows s t) (more : (rest : List Record
       not_before true b f k = absurd (let z = f refl in cc)
       not_before false b f k = refl
 
-  sequencer_stays : (i : ℕ) (u : Stamp) (acc : ℕ) → SequencerSays s i u acc → SequencerSays t i u acc
+  pub sequencer_stays : (i : ℕ) (u : Stamp) (acc : ℕ) → SequencerSays s i u acc → SequencerSays t i u acc
   sequencer_stays i u acc h =
       let low = h.accepted in
       let up = begins_length g.group in

@@ -12,7 +12,8 @@ use Rattle.am_model.specs.Node.{Node}
 use Rattle.am_model.specs.World.{Decided, World, is_stopped, has_departed}
 use Rattle.am_model.specs.Claims.{up_to_next, line_of}
 use Rattle.am_model.proofs.Greatest.{split}
-use Rattle.am_stands.specs.Standing.{NameStands, FrontsStand, ViewsStand, within}
+use Rattle.am_stands.specs.Standing.{NameStands, FrontsStand, ViewsStand, StandsBut, within}
+use Rattle.am_stands.specs.Steps.{FrontsStay}
 use Rattle.am_stands.specs.Moving.{MoveOk, none, moves, Leads}
 
 -- ---- moves in turn
@@ -22,6 +23,19 @@ one_move P s t m ok h = record { to = t; path = moves m ok none; is = h }
 
 pub no_move : (P : Group → Type 0) (s : Group) → P s → Leads P s
 no_move P s h = record { to = s; path = none; is = h }
+
+-- ---- moves within a step of a name, which leave its fronts
+
+abbrev pub Onto : ℕ → World → Group → Type 0
+Onto name v s = Leads (λ t. StandsBut name v t × FrontsStay name s t) s
+
+pub onto_same : (name : ℕ) (v : World) (s : Group) → StandsBut name v s → Onto name v s
+onto_same name v s h = no_move (λ t. StandsBut name v t × FrontsStay name s t) s (h, record { told = refl; acc = refl })
+
+pub onto_move : (name : ℕ) (v : World) (s t : Group) (move : Move s t) → MoveOk move → (b : groups.Node) → t.node name ≡ b → b.told ≡ (s.node name).told
+    → b.acc ≡ (s.node name).acc → StandsBut name v t → Onto name v s
+onto_move name v s t move ok b is told_ acc_ h = one_move (λ u. StandsBut name v u × FrontsStay name s u) s t move ok
+    (h, record { told = ap (λ (a : groups.Node). a.told) is ∙ told_; acc = ap (λ (a : groups.Node). a.acc) is ∙ acc_ })
 
 -- ---- one name
 

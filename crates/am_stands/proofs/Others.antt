@@ -18,7 +18,7 @@ list_same : (w v : World) (i : ℕ) (x : Node) (a b : groups.Node) → NameStand
     → b.list ≡ a.list
 list_same w v i x a b h k grows = k.list ∙ ap (λ l. l ++ x.core.log.entries) (taken_more x.core.log.start w.group v.group grows h.begins.within) ∙ sym h.list
 
-last_stays : (w v : World) (ballot : Option Ballot) → ((j : ℕ) → is_stopped w j ≡ true → is_stopped v j ≡ true) → LastStands w ballot → LastStands v ballot
+pub last_stays : (w v : World) (ballot : Option Ballot) → ((j : ℕ) → is_stopped w j ≡ true → is_stopped v j ≡ true) → LastStands w ballot → LastStands v ballot
 last_stays w v None stopped h = tt
 last_stays w v (Some b) stopped h = record { given = λ j is. stopped j (h.given j is); names = λ j vote is. h.names j vote is }
 

@@ -36,7 +36,7 @@ use Rattle.am_laws.proofs.Stamps.{same_stamp}
 use Rattle.am_stands.specs.Letters as says
 use Rattle.am_stands.specs.Letters.{line, IsDecided, AllShown, FetchSays, PacketSays, ResultSays}
 use Rattle.am_stands.specs.Moving.{none, Leads}
-use Rattle.am_stands.specs.Sending.{KeptWhole, Sender, ShowsMore, SaysSo, SentSays}
+use Rattle.am_stands.specs.Sending.{KeptWhole, ListBegins, as_before, just_begun, Sender, ShowsMore, SaysSo, SentSays}
 use Rattle.am_stands.proofs.Changes.{told_all, long_all}
 use Rattle.am_stands.proofs.Entries.{key_stamp}
 use Rattle.am_stands.proofs.Going.{gone_says}
@@ -119,9 +119,24 @@ module _ (v : World) (i : ℕ) (c : Cause) (m n : Node) (s : Group) (h : Sender 
   sequencer : is_sequencer n ≡ true → says.SequencerSays s i n.core.promise n.core.acc
   sequencer t = sequencer_said v i n s (speaks_leading t) t h.fronts
 
+  -- who leads, or heard a Fetch, hasn't just begun its list
+  start_leading : is_sequencer n ≡ true → n.core.log.start ≤ m.core.base
+  start_leading t = by_start h.start
+    where
+      by_start : ListBegins c m n → n.core.log.start ≤ m.core.base
+      by_start (as_before low) = low
+      by_start (just_begun follows asked) = absurd (let z = sym t ∙ follows in cc)
+
+  start_asked : (from stored : ℕ) (u : Stamp) → c ≡ hears (packet.Fetch from u stored) → n.core.log.start ≤ m.core.base
+  start_asked from stored u is = by_start h.start
+    where
+      by_start : ListBegins c m n → n.core.log.start ≤ m.core.base
+      by_start (as_before low) = low
+      by_start (just_begun follows asked) = absurd (asked from stored u is)
+
   numbered : (number : ℕ) (e : Entry) → is_sequencer n ≡ true → letters.Stands n.core.log m.core.base number e
       → says.EntrySays s i n.core.promise n.core.acc number e
-  numbered number e t at = entry_said v i n s m.core.base number e (speaks_leading t) t h.fronts h.numbers.start at
+  numbered number e t at = entry_said v i n s m.core.base number e (speaks_leading t) t h.fronts (start_leading t) at
 
   -- a Fetch for its own promise, and one for a ballot of its own
   fetched : (to : List ℕ) → MayFetch m n to → FetchSays s i n.core.promise to
@@ -170,7 +185,8 @@ module _ (v : World) (i : ℕ) (c : Cause) (m n : Node) (s : Group) (h : Sender 
       let by : n.core.promise.by ≡ from = ap (λ (x : Stamp). x.by) (sym promise) ∙ same_number u.by from t in
       let asks = h.asked from stored u is in
       let asked = subst (λ (x : Stamp). FetchSays s from x asks.0) promise asks.2 in
-      shown_said v i from m.core.base number n e s asks.0 (speaks member) by (not_itself from asks.0 by asks.1 asked) asks.1 asked h.numbers.start at)
+      shown_said v i from m.core.base number n e s asks.0 (speaks member) by (not_itself from asks.0 by asks.1 asked) asks.1 asked
+      (start_asked from stored u is) at)
       (λ f.
       let rest : ((u.by == n.core.who) && stamp_eq (view n) u) ≡ true = rw f at both.1 in
       let own = and_both (u.by == n.core.who) (stamp_eq (view n) u) rest in
@@ -182,7 +198,7 @@ module _ (v : World) (i : ℕ) (c : Cause) (m n : Node) (s : Group) (h : Sender 
         is = record {
           same = record { node = refl; views = refl; group_ = refl };
           says = piece_said v i n s m.core.base number e
-              (speaks member) leads_ h.numbers.start at;
+              (speaks member) leads_ (start_asked from stored u is) at;
         };
       })
     where
@@ -246,7 +262,7 @@ sent_says v i c m n s to p h (welcome name t may) =
     let good = good_begins ((h.group.kept.each i).list (speaks_leading v i c m n s h t).up) h.group.kept.views.good in
     let base = h.numbers.base in
     let taken = h.numbers.taken in
-    let is = is_welcomed v i m n (s.node i) name h.stands good h.lives h.numbers.start h.numbers.accepted may in
+    let is = is_welcomed v i m n (s.node i) name h.stands good h.lives (start_leading v i c m n s h t) h.numbers.accepted may in
     so v i c m n s h (only_name name) _ (
       h.trimmed,
       λ j in_.

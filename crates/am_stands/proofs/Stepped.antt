@@ -12,8 +12,7 @@ use Rattle.am_model.specs.World.{Decided, World, last_view}
 use Rattle.am_effects.specs.Causes.{Cause}
 use Rattle.am_effects.specs.Looks.{Looks, finds_itself_out, waits, fetches_from_best, finds_too_few, finds_no_room, decides}
 use Rattle.am_effects.specs.Changes.{Change, refreshes, settles, takes_report, admits, numbers, keeps_body, notes, stores, begins_list, departs, promises}
-use Rattle.am_effects.specs.Changes.{opens, looks, fetches, stores_view, queues, collects, takes, asks_to_join, asks_to_leave, closes, Changes, unchanged}
-use Rattle.am_effects.specs.Changes.{changed}
+use Rattle.am_effects.specs.Changes.{opens, looks, fetches, stores_view, queues, collects, takes, asks_to_join, asks_to_leave, closes, unchanged, changed}
 use Rattle.am_effects.proofs.Items.{get_push}
 use Rattle.am_effects.proofs.Rests.{settle_is}
 use Rattle.am_laws.specs.Packets.{stamp_of}
@@ -21,8 +20,6 @@ use Rattle.am_laws.proofs.Named.{change_named}
 use Rattle.am_laws.proofs.TakenRuns.{Along, along_changes}
 use Rattle.am_sent.proofs.Changes.{CauseSent, change_sent}
 use Rattle.am_stands.specs.Standing.{StandsBut, within}
-use Rattle.am_stands.specs.Growing.{Grows}
-use Rattle.am_stands.specs.Moving.{Moves, none, moves}
 use Rattle.am_stands.specs.Steps.{Needs, after_change, after_look}
 use Rattle.am_stands.proofs.Carried.{changes_stand}
 use Rattle.am_stands.proofs.Changes.{own_name}
@@ -32,7 +29,7 @@ use Rattle.am_stands.specs.Letters.{WasAsked}
 use Rattle.am_stands.proofs.Keeping.{may_move, needs, IsNoClose}
 use Rattle.am_stands.proofs.Keeps.{keeps_next}
 use Rattle.am_stands.proofs.Letters.{letters_stay}
-use Rattle.am_stands.proofs.Onward.{GoesOn, goes_on, grows_same, grows_trans}
+use Rattle.am_stands.proofs.Onward.{GoesOn, goes_on}
 use Rattle.am_stands.specs.Keeping.{ChangesGoOn, IsPlain, LastStands, Next, NodeKeeps, Stepping}
 
 -- ---- the world after a change: with the views that it noted
@@ -211,7 +208,7 @@ step_to rules w views name c o x y s t z plain h sent_ on stands noted along kee
     }
 
 pub step_on : (rules : Rules) (w : World) (name : ℕ) (c : Cause) (o : Outcome) (x y : Node) (s : Group) (z : Change c o x y) → IsPlain z
-    → Stepping rules w name c x s → CauseSent w.records name o c → Next rules (after_change z w) name c y s
+    → Stepping rules w name c x s → CauseSent w.records name o c → Next rules w name c o x y s z
 step_on rules w name c o x y s z plain h sent_ =
     let leads = changes_stand w name c o x y s z (may_move rules w name c x s h)
     (needs rules w name c x s h o y z (no_close rules w name s h z plain)) h.stands in
@@ -219,7 +216,7 @@ step_on rules w name c o x y s z plain h sent_ =
     let along = along_changes rules x y h.names h.used (changed z unchanged) h.along in
     let same = after_is z w in
     let v = viewing w (after_change z w).views in
-    let stands = subst (λ (q : World). StandsBut name (within q name y) leads.to) same leads.is in
+    let stands = subst (λ (q : World). StandsBut name (within q name y) leads.to) same leads.is.0 in
     let own = own_name v name y leads.to h.few stands in
     let keeps = keeps_next rules w v name c o x y s leads.to z plain h on.grows on.group_ h.runs refl own along in
     let small = subst (λ (u : Stamp). u.by < 256) (view_whole v name y (leads.to.node name) own) (view_small (leads.to.node name).list keeps.good) in
@@ -229,43 +226,8 @@ step_on rules w name c o x y s z plain h sent_ =
       grows = on.grows;
       goes = subst (λ v. Stepping rules v name c y leads.to) (sym same)
           (step_to rules w (after_change z w).views name c o x y s leads.to z plain h sent_ on stands (noted_next z w small h.noted) along keeps);
+      fronts = leads.is.1;
     }
-
--- ---- changes in turn
-
--- none of these is a refresh, nor the last member's end
-unfoldable pub AllPlain : {c : Cause} {o : Outcome} {x y : Node} → Changes c o x y → Type 0
-AllPlain unchanged = Unit {0}
-AllPlain (changed z more) = IsPlain z × AllPlain more
-
--- the views that they noted, and the group that they lead to
-pub record Onward (rules : Rules) (w : World) (name : ℕ) (c : Cause) (y : Node) (s : Group) : Type 0 where
-  pub views : List Decided
-  pub to : Group
-  pub path : Moves s to
-  pub grows : Grows s to
-  pub goes : Stepping rules (viewing w views) name c y to
-
-pub changes_on : (rules : Rules) (name : ℕ) (c : Cause) (o : Outcome) (w : World) (x y : Node) (s : Group) (zs : Changes c o x y) → AllPlain zs
-    → Stepping rules w name c x s → CauseSent w.records name o c → Onward rules w name c y s
-unfolding AllPlain
-changes_on rules name c o w x y s unchanged plain h sent_ = record { views = w.views; to = s; path = none; grows = grows_same s; goes = h }
-changes_on rules name c o w x y s (changed {n = m} z more) plain h sent_ =
-    let one = step_on rules w name c o x m s z plain.0 h sent_ in
-    let same = after_is z w in
-    let now = viewing w (after_change z w).views in
-    let rest = changes_on rules name c o now m y one.to more plain.1 (subst (λ v. Stepping rules v name c m one.to) same one.goes) sent_ in
-    record {
-      views = rest.views;
-      to = rest.to;
-      path = in_turn one.path rest.path;
-      grows = grows_trans s one.to rest.to one.grows rest.grows;
-      goes = rest.goes;
-    }
-  where
-    in_turn : {a b d : Group} → Moves a b → Moves b d → Moves a d
-    in_turn none more_ = more_
-    in_turn (moves move ok rest_) more_ = moves move ok (in_turn rest_ more_)
 
 pub changes_go_on : ChangesGoOn
 changes_go_on = step_on

@@ -31,7 +31,7 @@ none_of_asking status.Asking f h = (refl, refl)
 none_of_asking status.Member f h = absurd (cc)
 none_of_asking status.Departed f h = absurd (cc)
 
-not_above_key : (u v : Stamp) → u.by < 256 → v.by < 256 → stamp_lt v u ≡ false → key u ≤ key v
+pub not_above_key : (u v : Stamp) → u.by < 256 → v.by < 256 → stamp_lt v u ≡ false → key u ≤ key v
 not_above_key u v small few low = split (stamp_lt u v)
     (λ t. let z = key_lt u v small few t in omega arith)
     (λ f. let same = ap key (equal_stamps u v small few f low) in omega arith)

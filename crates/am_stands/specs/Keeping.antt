@@ -30,7 +30,7 @@ use Rattle.am_stands.specs.Letters.{Trimmed, PacketSays}
 use Rattle.am_stands.specs.Growing.{Grows}
 use Rattle.am_stands.specs.Moving.{Moves}
 use Rattle.am_stands.specs.States.{VotesStand, FetchesStand, ReportsStand, ReportsFresh, OpensStand, SendsOnce}
-use Rattle.am_stands.specs.Steps.{WasBegun, after_change}
+use Rattle.am_stands.specs.Steps.{WasBegun, FrontsAfter, after_change}
 use Rattle.am_stands.specs.Branches.{BranchesOk, ChainNamed}
 
 -- ---- the group
@@ -110,16 +110,17 @@ IsPlain (closes leads_ leaves alone_ room) = ⊥
 IsPlain _ = Unit {0}
 
 -- the group that it leads to
-pub record Next (rules : Rules) (v : World) (name : ℕ) (c : Cause) (y : Node) (s : Group) : Type 0 where
+pub record Next (rules : Rules) (w : World) (name : ℕ) (c : Cause) (o : Outcome) (x y : Node) (s : Group) (z : Change c o x y) : Type 0 where
   pub to : Group
   pub path : Moves s to
   pub grows : Grows s to
-  pub goes : Stepping rules v name c y to
+  pub goes : Stepping rules (after_change z w) name c y to
+  pub fronts : FrontsAfter z name s to
 
 -- each change that is plain is moves of the group, to one of which all that is known within the step is so again
 abbrev pub ChangesGoOn : Type 0
 ChangesGoOn = (rules : Rules) (w : World) (name : ℕ) (c : Cause) (o : Outcome) (x y : Node) (s : Group) (z : Change c o x y) → IsPlain z
-    → Stepping rules w name c x s → CauseSent w.records name o c → Next rules (after_change z w) name c y s
+    → Stepping rules w name c x s → CauseSent w.records name o c → Next rules w name c o x y s z
 
 -- ---- a refresh
 

@@ -10,3 +10,4 @@ pub mod Accepting
 pub mod Sending
 pub mod Branches
 pub mod Keeping
+pub mod Running

@@ -39,12 +39,16 @@ pub record KeptWhole (s : Group) : Type 0 where
 
 -- its numbers stand in their order; what was accepted before the step is accepted
 pub record NumbersStand (m n : Node) : Type 0 where
-  pub start : n.core.log.start ≤ m.core.base
   pub kept : n.core.log.start ≤ n.core.base
   pub base : n.core.base ≤ n.core.taken
   pub taken : n.core.taken ≤ n.core.acc
   pub within : n.core.acc ≤ top n
   pub accepted : m.core.acc ≤ n.core.acc
+
+-- where its list begins is no higher than what it had trimmed before; or it has just begun, and then it doesn't lead, and heard no Fetch
+pub data ListBegins (c : Cause) (m n : Node) : Type 0 where
+  as_before : n.core.log.start ≤ m.core.base → ListBegins c m n
+  just_begun : is_sequencer n ≡ false → ((from stored : ℕ) (u : Stamp) → c ≡ hears (packet.Fetch from u stored) → ⊥) → ListBegins c m n
 
 -- what a sequencer knows of its names
 pub record LeaderStands (s : Group) (i : ℕ) (n : Node) : Type 0 where
@@ -78,6 +82,7 @@ pub record Sender (v : World) (i : ℕ) (c : Cause) (m n : Node) (s : Group) : T
   pub lives : RowsLive n
   pub trimmed : Trimmed s n.core.base
   pub numbers : NumbersStand m n
+  pub start : ListBegins c m n
   pub leader : is_sequencer n ≡ true → LeaderStands s i n
   pub ballots : BallotStands s i n
   pub sends : SendsStand v i n

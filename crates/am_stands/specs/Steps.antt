@@ -127,10 +127,23 @@ abbrev pub after_change : {c : Cause} {o : Outcome} {m n : Node} → Change c o 
 after_change (looks b verdict over why look is) w = after_look look w
 after_change _ w = w
 
+-- how far a name was told that the list is accepted, and how far it gives entries out, is as before; a Welcome tells of its base
+pub record FrontsStay (name : ℕ) (s t : Group) : Type 0 where
+  pub told : (t.node name).told ≡ (s.node name).told
+  pub acc : (t.node name).acc ≡ (s.node name).acc
+
+pub record FrontsBegin (name base : ℕ) (t : Group) : Type 0 where
+  pub told : (t.node name).told ≡ base
+  pub acc : (t.node name).acc ≡ base
+
+abbrev pub FrontsAfter : {c : Cause} {o : Outcome} {m n : Node} → Change c o m n → ℕ → Group → Group → Type 0
+FrontsAfter (begins_list from v base join image is o may) name s t = FrontsBegin name base t
+FrontsAfter _ name s t = FrontsStay name s t
+
 -- each change is moves of the group to one that stands for the world after it
 abbrev pub ChangesStand : Type 0
 ChangesStand = (w : World) (name : ℕ) (c : Cause) (o : Outcome) (x y : Node) (s : Group) (z : Change c o x y) → MayMove w name c x s → Needs s name z
-    → StandsBut name (within w name x) s → Leads (StandsBut name (within (after_change z w) name y)) s
+    → StandsBut name (within w name x) s → Leads (λ t. StandsBut name (within (after_change z w) name y) t × FrontsAfter z name s t) s
 
 -- ---- events that no node does
 

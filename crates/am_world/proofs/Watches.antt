@@ -35,6 +35,9 @@ views_more k stored name begun same earlier found last e begins_no other is ends
     ap (λ q. with_entry q name e) (was ∙ ap (with_entries k name) is) ∙ ap (with_entry (with_entries k name earlier) name) ends ∙ sym (entries_go_on k name earlier last)
     ∙ ap (λ b. with_entries k name (if b then [] else earlier ++ last ∷ [])) (sym neither)
 
+pub views_new : (k : Watching) (name : ℕ) (begun same : Bool) (es : List Entry) → begun ≡ false → same ≡ false → with_entries k name es ≡ with_entries k name (if begun || same then [] else es)
+views_new k name begun same es begins_no other = ap (λ b. with_entries k name (if b then [] else es)) (sym (ap (λ b. b || same) begins_no ∙ other))
+
 pub views_none : (k : Watching) (name : ℕ) (b : Bool) (es : List Entry) → b ≡ true → k ≡ with_entries k name (if b then [] else es)
 views_none k name b es is = rw is (sym (entries_none k name))
 

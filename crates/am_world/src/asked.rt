@@ -52,6 +52,7 @@ fn kept(bytes: &PacketBytes, keep: Option<u32>) -> PacketBytes
 }
 
 /// A name hears a letter, or only the first of its bytes.
+#[inline(never)]
 fn hears(
     alloc: Global,
     letter: Option<&Letter>,
@@ -76,6 +77,7 @@ fn hears(
 }
 
 /// A name sends a body.
+#[inline(never)]
 fn sends(alloc: Global, body: &Body, stopped: bool) -> Result<Result<NodeEvent, Outcome>, NoMemory>
     ensures { IfOk result (λ r. r ≡ if_running stopped (does.Send body.now)) }
 {

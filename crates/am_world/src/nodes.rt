@@ -1,4 +1,4 @@
-ghost use Rattle.std.specs.Prelude.{◌≡◌, ◌+◌, ◌-◌, ◌<◌, ◌≤◌, ◌++◌, [], length, max, take, drop, vec_len, vec_capacity, OnOk};
+ghost use Rattle.std.specs.Prelude.{◌≡◌, ◌+◌, ◌-◌, ◌<◌, ◌≤◌, ◌++◌, [], length, max, take, drop, vec_len, vec_capacity, OnOk, IfOk};
 ghost use Rattle.am_base.specs.Names.{place_of};
 ghost use Rattle.am_core.specs.Cores.{IsInOrder};
 ghost use Rattle.am_model.specs.Step.{row};
@@ -11,20 +11,36 @@ use am_base::NoMemory;
 use am_base::boxed::Boxed;
 use am_base::entry::Entry;
 use am_base::event::NodeEvent;
+use am_base::items::Items;
 use am_base::name::Name;
 use am_base::outcome::Outcome;
 use am_letter::letter::Letter;
 use am_letter::out_box::OutBox;
 use am_node::node::Node;
+use std::alloc::Global;
 
-/// Copies letters, for which there is room.
-pub fn copy_letters(letters: &[Letter], into: &mut Vec<Letter>)
-    requires { vec_len into.old + length letters.now ≤ vec_capacity into.old }
-    ensures { into.new.items ≡ into.old.items ++ letters.now }
+/// An empty box for the letters of a step: the spare one, or a new one.
+pub fn empty_box(alloc: Global, spare: &mut Option<OutBox>) -> Result<OutBox, NoMemory>
+    ensures { IfOk result (λ b. b ≡ []) }
 {
-    for letter in letters {
-        into.push_reserved(letter.copied());
+    match spare.take() {
+        Some(mut out) => {
+            out.clear();
+            Ok(out)
+        }
+        None => OutBox::new(alloc),
     }
+}
+
+/// The letters of a step. A box in which there are none is spare for the next step.
+pub fn packets_of(alloc: Global, out: OutBox, spare: &mut Option<OutBox>) -> Items<Letter>
+    ensures { result ≡ out }
+{
+    if out.letters().is_empty() {
+        *spare = Some(out);
+        return Items::new(alloc);
+    }
+    out.into_letters()
 }
 
 /// Makes room for so many entries in all.

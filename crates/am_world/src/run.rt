@@ -8,7 +8,7 @@ ghost use Rattle.am_node.specs.Stands.{state_of};
 ghost use Rattle.am_world.specs.Runs.{AreNodes, AreFirst, the_record};
 
 use crate::asked::{asked, is_stopped};
-use crate::nodes::{copy_letters, make_room, step_at};
+use crate::nodes::{empty_box, make_room, packets_of, step_at};
 use am_base::NoMemory;
 use am_base::boxed::Boxed;
 use am_base::entry::Entry;
@@ -66,6 +66,12 @@ fn new_record(alloc: Global, event: &Event, life: u8, outcome: Outcome) -> Resul
     })
 }
 
+/// A place for an entry that is taken.
+#[inline(never)]
+fn spare_entry(alloc: Global) -> Result<Boxed<Entry>, NoMemory> {
+    Boxed::of(alloc, Entry::default())
+}
+
 fn has_departed(status: Status) -> bool
     ensures { result ≡ has_departed status }
 {
@@ -86,7 +92,7 @@ pub struct Run {
     stopped: [bool; 256],
     journal: Journal,
     group: Vec<Entry>,
-    out: OutBox,
+    out: Option<OutBox>,
 }
 
 impl Model for Run {
@@ -124,7 +130,7 @@ impl Run {
             stopped: [false; 256],
             journal: Journal::new(alloc, founding),
             group,
-            out: OutBox::new(),
+            out: None,
         })
     }
 
@@ -263,21 +269,18 @@ impl Run {
     {
         self.journal.reserve()?;
         let mut record = new_record(self.alloc, event, name.life(), Outcome::Idle)?;
-        let spare = Boxed::of(self.alloc, Entry::default())?;
-        let mut packets = Vec::with_capacity(self.alloc, 9)?;
+        let spare = spare_entry(self.alloc)?;
         make_room(&mut self.group, self.journal.records().len() + 2)?;
-        self.out.clear();
+        let mut out = empty_box(self.alloc, &mut self.out)?;
         record.outcome = step_at(
             &mut self.nodes,
             name,
             what,
             spare,
             &mut self.group,
-            &mut self.out,
+            &mut out,
         );
-        copy_letters(self.out.letters(), &mut packets);
-        packets.shrink_to_fit();
-        record.packets = Items::of(packets);
+        record.packets = packets_of(self.alloc, out, &mut self.out);
         self.journal.push(record);
         Ok(())
     }

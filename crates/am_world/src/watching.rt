@@ -1,4 +1,4 @@
-ghost use Rattle.std.specs.Prelude.{◌≡◌, ◌+◌, ◌<◌, ◌≤◌, ◌++◌, [], length, drop, if◌then◌else◌};
+ghost use Rattle.std.specs.Prelude.{◌≡◌, ◌+◌, ◌<◌, ◌≤◌, ◌++◌, [], ◌∷◌, length, drop, if◌then◌else◌};
 ghost use Rattle.am_base.specs.Most.{most_number};
 ghost use Rattle.am_base.specs.Stamps.{stamp_eq};
 ghost use Rattle.am_model.specs.Group.{has_log};
@@ -119,6 +119,23 @@ fn fetched_before(is_decided: bool, what: &NodeEvent) -> Option<Entry>
     if is_decided { fetched(what) } else { None }
 }
 
+/// The watcher is told which Views a name stored in a step in which its view became another: what it fetched, where it then
+/// decided a view, and the last one.
+#[inline(never)]
+fn store_new_views(
+    watcher: &mut Watcher,
+    name: Name,
+    is_decided: bool,
+    view: &DecidedView,
+    what: &NodeEvent,
+)
+    ensures { watching_of watcher.new ≡ with_entries (watching_of watcher.old) name ((if is_decided then one_of (fetched what.now) else []) ++ last_view view.now ∷ []) }
+{
+    let earlier = fetched_before(is_decided, what);
+    store_one(watcher, name, earlier);
+    watcher.store(name, &last_view(view));
+}
+
 /// The watcher is told which Views a name stored in a step.
 fn store_views(
     watcher: &mut Watcher,
@@ -133,9 +150,7 @@ fn store_views(
     if begins(before, after.status) || is_same_stamp(before.view, after.view) {
         return;
     }
-    let earlier = fetched_before(decides(before, name, after), what);
-    store_one(watcher, name, earlier);
-    watcher.store(name, &last_view(view));
+    store_new_views(watcher, name, decides(before, name, after), view, what);
 }
 
 /// The watcher is told how the group list goes on above a number.

@@ -21,7 +21,7 @@ pub returns-in-Send : goal.returns-in-Send
 unfolding row
 returns-in-Send c =
     let old = node_of c.args.parts.now in
-    does_as old _ c.args.event.now (Send c.in-Send.body) (send_row old c.copied.result) _ _ c.in-Send.is (ap (send_row old) (sym (c.copied.ensures ∙ c.get.ensures))) c.on_send.ensures
+    does_as old _ c.args.event.now (Send c.in-Send.body) (send_row old c.get.result.now) _ _ c.in-Send.is (ap (send_row old) (sym c.get.ensures)) c.sends.ensures
 
 pub returns-in-Done : goal.returns-in-Done
 unfolding row

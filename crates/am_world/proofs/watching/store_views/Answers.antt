@@ -1,18 +1,20 @@
 use Rattle.std.proofs.Common.{[], ◌∷◌, ◌++◌, ◌||◌, true, false, if◌then◌else◌, refl, sym, ap, ◌∙◌}
 use Rattle.am_base.specs.Stamps.{stamp_eq}
-use Rattle.am_watch.specs.Watching.{decides}
+use Rattle.am_watch.specs.Watching.{decides, with_entries}
 use Rattle.am_watch.specs.Watchers.{watching_of}
 use Rattle.am_world.specs.Watched.{begins, fetched, one_of, last_view, stored_of}
-use Rattle.am_world.proofs.Watches.{views_more, views_none}
+use Rattle.am_world.proofs.Watches.{views_new, views_none}
 use Rattle.am_world.proofs.watching.store_views.Goals as goal
 use Rattle.am_world.proofs.watching.store_views.Goals.{then-begins-via-then-begins, then-begins-via-else-begins+then-is_same_stamp}
 
 pub returns : goal.returns
 returns c =
     let k = watching_of c.args.watcher.now in
-    c.store.ensures ∙ views_more k (watching_of c.store_one.new.watcher) c.args.name (begins c.args.before.now c.args.after.now.status) (stamp_eq c.args.before.now.view c.args.after.now.view)
-    (if decides c.args.before.now c.args.name c.args.after.now then one_of (fetched c.args.what.now) else []) (one_of c.fetched_before-earlier.result) (last_view c.args.view.now) c.last_view.result
-    (sym c.begins.ensures ∙ c.if-begins.false) (sym c.is_same_stamp.ensures ∙ c.if-is_same_stamp.false) (c.fetched_before-earlier.ensures ∙ ap (λ b. if b then one_of (fetched c.args.what.now) else []) c.decides.ensures) c.last_view.ensures c.store_one.ensures
+    let found = one_of (fetched c.args.what.now) in
+    let last = last_view c.args.view.now ∷ [] in
+    c.store_new_views.ensures ∙ ap (λ b. with_entries k c.args.name ((if b then found else []) ++ last)) c.decides.ensures
+    ∙ views_new k c.args.name (begins c.args.before.now c.args.after.now.status) (stamp_eq c.args.before.now.view c.args.after.now.view) _
+    (sym c.begins.ensures ∙ c.if-begins.false) (sym c.is_same_stamp.ensures ∙ c.if-is_same_stamp.false)
 
 pub returns-then-begins : goal.returns-then-begins
 returns-then-begins c =

@@ -26,12 +26,11 @@ made c =
     let w = c.self.inside in
     let p = c.args.self.now in
     let living = living_at p w.journal.founding w.nodes.items w.lives w.stopped w.journal.records w.group.items c.self.view_is c.self.invariant in
-    let letters : c.shrink_to_fit.new.self.items ≡ c.step_at.new.out = c.shrink_to_fit.ensures.items ∙ c.copy_letters.ensures ∙ ap (λ ls. ls ++ c.letters.result.now) c.in_ok-packets.ensures.items ∙ c.letters.ensures.value in
     let steps = c.step_at.ensures.steps in
     act_goes_on p w.journal.founding c.push.new.self.founding w.nodes.items c.step_at.new.nodes w.lives w.stopped w.journal.records c.push.new.self.records w.group.items c.step_at.new.group.items c.args.event.now c.args.what.now c.step_at.result c.step_at.new.out c.args.name
     c.self.view_is c.self.invariant c.requires.few c.requires.name (rw (c.deref_mut.ensures.value, c.make_room.ensures.items) at steps)
     (recorded (replay p) c.args.event.now c.step_at.result c.step_at.new.out w.lives c.args.name c.life.result _ w.journal.founding c.push.new.self.founding w.journal.records c.reserve.new.self.records c.push.new.self.records living c.requires.name c.life.ensures.value
-    (ap (λ (r : Record). record r { outcome = c.step_at.result; packets = c.of-2.result }) c.in_ok-record.ensures ∙ ap (the_record c.args.event.now c.life.result c.step_at.result) (c.of-2.ensures ∙ letters)) (c.push.ensures.founding ∙ c.reserve.ensures.founding) c.reserve.ensures.records c.push.ensures.records)
+    (ap (λ (r : Record). record r { outcome = c.step_at.result; packets = c.packets_of.result }) c.in_ok-record.ensures ∙ ap (the_record c.args.event.now c.life.result c.step_at.result) c.packets_of.ensures) (c.push.ensures.founding ∙ c.reserve.ensures.founding) c.reserve.ensures.records c.push.ensures.records)
     c.requires.comes
 
 pub invariant_of-self-2 : goal.invariant_of-self-2

@@ -1,0 +1,162 @@
+-- At the start there is a group that follows the world, and so there is up to the lawful front.
+use Rattle.std.proofs.Common.{◌≡◌, ℕ, zero, suc, ◌<◌, ◌≤◌, ◌==◌, true, List, [], ◌∷◌, ◌++◌, length, take, None, Some}
+use Rattle.std.proofs.Common.{refl, sym, ap, ◌∙◌, subst, arith}
+use Rattle.std.specs.Prelude.{Contains, slice_index_or}
+use Rattle.std.proofs.lemmas.Bool.Decides.{nat_tests}
+use Rattle.std.proofs.lemmas.List.{take_all}
+use Rattle.std.proofs.lemmas.List.Elements.{All-nil, All-cons}
+use Rattle.am_base.specs.declared.entry.Entry.TheVariants.{View}
+use Rattle.am_base.specs.Founding.{Rules, MayFound}
+use Rattle.am_base.specs.Names.{has}
+use Rattle.am_group.specs.declared.event.Event.{Event}
+use Rattle.am_chain_lists.specs.Whole.{IsGood, key}
+use Rattle.am_chain_lists.proofs.Prefixes.{begins_refl, begins_nil}
+use Rattle.am_chain_lists.proofs.Members.{good_begins}
+use Rattle.am_chain_moves.specs.Group.{Group, chain_of}
+use Rattle.am_chain_moves.specs.Runs as begun
+use Rattle.am_chain_moves.specs.Runs.{MayBegin, founded, first_choice, first_stamp}
+use Rattle.am_chain.proofs.Runs.{run_keeps}
+use Rattle.am_model.specs.Node.{lowest_or_first, founding_stamp}
+use Rattle.am_model.specs.World.{Decided, World, start, first_node, founders_decided, has_departed, happen, run}
+use Rattle.am_model.specs.Lawful.{Watch, watch_all, watched, watch_start, broken_at}
+use Rattle.am_model.specs.Claims.{BecameComplete}
+use Rattle.am_model.proofs.Greatest.{split}
+use Rattle.am_laws.proofs.Founders.{first_founder}
+use Rattle.am_stands.specs.Moving.{NamesNamed}
+use Rattle.am_stands.specs.Keeping.{GroupFor}
+use Rattle.am_stands.proofs.Begun.{start_keeps}
+use Rattle.am_stands.proofs.Branches.{branches_begin}
+use Rattle.am_stands.proofs.Onward.{goes_on}
+use Rattle.am_stands.proofs.Start.{start_stands}
+use Rattle.am_stands.specs.Running.{Following, StepsMove}
+use Rattle.am_headline.proofs.Shapes.{Shaped, shaped_moves}
+use Rattle.am_headline.proofs.Greatest.{unbroken, watch_push}
+use Rattle.am_headline.proofs.Fold.{KeptBy, Held, moves_mark, next}
+
+abbrev first_group : Rules → Group
+first_group rules = begun.start rules.founders (lowest_or_first rules.founders) rules.resilience
+
+-- ---- the group's own start
+
+may_begin : (rules : Rules) → MayFound rules → MayBegin rules.founders (lowest_or_first rules.founders) rules.resilience
+may_begin rules may =
+    let f = first_founder rules may in
+    let few = f.few in
+    record { small = omega arith; among = f.founds }
+
+first_ok : (rules : Rules) → MayFound rules → GroupFor rules (first_group rules)
+first_ok rules may =
+    let begin = may_begin rules may in
+    record {
+      run = founded begin;
+      branches = branches_begin rules.founders (lowest_or_first rules.founders) rules.resilience begin;
+      named = All-cons NamesNamed (View (founding_stamp rules) rules.founders rules.resilience) [] may.names (All-nil NamesNamed);
+    }
+
+own_key : (rules : Rules) → (key (founding_stamp rules) == key (founding_stamp rules)) ≡ true
+own_key rules = grind (arith, nat_tests)
+
+first_shaped : (rules : Rules) → MayFound rules → Shaped (first_group rules)
+first_shaped rules may = record {
+  lines = λ i some. split (has rules.founders i)
+      (λ t. record { view = key (founding_stamp rules); decided = own_key rules; line = rw t (begins_refl _) })
+      (λ f. absurd (some (rw f refl)));
+  sets = λ x d. may.names;
+  good = λ i. (let k = run_keeps rules.founders (lowest_or_first rules.founders) rules.resilience (first_group rules) (founded (may_begin rules may)) in
+      split (has rules.founders i)
+      (λ t. good_begins ((k.kept.each i).list (record { log = t; there = record { goes = refl; stays = refl } })) k.kept.views.good)
+      (λ f. subst IsGood (sym ((k.kept.each i).blank f)) (good_begins (begins_nil (chain_of (first_group rules).views)) k.kept.views.good)));
+}
+
+-- ---- the start
+
+none_gone : (rules : Rules) (i : ℕ) → has_departed (first_node rules i).status ≡ true → ⊥
+none_gone rules i = split (has rules.founders i) (λ t. rw t (λ z. absurd (cc))) (λ f. rw f (λ z. absurd (cc)))
+
+pub record Started (rules : Rules) : Type 0 where
+  pub to : Group
+  pub follows : Following rules (start rules) to
+  pub shaped : Shaped to
+  pub marks : to.views.complete ≡ (first_group rules).views.complete
+
+pub start_follows : (rules : Rules) → MayFound rules → Started rules
+start_follows rules may =
+    let s = first_group rules in
+    let leads = start_stands rules may in
+    let first = first_ok rules may in
+    let on = goes_on rules.founders (lowest_or_first rules.founders) rules.resilience s leads.to first leads.path in
+    record {
+      to = leads.to;
+      follows = record {
+        group = on.group_;
+        stands = leads.is;
+        nodes = λ i few stays. start_keeps rules leads.to on.group_ leads.is i few;
+        gone = λ i few left. absurd (none_gone rules i left);
+        letters = λ k letter at. absurd (cc);
+      };
+      shaped = shaped_moves rules.founders (lowest_or_first rules.founders) rules.resilience s leads.to first leads.path (first_shaped rules may);
+      marks = moves_mark leads.path;
+    }
+
+-- ---- up to the lawful front
+
+split_last : (events : List Event) (n : ℕ) → length events ≡ suc n → (before : List Event) × (e : Event) × (events ≡ before ++ e ∷ []) × (length before ≡ n)
+split_last [] n h = absurd (omega arith)
+split_last (e ∷ []) n h = ([], e, refl, omega arith)
+split_last (e ∷ f ∷ es) zero h = absurd (omega arith)
+split_last (e ∷ f ∷ es) (suc n) h =
+    let r = split_last (f ∷ es) n (omega arith) in
+    let long = r.3 in
+    (e ∷ r.0, r.1, ap (λ l. e ∷ l) r.2, omega arith)
+
+only_in : (first d : Decided) (k : ℕ) → k < 1 → slice_index_or (first ∷ []) k d ≡ d → first ≡ d
+only_in first d zero low is = is
+only_in first d (suc k) low is = absurd (omega arith)
+
+-- the founders' view is the only one then
+only : (rules : Rules) (d : Decided) → BecameComplete rules [] d → founders_decided rules ≡ d
+unfolding happen
+only rules d (k, among, done) =
+    let low : length {A = Event} [] ≤ k = omega arith in
+    let none : take k [] ≡ [] = take_all k [] low in
+    let c = subst (λ (l : List Event). Contains (run rules l).views d) none among in
+    only_in (founders_decided rules) d c.0 c.1 c.2
+
+module _ (P : World → Group → Type 0) (rules : Rules) (keeps : KeptBy P rules) (moving : StepsMove) (may : MayFound rules)
+    (begins : (t : Group) → Following rules (start rules) t → P (start rules) t) where
+  held_none : Held P rules []
+  unfolding happen watch_all
+  held_none =
+      let s = start_follows rules may in
+      let first = founders_decided rules in
+      let is_marked : s.to.views.complete (key first.stamp) ≡ true = ap (λ f. f (key first.stamp)) s.marks ∙ own_key rules in
+      record {
+        to = s.to;
+        follows = s.follows;
+        shaped = s.shaped;
+        tied = record {
+          index = 0;
+          noted = refl;
+          marked_ = is_marked;
+          most = λ x done. (let was : (x == key first.stamp) ≡ true = ap (λ f. f x) (sym s.marks) ∙ done in
+              let same : x ≡ key first.stamp = grind (arith, nat_tests) in omega arith);
+        };
+        became = λ d c. (let same = only rules d c in
+            record { marked_ = ap (λ (x : Decided). s.to.views.complete (key x.stamp)) (sym same) ∙ is_marked; index = 0; there = ap Some same });
+        is = begins s.to s.follows;
+      }
+
+  held_of : (n : ℕ) (events : List Event) → length events ≡ n → broken_at rules events ≡ None → Held P rules events
+  held_of zero events long whole = subst (Held P rules) (sym (none_of events long)) held_none
+    where
+      none_of : (l : List Event) → length l ≡ 0 → l ≡ []
+      none_of [] h = refl
+      none_of (e ∷ es) h = absurd (omega arith)
+  held_of (suc n) events long whole =
+      let r = split_last events n long in
+      let all : broken_at rules (r.0 ++ r.1 ∷ []) ≡ None = ap (broken_at rules) (sym r.2) ∙ whole in
+      let before = unbroken (watched rules r.0) r.1 (ap (λ (x : Watch). x.broken) (sym (watch_push (watch_start rules) r.0 r.1)) ∙ all) in
+      subst (Held P rules) (sym r.2) (next P rules keeps moving may r.0 r.1 (held_of n r.0 r.3 before.before) all)
+
+  pub held : (events : List Event) → broken_at rules events ≡ None → Held P rules events
+  held events whole = held_of (length events) events refl whole

@@ -1,0 +1,233 @@
+-- How far above its base a name's entries lie, by the members at each: within a step.
+use Rattle.std.proofs.Common.{◌≡◌, ◌⊎◌, ⊎_elim, inl, inr, ℕ, suc, ◌+◌, ◌-◌, ◌<◌, ◌≤◌, max, ◌==◌, ◌&&◌, not, nat_lt, Bool, true, if◌then◌else◌}
+use Rattle.std.proofs.Common.{List, [], ◌∷◌, length, slice_index, refl, sym, ap, ◌∙◌, subst, length-append, arith}
+use Rattle.std.proofs.lemmas.Bool.Decides.{nat_tests}
+use Rattle.std.proofs.lemmas.List.{length-map, get_or-map}
+use Rattle.std.proofs.lemmas.List.Sums.{count_by-le-length}
+use Rattle.am_base.specs.declared.entry.Entry.{Entry}
+use Rattle.am_base.specs.declared.entry.Entry.TheVariants.{Leave, View}
+use Rattle.am_base.specs.declared.image.Image.{Image}
+use Rattle.am_base.specs.declared.image.Row.{Row}
+use Rattle.am_base.specs.declared.name.Stamp.{Stamp}
+use Rattle.am_base.specs.declared.outcome.Outcome.{Outcome}
+use Rattle.am_base.specs.Founding.{Rules}
+use Rattle.am_base.specs.Names.{size}
+use Rattle.am_base.specs.Lists.{Log, blank_row, member_life, members_of, members_at, image_at, top_of, with_entry, after}
+use Rattle.am_core.proofs.Ends.{image-push, image-top}
+use Rattle.am_fronts.proofs.ReportLaws.{count_cons}
+use Rattle.am_packet.specs.declared.packet.Packet.TheVariants as packet
+use Rattle.am_chain_lists.proofs.Rows.{In, row_at, long_after, in_viewed}
+use Rattle.am_model.specs.Node.{Node, Ballot, top, told, has_room, pushed}
+use Rattle.am_model.specs.Ballots.{Verdict, need_of, left_in, trimmed_for}
+use Rattle.am_model.proofs.Greatest.{split}
+use Rattle.am_effects.specs.Causes.{Cause, hears}
+use Rattle.am_effects.specs.Looks.{Looks, finds_itself_out, waits, fetches_from_best, finds_too_few, finds_no_room, decides}
+use Rattle.am_effects.specs.Changes.{Carries, whole_entry, by_number, Change, refreshes, settles, takes_report, admits, numbers, keeps_body, notes, stores}
+use Rattle.am_effects.specs.Changes.{begins_list, departs, promises, opens, looks, fetches, stores_view, queues, collects, takes, asks_to_join, asks_to_leave}
+use Rattle.am_effects.specs.Changes.{closes}
+use Rattle.am_effects.specs.Changes.{Changes, unchanged, changed}
+use Rattle.am_effects.proofs.Rests.{rests_refresh, rests_at_end, settle_is}
+use Rattle.am_effects.proofs.Says.{told_pushed}
+use Rattle.am_laws.proofs.Blank.{change_blank}
+use Rattle.am_laws.proofs.Taken.{HeardUsed, change_owned}
+use Rattle.am_laws.proofs.TakenRuns.{Along}
+use Rattle.am_laws.proofs.Trims.{Fronts, told_used}
+use Rattle.am_laws.proofs.ViewNames.{HeardNames, change_names}
+use Rattle.am_laws.proofs.ViewChanges.{change_does}
+use Rattle.am_laws.proofs.ViewMembers.{those_long}
+use Rattle.am_bounded.proofs.Changes.{kept_change}
+
+-- ---- how many names
+
+pub few_size : (set : List ℕ) → size set ≤ length set
+few_size set = count_by-le-length (λ life. nat_lt 0 life) set
+
+-- a set of no other names has no more
+size_within : (a b : List ℕ) → length a ≤ length b → ((p : ℕ) → p < length a → 0 < slice_index a p → 0 < slice_index b p) → size a ≤ size b
+size_within [] b long h = omega arith
+size_within (x ∷ xs) [] long h = absurd (omega arith)
+size_within (x ∷ xs) (y ∷ ys) long h =
+    let rest = size_within xs ys (omega arith) (λ p low some. h (suc p) (omega arith) some) in
+    let one = count_cons (λ life. nat_lt 0 life) x xs in
+    let two = count_cons (λ life. nat_lt 0 life) y ys in
+    split (nat_lt 0 x)
+    (λ t.
+    let some : 0 < x = grind (arith, nat_tests) in
+    let other = h 0 (omega arith) some in
+    let u : nat_lt 0 y ≡ true = grind (arith, nat_tests) in
+    let first : size (x ∷ xs) ≡ 1 + size xs = one ∙ ap (λ (b : Bool). (if b then 1 else 0) + size xs) t in
+    let second : size (y ∷ ys) ≡ 1 + size ys = two ∙ ap (λ (b : Bool). (if b then 1 else 0) + size ys) u in
+    omega arith)
+    (λ f.
+    let first : size (x ∷ xs) ≡ 0 + size xs = one ∙ ap (λ (b : Bool). (if b then 1 else 0) + size xs) f in
+    omega arith)
+
+in_life : (r : Row) → 0 < member_life r → In r (member_life r)
+in_life r h = split (nat_lt 0 r.joined && (r.left == 0))
+    (λ t. rw t (record { joined = grind (arith, nat_tests); left = grind (arith, nat_tests); is = refl }))
+    (λ f. absurd (let z : 0 < 0 = rw f at h in omega arith))
+
+-- after a View there are no more members than it names
+viewed_few : (image : Image) (n : ℕ) (stamp : Stamp) (names : List ℕ) (resilience : ℕ) → length image.rows ≡ 16 → 0 < n → length names ≡ 16
+    → size (members_of (after image n (View stamp names resilience))) ≤ size names
+viewed_few image n stamp names resilience long some sixteen =
+    let next = after image n (View stamp names resilience) in
+    let rows = long_after image n (View stamp names resilience) long in
+    let count = length-map next.rows member_life in
+    size_within (members_of next) names (omega arith) (λ p low above.
+    (let place : p < 16 = omega arith in
+    let within : p < length next.rows = omega arith in
+    let at : slice_index (members_of next) p ≡ member_life (row_at next p) = get_or-map member_life next.rows p blank_row 0 within in
+    let life : 0 < member_life (row_at next p) = omega arith in
+    let is = in_viewed image n stamp names resilience p (member_life (row_at next p)) place some life (in_life (row_at next p) life) in
+    omega arith))
+
+-- ---- a number that fits, or that a packet tells
+
+-- an entry of this number was heard
+pub data BringsEntry (c : Cause) (number : ℕ) : Type 0 where
+  by_bcast : (s : ℕ) (v : Stamp) (base acc : ℕ) (e : Entry) → c ≡ hears (packet.Bcast s v base acc number e) → BringsEntry c number
+  by_order : (s : ℕ) (v : Stamp) (base acc from req : ℕ) → c ≡ hears (packet.Order s v base acc number from req) → BringsEntry c number
+  by_piece : (s : ℕ) (v : Stamp) (base : ℕ) (e : Entry) → c ≡ hears (packet.Piece s v base number e) → BringsEntry c number
+  by_result : (s : ℕ) (v : Stamp) (base : ℕ) (names : List ℕ) (resilience : ℕ) → c ≡ hears (packet.Result s v base number names resilience)
+      → BringsEntry c number
+
+abbrev pub FitsAt : Rules → Node → ℕ → Type 0
+FitsAt rules x number = number - x.core.base ≤ rules.window + 16 - size (members_at x.core.log number)
+
+-- each number fits, but for that which was heard
+abbrev pub Fitting : Rules → Cause → Node → Type 0
+Fitting rules c x = (number : ℕ) → x.core.base < number → number ≤ top x → FitsAt rules x number ⊎ BringsEntry c number
+
+-- ---- changes
+
+-- the same list, and no lower base
+same_fits : (rules : Rules) (c : Cause) (x y : Node) → y.core.log ≡ x.core.log → x.core.base ≤ y.core.base → Fitting rules c x → Fitting rules c y
+same_fits rules c x y log up h number above within =
+    let t = ap top_of log in
+    ⊎_elim
+    (λ (a : FitsAt rules x number). inl (let same = ap (λ (l : Log). size (members_at l number)) log in omega arith))
+    (λ (a : BringsEntry c number). inr a)
+    (h number (omega arith) (omega arith))
+
+-- with one entry more
+push_fits : (rules : Rules) (c : Cause) (x y : Node) (e : Entry) → y.core.log ≡ with_entry x.core.log e → x.core.base ≤ y.core.base
+    → FitsAt rules y (top x + 1) ⊎ BringsEntry c (top x + 1) → Fitting rules c x → Fitting rules c y
+push_fits rules c x y e log up new h number above within =
+    let long = length-append x.core.log.entries (e ∷ []) in
+    let t = ap top_of log in
+    ⊎_elim
+    (λ (low : number ≤ top x). ⊎_elim
+    (λ (a : FitsAt rules x number). inl (
+    let same : members_at y.core.log number ≡ members_at x.core.log number = ap (λ (l : Log). members_at l number) log
+    ∙ ap members_of (image-push x.core.log e number low) in
+    let sizes = ap size same in omega arith))
+    (λ (a : BringsEntry c number). inr a)
+    (h number (omega arith) low))
+    (λ (high : top x < number). (let is : top x + 1 ≡ number = omega arith in
+    subst (λ k. FitsAt rules y k ⊎ BringsEntry c k) is new))
+    (two number (top x))
+  where
+    two : (a b : ℕ) → (a ≤ b) ⊎ (b < a)
+    two a b = grind arith
+
+-- there are at most sixteen members after an entry
+few_members : (x : Node) (e : Entry) → Fronts x → size (members_at (with_entry x.core.log e) (top x + 1)) ≤ 16
+few_members x e h =
+    let used = told_used x h in
+    let rows = long_after (told x) (top x + 1) e used.places in
+    let long = length-append x.core.log.entries (e ∷ []) in
+    let all : top_of (with_entry x.core.log e) ≡ top x + 1 = omega arith in
+    let is : image_at (with_entry x.core.log e) (top x + 1) ≡ after (told x) (top x + 1) e = ap (image_at (with_entry x.core.log e)) (sym all)
+    ∙ image-top (with_entry x.core.log e) ∙ told_pushed x e in
+    let count = length-map (after (told x) (top x + 1) e).rows member_life in
+    let most = few_size (members_of (after (told x) (top x + 1) e)) in
+    let same = ap (λ i. size (members_of i)) is in
+    omega arith
+
+-- what is numbered fits where there is room
+room_fits : (rules : Rules) (c : Cause) (x : Node) (e : Entry) → x.core.rules ≡ rules → Fronts x → has_room x ≡ true → Fitting rules c x
+    → Fitting rules c (pushed x e)
+room_fits rules c x e same fronts room h =
+    let few = few_members x e fronts in
+    let window = ap (λ (r : Rules). r.window) same in
+    let low : top x + 1 - x.core.base ≤ x.core.rules.window = grind (arith, nat_tests) in
+    push_fits rules c x (pushed x e) e refl (omega arith) (inl (omega arith)) h
+
+-- and a View that is decided
+look_fits : (rules : Rules) (c : Cause) (x : Node) (b : Ballot) (v : Verdict) → x.core.rules ≡ rules → Fronts x → Looks x b v → Fitting rules c x
+    → Fitting rules c v.node
+look_fits rules c x b v same fronts (finds_itself_out out) h = same_fits rules c x v.node refl (omega arith) h
+look_fits rules c x b v same fronts (waits y z) h = same_fits rules c x v.node refl (omega arith) h
+look_fits rules c x b v same fronts (fetches_from_best y z u) h = same_fits rules c x v.node refl (omega arith) h
+look_fits rules c x b v same fronts (finds_too_few y z) h = same_fits rules c x v.node refl (omega arith) h
+look_fits rules c x b v same fronts (finds_no_room y) h = same_fits rules c x v.node refl (omega arith) h
+look_fits rules c x b v same fronts (decides may) h =
+    let names = left_in b (need_of x b) in
+    let before = trimmed_for x b names in
+    let e = View b.stamp names (max b.resilience (told x).resilience) in
+    let used = told_used x fronts in
+    let few = viewed_few (told x) (top x + 1) b.stamp names (max b.resilience (told x).resilience) used.places (omega arith)
+    (those_long (λ name. not (b.given_up name)) (need_of x b)) in
+    let long = length-append x.core.log.entries (e ∷ []) in
+    let all : top_of (with_entry x.core.log e) ≡ top x + 1 = omega arith in
+    let is : image_at (with_entry x.core.log e) (top x + 1) ≡ after (told x) (top x + 1) e = ap (image_at (with_entry x.core.log e)) (sym all)
+    ∙ image-top (with_entry x.core.log e) ∙ told_pushed x e in
+    let sizes = ap (λ i. size (members_of i)) is in
+    let window = ap (λ (r : Rules). r.window) same in
+    let room = may.room in
+    let low : top x + 1 - before.core.base ≤ x.core.rules.window + 16 - size names = grind (arith, nat_tests) in
+    push_fits rules c x v.node e refl (omega arith) (inl (omega arith)) h
+
+-- what a packet carries has the number that it tells
+carried : (c : Cause) (m : Node) (s : ℕ) (v : Stamp) (base acc number : ℕ) (e : Entry) → Carries c m s v base acc number e → BringsEntry c number
+carried c m s v base acc number e (whole_entry x is) = by_bcast s v base acc x is
+carried c m s v base acc number e (by_number from req body is there) = by_order s v base acc from req is
+
+told_entry : (rules : Rules) (c : Cause) (x y : Node) (number : ℕ) → number ≡ top x + 1 → BringsEntry c number
+    → FitsAt rules y (top x + 1) ⊎ BringsEntry c (top x + 1)
+told_entry rules c x y number next h = inr (subst (BringsEntry c) next h)
+
+fitting_change : (rules : Rules) (c : Cause) (o : Outcome) (x y : Node) → x.core.rules ≡ rules → Fronts x → Change c o x y → Fitting rules c x
+    → Fitting rules c y
+fitting_change rules c o x y same fronts refreshes h = let r = rests_refresh x in same_fits rules c x y r.log r.rests.base h
+fitting_change rules c o x y same fronts settles h =
+    let base = ap (λ (z : Node). z.core.base) (settle_is x) in
+    same_fits rules c x y (ap (λ (z : Node). z.core.log) (settle_is x)) (omega arith) h
+fitting_change rules c o x y same fronts (takes_report s v report by may) h = same_fits rules c x y refl (omega arith) h
+fitting_change rules c o x y same fronts (admits s v is leads fit) h = same_fits rules c x y refl (omega arith) h
+fitting_change rules c o x y same fronts (numbers e leads room why) h = room_fits rules c x e same fronts room h
+fitting_change rules c o x y same fronts (keeps_body s v report req body is heard) h = same_fits rules c x y refl (omega arith) h
+fitting_change rules c o x y same fronts (notes s v base acc by heard) h = same_fits rules c x y refl (omega arith) h
+fitting_change rules c o x y same fronts (stores s v base acc number e by heard plain may) h =
+    push_fits rules c x y e refl (omega arith) (told_entry rules c x y number may.next (carried c x s v base acc number e by)) h
+fitting_change rules c o x y same fronts (begins_list s v base join image is says may) h = λ number above within. absurd (omega arith)
+fitting_change rules c o x y same fronts (departs s v number is heard leaves) h = same_fits rules c x y refl (omega arith) h
+fitting_change rules c o x y same fronts (promises v low why) h = same_fits rules c x y refl (omega arith) h
+fitting_change rules c o x y same fronts (opens least resilience by may) h = same_fits rules c x y refl (omega arith) h
+fitting_change rules c o x y same fronts (looks b verdict over why look is) h = look_fits rules c x b verdict same fronts look h
+fitting_change rules c o x y same fronts (fetches s v base number e is heard promise below from may) h =
+    push_fits rules c x y e refl (omega arith) (told_entry rules c x y number may.next (by_piece s v base e is)) h
+fitting_change rules c o x y same fronts (stores_view s v base number names resilience is heard own other promise below may) h =
+    push_fits rules c x y (View v names resilience) refl (omega arith) (told_entry rules c x y number may.next (by_result s v base names resilience is)) h
+fitting_change rules c o x y same fronts (queues body is says member stays few) h = same_fits rules c x y refl (omega arith) h
+fitting_change rules c o x y same fronts (collects req is) h = same_fits rules c x y refl (omega arith) h
+fitting_change rules c o x y same fronts (takes e is says member some there) h = same_fits rules c x y refl (omega arith) h
+fitting_change rules c o x y same fronts (asks_to_join is was) h = same_fits rules c x y refl (omega arith) h
+fitting_change rules c o x y same fronts (asks_to_leave is was stays done) h = same_fits rules c x y refl (omega arith) h
+fitting_change rules c o x y same fronts (closes leads leaves alone room) h =
+    let p = pushed x (Leave x.core.who) in
+    let r = rests_at_end p in
+    same_fits rules c p y r.log r.rests.base (room_fits rules c x (Leave x.core.who) same fronts room h)
+
+pub fitting_changes : (rules : Rules) (c : Cause) (o : Outcome) (x y : Node) → HeardNames c → HeardUsed c → Changes c o x y → Along rules x → Fitting rules c x
+    → Fitting rules c y
+fitting_changes rules c o x y heard used unchanged a h = h
+fitting_changes rules c o x y heard used (changed {n = z} one more) a h =
+    fitting_changes rules c o z y heard used more (record {
+      names = change_names heard x z one a.names;
+      balloted = (change_does heard x z one a.names a.balloted).balloted;
+      blanked = change_blank x z one a.balloted a.blanked;
+      kept = kept_change rules x z one a.kept;
+      owned = change_owned _ _ x z used a.kept.itself a.balloted a.blanked one a.owned;
+    }) (fitting_change rules c o x z a.kept.founding a.owned.fronts one h)

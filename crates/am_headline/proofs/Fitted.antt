@@ -1,0 +1,544 @@
+-- Up to its lawful front each node of a run has room for a View that leaves somebody out.
+use Rattle.std.proofs.Common.{◌≡◌, ◌⊎◌, ⊎_elim, inl, inr, ℕ, zero, suc, ◌+◌, ◌-◌, ◌<◌, ◌≤◌, ◌==◌, true, false, List, [], ◌∷◌, ◌++◌, length, take}
+use Rattle.std.proofs.Common.{Some, slice_get, refl, sym, ap, ◌∙◌, subst, arith}
+use Rattle.std.proofs.lemmas.Bool.Decides.{nat_tests}
+use Rattle.std.proofs.lemmas.List.{length-map}
+use Rattle.am_base.specs.declared.entry.Entry.{Entry}
+use Rattle.am_base.specs.declared.entry.Entry.TheVariants.{Data, Join, Leave, View}
+use Rattle.am_base.specs.declared.name.Stamp.{Stamp}
+use Rattle.am_base.specs.Founding.{Rules, MayFound}
+use Rattle.am_base.specs.Names.{has, size}
+use Rattle.am_base.specs.Lists.{top_of, told_by, member_life, members_of, members_at}
+use Rattle.am_core.specs.Cores.{CoreState}
+use Rattle.am_base.specs.Stamps.{stamp_eq}
+use Rattle.am_packet.specs.declared.packet.Packet.{Packet}
+use Rattle.am_packet.specs.declared.packet.Packet.TheVariants as packet
+use Rattle.am_packet.specs.Boxes.{Letter}
+use Rattle.am_group.specs.declared.event.Event.{Event}
+use Rattle.am_group.specs.Journals.{item_at}
+use Rattle.am_chain_lists.specs.Whole.{Begins, NotView, told, view_of, key}
+use Rattle.am_chain_lists.proofs.Order.{key_by, view_push, view_viewed}
+use Rattle.am_chain_lists.proofs.Members.{long_told}
+use Rattle.am_chain_lists.proofs.Prefixes.{begins_both, begins_length, begins_push, begins_trans}
+use Rattle.am_chain_moves.specs.Group.{Group, IsUp}
+use Rattle.am_chain_moves.specs.Kept.{Kept}
+use Rattle.am_model.specs.declared.status.Status.{Status}
+use Rattle.am_model.specs.declared.status.Status.TheVariants as status
+use Rattle.am_model.specs.Calls.{is_unfinished}
+use Rattle.am_model.specs.Node.{Node, top, view, is_member, acts, founder, founders_view, lowest_or_first}
+use Rattle.am_model.specs.Node as nodes
+use Rattle.am_model.specs.Emit.{Step}
+use Rattle.am_model.specs.Hearing.{hears_member, hears_in_view, hears_sequencer}
+use Rattle.am_model.specs.Receiving.{is_view}
+use Rattle.am_model.specs.Claims.{heard_by, FitsView, ViewsFit}
+use Rattle.am_model.specs.Lawful.{lawful_front}
+use Rattle.am_model.specs.Hearing as rows
+use Rattle.am_model.specs.World.{World, start, is_stopped, has_departed, stepped, happens, run}
+use Rattle.am_model.proofs.Greatest.{split, and_both}
+use Rattle.am_model.proofs.Runs.{front_is_lawful}
+use Rattle.am_effects.specs.Causes.{Cause, hears}
+use Rattle.am_effects.specs.Effects.{Effect}
+use Rattle.am_effects.specs.Letters.{Says, request, spread, bcast, order, accept, ack, nack, hold, join_ask, welcome, leave_ask, gone, invite, vote, fetch}
+use Rattle.am_effects.specs.Letters.{piece}
+use Rattle.am_effects.specs.Letters.{result, hand_over, LetterSays}
+use Rattle.am_effects.specs.Events.{actor, IsCause, WasSentTo}
+use Rattle.am_effects.proofs.Items.{all_get}
+use Rattle.am_effects.proofs.Statuses.{logged}
+use Rattle.am_laws.proofs.Named.{few_names}
+use Rattle.am_laws.proofs.RunCounts.{numbers_hold}
+use Rattle.am_laws.proofs.Stamps.{same_stamp}
+use Rattle.am_laws.proofs.TakenRuns.{each_along, heard_used, run_owned}
+use Rattle.am_laws.proofs.Views.{heard_names}
+use Rattle.am_watched.proofs.Lists.{lists_go_on}
+use Rattle.am_unballoted.proofs.Lists.{item_get, item_within}
+use Rattle.am_stands.specs.Letters as says
+use Rattle.am_stands.specs.Letters.{PacketSays, PieceSays, ResultSays}
+use Rattle.am_stands.specs.Standing.{NameStands}
+use Rattle.am_stands.specs.States.{LinesOpen}
+use Rattle.am_stands.specs.Growing.{Grows}
+use Rattle.am_stands.specs.Running.{Following}
+use Rattle.am_stands.proofs.Changes.{told_all, long_all}
+use Rattle.am_stands.proofs.Onward.{group_kept}
+use Rattle.am_stands.proofs.Opens.{runs_open}
+use Rattle.am_stands.proofs.Parts.{number_low}
+use Rattle.am_stands.proofs.Silent.{departed_silent}
+use Rattle.am_steps.proofs.Silent.{departed_quiet}
+use Rattle.am_steps.proofs.Statuses.{departed_is}
+use Rattle.am_steps.proofs.Steps.{steps_move}
+use Rattle.am_headline.proofs.Shapes.{Shaped}
+use Rattle.am_headline.proofs.Fold.{KeptBy, run_push}
+use Rattle.am_headline.proofs.Begun.{held}
+use Rattle.am_headline.proofs.Fits.{BringsEntry, by_bcast, by_order, by_piece, by_result, FitsAt, few_size, fitting_changes}
+use Rattle.am_headline.proofs.Rows as done
+use Rattle.am_headline.proofs.Rows.{Stores, Does, OrderDoes, InView, Piecewise, Fetched, Viewing, bcast_does, order_does, piece_does, result_does, row_ends}
+use Rattle.am_headline.proofs.Heard.{HeardAs, whole_packet, too_short, heard_as, sender_stays}
+use Rattle.am_headline.proofs.Views.{FitIn, fit_more, fit_less, fit_low, node_fit, LineFits, PieceFits, of_line, of_shown, over, PacketFits, packet_on}
+use Rattle.am_headline.proofs.Views.{promised_line, last_line, stored_list, stored_fits}
+
+-- ---- what is kept
+
+pub record Fitted (rules : Rules) (w : World) (s : Group) : Type 0 where
+  pub nodes : (i : ℕ) → FitsView rules (w.nodes i)
+  pub letters : (k : ℕ) (letter : Letter) → slice_get w.letters k ≡ Some letter → PacketFits rules s letter.packet
+
+letter_there : (letters : List Letter) (number : ℕ) (l : Letter) → item_at letters number ≡ Some l → (k : ℕ) × (slice_get letters k ≡ Some l)
+letter_there letters zero l h = absurd (cc)
+letter_there letters (suc k) l h = (k, h)
+
+get_either : {A : Type 0} (xs ys : List A) (k : ℕ) (x : A) → slice_get (xs ++ ys) k ≡ Some x → (slice_get xs k ≡ Some x) ⊎ ((j : ℕ) × (slice_get ys j ≡ Some x))
+get_either [] ys k x h = inr (k, h)
+get_either (y ∷ xs) ys zero x h = inl h
+get_either (y ∷ xs) ys (suc k) x h = get_either xs ys k x h
+
+not_view : (e : Entry) → is_view e ≡ false → NotView e
+not_view (Data from req body) h = tt
+not_view (Join name) h = tt
+not_view (Leave name) h = tt
+not_view (View stamp names resilience) h = absurd (cc)
+
+same_name : (a b : ℕ) → (a == b) ≡ true → a ≡ b
+same_name a b t = grind (arith, nat_tests)
+
+itself : (k : ℕ) → (k == k) ≡ true
+itself k = grind (arith, nat_tests)
+
+push_some : (a : List Entry) (e : Entry) → a ++ e ∷ [] ≡ [] → ⊥
+push_some [] e h = cc
+push_some (x ∷ a) e h = cc
+
+-- the view in which it heard the sequencer
+in_view : (m : Node) (s : ℕ) (v : Stamp) → hears_sequencer m s v ≡ true → v ≡ view m
+in_view m s v t =
+    let a = (and_both (hears_in_view m s v) (v.by == s) t).0 in
+    let b = (and_both (hears_member m s) _ a).1 in
+    same_stamp v (view m) (and_both (acts m) (stamp_eq v (view m)) b).1
+
+two : (a b : ℕ) → (a ≤ b) ⊎ (b < a)
+two a b = grind arith
+
+-- ---- a step
+
+module _ (rules : Rules) (events : List Event) (e : Event) (c : Cause) (step : Step) (s t : Group) (may : MayFound rules)
+    (runs : is_stopped (run rules events) (actor (run rules events) e) ≡ false) (cause : IsCause (run rules events) (actor (run rules events) e) e.act c)
+    (effect : Effect ((run rules events).nodes (actor (run rules events) e)) c step)
+    (is : stepped (run rules events) e (actor (run rules events) e) step ≡ happens (run rules events) e)
+    (old : Following rules (run rules events) s) (grows : Grows s t) (shaped : Shaped t)
+    (new : Following rules (stepped (run rules events) e (actor (run rules events) e) step) t)
+    (h : Fitted rules (run rules events) s) where
+  abbrev w : World
+  w = run rules events
+
+  abbrev i : ℕ
+  i = actor w e
+
+  abbrev m : Node
+  m = w.nodes i
+
+  abbrev n : Node
+  n = step.node
+
+  abbrev v : World
+  v = stepped w e i step
+
+  few : i < 256
+  few = few_names rules w e (run_owned rules events may).blanks.views.named
+
+  kept_s : Kept s
+  kept_s = group_kept rules.founders (lowest_or_first rules.founders) rules.resilience s old.group
+
+  kept_t : Kept t
+  kept_t = group_kept rules.founders (lowest_or_first rules.founders) rules.resilience t new.group
+
+  opens_t : LinesOpen t
+  opens_t = runs_open rules.founders (lowest_or_first rules.founders) rules.resilience t new.group.run
+
+  abbrev stands_m : NameStands w i m (s.node i)
+  stands_m = old.stands.each i few
+
+  node_v : v.nodes i ≡ n
+  unfolding stepped
+  node_v = let u : (i == i) ≡ true = itself i in rw u refl
+
+  stands_n : NameStands v i n (t.node i)
+  stands_n = subst (λ x. NameStands v i x (t.node i)) node_v (new.stands.each i few)
+
+  group_grows : Begins w.group v.group
+  group_grows = subst (λ g. Begins g v.group) old.stands.group (subst (Begins s.group) new.stands.group grows.group)
+
+  order_n : n.core.log.start ≤ n.core.base
+  order_n =
+      let same : (run rules (events ++ e ∷ [])).nodes i ≡ n = ap (λ (x : World). x.nodes i) (run_push rules events e ∙ sym is) ∙ node_v in
+      subst (λ (x : Node). x.core.log.start ≤ x.core.base) same ((numbers_hold rules (events ++ e ∷ [])).each i).kept
+
+  -- where the list is as it was
+  fits_still : (number : ℕ) → n.core.log ≡ m.core.log → m.core.base ≤ n.core.base → n.core.base < number → number ≤ top n → FitsAt rules n number
+  fits_still number log up above within =
+      let high = ap (λ l. top_of l) log in
+      let f = (h.nodes i).each number (omega arith) (omega arith) in
+      let same = ap (λ l. size (members_at l number)) log in
+      omega arith
+
+  -- where an entry of a line was stored
+  fits_line : (number base : ℕ) (u : Stamp) (x : Entry) (row : Node) → n.core.log ≡ row.core.log → row.core.base ≤ n.core.base → n.core.base < number
+      → Stores m row base number x → LineFits rules s u base number → Begins ((s.node i).list ++ x ∷ []) (t.views.line (key u)) → FitsAt rules n number
+  fits_line number base u x row log up above st line its =
+      let mine = stored_list w v s t i m n row base number x stands_m stands_n group_grows log st in
+      let long = long_all w i m (s.node i) stands_m in
+      let next = st.next in
+      let low = st.base_ in
+      let start = order_n in
+      stored_fits rules v t i base number n (s.node i).list (t.views.line (key u)) x stands_n (omega arith) (omega arith) (omega arith) mine its
+      (fit_more rules (s.views.line (key u)) (t.views.line (key u)) base number (grows.lines (key u) line.decided) line.fits)
+
+  -- the line of the view in which an entry ends the list
+  on_last : (base number : ℕ) (u : Stamp) (x : Entry) (row : Node) → n.core.log ≡ row.core.log → Stores m row base number x
+      → view_of ((s.node i).list ++ x ∷ []) ≡ u → Begins ((s.node i).list ++ x ∷ []) (t.views.line (key u))
+  on_last base number u x row log st viewed =
+      let mine = stored_list w v s t i m n row base number x stands_m stands_n group_grows log st in
+      subst (λ y. Begins ((s.node i).list ++ x ∷ []) (t.views.line (key y))) viewed
+      (last_line t i ((s.node i).list ++ x ∷ []) shaped opens_t (push_some (s.node i).list x) mine)
+
+  view_m : view_of (s.node i).list ≡ view m
+  unfolding view_of
+  view_m = ap (λ g. g.view) (told_all w i m (s.node i) stands_m)
+
+  plain_view : (from : ℕ) (u : Stamp) (x : Entry) → InView m from u x → view_of ((s.node i).list ++ x ∷ []) ≡ u
+  plain_view from u x why = view_push (s.node i).list x (not_view x why.plain) ∙ view_m ∙ sym (in_view m from u why.heard)
+
+  sent_so : (p : Packet) → c ≡ hears p → WasSentTo w i e.act p
+  sent_so p says_ = subst (IsCause w i e.act) says_ cause
+
+  packet_fits : (p : Packet) → WasSentTo w i e.act p → PacketFits rules s p
+  packet_fits p sent =
+      let there = letter_there w.letters (heard_by e.act) sent.letter sent.there in
+      subst (PacketFits rules s) sent.is (h.letters there.0 sent.letter there.1)
+
+  -- by what was heard
+  module _ (p : Packet) (heard_ : c ≡ hears p) (number : ℕ) (above : n.core.base < number) (within : number ≤ top n) where
+    abbrev row : Node
+    row = (rows.hear_row m p).node
+
+    -- nothing was stored, or the row tells it
+    by_row : ((n.core.log ≡ row.core.log) → row.core.base ≤ n.core.base → FitsAt rules n number) → FitsAt rules n number
+    by_row f = by_way (heard_as w e step p (sent_so p heard_) runs is)
+      where
+        by_way : HeardAs m n p → FitsAt rules n number
+        by_way (too_short log up) = fits_still number log up above within
+        by_way (whole_packet same) =
+            let r = row_ends m p in
+            let low = r.base in
+            let base = ap (λ (x : Node). x.core.base) same in
+            f (ap (λ (x : Node). x.core.log) same ∙ r.log) (omega arith)
+
+  fits_bcast : (from : ℕ) (u : Stamp) (base acc number : ℕ) (x : Entry) → c ≡ hears (packet.Bcast from u base acc number x) → n.core.base < number
+      → number ≤ top n → FitsAt rules n number
+  fits_bcast from u base acc number x heard_ above within =
+      let p = packet.Bcast from u base acc number x in
+      let line = packet_fits p (sent_so p heard_) in
+      by_row p heard_ number above within (λ log up. by_way line log up (bcast_does m from u base acc number x))
+    where
+      by_way : LineFits rules s u base number → n.core.log ≡ (rows.hear_row m (packet.Bcast from u base acc number x)).node.core.log
+          → (rows.hear_row m (packet.Bcast from u base acc number x)).node.core.base ≤ n.core.base
+          → Does m (rows.hear_row m (packet.Bcast from u base acc number x)).node base number x (InView m from u x) → FitsAt rules n number
+      by_way line log up (done.nothing same low) = fits_still number (log ∙ same) (omega arith) above within
+      by_way line log up (done.one why st) =
+          let r = (rows.hear_row m (packet.Bcast from u base acc number x)).node in
+          fits_line number base u x r log up above st line (on_last base number u x r log st (plain_view from u x why))
+
+  fits_order : (from : ℕ) (u : Stamp) (base acc number by req : ℕ) → c ≡ hears (packet.Order from u base acc number by req) → n.core.base < number
+      → number ≤ top n → FitsAt rules n number
+  fits_order from u base acc number by req heard_ above within =
+      let p = packet.Order from u base acc number by req in
+      let line = packet_fits p (sent_so p heard_) in
+      by_row p heard_ number above within (λ log up. by_way line log up (order_does m from u base acc number by req))
+    where
+      by_way : LineFits rules s u base number → n.core.log ≡ (rows.hear_row m (packet.Order from u base acc number by req)).node.core.log
+          → (rows.hear_row m (packet.Order from u base acc number by req)).node.core.base ≤ n.core.base
+          → OrderDoes m (rows.hear_row m (packet.Order from u base acc number by req)).node from u base number by req → FitsAt rules n number
+      by_way line log up (done.nothing same low) = fits_still number (log ∙ same) (omega arith) above within
+      by_way line log up (done.one body why st) =
+          let r = (rows.hear_row m (packet.Order from u base acc number by req)).node in
+          let x = Data by req body in
+          fits_line number base u x r log up above st line (on_last base number u x r log st (plain_view from u x why))
+
+  fits_result : (from : ℕ) (u : Stamp) (base number : ℕ) (names : List ℕ) (resilience : ℕ) → c ≡ hears (packet.Result from u base number names resilience)
+      → n.core.base < number → number ≤ top n → FitsAt rules n number
+  fits_result from u base number names resilience heard_ above within =
+      let p = packet.Result from u base number names resilience in
+      let line = packet_fits p (sent_so p heard_) in
+      by_row p heard_ number above within (λ log up. by_way line log up (result_does m from u base number names resilience))
+    where
+      by_way : (u.by ≡ from → LineFits rules s u base number) → n.core.log ≡ (rows.hear_row m (packet.Result from u base number names resilience)).node.core.log
+          → (rows.hear_row m (packet.Result from u base number names resilience)).node.core.base ≤ n.core.base
+          → Does m (rows.hear_row m (packet.Result from u base number names resilience)).node base number (View u names resilience) (Viewing m from u)
+          → FitsAt rules n number
+      by_way line log up (done.nothing same low) = fits_still number (log ∙ same) (omega arith) above within
+      by_way line log up (done.one why st) =
+          let r = (rows.hear_row m (packet.Result from u base number names resilience)).node in
+          let x = View u names resilience in
+          fits_line number base u x r log up above st (line (same_name u.by from why.by))
+          (on_last base number u x r log st (view_viewed (s.node i).list u names resilience))
+
+  -- ---- a Piece
+
+  up_s : is_member m.status ≡ true → IsUp (s.node i)
+  up_s member = record {
+    log = stands_m.log_ ∙ logged m.status member;
+    there = record { goes = stands_m.stopped ∙ runs; stays = stands_m.departed ∙ member_stays m.status member };
+  }
+    where
+      member_stays : (x : Status) → is_member x ≡ true → has_departed x ≡ false
+      member_stays status.Stranger z = refl
+      member_stays status.Asking z = refl
+      member_stays status.Member z = refl
+      member_stays status.Departed z = absurd (cc)
+
+  module _ (from : ℕ) (u : Stamp) (base number : ℕ) (x : Entry) (row : Node) (log : n.core.log ≡ row.core.log) (up : row.core.base ≤ n.core.base)
+      (above : n.core.base < number) (why : Piecewise m from u) (st : Stores m row base number x) where
+    member : is_member m.status ≡ true
+    member = (and_both _ (is_member m.status) why.member).1
+
+    promise : u ≡ (s.node i).promise
+    promise = same_stamp u m.core.promise why.promise ∙ sym stands_m.promise
+
+    number_is : number ≡ length (s.node i).list + 1
+    number_is = let a = st.next in let b = long_all w i m (s.node i) stands_m in omega arith
+
+    next_item : (list : List Entry) → item_at list number ≡ Some x → slice_get list (length (s.node i).list) ≡ Some x
+    next_item list at = item_get list number (length (s.node i).list) x number_is at
+
+    piece_line : LineFits rules s u base number → item_at (s.views.line (key u)) number ≡ Some x → FitsAt rules n number
+    piece_line line at =
+        let d : s.views.decided (key (s.node i).promise) ≡ true = ap (λ y. s.views.decided (key y)) (sym promise) ∙ line.decided in
+        let on = promised_line s i kept_s (up_s member) d in
+        let on_u : Begins (s.node i).list (s.views.line (key u)) = subst (λ y. Begins (s.node i).list (s.views.line (key y))) (sym promise) on in
+        let its = begins_push x on_u (next_item (s.views.line (key u)) at) in
+        fits_line number base u x row log up above st line (begins_trans its (grows.lines (key u) line.decided))
+
+    -- a ballot of its own
+    piece_shown : (list : List Entry) → s.shown (key u) from ≡ Some list → s.served (key u) from ≡ true → item_at list number ≡ Some x
+        → FitIn rules list base number → is_unfinished m.ballot ≡ true → FitsAt rules n number
+    piece_shown list shown served at fit open_ =
+        let ballot : (s.node i).ballot ≡ true = stands_m.ballot ∙ open_ in
+        let served_ : s.served (key (s.node i).promise) from ≡ true = ap (λ y. s.served (key y) from) (sym promise) ∙ served in
+        let shown_ : s.shown (key (s.node i).promise) from ≡ Some list = ap (λ y. s.shown (key y) from) (sym promise) ∙ shown in
+        let chain = (kept_s.served i from list (up_s member) ballot served_ shown_).chain in
+        let mine = (kept_s.each i).list (up_s member) in
+        let within = item_within list number x at in
+        let is_ = number_is in
+        let part : Begins (s.node i).list list = begins_both mine chain (let z = within.1 in omega arith) in
+        let its = begins_push x part (next_item list at) in
+        let goes = stored_list w v s t i m n row base number x stands_m stands_n group_grows log st in
+        let low = st.base_ in
+        let start = order_n in
+        stored_fits rules v t i base number n (s.node i).list list x stands_n (omega arith) number_is (omega arith) goes its fit
+
+    own_shown : (list : List Entry) → s.shown (key u) from ≡ Some list → u.by ≡ from → ⊥
+    own_shown list shown same =
+        let k = kept_s.shown (key u) from list shown in
+        let small : u.by < 256 = subst (λ (y : Stamp). y.by < 256) (sym promise) (kept_s.each i).small in
+        k.other (key_by k.stamp u k.small small k.is ∙ same)
+
+    none_over : s.views.decided (key u) ≡ true → is_unfinished m.ballot ≡ true → ⊥
+    none_over d open_ =
+        let ballot : (s.node i).ballot ≡ true = stands_m.ballot ∙ open_ in
+        let above_ = ((kept_s.each i).ballot (up_s member) ballot).above in
+        let most = kept_s.views.order (key u) d in
+        let same = ap key promise in
+        omega arith
+
+    piece_so : PieceFits rules s from u base number x → Fetched m from u → FitsAt rules n number
+    piece_so (of_line line at) how = piece_line line at
+    piece_so (of_shown list shown served at fit) (done.without none by) = absurd (own_shown list shown (same_name u.by from by))
+    piece_so (of_shown list shown served at fit) (done.for_ballot open_) = piece_shown list shown served at fit open_
+    piece_so (over other d) (done.without none by) = absurd (other (same_name u.by from by))
+    piece_so (over other d) (done.for_ballot open_) = absurd (none_over d open_)
+
+  fits_piece : (from : ℕ) (u : Stamp) (base number : ℕ) (x : Entry) → c ≡ hears (packet.Piece from u base number x) → n.core.base < number
+      → number ≤ top n → FitsAt rules n number
+  fits_piece from u base number x heard_ above within =
+      let p = packet.Piece from u base number x in
+      let line = packet_fits p (sent_so p heard_) in
+      by_row p heard_ number above within (λ log up. by_way line log up (piece_does m from u base number x))
+    where
+      by_way : PieceFits rules s from u base number x → n.core.log ≡ (rows.hear_row m (packet.Piece from u base number x)).node.core.log
+          → (rows.hear_row m (packet.Piece from u base number x)).node.core.base ≤ n.core.base
+          → Does m (rows.hear_row m (packet.Piece from u base number x)).node base number x (Piecewise m from u) → FitsAt rules n number
+      by_way line log up (done.nothing same low) = fits_still number (log ∙ same) (omega arith) above within
+      by_way line log up (done.one why st) =
+          piece_so from u base number x (rows.hear_row m (packet.Piece from u base number x)).node log up above why st line why.how
+
+  -- ---- the node
+
+  node_now : FitsView rules n
+  node_now = record {
+    each = λ number above within.
+        (let owned = run_owned rules events may in
+        let names = heard_names rules w e c owned.blanks.views cause in
+        let used = heard_used rules w e c owned cause in
+        let all = fitting_changes rules c step.outcome m n names used effect.changes (each_along rules w i few owned)
+        (λ k high low. inl ((h.nodes i).each k high low)) number above within in
+        ⊎_elim (λ (f : FitsAt rules n number). f) (λ (b : BringsEntry c number). by_packet number b above within) all);
+  }
+    where
+      by_packet : (number : ℕ) → BringsEntry c number → n.core.base < number → number ≤ top n → FitsAt rules n number
+      by_packet number (by_bcast from u base acc x heard_) above within = fits_bcast from u base acc number x heard_ above within
+      by_packet number (by_order from u base acc by req heard_) above within = fits_order from u base acc number by req heard_ above within
+      by_packet number (by_piece from u base x heard_) above within = fits_piece from u base number x heard_ above within
+      by_packet number (by_result from u base names resilience heard_) above within = fits_result from u base number names resilience heard_ above within
+
+  -- ---- its letters
+
+  abbrev x : Node
+  x = effect.sender
+
+  core_x : n.core ≡ x.core
+  core_x = ap (λ (y : Node). y.core) effect.is
+
+  own_fit : (number : ℕ) → n.core.base < number → number ≤ top n → FitIn rules (t.node i).list n.core.base number
+  own_fit number above within =
+      let start = order_n in
+      node_fit rules v i number n (t.node i) stands_n (omega arith) within (node_now.each number above within)
+
+  runs_v : is_stopped v i ≡ false
+  unfolding stepped
+  runs_v = runs
+
+  -- who has an entry is up, if it hasn't departed
+  up_n : has_departed n.status ≡ false → (number : ℕ) → n.core.base < number → number ≤ top n → IsUp (t.node i)
+  up_n stays number above within = record {
+    log = split (t.node i).has_log (λ y. y)
+        (λ f. absurd (let nil = ap length ((kept_t.each i).blank f) in let long = long_all v i n (t.node i) stands_n in omega arith));
+    there = record { goes = stands_n.stopped ∙ runs_v; stays = stands_n.departed ∙ stays };
+  }
+
+  -- of who is up, an entry of its list fits the line of its promise
+  sent_line : has_departed n.status ≡ false → (number : ℕ) → number ≤ top x → number ≤ length (t.views.line (key x.core.promise))
+      → t.views.decided (key x.core.promise) ≡ true → LineFits rules t x.core.promise x.core.base number
+  sent_line stays number within long d = subst (λ (q : CoreState). LineFits rules t q.promise q.base number) core_x
+      (own_line (subst (λ (q : CoreState). number ≤ top_of q.log) (sym core_x) within)
+      (subst (λ (q : CoreState). number ≤ length (t.views.line (key q.promise))) (sym core_x) long)
+      (subst (λ (q : CoreState). t.views.decided (key q.promise) ≡ true) (sym core_x) d))
+    where
+      own_line : number ≤ top n → number ≤ length (t.views.line (key n.core.promise)) → t.views.decided (key n.core.promise) ≡ true
+          → LineFits rules t n.core.promise n.core.base number
+      own_line within long d = record {
+        decided = d;
+        fits = ⊎_elim
+            (λ (low : number ≤ n.core.base). fit_low rules (t.views.line (key n.core.promise)) n.core.base number low long)
+            (λ (above : n.core.base < number). subst (λ (y : Stamp). FitIn rules (t.views.line (key y)) n.core.base number) stands_n.promise
+            (fit_more rules (t.node i).list (t.views.line (key (t.node i).promise)) n.core.base number
+            (promised_line t i kept_t (up_n stays number above within) (ap (λ y. t.views.decided (key y)) stands_n.promise ∙ d))
+            (own_fit number above within)))
+            (two number n.core.base);
+      }
+
+  -- a list that it showed
+  shown_fit : (list : List Entry) (u : Stamp) (number : ℕ) (en : Entry) → t.shown (key u) i ≡ Some list → item_at list number ≡ Some en
+      → FitIn rules list x.core.base number
+  shown_fit list u number en shown at = subst (λ (q : CoreState). FitIn rules list q.base number) core_x
+      (let begins = (kept_t.shown (key u) i list shown).list in
+      let low = item_within list number en at in
+      let long = begins_length begins in
+      let all = long_all v i n (t.node i) stands_n in
+      ⊎_elim
+      (λ (below : number ≤ n.core.base). fit_low rules list n.core.base number below low.1)
+      (λ (above : n.core.base < number). fit_less rules list (t.node i).list n.core.base number begins low.1
+      (own_fit number above (let z = low.1 in omega arith)))
+      (two number n.core.base))
+
+  who_x : x.core.who ≡ i
+  who_x = sym (ap (λ (q : CoreState). q.who) core_x) ∙ (lists_go_on rules events e c step may runs cause effect).own
+
+  view_low : nodes.told x ≡ told (t.node i).list → (nodes.told x).view_number ≤ top x
+  view_low same =
+      let low = number_low (t.node i).list in
+      let long = long_all v i n (t.node i) stands_n in
+      let number = ap (λ g. g.view_number) same in
+      let high = ap (λ (q : CoreState). top_of q.log) core_x in
+      omega arith
+
+  packet_sent : has_departed n.status ≡ false → (to : List ℕ) (p : Packet) → Says m c x to p → PacketSays v t to p → PacketFits rules t p
+  packet_sent stays to p (bcast _ number en leads at) h_ =
+      let says_ = h_.1 in
+      sent_line stays number at.within (item_within (t.views.line (key x.core.promise)) number en says_.stands).1 says_.sequencer.decided
+  packet_sent stays to p (order _ number from req u report body heard_ leads at) h_ =
+      let says_ = h_.1.entry in
+      sent_line stays number at.within (item_within (t.views.line (key x.core.promise)) number (Data from req h_.1.body) says_.stands).1 says_.sequencer.decided
+  packet_sent stays to p (piece from u stored number en heard_ may_ at) h_ = by_piece_says h_.1
+    where
+      by_piece_says : PieceSays t x.core.who x.core.promise number en → PieceFits rules t x.core.who x.core.promise x.core.base number en
+      by_piece_says (says.of_line by d there) =
+          of_line (sent_line stays number at.within (item_within (t.views.line (key x.core.promise)) number en there).1 d) there
+      by_piece_says (says.of_shown so) = of_shown so.list so.shown so.served so.stands
+          (shown_fit so.list x.core.promise number en (ap (λ k. t.shown (key x.core.promise) k) (sym who_x) ∙ so.shown) so.stands)
+      by_piece_says (says.over other d) = over other d
+  packet_sent stays to p (result _ number names is_ viewed may_) h_ = λ by.
+      (let says_ = h_.1 by in
+      let same : nodes.told x ≡ told (t.node i).list = ap (λ (q : CoreState). told_by q.log) (sym core_x) ∙ sym (told_all v i n (t.node i) stands_n) in
+      sent_line stays number (let z = view_low same in omega arith)
+      (item_within (t.views.line (key x.core.promise)) number _ says_.stands).1 says_.decided)
+  packet_sent stays to p (request _ req body a f z) h_ = tt
+  packet_sent stays to p (spread _ req body a f z) h_ = tt
+  packet_sent stays to p (accept _ poll l) h_ = tt
+  packet_sent stays to p (ack _ a) h_ = tt
+  packet_sent stays to p (nack _ a) h_ = tt
+  packet_sent stays to p (hold _ from u report req body by l) h_ = tt
+  packet_sent stays to p (join_ask _ a) h_ = tt
+  packet_sent stays to p (welcome name l may_) h_ = tt
+  packet_sent stays to p (leave_ask _ a l) h_ = tt
+  packet_sent stays to p (gone name l may_) h_ = tt
+  packet_sent stays to p (invite _ may_) h_ = tt
+  packet_sent stays to p (vote from u heard_) h_ = tt
+  packet_sent stays to p (fetch _ may_) h_ = tt
+  packet_sent stays to p (hand_over _ l leaves) h_ = tt
+
+  -- who sends something is there
+  sender_there : (k : ℕ) (l : Letter) → slice_get step.letters k ≡ Some l → has_departed n.status ≡ false
+  sender_there k l at = sender_stays m n step.letters k l effect.ending at (split (has_departed m.status)
+      (λ d. absurd (let none = departed_quiet w e step (departed_silent m (departed_is m.status d) (old.gone i few d)) (sym is) in
+      let got = ap (λ ls. slice_get ls k) (sym none) ∙ at in cc))
+      (λ f. f))
+
+  fitted_step : Fitted rules v t
+  unfolding stepped
+  fitted_step = record {
+    nodes = λ j. split (j == i) (λ y. rw y node_now) (λ f. rw f (h.nodes j));
+    letters = λ k l at. ⊎_elim
+        (λ (was : slice_get w.letters k ≡ Some l). packet_on rules s t l.packet grows (h.letters k l was))
+        (λ (now : (j : ℕ) × (slice_get step.letters j ≡ Some l)).
+        packet_sent (sender_there now.0 l now.1) l.to l.packet (all_get (LetterSays m c x) step.letters now.0 l effect.letters now.1).says (new.letters k l at))
+        (get_either w.letters step.letters k l at);
+  }
+
+-- ---- up to the lawful front
+
+-- at the start there is one entry, and the window isn't empty
+first_fits : (rules : Rules) (name number : ℕ) → MayFound rules → number ≤ top (founder rules name) → FitsAt rules (founder rules name) number
+first_fits rules name number may within =
+    let list = founders_view rules ∷ [] in
+    let rows = long_told (take (number - 0) list) in
+    let count = length-map (told (take (number - 0) list)).rows member_life in
+    let most = few_size (members_of (told (take (number - 0) list))) in
+    let window = may.window_least in
+    omega arith
+
+start_fits : (rules : Rules) → MayFound rules → (name : ℕ) → FitsView rules ((start rules).nodes name)
+start_fits rules may name = split (has rules.founders name)
+    (λ t. rw t (record { each = λ number above within. first_fits rules name number may within }))
+    (λ f. rw f (record { each = λ number above within. absurd (omega arith) }))
+
+fitted_keeps : (rules : Rules) → KeptBy (Fitted rules) rules
+fitted_keeps rules = record {
+  by_step = λ events e c step s t may runs cause effect is old path grows shaped new h.
+      fitted_step rules events e c step s t may runs cause effect is old grows shaped new h;
+  by_quiet = λ w v s t q h. record {
+    nodes = λ i. subst (λ (f : ℕ → Node). FitsView rules (f i)) (sym q.stays.nodes) (h.nodes i);
+    letters = λ k l at. packet_on rules s t l.packet q.grows (h.letters k l (ap (λ (ls : List Letter). slice_get ls k) (sym q.stays.letters) ∙ at));
+  };
+}
+
+pub views_fit : ViewsFit
+views_fit rules events name may =
+    (held (Fitted rules) rules (fitted_keeps rules) steps_move may (λ t f. record { nodes = start_fits rules may; letters = λ k l at. absurd (cc) })
+    (lawful_front rules events) (front_is_lawful rules events)).is.nodes name

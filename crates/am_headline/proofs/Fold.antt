@@ -1,0 +1,362 @@
+-- Up to its lawful front each run has a group that follows it, whose marks are the views that became complete.
+use Rattle.std.proofs.Common.{◌≡◌, ◌⊎◌, ⊎_elim, inl, inr, ℕ, ◌<◌, ◌≤◌, ◌==◌, ◌&&◌, ◌||◌, Bool, true, false, List, [], ◌∷◌, ◌++◌}
+use Rattle.std.proofs.Common.{length, Some, None, slice_get, refl, sym, ap, ◌∙◌, subst, arith, length-append}
+use Rattle.std.specs.Prelude.{Contains, not}
+use Rattle.std.specs.List.{list_any}
+use Rattle.std.proofs.lemmas.Bool.Decides.{nat_tests}
+use Rattle.std.proofs.lemmas.List.{take-append-le, take_all}
+use Rattle.std.proofs.lemmas.List.Folds.{list_any-append}
+use Rattle.std.proofs.lemmas.Option.{slice_get-get_or}
+use Rattle.am_base.specs.Founding.{Rules, MayFound}
+use Rattle.am_group.specs.declared.event.Event.{Event}
+use Rattle.am_group.specs.declared.event.Record.{Record}
+use Rattle.am_base.specs.declared.outcome.Outcome.{Outcome}
+use Rattle.am_chain_lists.specs.Whole.{key}
+use Rattle.am_chain_moves.specs.Group.{Group, how_many}
+use Rattle.am_chain_moves.specs.Moves.{Move, numbers, stores, accepts, learns, begins, raises, shows, serves, fetches, decides, gives_over, welcomes, asks}
+use Rattle.am_chain_moves.specs.Moves.{departs}
+use Rattle.am_chain_moves.specs.Moves.{closes, stops}
+use Rattle.am_chain_moves.specs.Runs.{Completes, counts_for}
+use Rattle.am_model.specs.Node.{Node, lowest_or_first}
+use Rattle.am_model.specs.Emit.{Step}
+use Rattle.am_model.specs.World as worlds
+use Rattle.am_model.specs.World.{Decided, World, start, current, is_stopped, views_after, unchanged, stepped, lives_on, happens, happen, run}
+use Rattle.am_model.specs.Lawful.{is_complete, is_lawful, Watch, watch_start, watched, greatest_complete, broken_at}
+use Rattle.am_model.specs.Claims.{BecameComplete}
+use Rattle.am_model.proofs.Greatest.{split, and_both}
+use Rattle.am_model.proofs.Runs.{runs_go_on, watched_is_run}
+use Rattle.am_effects.specs.Causes.{Cause}
+use Rattle.am_effects.specs.Effects.{Effect}
+use Rattle.am_effects.specs.Events as event
+use Rattle.am_effects.specs.Events.{actor, IsCause, IsIdle, Happens, idles, returns, steps}
+use Rattle.am_effects.proofs.Events.{events_have_effects}
+use Rattle.am_effects.proofs.Items.{all_get, get_front}
+use Rattle.am_effects.proofs.Runs.{runs_keep}
+use Rattle.am_laws.proofs.Views.{IsNoted, AllViews, each_views, views_start}
+use Rattle.am_stands.specs.Moving.{Moves, none, moves}
+use Rattle.am_stands.specs.Growing.{Grows}
+use Rattle.am_stands.specs.Steps.{EventStands, no_move, stop}
+use Rattle.am_stands.proofs.Events.{idle_stands, stop_stands, return_stands}
+use Rattle.am_stands.specs.Running.{Following, StepsMove}
+use Rattle.am_headline.proofs.Shapes.{Shaped, shaped_moves}
+use Rattle.am_headline.proofs.Marks.{Known, completes}
+use Rattle.am_headline.proofs.Lawful.{or_cases, lawful_group}
+use Rattle.am_headline.proofs.Ready.{marked, given, halted, MayMark, Ready, Stays, stays_same, grows_marked, grows_halted, shaped_marked, marked_follows}
+use Rattle.am_headline.proofs.Ready.{ready_given}
+use Rattle.am_headline.proofs.Ready.{ready_halted, stays_follows, grows_given}
+use Rattle.am_headline.proofs.Greatest.{Passing, any_passing, passing_any, Small, IsGreatest, greatest_is, watch_push, unbroken, watch_complete}
+
+-- ---- the marks
+
+-- the greatest complete view of the watched run is the greatest that is marked
+pub record Tied (watch : Watch) (s : Group) : Type 0 where
+  pub index : ℕ
+  pub noted : slice_get watch.world.views index ≡ Some watch.complete
+  pub marked_ : s.views.complete (key watch.complete.stamp) ≡ true
+  pub most : (x : ℕ) → s.views.complete x ≡ true → x ≤ key watch.complete.stamp
+
+-- those that were, and those that are complete now
+abbrev pub marks_now : World → Group → ℕ → Bool
+marks_now v t x = t.views.complete x || list_any (λ d. (key d.stamp == x) && is_complete v d) v.views
+
+pub record MarkedNow (watch : Watch) (v : World) (t : Group) : Type 0 where
+  pub may : MayMark t (marks_now v t)
+  pub tied : Tied watch (marked t (marks_now v t))
+  pub all : (k : ℕ) (d : Decided) → slice_get v.views k ≡ Some d → is_complete v d ≡ true → marks_now v t (key d.stamp) ≡ true
+
+known : (rules : Rules) (v : World) (t : Group) → Ready rules v t → Known v t
+known rules v t h = record { stands = h.stands; shaped = h.shaped; opens = h.opens }
+
+mark : (rules : Rules) (old new : Watch) (s t : Group) → Ready rules new.world t → t.views.complete ≡ s.views.complete → Tied old s → Small new.world.views
+    → ((k : ℕ) (d : Decided) → slice_get old.world.views k ≡ Some d → slice_get new.world.views k ≡ Some d)
+    → new.complete ≡ greatest_complete new.world old.complete new.world.views → is_lawful new.world new.complete ≡ true → MarkedNow new new.world t
+mark rules old new s t ready same tied small stay best lawful = record {
+  may = record {
+    stay = λ view done. rw done refl;
+    marks = λ view done. ⊎_elim
+        (λ (a : t.views.complete view ≡ true). inl a)
+        (λ (a : list_any (λ d. (key d.stamp == view) && is_complete v d) v.views ≡ true). inr
+        (of_passing view (any_passing (λ d. (key d.stamp == view) && is_complete v d) v.views a)))
+        (or_cases _ _ done);
+    lawful = λ view done most. (let is : view ≡ key new.complete.stamp = (let a = high view done in let b = most (key new.complete.stamp) here in omega
+        arith) in
+        subst (λ x. how_many (λ name. counts_for t x name && ((t.node name).stopped && not (t.node name).departed)) ≤ (t.views.chosen x).resilience) (sym is)
+        (lawful_group v t new.complete ready.stands (ready.stands.views.noted at.0 new.complete at.1) lawful));
+  };
+  tied = record { index = at.0; noted = at.1; marked_ = here; most = high };
+  all = passing;
+}
+  where
+    v : World
+    v = new.world
+
+    greatest : IsGreatest v old.complete v.views new.complete
+    greatest = subst (IsGreatest v old.complete v.views) (sym best)
+        (greatest_is v old.complete v.views (small tied.index old.complete (stay tied.index old.complete tied.noted)) small)
+
+    at : (k : ℕ) × (slice_get v.views k ≡ Some new.complete)
+    at = ⊎_elim
+        (λ (a : new.complete ≡ old.complete). (tied.index, stay tied.index old.complete tied.noted ∙ ap Some (sym a)))
+        (λ (a : (k : ℕ) × (slice_get v.views k ≡ Some new.complete) × (is_complete v new.complete ≡ true)). (a.0, a.1))
+        greatest.is
+
+    passing : (k : ℕ) (d : Decided) → slice_get v.views k ≡ Some d → is_complete v d ≡ true → marks_now v t (key d.stamp) ≡ true
+    passing k d there done =
+        let own : (key d.stamp == key d.stamp) ≡ true = grind (arith, nat_tests) in
+        let some = passing_any (λ x. (key x.stamp == key d.stamp) && is_complete v x) v.views k d there (rw (own, done) refl) in
+        or_true (t.views.complete (key d.stamp)) _ some
+      where
+        or_true : (a b : Bool) → b ≡ true → (a || b) ≡ true
+        or_true true b h = refl
+        or_true false b h = h
+
+    here : marks_now v t (key new.complete.stamp) ≡ true
+    here = ⊎_elim
+        (λ (a : new.complete ≡ old.complete). (
+        let was : t.views.complete (key new.complete.stamp) ≡ true = ap (λ f. f (key new.complete.stamp)) same ∙ ap
+        (λ (d : Decided). s.views.complete (key d.stamp)) a ∙ tied.marked_ in
+        rw was refl))
+        (λ (a : (k : ℕ) × (slice_get v.views k ≡ Some new.complete) × (is_complete v new.complete ≡ true)). passing a.0 new.complete a.1 a.2)
+        greatest.is
+
+    of_test : (view : ℕ) → (d : Decided) → ((key d.stamp == view) && is_complete v d) ≡ true → (key d.stamp ≡ view) × (is_complete v d ≡ true)
+    of_test view d t_ = let b = and_both (key d.stamp == view) (is_complete v d) t_ in let z = b.0 in (grind (arith, nat_tests), b.1)
+
+    of_passing : (view : ℕ) → Passing (λ d. (key d.stamp == view) && is_complete v d) v.views → Completes t view
+    of_passing view p =
+        let b = of_test view p.item p.passes in
+        subst (Completes t) b.0 (completes v t p.index p.item (known rules v t ready) p.there (small p.index p.item p.there) b.1)
+
+    high : (x : ℕ) → marks_now v t x ≡ true → x ≤ key new.complete.stamp
+    high x done = ⊎_elim
+        (λ (a : t.views.complete x ≡ true). (let low = tied.most x (ap (λ f. f x) (sym same) ∙ a) in let up = greatest.up in omega arith))
+        (λ (a : list_any (λ d. (key d.stamp == x) && is_complete v d) v.views ≡ true).
+        (let p = any_passing (λ d. (key d.stamp == x) && is_complete v d) v.views a in
+        let b = of_test x p.item p.passes in
+        let is = b.0 in
+        let above = greatest.above p.index p.item p.there b.1 in
+        omega arith))
+        (or_cases _ _ done)
+
+-- ---- moves mark nothing
+
+move_marks : {s t : Group} → Move s t → t.views.complete ≡ s.views.complete
+move_marks (numbers i e leads fit may) = refl
+move_marks (stores i e up decided other stays next) = refl
+move_marks (accepts i n leads may) = refl
+move_marks (learns i told acc up rises within before up_to given_ low) = refl
+move_marks (begins i few up stays member) = refl
+move_marks (raises i stamp there above) = refl
+move_marks (shows i there small other begun none_) = refl
+move_marks (serves i list up shown others) = refl
+move_marks (fetches i f list e up ballot served shown next) = refl
+move_marks (decides i members resilience may) = refl
+move_marks (gives_over i) = refl
+move_marks (welcomes j stamp base join may) = refl
+move_marks (asks i up none_) = refl
+move_marks (departs i before may) = refl
+move_marks (closes i n leads leaving alone may) = refl
+move_marks (stops i) = refl
+
+pub moves_mark : {s t : Group} → Moves s t → t.views.complete ≡ s.views.complete
+moves_mark none = refl
+moves_mark (moves move ok rest) = moves_mark rest ∙ move_marks move
+
+-- ---- an event that changes no node, or a mark
+
+pub record Quiet (w v : World) (s t : Group) : Type 0 where
+  pub stays : Stays w v
+  pub grows : Grows s t
+  pub idle : (v.records ≡ w.records) ⊎ ((r : Record) × IsIdle r.outcome × (v.records ≡ w.records ++ r ∷ []))
+
+-- ---- what is so of a world and the group that follows it, besides: kept by steps, and by what changes no node
+
+pub record KeptBy (P : World → Group → Type 0) (rules : Rules) : Type 0 where
+  pub by_step : (events : List Event) (e : Event) (c : Cause) (step : Step) (s t : Group) → MayFound rules
+      → is_stopped (run rules events) (actor (run rules events) e) ≡ false
+      → IsCause (run rules events) (actor (run rules events) e) e.act c
+      → Effect ((run rules events).nodes (actor (run rules events) e)) c step
+      → stepped (run rules events) e (actor (run rules events) e) step ≡ happens (run rules events) e
+      → Following rules (run rules events) s → Moves s t → Grows s t → Shaped t
+      → Following rules (stepped (run rules events) e (actor (run rules events) e) step) t
+      → P (run rules events) s → P (stepped (run rules events) e (actor (run rules events) e) step) t
+  pub by_quiet : (w v : World) (s t : Group) → Quiet w v s t → P w s → P v t
+
+-- it is marked, and noted
+pub record Became (w : World) (s : Group) (d : Decided) : Type 0 where
+  pub marked_ : s.views.complete (key d.stamp) ≡ true
+  pub index : ℕ
+  pub there : slice_get w.views index ≡ Some d
+
+pub record Held (P : World → Group → Type 0) (rules : Rules) (events : List Event) : Type 0 where
+  pub to : Group
+  pub follows : Following rules (run rules events) to
+  pub shaped : Shaped to
+  pub tied : Tied (watched rules events) to
+  pub became : (d : Decided) → BecameComplete rules events d → Became (run rules events) to d
+  pub is : P (run rules events) to
+
+-- what an event comes to, before views are marked
+record After (P : World → Group → Type 0) (rules : Rules) (w v : World) (s : Group) : Type 0 where
+  to : Group
+  ready : Ready rules v to
+  same : to.views.complete ≡ s.views.complete
+  noted : (k : ℕ) (d : Decided) → slice_get w.views k ≡ Some d → slice_get v.views k ≡ Some d
+  is : P v to
+
+-- ---- each event
+
+-- one that no node does
+quiet_after : (P : World → Group → Type 0) (rules : Rules) (keeps : KeptBy P rules) (events : List Event) (w v : World) (r : Record) → w ≡ run rules events
+    → (h : Held P rules events) → Stays w v → v.views ≡ w.views → IsIdle r.outcome → v.records ≡ w.records ++ r ∷ [] → EventStands v h.to
+    → After P rules w v h.to
+quiet_after P rules keeps events w v r is h same views idle records (no_move stands) =
+    let s = h.to in
+    let before = subst (λ x. Following rules x s) (sym is) h.follows in
+    record {
+      to = given s;
+      ready = ready_given rules v s (stays_follows rules w v s before same stands) h.shaped;
+      same = refl;
+      noted = λ k d at. ap (λ (l : List Decided). slice_get l k) views ∙ at;
+      is = keeps.by_quiet w v s (given s) (record { stays = same; grows = grows_given s; idle = inr (r, idle, records) })
+          (subst (λ x. P x s) (sym is) h.is);
+    }
+quiet_after P rules keeps events w v r is h same views idle records (stop i stands) =
+    let s = h.to in
+    let before = subst (λ x. Following rules x s) (sym is) h.follows in
+    record {
+      to = halted s i;
+      ready = ready_halted rules w v s i before h.shaped same stands;
+      same = refl;
+      noted = λ k d at. ap (λ (l : List Decided). slice_get l k) views ∙ at;
+      is = keeps.by_quiet w v s (halted s i) (record { stays = same; grows = grows_halted s i; idle = inr (r, idle, records) })
+          (subst (λ x. P x s) (sym is) h.is);
+    }
+
+with_more : (xs ys : List ℕ) (name : ℕ) → list_any (λ x. x == name) xs ≡ true → list_any (λ x. x == name) (xs ++ ys) ≡ true
+with_more xs ys name there = list_any-append (λ x. x == name) xs ys ∙ rw there refl
+
+stays_idle : (w : World) (e : Event) (o : Outcome) → Stays w (unchanged w e o)
+unfolding unchanged
+stays_idle w e o = record { nodes = refl; letters = refl; group = refl; more = (worlds.record_of w e o [] ∷ [], refl); stopped = λ j z. z }
+
+stays_stop : (w : World) (e : Event) (o : Outcome) (name : ℕ) → Stays w (unchanged (record w { stopped = w.stopped ++ name ∷ [] }) e o)
+unfolding unchanged
+stays_stop w e o name = record {
+  nodes = refl;
+  letters = refl;
+  group = refl;
+  more = (worlds.record_of w e o [] ∷ [], refl);
+  stopped = λ j z. with_more w.stopped (name ∷ []) j z;
+}
+
+stays_return : (w : World) (e : Event) (o : Outcome) (place : ℕ) → Stays w (lives_on (unchanged w e o) place)
+unfolding unchanged
+stays_return w e o place = record {
+  nodes = refl;
+  letters = refl;
+  group = refl;
+  more = (worlds.record_of w e o [] ∷ [], refl);
+  stopped = λ j z. split (is_stopped w (current w place)) (λ t. rw t z) (λ f. rw f (with_more w.stopped (current w place ∷ []) j z));
+}
+
+-- a run of one event more
+pub run_push : (rules : Rules) (events : List Event) (e : Event) → run rules (events ++ e ∷ []) ≡ happens (run rules events) e
+unfolding happen
+run_push rules events e = runs_go_on (start rules) events (e ∷ [])
+
+views_stay : (views : List Decided) (m n : Node) (k : ℕ) (d : Decided) → slice_get views k ≡ Some d → slice_get (views_after views m n) k ≡ Some d
+views_stay views m n k d at = split (worlds.decides m n) (λ t. rw t (get_front views (worlds.last_view n ∷ []) k d at)) (λ f. rw f at)
+
+module _ (P : World → Group → Type 0) (rules : Rules) (keeps : KeptBy P rules) (moving : StepsMove) (may : MayFound rules) where
+  after_event : (events : List Event) (e : Event) (v : World) → Happens (run rules events) e v → v ≡ happens (run rules events) e → (h : Held P rules events)
+      → After P rules (run rules events) v h.to
+  unfolding unchanged stepped
+  after_event events e v (idles o idle) is h =
+      let w = run rules events in
+      quiet_after P rules keeps events w v (worlds.record_of w e o []) refl h (stays_idle w e o) refl idle refl (idle_stands w e o h.to h.follows.stands)
+  after_event events e v (event.stops runs) is h =
+      let w = run rules events in
+      quiet_after P rules keeps events w v _ refl h (stays_stop w e _ (actor w e)) refl tt refl (stop_stands w e _ (actor w e) h.to h.follows.stands)
+  after_event events e v (returns place at gone more) is h =
+      let w = run rules events in
+      quiet_after P rules keeps events w v _ refl h (stays_return w e _ place) refl tt refl (return_stands w e _ place h.to h.follows.stands)
+  after_event events e v (steps c step runs cause effect) is h =
+      let w = run rules events in
+      let s = h.to in
+      let f = moving rules events e c step s may runs cause effect (sym is) h.follows in
+      let shaped = shaped_moves rules.founders (lowest_or_first rules.founders) rules.resilience s f.to h.follows.group f.path h.shaped in
+      record {
+        to = given f.to;
+        ready = ready_given rules v f.to f.is shaped;
+        same = moves_mark f.path;
+        noted = λ k d at. views_stay w.views (w.nodes (actor w e)) step.node k d at;
+        is = keeps.by_quiet v v f.to (given f.to) (record { stays = stays_same v; grows = grows_given f.to; idle = inl refl })
+            (keeps.by_step events e c step s f.to may runs cause effect is h.follows f.path f.grows shaped f.is h.is);
+      }
+
+  -- one event more
+  pub next : (events : List Event) (e : Event) → Held P rules events → broken_at rules (events ++ e ∷ []) ≡ None → Held P rules (events ++ e ∷ [])
+  next events e h whole =
+      let w = run rules events in
+      let all = events ++ e ∷ [] in
+      let old = watched rules events in
+      let new = watched rules all in
+      let pushed = watch_push (watch_start rules) events e in
+      let here : run rules all ≡ happens w e = run_push rules events e in
+      let there : new.world ≡ run rules all = watched_is_run rules all in
+      let was_world : old.world ≡ w = watched_is_run rules events in
+      let a = after_event events e (happens w e) (events_have_effects w e) refl h in
+      let b : After P rules old.world new.world h.to = subst (λ x. After P rules x new.world h.to) (sym was_world)
+      (subst (λ x. After P rules w x h.to) (sym (there ∙ here)) a) in
+      let ok = unbroken old e (ap (λ (x : Watch). x.broken) (sym pushed) ∙ whole) in
+      let lawful : is_lawful new.world new.complete ≡ true = subst (λ (x : Watch). is_lawful x.world x.complete ≡ true) (sym pushed) ok.now in
+      let best : new.complete ≡ greatest_complete new.world old.complete new.world.views = subst (λ (x : Watch).
+      x.complete ≡ greatest_complete x.world old.complete x.world.views) (sym pushed) (watch_complete old e) in
+      let small : Small new.world.views = subst (λ (x : World). Small x.views) (sym there) (small_run rules all may) in
+      let m = mark rules old new h.to b.to b.ready b.same h.tied small b.noted best lawful in
+      let marks = marks_now new.world b.to in
+      record {
+        to = marked b.to marks;
+        follows = subst (λ x. Following rules x (marked b.to marks)) there (marked_follows rules new.world b.to marks b.ready m.may);
+        shaped = shaped_marked b.to marks b.ready.shaped;
+        tied = m.tied;
+        became = λ d c. became_now rules events e d marks
+            (λ was. record {
+              marked_ = m.may.stay (key d.stamp) (ap (λ f. f (key d.stamp)) b.same ∙ was.marked_);
+              index = was.index;
+              there = ap (λ (x : World). slice_get x.views was.index) (sym there) ∙ b.noted was.index d
+                  (ap (λ (x : World). slice_get x.views was.index) was_world ∙ was.there);
+            })
+            (λ k at done. record {
+              marked_ = m.all k d (ap (λ (x : World). slice_get x.views k) there ∙ at) (ap (λ x. is_complete x d) there ∙ done);
+              index = k;
+              there = at;
+            })
+            (h.became d) c;
+        is = subst (λ x. P x (marked b.to marks)) there (keeps.by_quiet new.world new.world b.to (marked b.to marks)
+            (record { stays = stays_same new.world; grows = grows_marked b.to marks; idle = inl refl }) b.is);
+      }
+    where
+      small_run : (rules : Rules) (events : List Event) → MayFound rules → Small (run rules events).views
+      small_run rules events may k d at =
+          let h = runs_keep (AllViews rules) (each_views rules) (start rules) events (views_start rules may) in
+          (all_get (IsNoted (run rules events).nodes) (run rules events).views k d h.noted at).by
+
+      get_of : (xs : List Decided) (d : Decided) → Contains xs d → (k : ℕ) × (slice_get xs k ≡ Some d)
+      get_of xs d c = (c.0, slice_get-get_or xs c.0 d c.1 ∙ ap Some c.2)
+
+      became_now : (rules : Rules) (events : List Event) (e : Event) (d : Decided) (marks : ℕ → Bool) {R : Type 0} → (Became (run rules events) h.to d → R)
+          → ((k : ℕ) → slice_get (run rules (events ++ e ∷ [])).views k ≡ Some d → is_complete (run rules (events ++ e ∷ [])) d ≡ true → R)
+          → (BecameComplete rules events d → Became (run rules events) h.to d) → BecameComplete rules (events ++ e ∷ []) d → R
+      became_now rules events e d marks stay all before (k, among, done) = ⊎_elim
+          (λ (low : k ≤ length events). (let same = take-append-le k events (e ∷ []) low in
+          stay (before (k, subst (λ l. Contains (run rules l).views d) same among, subst (λ l. is_complete (run rules l) d ≡ true) same done))))
+          (λ (high : length events < k). (let long = length-append events (e ∷ []) in
+          let same = take_all k (events ++ e ∷ []) (omega arith) in
+          let at = get_of (run rules (events ++ e ∷ [])).views d (subst (λ l. Contains (run rules l).views d) same among) in
+          all at.0 at.1 (subst (λ l. is_complete (run rules l) d ≡ true) same done)))
+          (two k (length events))
+        where
+          two : (a b : ℕ) → (a ≤ b) ⊎ (b < a)
+          two a b = grind arith

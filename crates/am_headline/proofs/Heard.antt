@@ -1,0 +1,133 @@
+-- The node that hears a packet in a run, and who has a list to send of.
+use Rattle.std.proofs.Common.{◌≡◌, ℕ, ◌≤◌, ◌==◌, not, nat_le, nat_lt, Bool, true, false, if◌then◌else◌, List}
+use Rattle.std.proofs.Common.{Option, Some, None, slice_get, refl, sym, ap, ◌∙◌, subst, arith}
+use Rattle.std.proofs.lemmas.Bool.Decides.{nat_tests}
+use Rattle.am_base.specs.declared.outcome.Outcome.{Outcome}
+use Rattle.am_base.specs.declared.outcome.Outcome.TheVariants as said
+use Rattle.am_packet.specs.declared.packet.Packet.{Packet}
+use Rattle.am_packet.specs.Boxes.{Letter}
+use Rattle.am_group.specs.declared.event.Act.{Act}
+use Rattle.am_group.specs.declared.event.Act.TheVariants as act
+use Rattle.am_group.specs.declared.event.Event.{Event}
+use Rattle.am_group.specs.Addressed.{is_for}
+use Rattle.am_group.specs.Journals.{letter_at}
+use Rattle.am_model.specs.Node.{Node}
+use Rattle.am_model.specs.Emit.{Step, finish}
+use Rattle.am_model.specs.Lengths.{packet_length}
+use Rattle.am_model.specs.Step.{hear, refused}
+use Rattle.am_model.specs.World.{World, is_stopped, has_departed, unchanged, stepped, heard, hear_cut, acts_as, happens}
+use Rattle.am_effects.specs.Causes.{Cause}
+use Rattle.am_effects.specs.Changes.{Change, refreshes, settles, takes_report, admits, numbers, keeps_body, notes, stores, begins_list, departs, promises}
+use Rattle.am_effects.specs.Changes.{opens}
+use Rattle.am_effects.specs.Changes.{looks, fetches, stores_view, queues, collects, takes, asks_to_join, asks_to_leave, closes}
+use Rattle.am_effects.specs.Courses.{IsPlain, Course, nothing_yet, used_report, and_then, Deeds, plainly, looked, Ending, at_end, let_go, closing}
+use Rattle.am_effects.specs.Events.{actor, WasSentTo}
+use Rattle.am_effects.proofs.Rests.{rests_at_end, rests_refresh, settle_is}
+use Rattle.am_headline.proofs.Ways.{look_alike}
+
+-- ---- what is heard
+
+-- the packet by its row; or its first bytes, which are refused
+pub data HeardAs (m n : Node) (p : Packet) : Type 0 where
+  whole_packet : n ≡ (hear m p).node → HeardAs m n p
+  too_short : n.core.log ≡ m.core.log → m.core.base ≤ n.core.base → HeardAs m n p
+
+refused_so : (m : Node) (cause : ℕ) → ((refused m cause).node.core.log ≡ m.core.log) × (m.core.base ≤ (refused m cause).node.core.base)
+unfolding refused finish
+refused_so m cause = let r = rests_at_end m in (r.log, r.rests.base)
+
+cut_node : (m : Node) (keep : ℕ) (p : Packet) → HeardAs m (hear_cut m keep p).node p
+cut_node m keep p = by_test (nat_le (packet_length p) keep) (nat_lt keep 12)
+  where
+    by_test : (whole none : Bool) → HeardAs m (if whole then hear m p else if none then refused m 1 else refused m 5).node p
+    by_test true none = whole_packet refl
+    by_test false true = (let r = refused_so m 1 in too_short r.0 r.1)
+    by_test false false = (let r = refused_so m 5 in too_short r.0 r.1)
+
+set_here : (nodes : ℕ → Node) (name : ℕ) (n : Node) → (if name == name then n else nodes name) ≡ n
+set_here nodes name n = let t : (name == name) ≡ true = grind (arith, nat_tests) in rw t refl
+
+gates : (b d : Bool) (u v s : World) → b ≡ true → d ≡ false → (if not b then u else if d then v else s) ≡ s
+gates true true u v s p q = absurd (cc)
+gates true false u v s p q = refl
+gates false d u v s p q = absurd (cc)
+
+heard_node : (w : World) (e : Event) (name : ℕ) (hearing : Packet → Step) (o : Option Letter) (l : Letter) → o ≡ Some l → is_for l name ≡ true
+    → is_stopped w name ≡ false → (heard w e name hearing o).nodes name ≡ (hearing l.packet).node
+unfolding stepped
+heard_node w e name hearing None l is for_ runs = absurd (cc)
+heard_node w e name hearing (Some x) l is for_ runs =
+    let same : x ≡ l = cc in
+    let mine : is_for x name ≡ true = ap (λ y. is_for y name) same ∙ for_ in
+    let at = gates (is_for x name) (is_stopped w name) (unchanged w e said.NotAddressed) (unchanged w e said.IsStopped) (stepped w e name (hearing x.packet))
+    mine runs in
+    ap (λ (v : World). v.nodes name) at ∙ set_here w.nodes name (hearing x.packet).node ∙ ap (λ (y : Letter). (hearing y.packet).node) same
+
+acts_node : (w : World) (e : Event) (name : ℕ) (a : Act) (p : Packet) → WasSentTo w name a p → is_stopped w name ≡ false
+    → HeardAs (w.nodes name) ((acts_as w e name a).nodes name) p
+acts_node w e name (act.Hear number) p h runs =
+    let is = heard_node w e name (hear (w.nodes name)) (letter_at w.letters number) h.letter h.there h.addressed runs in
+    whole_packet (is ∙ ap (λ q. (hear (w.nodes name) q).node) h.is)
+acts_node w e name (act.Cut number keep) p h runs =
+    let is = heard_node w e name (hear_cut (w.nodes name) keep) (letter_at w.letters number) h.letter h.there h.addressed runs in
+    subst (λ n. HeardAs (w.nodes name) n p) (sym (is ∙ ap (λ q. (hear_cut (w.nodes name) keep q).node) h.is)) (cut_node (w.nodes name) keep p)
+acts_node w e name (act.Send body) p h runs = absurd (let z = h.there in cc)
+acts_node w e name (act.Done req) p h runs = absurd (let z = h.there in cc)
+acts_node w e name act.Take p h runs = absurd (let z = h.there in cc)
+acts_node w e name act.Join p h runs = absurd (let z = h.there in cc)
+acts_node w e name act.State p h runs = absurd (let z = h.there in cc)
+acts_node w e name act.Leave p h runs = absurd (let z = h.there in cc)
+acts_node w e name (act.Reset least resilience) p h runs = absurd (let z = h.there in cc)
+acts_node w e name (act.Ask round) p h runs = absurd (let z = h.there in cc)
+acts_node w e name (act.GiveUp other) p h runs = absurd (let z = h.there in cc)
+acts_node w e name act.Stop p h runs = absurd (let z = h.there in cc)
+acts_node w e name act.Tick p h runs = absurd (let z = h.there in cc)
+acts_node w e name act.Return p h runs = absurd (let z = h.there in cc)
+
+pub heard_as : (w : World) (e : Event) (step : Step) (p : Packet) → WasSentTo w (actor w e) e.act p → is_stopped w (actor w e) ≡ false
+    → stepped w e (actor w e) step ≡ happens w e → HeardAs (w.nodes (actor w e)) step.node p
+unfolding happens stepped
+heard_as w e step p h runs is =
+    let same : step.node ≡ (happens w e).nodes (actor w e) = sym (set_here w.nodes (actor w e) step.node) ∙ ap (λ (v : World). v.nodes (actor w e)) is in
+    subst (λ n. HeardAs (w.nodes (actor w e)) n p) (sym same) (acts_node w e (actor w e) e.act p h runs)
+
+-- ---- who hasn't departed
+
+stays_plain : {c : Cause} {o : Outcome} (x y : Node) (z : Change c o x y) → IsPlain z → has_departed x.status ≡ false → has_departed y.status ≡ false
+stays_plain x y refreshes plain h = absurd plain
+stays_plain x y settles plain h = ap (λ (n : Node). has_departed n.status) (settle_is x) ∙ h
+stays_plain x y (takes_report s v report by may) plain h = h
+stays_plain x y (admits s v is leads fit) plain h = h
+stays_plain x y (numbers e leads room why) plain h = h
+stays_plain x y (keeps_body s v report req body is heard_) plain h = h
+stays_plain x y (notes s v base acc by heard_) plain h = h
+stays_plain x y (stores s v base acc number e by heard_ entry may) plain h = h
+stays_plain x y (begins_list s v base join image is says may) plain h = refl
+stays_plain x y (departs s v number is heard_ leaves) plain h = absurd plain
+stays_plain x y (promises v low why) plain h = h
+stays_plain x y (opens least resilience by may) plain h = h
+stays_plain x y (looks b verdict over why look is) plain h = absurd plain
+stays_plain x y (fetches s v base number e is heard_ promise below from may) plain h = h
+stays_plain x y (stores_view s v base number names resilience is heard_ own other promise below may) plain h = h
+stays_plain x y (queues body is says member stays few) plain h = h
+stays_plain x y (collects req is) plain h = h
+stays_plain x y (takes e is says member some there) plain h = h
+stays_plain x y (asks_to_join is was) plain h = refl
+stays_plain x y (asks_to_leave is was stays done) plain h = h
+stays_plain x y (closes leads leaves alone room) plain h = absurd plain
+
+stays_course : {c : Cause} {o : Outcome} (m x : Node) → Course c o m x → has_departed m.status ≡ false → has_departed x.status ≡ false
+stays_course m x nothing_yet h = h
+stays_course m x (used_report s v report by may) h = ap has_departed (rests_refresh _).rests.status ∙ h
+stays_course m x (and_then {n = n} course z plain) h = stays_plain n x z plain (stays_course m n course h)
+
+stays_deeds : {c : Cause} {o : Outcome} (m x : Node) → Deeds c o m x → has_departed m.status ≡ false → has_departed x.status ≡ false
+stays_deeds m x (plainly course) h = stays_course m x course h
+stays_deeds m x (looked {n = n} b verdict course over why look is) h = ap has_departed (look_alike n b verdict look).status ∙ stays_course m n course h
+
+-- whoever sends something is there then, if it was before
+pub sender_stays : {c : Cause} {o : Outcome} (m n : Node) (letters : List Letter) (k : ℕ) (l : Letter) → Ending c o m letters n → slice_get letters k ≡ Some l
+    → has_departed m.status ≡ false → has_departed n.status ≡ false
+sender_stays m n letters k l (at_end {x = x} deeds) at h = ap has_departed (rests_at_end x).rests.status ∙ stays_deeds m x deeds h
+sender_stays m n letters k l (let_go s v number is heard_ leaves) at h = absurd (cc)
+sender_stays m n letters k l (closing ev is course leads leaves alone room same) at h = absurd (cc)

@@ -1,0 +1,238 @@
+-- The headline, of every run.
+use Rattle.std.proofs.Common.{◌≡◌, ◌≢◌, ◌⊎◌, ⊎_elim, ℕ, ◌<◌, ◌≤◌, true, List, [], ◌∷◌, ◌++◌, length, take}
+use Rattle.std.proofs.Common.{Some, None, slice_get, refl, sym, ap, ◌∙◌, subst, arith, append-nil, append_assoc, drop}
+use Rattle.std.proofs.lemmas.List.{take-append-drop}
+use Rattle.am_base.specs.declared.entry.Entry.{Entry}
+use Rattle.am_base.specs.Founding.{Rules, MayFound}
+use Rattle.am_base.specs.Stamps.{stamp_lt}
+use Rattle.am_base.specs.Lists.{blank, AllFit}
+use Rattle.am_group.specs.declared.event.Event.{Event}
+use Rattle.am_group.specs.declared.event.Record.{Record}
+use Rattle.am_group.specs.Deliveries.{deliveries}
+use Rattle.am_group.specs.Journals.{item_at}
+use Rattle.am_chain_lists.specs.Whole.{Begins, IsGood, view_of, key}
+use Rattle.am_chain_lists.proofs.Order.{key_lt, view_small, view_up, view_viewed}
+use Rattle.am_chain_lists.proofs.Prefixes.{begins_both, begins_take, begins_trans, length_take, length_push}
+use Rattle.am_chain_lists.proofs.Members.{good_begins}
+use Rattle.am_chain_moves.specs.Group.{Group, opening}
+use Rattle.am_chain_moves.specs.Kept as groups
+use Rattle.am_model.specs.Node.{view, lowest_or_first}
+use Rattle.am_model.specs.Group.{accepted_sends, has_log}
+use Rattle.am_model.specs.World.{Decided, World, happens, run}
+use Rattle.am_model.specs.Lawful.{Watch, watched, watch_start, broken_at, lawful_front}
+use Rattle.am_model.specs.Claims.{BeginsAt, Segment, line_of, BecameComplete, KeepsView, Holds, HeadlineHolds}
+use Rattle.am_model.proofs.Greatest.{split}
+use Rattle.am_model.proofs.Beginnings.{runs_begin}
+use Rattle.am_model.proofs.Runs.{front_is_lawful}
+use Rattle.am_effects.specs.Events.{actor, IsIdle}
+use Rattle.am_effects.proofs.Events.{events_have_effects}
+use Rattle.am_effects.proofs.Items.{all_get}
+use Rattle.am_orders.proofs.Turns.{senders_in_order, send_stands_once}
+use Rattle.am_bounded.proofs.Runs.{bounded_holds}
+use Rattle.am_sent.proofs.Runs.{sent_holds}
+use Rattle.am_laws.proofs.Fronts.{front_begins}
+use Rattle.am_laws.proofs.Named.{few_names}
+use Rattle.am_laws.proofs.TakenRuns.{run_owned}
+use Rattle.am_laws.proofs.Views.{IsNoted}
+use Rattle.am_unballoted.proofs.Steps.{nil_of}
+use Rattle.am_unballoted.proofs.Worlds.{StandsAt}
+use Rattle.am_stands.specs.Standing.{NameStands, NotedStands}
+use Rattle.am_stands.proofs.Changes.{told_all}
+use Rattle.am_stands.proofs.Onward.{group_kept}
+use Rattle.am_steps.proofs.Steps.{steps_move}
+use Rattle.am_stands.specs.Running.{Following}
+use Rattle.am_headline.proofs.Lists.{item_begins, item_back}
+use Rattle.am_headline.proofs.Fold.{Quiet, KeptBy, Became, Held}
+use Rattle.am_headline.proofs.Begun.{held}
+use Rattle.am_headline.proofs.Greatest.{unbroken, watch_push}
+use Rattle.am_headline.proofs.Told.{Told, Taking, taking_in_group, told_same, told_idle, told_step, told_start}
+use Rattle.am_headline.proofs.Moments.{done_then, given_then}
+
+-- ---- the group list
+
+group_good : (rules : Rules) (w : World) (s : Group) → Following rules w s → IsGood w.group
+group_good rules w s f =
+    let k = group_kept rules.founders (lowest_or_first rules.founders) rules.resilience s f.group in
+    subst IsGood f.stands.group (good_begins k.group k.views.good)
+
+-- the view of a name's list is its node's
+view_is : (w : World) (s : Group) (j : ℕ) → NameStands w j (w.nodes j) (s.node j) → view_of (s.node j).list ≡ view (w.nodes j)
+unfolding view_of
+view_is w s j h = ap (λ i. i.view) (told_all w j (w.nodes j) (s.node j) h)
+
+-- where a run isn't broken, it wasn't before
+before_whole : (rules : Rules) (a b : List Event) → broken_at rules (a ++ b) ≡ None → broken_at rules a ≡ None
+before_whole rules a [] h = ap (broken_at rules) (sym (append-nil a)) ∙ h
+before_whole rules a (e ∷ b) h =
+    let one = before_whole rules (a ++ e ∷ []) b (ap (broken_at rules) (append_assoc a (e ∷ []) b) ∙ h) in
+    (unbroken (watched rules a) e (ap (λ (x : Watch). x.broken) (sym (watch_push (watch_start rules) a e)) ∙ one)).before
+
+-- ---- a complete view
+
+-- what was accepted up to a complete view's View stands in its line
+module _ (rules : Rules) (w : World) (s : Group) (d : Decided) (f : Following rules w s) (became : Became w s d) where
+  kept : groups.Kept s
+  kept = group_kept rules.founders (lowest_or_first rules.founders) rules.resilience s f.group
+
+  noted : NotedStands w s.views d
+  noted = f.stands.views.noted became.index d became.there
+
+  long : length (opening (s.views.chosen (key d.stamp))) ≡ d.number
+  long = length_push (s.views.chosen (key d.stamp)).before _ ∙ noted.number
+
+  in_line : (number : ℕ) (e : Entry) → number ≤ d.number → item_at w.group number ≡ Some e → item_at (line_of w d.stamp) number ≡ Some e
+  in_line number e low at =
+      let same : item_at s.group number ≡ Some e = ap (λ g. item_at g number) f.stands.group ∙ at in
+      let chain = item_begins number e kept.group same in
+      let open_ = item_back number e (kept.views.complete (key d.stamp) became.marked_) (let l = long in omega arith) chain in
+      ap (λ l. item_at l number) (sym noted.line) ∙ item_begins number e noted.opens open_
+
+  -- what a name with a lower view accepted of its list lies below the View
+  below : (list group : List Entry) (acc number : ℕ) → IsGood list → Begins (take acc list) group → acc ≤ length list → Begins group w.group
+      → number ≤ acc → key (view_of list) < key d.stamp → number < d.number
+  below list group acc number good delivered within grows low less = ⊎_elim
+      (λ (fine : number < d.number). fine)
+      (λ (high : d.number ≤ number). absurd (
+      let open_ = opening (s.views.chosen (key d.stamp)) in
+      let part = take acc list in
+      let part_long = length_take acc list within in
+      let l = long in
+      let up : Begins part s.group = subst (Begins part) (sym f.stands.group) (begins_trans delivered grows) in
+      let front : Begins open_ part = begins_both (kept.views.complete (key d.stamp) became.marked_) (begins_trans up kept.group) (omega arith) in
+      let risen = view_up good (begins_trans front (begins_take acc list)) in
+      let viewed : view_of open_ ≡ d.stamp = view_viewed (s.views.chosen (key d.stamp)).before _ _ _ ∙ noted.stamp in
+      let same = ap key viewed in
+      let z : ⊥ = omega arith in z))
+      (two number d.number)
+    where
+      two : (a b : ℕ) → (a < b) ⊎ (b ≤ a)
+      two a b = grind arith
+
+-- of an entry that was given before
+number_below : (rules : Rules) (w : World) (s : Group) (d : Decided) (f : Following rules w s) (became : Became w s d) (v : World) (r : Group) (i number : ℕ)
+    (e : Entry) → Following rules v r → i < 256 → Taking (v.nodes i) number e → Begins v.group w.group → d.stamp.by < 256
+    → stamp_lt (view (v.nodes i)) d.stamp ≡ true → number < d.number
+number_below rules w s d f became v r i number e old few y grows small low =
+    let a = old.stands.each i few in
+    let k = group_kept rules.founders (lowest_or_first rules.founders) rules.resilience r old.group in
+    let ok = (k.each i).fronts in
+    let acc = (old.stands.fronts i few y.stays).acc in
+    let up_to = y.low in
+    let good = (old.nodes i few y.stays).good in
+    let viewed = view_is v r i a in
+    let under = key_lt (view (v.nodes i)) d.stamp (subst (λ u. u.by < 256) viewed (view_small (r.node i).list good)) small low in
+    let same = ap key viewed in
+    below rules w s d f became (r.node i).list v.group (r.node i).acc number good (subst (Begins (take (r.node i).acc (r.node i).list)) old.stands.group
+    ok.delivered)
+    ok.within grows (omega arith) (omega arith)
+
+-- ---- earlier moments
+
+prefix_whole : (rules : Rules) (events : List Event) (k : ℕ) → broken_at rules events ≡ None → broken_at rules (take k events) ≡ None
+prefix_whole rules events k whole = before_whole rules (take k events) (drop k events) (ap (broken_at rules) (take-append-drop k events) ∙ whole)
+
+group_grows : (rules : Rules) (events : List Event) (k : ℕ) → Begins (run rules (take k events)).group (run rules events).group
+group_grows rules events k = let b = (runs_begin rules events k).group in record { rest = b.0; same = sym b.1 }
+
+small_view : (rules : Rules) (events : List Event) (d : Decided) (k : ℕ) → MayFound rules → slice_get (run rules events).views k ≡ Some d → d.stamp.by < 256
+small_view rules events d k may at = (all_get (IsNoted (run rules events).nodes) (run rules events).views k d (run_owned rules events may).blanks.views.noted
+    at).by
+
+-- ---- up to the lawful front
+
+module _ (rules : Rules) (may : MayFound rules) where
+  abbrev Kept_ : World → Group → Type 0
+  Kept_ w s = Told rules w
+
+  by_idle : (w v : World) (s t : Group) → Quiet w v s t → Told rules w → Told rules v
+  by_idle w v s t q h = ⊎_elim
+      (λ (same : v.records ≡ w.records). told_same rules w v (record { nodes = q.stays.nodes; letters = q.stays.letters; group = q.stays.group }) same h)
+      (λ (one : (r : Record) × IsIdle r.outcome × (v.records ≡ w.records ++ r ∷ [])).
+      told_idle rules w v one.0 (record { nodes = q.stays.nodes; letters = q.stays.letters; group = q.stays.group }) one.1 one.2 h)
+      q.idle
+
+  keeps : KeptBy Kept_ rules
+  keeps = record {
+    by_step = λ events e c step s t m runs cause effect is old path grows shaped new h. told_step rules events e c step s t m runs cause effect is old path
+        grows new h;
+    by_quiet = by_idle;
+  }
+
+  at_moment : (events : List Event) → broken_at rules events ≡ None → Held Kept_ rules events
+  at_moment events whole = held Kept_ rules keeps steps_move may (λ t f. told_start rules) events whole
+
+  -- ---- segment
+
+  has_list : (w : World) (name : ℕ) → Told rules w → deliveries w.records name ≢ [] → has_log (w.nodes name).status ≡ true
+  has_list w name h some = split (has_log (w.nodes name).status) (λ t. t)
+      (λ f.
+      let b = (h.each name).blank f in
+      let b0 = b.0 in
+      let b1 = b.1 in
+      let count = (h.given name).count in
+      absurd (some (nil_of (deliveries w.records name) (omega arith))))
+
+  begins_there : (w : World) (name : ℕ) → Told rules w → has_log (w.nodes name).status ≡ true → BeginsAt rules w name (w.nodes name).core.start
+  begins_there w name h log =
+      let b = (h.each name).begins log in
+      record { founder = b.founder; joiner = λ f. (h.welcomed name f ∙ rw log refl, (b.joiner f).there) }
+
+  segment_holds : (w : World) → Told rules w → Segment rules w
+  segment_holds w h = record {
+    each = λ name some. (
+      (w.nodes name).core.start,
+      begins_there w name h (has_list w name h some),
+      λ k number e at. (let g = (h.given name).each k number e at in (g.0, g.1.there)),
+    );
+  }
+
+  -- ---- kept
+
+  keeps_view : (events : List Event) → broken_at rules events ≡ None → (d : Decided) → BecameComplete rules events d → KeepsView rules events d
+  keeps_view events whole d c =
+      let w = run rules events in
+      let h = at_moment events whole in
+      let became = h.became d c in
+      record {
+        taken = λ k number e r at says low.
+            (let moment = done_then rules events k r at in
+            let before = prefix_whole rules events k whole in
+            let o = at_moment (take k events) before in
+            let v = run rules (take k events) in
+            let g = given_then rules (take k events) moment.event (happens v moment.event) number e r may o.is (events_have_effects v moment.event)
+            moment.done says in
+            let i = actor v moment.event in
+            let few = few_names rules v moment.event (run_owned rules (take k events) may).blanks.views.named in
+            let view_low : stamp_lt (view (v.nodes i)) d.stamp ≡ true = ap (λ j. stamp_lt (view (v.nodes j)) d.stamp) (sym g.by) ∙ low in
+            let item = taking_in_group rules v o.to i number e o.follows few g.taking_ in
+            let grows = group_grows rules events k in
+            let least = number_below rules w h.to d h.follows became v o.to i number e o.follows few g.taking_ grows
+            (small_view rules events d became.index may became.there) view_low in
+            (least, in_line rules w h.to d h.follows became number e (omega arith) (item_begins number e grows item)));
+        group = λ number e low at. in_line rules w h.to d h.follows became number e low at;
+      }
+
+  -- ---- the headline
+
+  holds : (events : List Event) → broken_at rules events ≡ None → Holds rules events
+  holds events whole =
+      let w = run rules events in
+      let h = at_moment events whole in
+      let fit : AllFit blank 1 w.group = (group_good rules w h.to h.follows).fit in
+      record {
+        segment = segment_holds w h.is;
+        once = record {
+          each = λ k x at. (let a = all_get (StandsAt w.group (length w.group)) (accepted_sends w.records) k x h.is.accepted at in
+              send_stands_once w fit x.name x.req x.number a.0 a.1.there);
+        };
+        kept = record { each = keeps_view events whole };
+        sent = sent_holds rules events may;
+        senders_order = senders_in_order w fit;
+      }
+
+pub headline_holds : HeadlineHolds
+headline_holds rules events may = record {
+  front = holds rules may (lawful_front rules events) (front_is_lawful rules events);
+  begins = front_begins rules events;
+  bounded = bounded_holds rules events may;
+}

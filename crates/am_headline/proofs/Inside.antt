@@ -1,0 +1,492 @@
+-- What is known of a name's node within its step: what its application was given, and which of its sends are settled.
+use Rattle.std.proofs.Common.{◌≡◌, ◌⊎◌, ⊎_elim, inl, inr, ℕ, ◌+◌, ◌-◌, ◌<◌, ◌≤◌, max, min, ◌==◌, ◌||◌, not, nat_lt, Bool, true, false, if◌then◌else◌}
+use Rattle.std.proofs.Common.{List, [], ◌∷◌, ◌++◌, filter, find, count_by, Option, Some, None, slice_get, refl, sym, ap, ◌∙◌, subst, arith}
+use Rattle.std.specs.Prelude.{All}
+use Rattle.std.proofs.lemmas.Bool.Decides.{nat_tests}
+use Rattle.std.proofs.lemmas.List.Sums.{sum_by-cons}
+use Rattle.std.proofs.lemmas.List.Elements.{All-push, All-filter, All-map, All-weaker}
+use Rattle.am_base.specs.declared.entry.Entry.{Entry}
+use Rattle.am_base.specs.declared.entry.Entry.TheVariants.{Data, Leave}
+use Rattle.am_base.specs.declared.image.Image.{Image}
+use Rattle.am_base.specs.declared.name.Stamp.{Stamp}
+use Rattle.am_base.specs.declared.outcome.Outcome.{Outcome}
+use Rattle.am_base.specs.declared.outcome.Outcome.TheVariants as said
+use Rattle.am_core.specs.Cores.{accept, pass_over}
+use Rattle.am_fronts.specs.Refresh.{own_report, tell, go_on, let_go}
+use Rattle.am_packet.specs.declared.packet.Packet.TheVariants as packet
+use Rattle.am_sender.specs.declared.OwnSend.{OwnSend}
+use Rattle.am_sender.specs.Sends as own
+use Rattle.am_model.specs.declared.status.Status.{Status}
+use Rattle.am_model.specs.declared.status.Status.TheVariants as status
+use Rattle.am_model.specs.Node.{Node, is_member, is_asking, is_sequencer, waiting, unsettled, pushed}
+use Rattle.am_model.specs.Joining.{begun}
+use Rattle.am_model.specs.Group.{has_log}
+use Rattle.am_model.specs.Refresh.{advance, lead, refresh, settle, settled, settled_at, accepted_at, refresh_at_end}
+use Rattle.am_model.specs.World.{has_departed}
+use Rattle.am_model.proofs.Greatest.{split, and_both}
+use Rattle.am_group.specs.Journals.{item_at}
+use Rattle.am_effects.specs.Causes.{Cause, hears}
+use Rattle.am_effects.specs.Changes.{MayBeWelcomed}
+use Rattle.am_effects.proofs.Items.{get_front}
+use Rattle.am_effects.proofs.Rests.{rests_refresh, refresh_is, settle_is}
+use Rattle.am_effects.proofs.Receiving.{asking}
+use Rattle.am_effects.proofs.Statuses.{logged, asking_log}
+use Rattle.am_unballoted.proofs.Chains.{front, Gave, nothing, took, began, at_least}
+use Rattle.am_unballoted.proofs.Changes.{found_at}
+use Rattle.am_headline.proofs.Ways as kinds
+use Rattle.am_headline.proofs.Ways.{Alike, Kind, closed, pushed_alike}
+
+-- ---- sends that are settled
+
+-- it was settled in this step, by an entry of the node's own list that it accepted
+pub record Fresh (m x : Node) (req number : ℕ) : Type 0 where
+  pub body : List ℕ
+  pub index : ℕ
+  pub there : slice_get x.core.log.entries index ≡ Some (Data x.core.who req body)
+  pub at : number ≡ x.core.log.start + index + 1
+  pub low : number ≤ x.core.acc
+  pub stays : has_departed m.status ≡ false
+
+-- or it stood in the group list before
+abbrev pub Settled : List Entry → ℕ → Node → Node → ℕ → Option ℕ → Type 0
+Settled group i m x req None = Unit {0}
+Settled group i m x req (Some number) = ((body : List ℕ) × (item_at group number ≡ Some (Data i req body))) ⊎ Fresh m x req number
+
+abbrev pub SendIn : List Entry → ℕ → Node → Node → OwnSend → Type 0
+SendIn group i m x s = Settled group i m x s.req s.number
+
+-- ---- within a step that began with node m
+
+pub record Inside (group : List Entry) (i : ℕ) (c : Cause) (o : Outcome) (m x : Node) : Type 0 where
+  pub gave : Gave c o m x
+  pub kept : x.core.log.start ≤ x.core.base
+  pub taken : x.core.taken ≤ x.core.acc
+  pub passed : x.core.taken < x.core.start - 1 → x.core.acc ≤ x.core.taken
+  -- who had departed is given nothing
+  pub departed : has_departed m.status ≡ true → (has_departed x.status ≡ true) × (front x ≡ front m)
+  -- who leaves has no send that waits
+  pub leaves : m.leaving ≡ true → x.leaving ≡ true
+  pub gone : has_departed x.status ≡ true → x.leaving ≡ true
+  pub silent : x.leaving ≡ true → waiting x ≡ None
+  -- who has no list has accepted nothing
+  pub bare : has_log x.status ≡ false → x.core.acc ≡ 0
+  pub sends : All (SendIn group i m x) x.sends.queue
+
+-- ---- fronts
+
+passed_front : (taken acc start : ℕ) → max (if nat_lt taken (start - 1) then max taken (min acc (start - 1)) else taken) (start - 1) ≡ max taken (start - 1)
+passed_front taken acc start = split (nat_lt taken (start - 1)) (λ t. let z : taken < start - 1 = grind (arith, nat_tests) in rw t (omega arith))
+    (λ f. rw f refl)
+
+-- what a refresh makes of the numbers
+record Fronts (m n : Node) : Type 0 where
+  front_ : front n ≡ front m
+  start : n.core.start ≡ m.core.start
+  taken : n.core.taken ≤ n.core.acc
+  passed : n.core.taken < n.core.start - 1 → n.core.acc ≤ n.core.taken
+
+passing : (taken acc new start : ℕ) → acc ≤ new → taken ≤ acc → (taken < start - 1 → acc ≤ taken)
+    → ((if nat_lt taken (start - 1) then max taken (min new (start - 1)) else taken) ≤ new)
+    × ((if nat_lt taken (start - 1) then max taken (min new (start - 1)) else taken) < start - 1
+    → new ≤ (if nat_lt taken (start - 1) then max taken (min new (start - 1)) else taken))
+passing taken acc new start up low h = split (nat_lt taken (start - 1))
+    (λ t. rw t (omega arith, λ below. omega arith))
+    (λ f. let z : start - 1 ≤ taken = grind (arith, nat_tests) in rw f (omega arith, λ below. absurd (omega arith)))
+
+lead_fronts : (m : Node) → m.core.taken ≤ m.core.acc → (m.core.taken < m.core.start - 1 → m.core.acc ≤ m.core.taken) → Fronts m (lead m)
+unfolding lead own_report tell go_on let_go accept pass_over
+lead_fronts m low h =
+    let p = passing m.core.taken m.core.acc (lead m).core.acc m.core.start (omega arith) low h in
+    record { front_ = passed_front m.core.taken _ m.core.start; start = refl; taken = p.0; passed = p.1 }
+
+advance_fronts : (m : Node) → m.core.taken ≤ m.core.acc → (m.core.taken < m.core.start - 1 → m.core.acc ≤ m.core.taken) → Fronts m (advance m)
+unfolding accept pass_over
+advance_fronts m low h =
+    let p = passing m.core.taken m.core.acc (advance m).core.acc m.core.start (omega arith) low h in
+    record { front_ = passed_front m.core.taken _ m.core.start; start = refl; taken = p.0; passed = p.1 }
+
+refresh_fronts : (m : Node) → m.core.taken ≤ m.core.acc → (m.core.taken < m.core.start - 1 → m.core.acc ≤ m.core.taken) → Fronts m (refresh m)
+unfolding refresh
+refresh_fronts m low h = split (is_sequencer m) (λ t. rw t (lead_fronts m low h)) (λ f. rw f (advance_fronts m low h))
+
+-- ---- what was given
+
+gave_still : {c : Cause} {o : Outcome} (k m n : Node) → front n ≡ front m → n.core.start ≡ m.core.start → has_log n.status ≡ has_log m.status → Gave c o k m
+    → Gave c o k n
+gave_still k m n a b d (nothing x y z) = nothing (a ∙ x) (b ∙ y) (d ∙ z)
+gave_still k m n a b d (took j e is x y z w u v) = took j e is x (a ∙ y) (b ∙ z) (let s = ap (λ t. t - 1) b in omega arith) (d ∙ u) v
+gave_still k m n a b d (began s v base join image is says x y z w u) = began s v base join image is says x (d ∙ y) (b ∙ z) (a ∙ w) u
+
+number_of : Outcome → ℕ
+number_of (said.Took number e) = number
+number_of _ = 0
+
+gave_taken : {c : Cause} {o : Outcome} (k m : Node) (e : Entry) → m.core.taken ≤ m.core.acc → (m.core.taken < m.core.start - 1 → m.core.acc ≤ m.core.taken)
+    → is_member m.status ≡ true → (m.core.taken == m.core.acc) ≡ false → o ≡ said.Took (m.core.taken + 1) e → Gave c o k m
+    → Gave c o k (record m { core = record (m.core) { taken = m.core.taken + 1 } })
+unfolding number_of
+gave_taken k m e low passed member some says (nothing x y z) =
+    let less : m.core.taken < m.core.acc = grind (arith, nat_tests) in
+    let p : m.core.start - 1 ≤ m.core.taken = at_least m.core.taken m.core.acc (m.core.start - 1) passed less in
+    let log = logged m.status member in
+    took m.core.taken e says (omega arith) (omega arith) y (omega arith) log (sym z ∙ log)
+gave_taken k m e low passed member some says (took j g was x y z w u v) =
+    let same : said.Took (m.core.taken + 1) e ≡ said.Took (j + 1) g = sym says ∙ was in
+    let number : m.core.taken + 1 ≡ j + 1 = ap number_of same in
+    absurd (omega arith)
+gave_taken k m e low passed member some says (began s v base join image a b x y z w u) = let same = sym says ∙ b in absurd (cc)
+
+gave_begun : {c : Cause} {o : Outcome} (k m : Node) (s : ℕ) (v : Stamp) (base join : ℕ) (image : Image) → c ≡ hears (packet.Welcome s v base join image)
+    → o ≡ said.Welcomed join → MayBeWelcomed m s v base join image → Gave c o k m → Gave c o k (begun m v base join image)
+gave_begun k m s v base join image is says may (nothing x y z) =
+    let no = asking_log m.status (asking m s v base join image may) in
+    let above = may.above in
+    began s v base join image is says (sym z ∙ no) refl refl (omega arith) (omega arith)
+gave_begun k m s v base join image is says may (took j e was x y z w u l) = let no = asking_log m.status (asking m s v base join image may) in absurd (cc)
+gave_begun k m s v base join image is says may (began s1 v1 base1 join1 image1 was said_ x y z w u) =
+    let no = asking_log m.status (asking m s v base join image may) in absurd (cc)
+
+-- ---- statuses
+
+asking_stays : (s : Status) → is_asking s ≡ true → has_departed s ≡ false
+asking_stays status.Stranger h = refl
+asking_stays status.Asking h = refl
+asking_stays status.Member h = refl
+asking_stays status.Departed h = absurd (cc)
+
+member_stays : (s : Status) → is_member s ≡ true → has_departed s ≡ false
+member_stays status.Stranger h = refl
+member_stays status.Asking h = refl
+member_stays status.Member h = refl
+member_stays status.Departed h = absurd (cc)
+
+-- ---- sends
+
+count_more : (s : OwnSend) (q : List OwnSend) → count_by own.is_unsettled (s ∷ q) ≡ (if own.is_unsettled s then 1 else 0) + count_by own.is_unsettled q
+count_more s q = sum_by-cons (λ x. if own.is_unsettled x then 1 else 0) s q
+
+none_waits : (queue : List OwnSend) → nat_lt 0 (count_by own.is_unsettled queue) ≡ false → find own.is_unsettled queue ≡ None
+none_waits [] h = refl
+none_waits (s ∷ q) h = split (own.is_unsettled s)
+    (λ t. absurd (let one : count_by own.is_unsettled (s ∷ q) ≡ 1 + count_by own.is_unsettled q = count_more s q
+    ∙ ap (λ (b : Bool). (if b then 1 else 0) + count_by own.is_unsettled q) t in
+    let z : ⊥ = grind (arith, nat_tests) in z))
+    (λ f. let same : count_by own.is_unsettled (s ∷ q) ≡ 0 + count_by own.is_unsettled q = count_more s q
+    ∙ ap (λ (b : Bool). (if b then 1 else 0) + count_by own.is_unsettled q) f in
+    let rest : nat_lt 0 (count_by own.is_unsettled q) ≡ false = grind (arith, nat_tests) in
+    rw f (none_waits q rest))
+
+none_left : (p : OwnSend → Bool) (queue : List OwnSend) → find own.is_unsettled queue ≡ None → find own.is_unsettled (filter p queue) ≡ None
+none_left p [] h = refl
+none_left p (s ∷ q) h = split (own.is_unsettled s)
+    (λ t. absurd (let z = rw t at h in cc))
+    (λ f. let rest = none_left p q (rw f at h) in split (p s) (λ t. rw (t, f) rest) (λ g. rw g rest))
+
+or_first : (a b : Bool) → (a || b) ≡ false → a ≡ false
+or_first true b h = absurd (cc)
+or_first false b h = refl
+
+-- a send that was settled stays so where the list goes on and no less is accepted
+fresh_on : (m x y : Node) (req number : ℕ) → y.core.who ≡ x.core.who → y.core.log.start ≡ x.core.log.start
+    → (rest : List Entry) × (y.core.log.entries ≡ x.core.log.entries ++ rest) → x.core.acc ≤ y.core.acc → Fresh m x req number → Fresh m y req number
+fresh_on m x y req number who start more up h = record {
+  body = h.body;
+  index = h.index;
+  there = ap (λ l. slice_get l h.index) more.1 ∙ get_front x.core.log.entries more.0 h.index (Data x.core.who req h.body) h.there
+      ∙ ap (λ k. Some (Data k req h.body)) (sym who);
+  at = h.at ∙ ap (λ k. k + h.index + 1) (sym start);
+  low = let a = h.low in omega arith;
+  stays = h.stays;
+}
+
+settled_on : (group : List Entry) (i : ℕ) (m x y : Node) → ((req number : ℕ) → Fresh m x req number → Fresh m y req number) → (req : ℕ) (number : Option ℕ)
+    → Settled group i m x req number → Settled group i m y req number
+settled_on group i m x y f req None h = tt
+settled_on group i m x y f req (Some number) h = ⊎_elim
+    (λ (a : (body : List ℕ) × (item_at group number ≡ Some (Data i req body))). inl a)
+    (λ (a : Fresh m x req number). inr (f req number a))
+    h
+
+sends_on : (group : List Entry) (i : ℕ) (m x y : Node) (queue : List OwnSend) → ((req number : ℕ) → Fresh m x req number → Fresh m y req number)
+    → All (SendIn group i m x) queue → All (SendIn group i m y) queue
+sends_on group i m x y queue f h = All-weaker (SendIn group i m x) (SendIn group i m y) (λ s. settled_on group i m x y f s.req s.number) queue h
+
+-- ---- who has no list
+
+no_member : (s : Status) → has_log s ≡ false → is_member s ≡ false
+no_member status.Stranger t = refl
+no_member status.Asking t = refl
+no_member status.Member t = absurd (cc)
+no_member status.Departed t = absurd (cc)
+
+bare_refresh : (x : Node) → has_log x.status ≡ false → x.core.acc ≡ 0 → x.core.told ≡ 0 → (refresh x).core.acc ≡ 0
+unfolding refresh accept pass_over
+bare_refresh x none acc told = split (is_sequencer x)
+    (λ t. absurd (let a = (and_both (is_member x.status) _ (and_both _ _ t).0).0 in let b = no_member x.status none in cc))
+    (λ f. rw f (omega arith))
+
+-- ---- each kind of change
+
+module _ (group : List Entry) (i : ℕ) (c : Cause) (o : Outcome) (m : Node) where
+  inside_alike : (x y : Node) → Alike x y → Inside group i c o m x → Inside group i c o m y
+  inside_alike x y a h =
+      let log = ap has_log a.status in
+      let front_ : front y ≡ front x = λ j. max (a.taken j) (a.start j - 1) in
+      let up = a.base in
+      let kept = h.kept in
+      let start = a.log_start in
+      let taken_ = a.taken in
+      let acc_ = a.acc in
+      let low = h.taken in
+      record {
+        gave = gave_still m x y front_ a.start log h.gave;
+        kept = omega arith;
+        taken = omega arith;
+        passed = λ below. (let st = ap (λ t. t - 1) a.start in let z = h.passed (omega arith) in omega arith);
+        departed = λ t. (let d = h.departed t in (ap has_departed a.status ∙ d.0, front_ ∙ d.1));
+        leaves = λ t. a.leaving ∙ h.leaves t;
+        gone = λ t. a.leaving ∙ h.gone (ap has_departed (sym a.status) ∙ t);
+        silent = λ t. ap (λ (q : own.Sends). own.waiting q) a.sends ∙ h.silent (sym a.leaving ∙ t);
+        bare = λ t. a.acc ∙ h.bare (sym log ∙ t);
+        sends = subst (λ (q : own.Sends). All (SendIn group i m y) q.queue) (sym a.sends)
+            (sends_on group i m x y x.sends.queue (λ req number f. fresh_on m x y req number a.who a.log_start (a.more, a.entries) (omega arith) f) h.sends);
+      }
+
+  inside_refreshed : (x : Node) → (has_log x.status ≡ false → x.core.told ≡ 0) → Inside group i c o m x → Inside group i c o m (refresh x)
+  inside_refreshed x bare h =
+      let y = refresh x in
+      let r = rests_refresh x in
+      let f = refresh_fronts x h.taken h.passed in
+      let log = ap has_log r.rests.status in
+      let sends_ : y.sends ≡ x.sends = ap (λ (z : Node). z.sends) (refresh_is x) in
+      let up = r.rests.base in
+      let start = r.rests.start in
+      let kept = h.kept in
+      let more : (rest : List Entry) × (y.core.log.entries ≡ x.core.log.entries ++ rest) = (r.rests.more, r.rests.entries) in
+      record {
+        gave = gave_still m x y f.front_ f.start log h.gave;
+        kept = omega arith;
+        taken = f.taken;
+        passed = f.passed;
+        departed = λ t. (let d = h.departed t in (ap has_departed r.rests.status ∙ d.0, f.front_ ∙ d.1));
+        leaves = λ t. r.rests.leaving ∙ h.leaves t;
+        gone = λ t. r.rests.leaving ∙ h.gone (ap has_departed (sym r.rests.status) ∙ t);
+        silent = λ t. ap (λ (q : own.Sends). own.waiting q) sends_ ∙ h.silent (sym r.rests.leaving ∙ t);
+        bare = λ t. (let before = sym log ∙ t in bare_refresh x before (h.bare before) (bare before));
+        sends = subst (λ (q : own.Sends). All (SendIn group i m y) q.queue) (sym sends_)
+            (sends_on group i m x y x.sends.queue (λ req number g. fresh_on m x y req number r.rests.who r.rests.start more r.rests.acc g) h.sends);
+      }
+
+  -- nobody who had departed settles anything
+  stays_up : (x : Node) (s : OwnSend) → waiting x ≡ Some s → Inside group i c o m x → has_departed m.status ≡ false
+  stays_up x s is h = split (has_departed m.status)
+      (λ t. absurd (let none = h.silent (h.gone (h.departed t).0) in cc))
+      (λ f. f)
+
+  inside_settled_at : (x : Node) (req : ℕ) (at : Option ℕ) → accepted_at x req ≡ at → has_departed m.status ≡ false → x.leaving ≡ false
+      → Inside group i c o m x → Inside group i c o m (settled_at x req at)
+  inside_settled_at x req None is up stays h = h
+  inside_settled_at x req (Some k) is up stays h =
+      let number = x.core.base + 1 + k in
+      let y = settled_at x req (Some k) in
+      let f = found_at x req k is in
+      let kept = h.kept in
+      let low = f.low in
+      let fresh : Fresh m y req number = record {
+        body = f.body;
+        index = (x.core.base - x.core.log.start) + k;
+        there = f.there;
+        at = omega arith;
+        low = omega arith;
+        stays = up;
+      } in
+      record {
+        gave = gave_still m x y refl refl refl h.gave;
+        kept = h.kept;
+        taken = h.taken;
+        passed = h.passed;
+        departed = h.departed;
+        leaves = h.leaves;
+        gone = h.gone;
+        silent = λ t. absurd (cc);
+        bare = h.bare;
+        sends = All-map (SendIn group i m y) (own.settle_send req number) x.sends.queue
+            (All-weaker (SendIn group i m x) (λ s. SendIn group i m y (own.settle_send req number s))
+            (λ s old. now_settled x y req number s fresh (settled_on group i m x y (λ r n g. same_fresh x y r n refl refl refl refl g) s.req s.number old))
+            x.sends.queue h.sends);
+      }
+    where
+      same_fresh : (x y : Node) (req number : ℕ) → y.core.who ≡ x.core.who → y.core.log.start ≡ x.core.log.start
+          → y.core.log.entries ≡ x.core.log.entries → y.core.acc ≡ x.core.acc → Fresh m x req number → Fresh m y req number
+      same_fresh x y req number who start entries acc g = record {
+        body = g.body;
+        index = g.index;
+        there = ap (λ l. slice_get l g.index) entries ∙ g.there ∙ ap (λ k. Some (Data k req g.body)) (sym who);
+        at = g.at ∙ ap (λ k. k + g.index + 1) (sym start);
+        low = let a = g.low in omega arith;
+        stays = g.stays;
+      }
+
+      now_settled : (x y : Node) (req number : ℕ) (s : OwnSend) → Fresh m y req number → SendIn group i m y s
+          → SendIn group i m y (own.settle_send req number s)
+      now_settled x y req number s fresh old = split (s.req == req)
+          (λ t. let same : req ≡ s.req = grind (arith, nat_tests) in rw t (inr (subst (λ r. Fresh m y r number) same fresh)))
+          (λ f. rw f old)
+
+  inside_settled : (x : Node) (w : Option OwnSend) → waiting x ≡ w → Inside group i c o m x → Inside group i c o m (settled x w)
+  inside_settled x None is h = h
+  inside_settled x (Some s) is h = inside_settled_at x s.req (accepted_at x s.req) refl (stays_up x s is h)
+      (split x.leaving (λ t. absurd (let none = h.silent t in cc)) (λ f. f)) h
+
+  inside_begun : (x : Node) (s : ℕ) (v : Stamp) (base join : ℕ) (image : Image) → c ≡ hears (packet.Welcome s v base join image) → o ≡ said.Welcomed join
+      → MayBeWelcomed x s v base join image → Inside group i c o m x → Inside group i c o m (begun x v base join image)
+  inside_begun x s v base join image is says may h =
+      let y = begun x v base join image in
+      let none = asking_log x.status (asking x s v base join image may) in
+      let bare = h.bare none in
+      record {
+        gave = gave_begun m x s v base join image is says may h.gave;
+        kept = omega arith;
+        taken = omega arith;
+        passed = λ below. omega arith;
+        departed = λ t. absurd (let d = (h.departed t).0 in let a = asking_stays x.status (asking x s v base join image may) in cc);
+        leaves = h.leaves;
+        gone = λ t. absurd (cc);
+        silent = h.silent;
+        bare = λ t. absurd (cc);
+        sends = sends_on group i m x y x.sends.queue (λ req number g. absurd (let a = g.at in let b = g.low in let z : ⊥ = omega arith in z)) h.sends;
+      }
+
+  -- only the status changes
+  inside_status : (x : Node) (s : Status) → has_log s ≡ has_log x.status → (has_departed m.status ≡ true → has_departed s ≡ true)
+      → (has_departed s ≡ true → x.leaving ≡ true) → Inside group i c o m x → Inside group i c o m (record x { status = s })
+  inside_status x s log stays leaves h =
+      let y = record x { status = s } in
+      record {
+        gave = gave_still m x y refl refl log h.gave;
+        kept = h.kept;
+        taken = h.taken;
+        passed = h.passed;
+        departed = λ t. (stays t, (h.departed t).1);
+        leaves = h.leaves;
+        gone = leaves;
+        silent = h.silent;
+        bare = λ t. h.bare (sym log ∙ t);
+        sends = sends_on group i m x y x.sends.queue (λ req number g. record {
+          body = g.body;
+          index = g.index;
+          there = g.there;
+          at = g.at;
+          low = g.low;
+          stays = g.stays;
+        }) h.sends;
+      }
+
+  -- only the sends change
+  inside_sends : (x : Node) (q : own.Sends) → (x.leaving ≡ true → own.waiting q ≡ None) → All (SendIn group i m x) q.queue → Inside group i c o m x
+      → Inside group i c o m (record x { sends = q })
+  inside_sends x q silent sends h =
+      let y = record x { sends = q } in
+      record {
+        gave = gave_still m x y refl refl refl h.gave;
+        kept = h.kept;
+        taken = h.taken;
+        passed = h.passed;
+        departed = h.departed;
+        leaves = h.leaves;
+        gone = h.gone;
+        silent = silent;
+        bare = h.bare;
+        sends = sends_on group i m x y q.queue (λ req number g. record {
+          body = g.body;
+          index = g.index;
+          there = g.there;
+          at = g.at;
+          low = g.low;
+          stays =
+              g.stays;
+        }) sends;
+      }
+
+  inside_collected : (x : Node) (req : ℕ) → Inside group i c o m x → Inside group i c o m (record x { sends = own.collect req x.sends })
+  inside_collected x req h = split (own.is_settled req x.sends)
+      (λ t. rw t (inside_sends x (own.without_request req x.sends) (λ u. none_left (λ s. not (own.is_request req s)) x.sends.queue (h.silent u))
+      (All-filter (λ s. not (own.is_request req s)) (SendIn group i m x) x.sends.queue h.sends) h))
+      (λ f. rw f (inside_sends x x.sends h.silent h.sends h))
+
+  inside_took : (x : Node) (e : Entry) → o ≡ said.Took (x.core.taken + 1) e → is_member x.status ≡ true → (x.core.taken == x.core.acc) ≡ false
+      → Inside group i c o m x → Inside group i c o m (record x { core = record (x.core) { taken = x.core.taken + 1 } })
+  inside_took x e says member some h =
+      let y = record x { core = record (x.core) { taken = x.core.taken + 1 } } in
+      let low = h.taken in
+      let less : x.core.taken < x.core.acc = grind (arith, nat_tests) in
+      record {
+        gave = gave_taken m x e h.taken h.passed member some says h.gave;
+        kept = h.kept;
+        taken = omega arith;
+        passed = λ below. (let z = h.passed (omega arith) in absurd (omega arith));
+        departed = λ t. absurd (let d = (h.departed t).0 in let a = member_stays x.status member in cc);
+        leaves = h.leaves;
+        gone = h.gone;
+        silent = h.silent;
+        bare = h.bare;
+        sends = sends_on group i m x y x.sends.queue (λ req number g. record {
+          body = g.body;
+          index = g.index;
+          there = g.there;
+          at = g.at;
+          low = g.low;
+          stays = g.stays;
+        }) h.sends;
+      }
+
+  inside_asked : (x : Node) → nat_lt 0 (unsettled x) ≡ false → Inside group i c o m x → Inside group i c o m (record x { leaving = true })
+  inside_asked x none h =
+      let y = record x { leaving = true } in
+      record {
+        gave = gave_still m x y refl refl refl h.gave;
+        kept = h.kept;
+        taken = h.taken;
+        passed = h.passed;
+        departed = h.departed;
+        leaves = λ t. refl;
+        gone = λ t. refl;
+        silent = λ t. none_waits x.sends.queue none;
+        bare = h.bare;
+        sends = sends_on group i m x y x.sends.queue (λ req number g. record {
+          body = g.body;
+          index = g.index;
+          there = g.there;
+          at = g.at;
+          low = g.low;
+          stays = g.stays;
+        }) h.sends;
+      }
+
+  still_log : (s : Status) → is_member s ≡ true → has_log status.Departed ≡ has_log s
+  still_log s t = sym (logged s t)
+
+  pub inside_kind : (x y : Node) → Kind c o x y → (has_log x.status ≡ false → x.core.told ≡ 0) → Inside group i c o m x → Inside group i c o m y
+  unfolding settle refresh_at_end
+  inside_kind x y (kinds.alike a) bare h = inside_alike x y a h
+  inside_kind x y kinds.refreshed bare h = inside_refreshed x bare h
+  inside_kind x y kinds.settled bare h = inside_settled x (waiting x) refl h
+  inside_kind x y (kinds.began s v base join image is says may) bare h = inside_begun x s v base join image is says may h
+  inside_kind x y (kinds.left member leaves) bare h = inside_status x status.Departed (still_log x.status member) (λ t. refl) (λ t. leaves) h
+  inside_kind x y (kinds.sent body stays) bare h =
+      inside_sends x (own.submit body x.sends) (λ t. absurd (cc)) (All-push (SendIn group i m x) x.sends.queue _ h.sends tt) h
+  inside_kind x y (kinds.collected req) bare h = inside_collected x req h
+  inside_kind x y (kinds.took e says member some) bare h = inside_took x e says member some h
+  inside_kind x y (kinds.asked_in was) bare h = inside_status x status.Asking (sym (ap has_log was))
+      (λ t. absurd (let d = (h.departed t).0 in let s = ap has_departed was in cc)) (λ t. absurd (cc)) h
+  inside_kind x y (kinds.asked_out was done) bare h = inside_asked x (or_first _ _ done) h
+  inside_kind x y (kinds.gone member leaves) bare h =
+      let p = pushed x (Leave x.core.who) in
+      let log = logged x.status member in
+      let a = inside_alike x p (pushed_alike x (Leave x.core.who)) h in
+      let b = inside_refreshed p (λ none. absurd (cc)) a in
+      let r = (rests_refresh p).rests in
+      let d = inside_settled (refresh p) (waiting (refresh p)) refl b in
+      let st : (settle (refresh p)).status ≡ x.status = ap (λ (z : Node). z.status) (settle_is (refresh p)) ∙ r.status in
+      let lv : (settle (refresh p)).leaving ≡ x.leaving = ap (λ (z : Node). z.leaving) (settle_is (refresh p)) ∙ r.leaving in
+      inside_status (settle (refresh p)) status.Departed (still_log x.status member ∙ ap has_log (sym st)) (λ t. refl) (λ t. lv ∙ leaves) d

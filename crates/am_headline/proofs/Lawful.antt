@@ -1,0 +1,125 @@
+-- A world that is lawful for its greatest complete view is so in the group that stands for it.
+use Rattle.std.proofs.Common.{◌≡◌, ◌≢◌, ◌⊎◌, ⊎_elim, inl, inr, ℕ, zero, suc, ◌+◌, ◌<◌, ◌≤◌, ◌==◌, ◌&&◌, ◌||◌, not, nat_lt, Bool, true, false, if◌then◌else◌}
+use Rattle.std.proofs.Common.{List, [], ◌∷◌, length}
+use Rattle.std.proofs.Common.{count_by, refl, sym, ap, ◌∙◌, arith}
+use Rattle.std.specs.List.{list_any}
+use Rattle.std.proofs.lemmas.Bool.Decides.{nat_tests}
+use Rattle.am_base.specs.declared.entry.Entry.TheVariants.{View}
+use Rattle.am_base.specs.Names.{has}
+use Rattle.am_fronts.proofs.ReportLaws.{count_cons}
+use Rattle.am_chain_lists.specs.Whole.{key}
+use Rattle.am_chain_lists.proofs.Prefixes.{length_push}
+use Rattle.am_chain_moves.specs.Group.{Group, count, how_many, opening}
+use Rattle.am_chain_moves.specs.Runs.{counts_for}
+use Rattle.am_model.specs.Group.{has_log}
+use Rattle.am_model.specs.World.{Decided, World, has_departed}
+use Rattle.am_model.specs.Lawful.{counts, is_lost, is_lawful}
+use Rattle.am_model.proofs.Greatest.{split, and_both}
+use Rattle.am_stands.specs.Standing.{NotedStands, Stands}
+
+-- ---- names that are counted, and a list that has them
+
+no_more : (p q : ℕ → Bool) (n : ℕ) → ((j : ℕ) → j < n → p j ≡ true → q j ≡ true) → count p n ≤ count q n
+unfolding count
+no_more p q zero h = omega arith
+no_more p q (suc n) h =
+    let r = no_more p q n (λ j low. h j (omega arith)) in
+    split (p n)
+    (λ t. let u = h n (omega arith) t in rw (t, u) (omega arith))
+    (λ t. split (q n) (λ u. rw (t, u) (omega arith)) (λ u. rw (t, u) (omega arith)))
+
+-- one name more
+one_more : (p q : ℕ → Bool) (x n : ℕ) → ((j : ℕ) → j < n → p j ≡ true → j ≢ x → q j ≡ true) → count p n ≤ 1 + count q n
+unfolding count
+one_more p q x zero h = omega arith
+one_more p q x (suc n) h = split (n == x)
+    (λ t.
+    let same : n ≡ x = grind (arith, nat_tests) in
+    let r = no_more p q n (λ j low u. h j (omega arith) u (λ is. absurd (let z : ⊥ = omega arith in z))) in
+    split (p n)
+    (λ u. split (q n) (λ v. rw (u, v) (omega arith)) (λ v. rw (u, v) (omega arith)))
+    (λ u. split (q n) (λ v. rw (u, v) (omega arith)) (λ v. rw (u, v) (omega arith))))
+    (λ f.
+    let other : n ≢ x = λ is. (let z : ⊥ = grind (arith, nat_tests) in z) in
+    let r = one_more p q x n (λ j low. h j (omega arith)) in
+    split (p n)
+    (λ u. let v = h n (omega arith) u other in rw (u, v) (omega arith))
+    (λ u. split (q n) (λ v. rw (u, v) (omega arith)) (λ v. rw (u, v) (omega arith))))
+
+none_of : (p : ℕ → Bool) (n : ℕ) → ((j : ℕ) → j < n → p j ≡ true → ⊥) → count p n ≡ 0
+unfolding count
+none_of p zero h = refl
+none_of p (suc n) h =
+    let r = none_of p n (λ j low. h j (omega arith)) in
+    split (p n) (λ t. absurd (h n (omega arith) t)) (λ f. rw f (omega arith))
+
+-- each name that passes stands in the list, and passes there
+pub count_listed : (p q : ℕ → Bool) (n : ℕ) (names : List ℕ) → ((j : ℕ) → j < n → p j ≡ true → (q j ≡ true) × (list_any (λ x. x == j) names ≡ true))
+    → count p n ≤ count_by q names
+count_listed p q n [] h = let z = none_of p n (λ j low t. (let r = (h j low t).1 in cc)) in omega arith
+count_listed p q n (x ∷ names) h =
+    let more = count_cons q x names in
+    split (q x)
+    (λ t.
+    let rest : ℕ → Bool = λ j. p j && not (x == j) in
+    let r = count_listed rest q n names (λ j low u. (let b = and_both (p j) (not (x == j)) u in
+    let k = h j low b.0 in
+    let other : (x == j) ≡ false = split (x == j) (λ y. absurd (let z = b.1 in let e = rw y at z in cc)) (λ y. y) in
+    (k.0, rw other at k.1))) in
+    let one = one_more p rest x n (λ j low u apart.
+    (let other : (x == j) ≡ false = split (x == j) (λ y. absurd (apart (grind (arith, nat_tests)))) (λ y. y) in rw (u, other) refl)) in
+    let is : count_by q (x ∷ names) ≡ 1 + count_by q names = more ∙ ap (λ (b : Bool). (if b then 1 else 0) + count_by q names) t in
+    omega arith)
+    (λ f.
+    let r = count_listed p q n names (λ j low u. (let k = h j low u in
+    let other : (x == j) ≡ false = split (x == j)
+    (λ y. absurd (let same : x ≡ j = grind (arith, nat_tests) in let here = ap q same in let passes = k.0 in cc)) (λ y. y) in
+    (k.0, rw other at k.1))) in
+    let is : count_by q (x ∷ names) ≡ 0 + count_by q names = more ∙ ap (λ (b : Bool). (if b then 1 else 0) + count_by q names) f in
+    omega arith)
+
+-- ---- lawfulness
+
+pub or_cases : (a b : Bool) → (a || b) ≡ true → (a ≡ true) ⊎ (b ≡ true)
+or_cases true b h = inl refl
+or_cases false b h = inr h
+
+-- who counts in the group for a noted view counts in the world
+counts_too : (w : World) (s : Group) (v : Decided) (j : ℕ) → Stands w s → NotedStands w s.views v → j < 256 → counts_for s (key v.stamp) j ≡ true
+    → counts w v j ≡ true
+counts_too w s v j h noted few t =
+    let mine = h.each j few in
+    let ch = s.views.chosen (key v.stamp) in
+    let long = length_push ch.before (View ch.stamp ch.members ch.resilience) in
+    let number = noted.number in
+    ⊎_elim
+    (λ (a : has ch.members j ≡ true). (let there : has v.members j ≡ true = ap (λ l. has l j) (sym noted.members) ∙ a in rw there refl))
+    (λ (a : ((s.node j).has_log && nat_lt (length (opening ch)) (s.node j).start) ≡ true).
+    (let b = and_both (s.node j).has_log (nat_lt (length (opening ch)) (s.node j).start) a in
+    let log : has_log (w.nodes j).status ≡ true = sym mine.log_ ∙ b.0 in
+    let start_ = mine.start log in
+    let above = b.1 in
+    let since : nat_lt v.number (w.nodes j).core.start ≡ true = grind (arith, nat_tests) in
+    split (has v.members j) (λ y. rw y refl) (λ y. rw (y, since) refl)))
+    (or_cases (has ch.members j) ((s.node j).has_log && nat_lt (length (opening ch)) (s.node j).start) t)
+
+pub lawful_group : (w : World) (s : Group) (v : Decided) → Stands w s → NotedStands w s.views v → is_lawful w v ≡ true
+    → how_many (λ name. counts_for s (key v.stamp) name && ((s.node name).stopped && not (s.node name).departed)) ≤ (s.views.chosen (key v.stamp)).resilience
+unfolding is_lawful
+lawful_group w s v h noted t =
+    let few = count_listed (λ name. counts_for s (key v.stamp) name && ((s.node name).stopped && not (s.node name).departed)) (is_lost w v) 256 w.stopped
+    (λ j low passes. lost_too w s v j h noted low passes) in
+    let least : count_by (is_lost w v) w.stopped ≤ v.resilience = grind (arith, nat_tests) in
+    let same = noted.resilience in
+    omega arith
+  where
+    lost_too : (w : World) (s : Group) (v : Decided) (j : ℕ) → Stands w s → NotedStands w s.views v → j < 256
+        → (counts_for s (key v.stamp) j && ((s.node j).stopped && not (s.node j).departed)) ≡ true
+        → (is_lost w v j ≡ true) × (list_any (λ x. x == j) w.stopped ≡ true)
+    lost_too w s v j h noted few t =
+        let mine = h.each j few in
+        let a = and_both (counts_for s (key v.stamp) j) ((s.node j).stopped && not (s.node j).departed) t in
+        let b = and_both (s.node j).stopped (not (s.node j).departed) a.1 in
+        let counted = counts_too w s v j h noted few a.0 in
+        let stays : not (has_departed (w.nodes j).status) ≡ true = ap not (sym mine.departed) ∙ b.1 in
+        (rw (counted, stays) refl, sym mine.stopped ∙ b.0)

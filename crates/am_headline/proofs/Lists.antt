@@ -1,0 +1,105 @@
+-- Lists, their lines, and where a View stands in them.
+use Rattle.std.proofs.Common.{◌≡◌, ◌⊎◌, ⊎_elim, ℕ, zero, suc, ◌<◌, ◌≤◌, true, List, [], ◌∷◌, ◌++◌, length, Some, slice_get, sym, ap, ◌∙◌, subst, arith}
+use Rattle.std.specs.List.{list_any}
+use Rattle.am_base.specs.declared.entry.Entry.{Entry}
+use Rattle.am_base.specs.declared.entry.Entry.TheVariants.{Data, Join, Leave, View}
+use Rattle.am_base.specs.declared.name.Stamp.{Stamp}
+use Rattle.am_group.specs.Journals.{item_at}
+use Rattle.am_group.proofs.Places.{get_before}
+use Rattle.am_chain_lists.specs.Whole.{Begins, IsGood, view_of, key}
+use Rattle.am_chain_lists.proofs.Prefixes.{begins_nil, begins_both, begins_more, begins_same, length_push}
+use Rattle.am_chain_lists.proofs.Members.{good_begins}
+use Rattle.am_chain_lists.proofs.Order.{view_up, view_below, view_viewed}
+use Rattle.am_model.specs.Receiving.{is_view}
+use Rattle.am_model.specs.Lawful.{is_view_of}
+use Rattle.am_model.specs.Claims.{up_to_view, up_to_next}
+use Rattle.am_model.proofs.Greatest.{split}
+use Rattle.am_laws.proofs.Stamps.{same_stamp}
+use Rattle.am_unballoted.proofs.Lists.{item_more}
+
+-- ---- lines
+
+begins_cons : (e : Entry) {a b : List Entry} → Begins a b → Begins (e ∷ a) (e ∷ b)
+begins_cons e h = record { rest = h.rest; same = ap (λ l. e ∷ l) h.same }
+
+view_part : (es : List Entry) → Begins (up_to_view es) es
+unfolding up_to_view
+view_part [] = begins_nil []
+view_part (e ∷ es) = split (is_view e) (λ t. rw t (begins_nil (e ∷ es))) (λ f. rw f (begins_cons e (view_part es)))
+
+-- a view's line is a beginning of its list
+pub line_part : (v : Stamp) (es : List Entry) → Begins (up_to_next v es) es
+unfolding up_to_next
+line_part v [] = begins_nil []
+line_part v (e ∷ es) = split (is_view_of v e) (λ t. rw t (begins_cons e (view_part es))) (λ f. rw f (begins_cons e (line_part v es)))
+
+-- ---- a View in a list
+
+-- up to which a list has it
+pub record Viewed (v : Stamp) (list : List Entry) : Type 0 where
+  pub before : List Entry
+  pub names : List ℕ
+  pub resilience : ℕ
+  pub begins : Begins (before ++ View v names resilience ∷ []) list
+
+is_that : (v : Stamp) (e : Entry) → is_view_of v e ≡ true → (names : List ℕ) × (resilience : ℕ) × (e ≡ View v names resilience)
+is_that v (Data from req body) h = absurd (cc)
+is_that v (Join name) h = absurd (cc)
+is_that v (Leave name) h = absurd (cc)
+is_that v (View stamp names resilience) h = (names, resilience, ap (λ s. View s names resilience) (same_stamp stamp v h))
+
+pub find_view : (v : Stamp) (list : List Entry) → list_any (is_view_of v) list ≡ true → Viewed v list
+find_view v [] h = absurd (cc)
+find_view v (e ∷ es) h = split (is_view_of v e)
+    (λ t.
+    let is = is_that v e t in
+    record {
+      before = [];
+      names = is.0;
+      resilience = is.1;
+      begins = record { rest = es; same = ap (λ x. x ∷ es) (sym is.2) };
+    })
+    (λ f.
+    let at = find_view v es (rw f at h) in
+    record { before = e ∷ at.before; names = at.names; resilience = at.resilience; begins = begins_cons e at.begins })
+
+two : (a b : ℕ) → (a ≤ b) ⊎ (b < a)
+two a b = grind arith
+
+-- two beginnings of one list that end with the same View are the same
+pub same_opening : (v : Stamp) (a b : List Entry) (names others : List ℕ) (resilience more : ℕ) (list : List Entry)
+    → Begins (a ++ View v names resilience ∷ []) list → Begins (b ++ View v others more ∷ []) list
+    → IsGood (a ++ View v names resilience ∷ []) → IsGood (b ++ View v others more ∷ []) → a ++ View v names resilience ∷ [] ≡ b ++ View v others more ∷ []
+same_opening v a b names others resilience more list h k g f =
+    let p = a ++ View v names resilience ∷ [] in
+    let q = b ++ View v others more ∷ [] in
+    let long_p = length_push a (View v names resilience) in
+    let long_q = length_push b (View v others more) in
+    ⊎_elim
+    (λ (le : length p ≤ length q). ⊎_elim
+    (λ (back : length q ≤ length p). begins_same (begins_both h k le) back)
+    (λ (less : length p < length q). absurd (below v b others more p (begins_both (begins_both h k le) (begins_more b (View v others more ∷ []))
+    (omega arith)) f
+    (view_viewed a v names resilience)))
+    (two (length q) (length p)))
+    (λ (less : length q < length p). absurd (below v a names resilience q
+    (begins_both (begins_both k h (omega arith)) (begins_more a (View v names resilience ∷ [])) (omega arith)) g (view_viewed b v others more)))
+    (two (length p) (length q))
+  where
+    below : (v : Stamp) (a : List Entry) (names : List ℕ) (resilience : ℕ) (q : List Entry) → Begins q a → IsGood (a ++ View v names resilience ∷ [])
+        → view_of q ≡ v → ⊥
+    below v a names resilience q h g is =
+        let up = view_up (good_begins (begins_more a (View v names resilience ∷ [])) g) h in
+        let low = view_below a v names resilience g in
+        let same = ap key is in
+        omega arith
+
+-- ---- items
+
+pub item_begins : {a b : List Entry} (number : ℕ) (e : Entry) → Begins a b → item_at a number ≡ Some e → item_at b number ≡ Some e
+item_begins {a} {b} number e h is = subst (λ l. item_at l number ≡ Some e) h.same (item_more a h.rest number e is)
+
+-- so far as the first goes
+pub item_back : {a b : List Entry} (number : ℕ) (e : Entry) → Begins a b → number ≤ length a → item_at b number ≡ Some e → item_at a number ≡ Some e
+item_back {a} {b} zero e h low is = absurd (cc)
+item_back {a} {b} (suc k) e h low is = sym (get_before a h.rest k (omega arith)) ∙ ap (λ l. slice_get l k) h.same ∙ is

@@ -1,0 +1,148 @@
+-- A view that is complete in a world completes in the group that stands for it.
+use Rattle.std.proofs.Common.{◌≡◌, ℕ, zero, suc, ◌+◌, ◌<◌, ◌≤◌, ◌==◌, ◌&&◌, not, nat_lt, nat_le, min, Bool, true, false, List, [], ◌∷◌, ◌++◌}
+use Rattle.std.proofs.Common.{length, Some, slice_get, slice_index, count_by, refl, sym, ap, ◌∙◌, subst, arith}
+use Rattle.std.specs.List.{list_any}
+use Rattle.std.proofs.lemmas.Bool.Decides.{nat_tests}
+use Rattle.am_base.specs.declared.entry.Entry.{Entry}
+use Rattle.am_base.specs.declared.entry.Entry.TheVariants.{View}
+use Rattle.am_base.specs.Names.{IsSet, place_of, life_of, name_at, has, size, names_from, names_of}
+use Rattle.am_base.specs.Stamps.{stamp_lt}
+use Rattle.am_chain_lists.specs.Whole.{Begins, IsGood, view_of, key}
+use Rattle.am_chain_lists.proofs.Rows.{mod16}
+use Rattle.am_chain_lists.proofs.Prefixes.{begins_trans}
+use Rattle.am_chain_lists.proofs.Members.{good_begins}
+use Rattle.am_chain_lists.proofs.Order.{lt_key, view_small, view_viewed}
+use Rattle.am_chain_moves.specs.Group.{Group, how_many, opening, IsThere}
+use Rattle.am_chain_moves.specs.Runs.{Completes}
+use Rattle.am_model.specs.Node as nodes
+use Rattle.am_model.specs.World.{Decided, World, is_stopped, has_departed}
+use Rattle.am_model.specs.Lawful.{is_view_of, has_stored, lags, is_complete}
+use Rattle.am_model.specs.Claims.{up_to_next}
+use Rattle.am_model.proofs.Greatest.{split, and_both}
+use Rattle.am_stands.specs.Standing.{NotedStands, Stands}
+use Rattle.am_stands.specs.States.{LinesOpen}
+use Rattle.am_stands.proofs.Changes.{told_all}
+use Rattle.am_stands.proofs.Counting.{names_pass, names_few, name_small}
+use Rattle.am_headline.proofs.Lists.{find_view, line_part, same_opening}
+use Rattle.am_headline.proofs.Shapes.{Shaped}
+
+-- ---- tests of a set's names
+
+-- where none of them passes, each of them fails
+none_from : (p : ℕ → Bool) (from place : ℕ) (lives : List ℕ) → place < length lives → 0 < slice_index lives place
+    → list_any p (names_from from lives) ≡ false → p (name_at (from + place) (slice_index lives place)) ≡ false
+none_from p from place [] low some h = absurd (omega arith)
+none_from p from zero (zero ∷ lives) low some h = absurd (omega arith)
+none_from p from (suc k) (zero ∷ lives) low some h =
+    let at : from + 1 + k ≡ from + suc k = omega arith in
+    subst (λ i. p (name_at i (slice_index lives k)) ≡ false) at (none_from p (from + 1) k lives (omega arith) some h)
+none_from p from zero (suc b ∷ lives) low some h =
+    let at : from + zero ≡ from = omega arith in
+    subst (λ i. p (name_at i (suc b)) ≡ false) (sym at)
+    (split (p (name_at from (suc b))) (λ t. absurd (let z = rw t at h in cc)) (λ f. f))
+none_from p from (suc k) (suc b ∷ lives) low some h =
+    let at : from + 1 + k ≡ from + suc k = omega arith in
+    let rest : list_any p (names_from (from + 1) lives) ≡ false = split (p (name_at from (suc b))) (λ t. absurd (let z = rw t at h in cc)) (λ f. rw f at h) in
+    subst (λ i. p (name_at i (slice_index lives k)) ≡ false) at (none_from p (from + 1) k lives (omega arith) some rest)
+
+pub none_passes : (p : ℕ → Bool) (set : List ℕ) (name : ℕ) → IsSet set → has set name ≡ true → list_any p (names_of set) ≡ false → p name ≡ false
+none_passes p set name is there h =
+    let long = is.places in
+    let place = mod16 name in
+    let life : slice_index set (place_of name) ≡ life_of name = (let z : (slice_index set (place_of name) == life_of name) ≡ true = there in
+    grind (arith, nat_tests)) in
+    let fails = none_from p 0 (place_of name) set (omega arith) (omega arith) h in
+    let same : name_at (0 + place_of name) (slice_index set (place_of name)) ≡ name = omega arith in
+    subst (λ j. p j ≡ false) same fails
+
+not_true : (b : Bool) → not b ≡ true → b ≡ false
+not_true true h = absurd (cc)
+not_true false h = refl
+
+-- ---- who has stored a View
+
+-- what of a group is known here: each list is good, and on a line, and lines open
+pub record Known (w : World) (s : Group) : Type 0 where
+  pub stands : Stands w s
+  pub shaped : Shaped s
+  pub opens : LinesOpen s
+
+-- a list with a decided view's View begins with all that it chose
+pub stored_opens : (w : World) (s : Group) (v : Decided) (h : ℕ) → Known w s → NotedStands w s.views v → v.stamp.by < 256 → h < 256
+    → has_stored w v.stamp h ≡ true → Begins (opening (s.views.chosen (key v.stamp))) (s.node h).list
+stored_opens w s v h k noted small few stored =
+    let ch = s.views.chosen (key v.stamp) in
+    let list = (s.node h).list in
+    let is : list_any (is_view_of v.stamp) list ≡ true = ap (list_any (is_view_of v.stamp)) (k.stands.each h few).list ∙ stored in
+    let at = find_view v.stamp list is in
+    let part = at.before ++ View v.stamp at.names at.resilience ∷ [] in
+    let on = k.shaped.lines h (λ nil. absurd (let z = ap (list_any (is_view_of v.stamp)) nil in cc)) in
+    let seen : view_of part ≡ v.stamp = view_viewed at.before v.stamp at.names at.resilience in
+    let opened = k.opens on.view part on.decided (λ nil. not_nil at.before (View v.stamp at.names at.resilience) nil) (begins_trans at.begins on.line) in
+    let mine : Begins part (s.views.line (key v.stamp)) = subst (λ u. Begins part (s.views.line (key u))) seen opened.line_ in
+    let good : IsGood part = good_begins at.begins (k.shaped.good h) in
+    let stamped : opening ch ≡ ch.before ++ View v.stamp ch.members ch.resilience ∷ [] = ap (λ u. ch.before ++ View u ch.members ch.resilience ∷ [])
+    noted.stamp in
+    let its : Begins (ch.before ++ View v.stamp ch.members ch.resilience ∷ []) (s.views.line (key v.stamp)) = subst
+    (λ l. Begins l (s.views.line (key v.stamp))) stamped noted.opens in
+    let by = k.stands.each v.stamp.by small in
+    let line_is : s.views.line (key v.stamp) ≡ up_to_next v.stamp (s.node v.stamp.by).list = noted.line ∙ ap (up_to_next v.stamp) (sym by.list) in
+    let line_good : IsGood (s.views.line (key v.stamp)) = subst IsGood (sym line_is) (good_begins (line_part v.stamp (s.node v.stamp.by).list) (k.shaped.good
+    v.stamp.by)) in
+    let same = same_opening v.stamp at.before ch.before at.names ch.members at.resilience ch.resilience (s.views.line (key v.stamp)) mine its good
+    (good_begins its line_good) in
+    subst (λ l. Begins l list) (same ∙ sym stamped) at.begins
+  where
+    not_nil : (a : List Entry) (e : Entry) → a ++ e ∷ [] ≡ [] → ⊥
+    not_nil [] e h = cc
+    not_nil (x ∷ a) e h = cc
+
+-- ---- a view that is complete
+
+-- the view of a name's list is its node's
+view_is : (w : World) (s : Group) (j : ℕ) → j < 256 → Known w s → view_of (s.node j).list ≡ nodes.view (w.nodes j)
+unfolding view_of
+view_is w s j few known = ap (λ i. i.view) (told_all w j (w.nodes j) (s.node j) (known.stands.each j few))
+
+pub completes : (w : World) (s : Group) (k : ℕ) (v : Decided) → Known w s → slice_get w.views k ≡ Some v → v.stamp.by < 256 → is_complete w v ≡ true
+    → Completes s (key v.stamp)
+unfolding is_complete
+completes w s k v known at small h =
+    let noted = known.stands.views.noted k v at in
+    let both = and_both (nat_le (min (v.resilience + 1) (size v.members)) (count_by (has_stored w v.stamp) (names_of v.members)))
+    (not (list_any (lags w v.stamp) (names_of v.members))) h in
+    let set : IsSet v.members = subst IsSet noted.members (known.shaped.sets (key v.stamp) noted.decided) in
+    let holders : ℕ → Bool = λ j. has v.members j && has_stored w v.stamp j in
+    let least : min (v.resilience + 1) (size v.members) ≤ count_by (has_stored w v.stamp) (names_of v.members) = grind (arith, nat_tests) in
+    let pass = names_pass (has_stored w v.stamp) v.members set in
+    let few = names_few v.members set in
+    let enough : min (v.resilience + 1) (how_many (has v.members)) ≤ how_many holders = omega arith in
+    let ch = s.views.chosen (key v.stamp) in
+    record {
+      decided = noted.decided;
+      holders = holders;
+      counts = λ j t. ap (λ l. has l j) noted.members ∙ (and_both (has v.members j) (has_stored w v.stamp j) t).0;
+      stored = λ j t. (let b = and_both (has v.members j) (has_stored w v.stamp j) t in
+          stored_opens w s v j known noted small (name_small v.members j set b.0) b.1);
+      enough = subst (λ l. min (ch.resilience + 1) (how_many (has l)) ≤ how_many holders) (sym noted.members)
+          (subst (λ r. min (r + 1) (how_many (has v.members)) ≤ how_many holders) (sym noted.resilience) enough);
+      none_lags = λ j member there. goes_on w s v j known set small (not_true _ both.1) (ap (λ l. has l j) (sym noted.members) ∙ member) there;
+    }
+  where
+    goes_on : (w : World) (s : Group) (v : Decided) (j : ℕ) → Known w s → IsSet v.members → v.stamp.by < 256
+        → list_any (lags w v.stamp) (names_of v.members) ≡ false → has v.members j ≡ true → IsThere (s.node j) → key v.stamp ≤ key (view_of (s.node j).list)
+    goes_on w s v j known set small none member there =
+        let few = name_small v.members j set member in
+        let mine = known.stands.each j few in
+        let fails = none_passes (lags w v.stamp) v.members j set member none in
+        let runs : is_stopped w j ≡ false = sym mine.stopped ∙ there.goes in
+        let stays : has_departed (w.nodes j).status ≡ false = sym mine.departed ∙ there.stays in
+        let low : stamp_lt (nodes.view (w.nodes j)) v.stamp ≡ false = rw (runs, stays) at fails in
+        let viewed : view_of (s.node j).list ≡ nodes.view (w.nodes j) = view_is w s j few known in
+        let good = view_small (s.node j).list (known.shaped.good j) in
+        split (nat_lt (key (view_of (s.node j).list)) (key v.stamp))
+        (λ t.
+        let below : key (view_of (s.node j).list) < key v.stamp = grind (arith, nat_tests) in
+        let lt = lt_key (view_of (s.node j).list) v.stamp good small below in
+        absurd (let z = ap (λ u. stamp_lt u v.stamp) viewed in cc))
+        (λ f. grind (arith, nat_tests))

@@ -1,0 +1,98 @@
+-- What a record of a run tells of the moment when its event was done.
+use Rattle.std.proofs.Common.{◌≡◌, ℕ, zero, suc, ◌+◌, ◌<◌, List, [], ◌∷◌, ◌++◌, length, take, Some, slice_get, refl, sym, ap, ◌∙◌, subst, arith}
+use Rattle.std.proofs.lemmas.List.{length-take-le}
+use Rattle.std.proofs.lemmas.Option.{slice_get_within}
+use Rattle.am_base.specs.declared.entry.Entry.{Entry}
+use Rattle.am_base.specs.declared.outcome.Outcome.{Outcome}
+use Rattle.am_base.specs.declared.outcome.Outcome.TheVariants as said
+use Rattle.am_base.specs.Founding.{Rules, MayFound}
+use Rattle.am_group.specs.declared.event.Event.{Event}
+use Rattle.am_group.specs.declared.event.Record.{Record}
+use Rattle.am_group.specs.Deliveries.{name_of}
+use Rattle.am_group.proofs.Places.{get_before}
+use Rattle.am_model.specs.World.{World, record_of, unchanged, stepped, happens, run}
+use Rattle.am_model.proofs.Beginnings.{runs_begin}
+use Rattle.am_model.proofs.Runs.{one_record_each}
+use Rattle.am_effects.specs.Events as event
+use Rattle.am_effects.specs.Events.{actor, IsIdle, Happens, idles, returns, steps}
+use Rattle.am_effects.proofs.Items.{get_last}
+use Rattle.am_headline.proofs.Fold.{run_push}
+use Rattle.am_headline.proofs.Told.{Told, Taking, taking}
+
+-- ---- an event of a run
+
+pub record NextEvent (events : List Event) (k : ℕ) : Type 0 where
+  pub event : Event
+  pub is : take (suc k) events ≡ take k events ++ event ∷ []
+
+next_event : (events : List Event) (k : ℕ) → k < length events → NextEvent events k
+next_event [] k low = absurd (omega arith)
+next_event (e ∷ es) zero low = record { event = e; is = refl }
+next_event (e ∷ es) (suc k) low = let r = next_event es k (omega arith) in record { event = r.event; is = ap (λ l. e ∷ l) r.is }
+
+-- a record is that of an event, done after those before it
+pub record DoneThen (rules : Rules) (events : List Event) (k : ℕ) (r : Record) : Type 0 where
+  pub event : Event
+  pub is : take (suc k) events ≡ take k events ++ event ∷ []
+  pub done : slice_get (happens (run rules (take k events)) event).records (length (run rules (take k events)).records) ≡ Some r
+
+pub done_then : (rules : Rules) (events : List Event) (k : ℕ) (r : Record) → slice_get (run rules events).records k ≡ Some r → DoneThen rules events k r
+done_then rules events k r at =
+    let all = one_record_each rules events in
+    let within = slice_get_within (run rules events).records k r at in
+    let e = next_event events k (omega arith) in
+    let begins = (runs_begin rules events (suc k)).records in
+    let count = one_record_each rules (take (suc k) events) in
+    let long = length-take-le (suc k) events (omega arith) in
+    let part : slice_get (run rules (take (suc k) events)).records k ≡ Some r = sym (get_before (run rules (take (suc k) events)).records begins.0 k (omega
+    arith))
+    ∙ ap (λ l. slice_get l k) (sym begins.1) ∙ at in
+    let same : run rules (take (suc k) events) ≡ happens (run rules (take k events)) e.event = ap (run rules) e.is ∙ run_push rules (take k events) e.event in
+    let before = one_record_each rules (take k events) in
+    let short = length-take-le k events (omega arith) in
+    let place : length (run rules (take k events)).records ≡ k = omega arith in
+    record {
+      event = e.event;
+      is = e.is;
+      done = ap (slice_get (happens (run rules (take k events)) e.event).records) place ∙ ap (λ (w : World). slice_get w.records k) (sym same) ∙ part;
+    }
+
+-- ---- an entry that was given
+
+-- by which name, and where it stood then
+pub record GivenThen (w : World) (e : Event) (number : ℕ) (x : Entry) (r : Record) : Type 0 where
+  pub by : name_of r ≡ actor w e
+  pub taking_ : Taking (w.nodes (actor w e)) number x
+
+some_record : (a b : Record) → Some a ≡ Some b → a ≡ b
+some_record a b h = cc
+
+last_of : (records : List Record) (a r : Record) → slice_get (records ++ a ∷ []) (length records) ≡ Some r → a ≡ r
+last_of records a r h = some_record a r (sym (get_last records a) ∙ h)
+
+none_idle : (o : Outcome) (number : ℕ) (x : Entry) → IsIdle o → o ≡ said.Took number x → ⊥
+none_idle o number x idle is = subst IsIdle is idle
+
+pub given_then : (rules : Rules) (events : List Event) (e : Event) (v : World) (number : ℕ) (x : Entry) (r : Record) → MayFound rules
+    → Told rules (run rules events)
+    → Happens (run rules events) e v → slice_get v.records (length (run rules events).records) ≡ Some r → r.outcome ≡ said.Took number x
+    → GivenThen (run rules events) e number x r
+unfolding unchanged stepped
+given_then rules events e v number x r may h (idles o idle) at says =
+    let w = run rules events in
+    let same = last_of w.records (record_of w e o []) r at in
+    absurd (none_idle o number x idle (ap (λ (y : Record). y.outcome) same ∙ says))
+given_then rules events e v number x r may h (event.stops runs) at says =
+    let w = run rules events in
+    let same = last_of w.records (record_of w e said.Stopped []) r at in
+    absurd (none_idle said.Stopped number x tt (ap (λ (y : Record). y.outcome) same ∙ says))
+given_then rules events e v number x r may h (returns place is gone more) at says =
+    let w = run rules events in
+    let o = said.Returned (w.lives place + 1) in
+    let same = last_of w.records (record_of w e o []) r at in
+    absurd (none_idle o number x tt (ap (λ (y : Record). y.outcome) same ∙ says))
+given_then rules events e v number x r may h (steps c step runs cause effect) at says =
+    let w = run rules events in
+    let same = last_of w.records (record_of w e step.outcome step.letters) r at in
+    let says_ = ap (λ (y : Record). y.outcome) same ∙ says in
+    record { by = ap name_of (sym same); taking_ = taking rules events e c step may cause effect h number x says_ }

@@ -1,0 +1,85 @@
+-- What a name accepted of its own list stands in the group list.
+use Rattle.std.proofs.Common.{◌≡◌, ◌⊎◌, ⊎_elim, ℕ, suc, ◌+◌, ◌-◌, ◌<◌, ◌≤◌, ◌==◌, List, ◌++◌, length, take, drop}
+use Rattle.std.proofs.Common.{Some, slice_get, refl, sym, ap, ◌∙◌, subst, arith}
+use Rattle.std.proofs.lemmas.List.{length-take-le}
+use Rattle.am_base.specs.declared.entry.Entry.{Entry}
+use Rattle.am_core.proofs.Folds.{slice_get-drop}
+use Rattle.am_group.specs.Journals.{item_at}
+use Rattle.am_group.proofs.Places.{get_behind}
+use Rattle.am_chain_lists.specs.Whole.{Begins}
+use Rattle.am_chain_moves.specs.Group.{Group}
+use Rattle.am_chain_moves.specs.Kept.{Kept}
+use Rattle.am_model.specs.Node.{Node, view}
+use Rattle.am_model.specs.Lawful.{whole}
+use Rattle.am_model.specs.World.{World, grown, group_after}
+use Rattle.am_model.proofs.Greatest.{split}
+use Rattle.am_stands.specs.Standing.{NameStands, FrontsStand}
+use Rattle.am_unballoted.proofs.Lists.{get_item, item_taken}
+use Rattle.am_headline.proofs.Lists.{item_begins}
+use Rattle.am_headline.proofs.Shapes.{Along}
+
+-- ---- numbers in a name's whole list
+
+pub whole_item : (w : World) (m : Node) (index : ℕ) (e : Entry) → m.core.log.start ≤ length w.group → slice_get m.core.log.entries index ≡ Some e
+    → item_at (whole w m) (m.core.log.start + index + 1) ≡ Some e
+whole_item w m index e low at =
+    let front = take m.core.log.start w.group in
+    let long : length front ≡ m.core.log.start = length-take-le m.core.log.start w.group low in
+    get_item (whole w m) (m.core.log.start + index + 1) (length front + index) e (omega arith) (get_behind front m.core.log.entries index ∙ at)
+
+-- ---- by the group's own numbers
+
+-- what a name that hasn't departed accepted is accepted
+pub taken_in_group : (w : World) (s : Group) (i number : ℕ) (e : Entry) → Kept s → NameStands w i (w.nodes i) (s.node i) → FrontsStand (w.nodes i) (s.node i)
+    → s.group ≡ w.group → number ≤ (w.nodes i).core.acc → item_at (whole w (w.nodes i)) number ≡ Some e → item_at w.group number ≡ Some e
+taken_in_group w s i number e k h f group low at =
+    let a = s.node i in
+    let mine : item_at a.list number ≡ Some e = ap (λ l. item_at l number) h.list ∙ at in
+    let acc_ = f.acc in
+    let there = item_begins number e (k.each i).fronts.delivered (item_taken a.acc a.list number e (omega arith) mine) in
+    ap (λ l. item_at l number) (sym group) ∙ there
+
+-- ---- by what the group list is after a step
+
+-- a new number of the group list has the entry of the name's list
+grown_item : (group : List Entry) (n : Node) (index number : ℕ) (e : Entry) → n.core.log.start ≤ length group → number ≡ n.core.log.start + index + 1
+    → length group < number → number ≤ n.core.acc → slice_get n.core.log.entries index ≡ Some e → item_at (grown group n.core) number ≡ Some e
+grown_item group n index number e start is above low at =
+    let j = number - length group - 1 in
+    let more = take (n.core.acc - length group) (drop (length group - n.core.log.start) n.core.log.entries) in
+    let place : (length group - n.core.log.start) + j ≡ index = omega arith in
+    let dropped : slice_get (drop (length group - n.core.log.start) n.core.log.entries) j ≡ Some e = slice_get-drop (length group - n.core.log.start) j
+    n.core.log.entries
+    ∙ ap (slice_get n.core.log.entries) place ∙ at in
+    let item : item_at (drop (length group - n.core.log.start) n.core.log.entries) (j + 1) ≡ Some e = get_item _ (j + 1) j e refl dropped in
+    let taken : item_at more (j + 1) ≡ Some e = item_taken (n.core.acc - length group) _ (j + 1) e (omega arith) item in
+    let got : slice_get more j ≡ Some e = next more j ∙ taken in
+    get_item (group ++ more) number (length group + j) e (omega arith) (get_behind group more j ∙ got)
+  where
+    next : (xs : List Entry) (j : ℕ) → slice_get xs j ≡ item_at xs (j + 1)
+    next xs j = let z : suc j ≡ j + 1 = omega arith in ap (item_at xs) z
+
+after_item : (group : List Entry) (n : Node) (index number : ℕ) (e : Entry) → n.core.log.start ≤ length group → number ≡ n.core.log.start + index + 1
+    → length group < number → number ≤ n.core.acc → n.core.acc ≤ length (group_after group n) → slice_get n.core.log.entries index ≡ Some e
+    → item_at (group_after group n) number ≡ Some e
+after_item group n index number e start is above low within at = split ((view n).by == n.core.who)
+    (λ t. rw t (grown_item group n index number e start is above low at))
+    (λ f. absurd (let z : n.core.acc ≤ length group = rw f at within in omega arith))
+
+-- what is accepted of the list that a name has after its step, whether it departs then or not
+pub step_in_group : (w v : World) (s t : Group) (i index number : ℕ) (e : Entry) (n : Node) → Along s t i → s.group ≡ w.group → NameStands v i n (t.node i)
+    → v.group ≡ group_after w.group n → Begins w.group v.group → n.core.log.start ≤ length w.group → n.core.log.start ≤ length v.group
+    → number ≡ n.core.log.start + index + 1 → number ≤ n.core.acc → n.core.acc ≤ length v.group → slice_get n.core.log.entries index ≡ Some e
+    → item_at v.group number ≡ Some e
+step_in_group w v s t i index number e n along group stands after grows start start_v is low within at = ⊎_elim
+    (λ (old : number ≤ length w.group).
+    (let mine : item_at (t.node i).list number ≡ Some e = ap (λ l. item_at l number) stands.list
+    ∙ ap (item_at (whole v n)) is ∙ whole_item v n index e start_v at in
+    let there = along number e (subst (λ (g : List Entry). number ≤ length g) (sym group) old) mine in
+    item_begins number e grows (ap (λ l. item_at l number) (sym group) ∙ there)))
+    (λ (new : length w.group < number). ap (λ l. item_at l number) after
+    ∙ after_item w.group n index number e start is new low (subst (λ (g : List Entry). n.core.acc ≤ length g) after within) at)
+    (two number (length w.group))
+  where
+    two : (a b : ℕ) → (a ≤ b) ⊎ (b < a)
+    two a b = grind arith

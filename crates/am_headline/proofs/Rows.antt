@@ -1,0 +1,264 @@
+-- What the rows of packets with entries store: the next entry, above a base that was noted.
+use Rattle.std.proofs.Common.{◌≡◌, ℕ, ◌+◌, ◌≤◌, ◌==◌, ◌&&◌, ◌||◌, not, nat_lt, nat_le, Bool, true, false}
+use Rattle.std.proofs.Common.{if◌then◌else◌, List, [], ◌∷◌, ◌++◌, Option, Some, None, refl, sym, ap, ◌∙◌, append-nil, arith}
+use Rattle.std.proofs.lemmas.Bool.Decides.{nat_tests}
+use Rattle.am_base.specs.declared.entry.Entry.{Entry}
+use Rattle.am_base.specs.declared.entry.Entry.TheVariants.{Data, View}
+use Rattle.am_base.specs.declared.name.Stamp.{Stamp}
+use Rattle.am_base.specs.declared.outcome.Outcome.{Outcome}
+use Rattle.am_base.specs.declared.outcome.Outcome.TheVariants as said
+use Rattle.am_base.specs.Stamps.{stamp_lt, stamp_eq}
+use Rattle.am_base.specs.Lists.{Log, top_of, fits}
+use Rattle.am_core.specs.Cores.{CoreState}
+use Rattle.am_packet.specs.declared.packet.Packet.{Packet}
+use Rattle.am_packet.specs.declared.packet.Packet.TheVariants as packet
+use Rattle.am_model.specs.declared.status.Status.TheVariants.{Departed}
+use Rattle.am_model.specs.Node.{Node, Ballot, top, told, view, has_own_leave, is_within_bound, pushed, trimmed}
+use Rattle.am_model.specs.Emit.{Plan, quiet, finish}
+use Rattle.am_model.specs.Ballots.{promised, decide}
+use Rattle.am_model.specs.Calls.{is_unfinished}
+use Rattle.am_model.specs.Hearing.{hears_member, hears_sequencer, hear_row}
+use Rattle.am_model.specs.Receiving.{is_view, noted, store, received, data_of, body_of, bcast_row, order_row}
+use Rattle.am_model.specs.Refresh.{refresh_at_end}
+use Rattle.am_model.specs.Resets.{fetched, caught_up, fetched_for, fetches_from, piece_promised, piece_for, piece_row, result_row}
+use Rattle.am_model.specs.Step.{hear}
+use Rattle.am_model.proofs.Greatest.{split, and_both}
+use Rattle.am_effects.proofs.Rests.{rests_at_end}
+use Rattle.am_headline.proofs.Ways.{decide_alike}
+
+-- ---- what a row does to the list
+
+-- the next entry was stored, with this number, and its base was noted; so it is with whatever came after it
+pub record Stores (m x : Node) (base number : ℕ) (e : Entry) : Type 0 where
+  pub next : number ≡ top m + 1
+  pub base_ : base ≤ x.core.base
+  pub start : x.core.log.start ≡ m.core.log.start
+  pub more : List Entry
+  pub entries : x.core.log.entries ≡ (m.core.log.entries ++ e ∷ []) ++ more
+
+-- or nothing
+pub data Does (m x : Node) (base number : ℕ) (e : Entry) (P : Type 0) : Type 0 where
+  nothing : x.core.log ≡ m.core.log → m.core.base ≤ x.core.base → Does m x base number e P
+  one : P → Stores m x base number e → Does m x base number e P
+
+-- by a test of the row
+either : (m : Node) (base number : ℕ) (e : Entry) (P : Type 0) (b : Bool) (p q : Plan) → (b ≡ true → Does m p.node base number e P)
+    → (b ≡ false → Does m q.node base number e P) → Does m (if b then p else q).node base number e P
+either m base number e P true p q f g = f refl
+either m base number e P false p q f g = g refl
+
+-- what is known of who heard it
+with_why : (m x : Node) (base number : ℕ) (e : Entry) (P Q : Type 0) → (P → Q) → Does m x base number e P → Does m x base number e Q
+with_why m x base number e P Q f (nothing h up) = nothing h up
+with_why m x base number e P Q f (one p h) = one (f p) h
+
+-- where the list was as it is
+from_same : (m p x : Node) (base number : ℕ) (e : Entry) (P : Type 0) → p.core.log ≡ m.core.log → m.core.base ≤ p.core.base → Does p x base number e P
+    → Does m x base number e P
+from_same m p x base number e P log low (nothing h up) = nothing (h ∙ log) (omega arith)
+from_same m p x base number e P log low (one why h) = one why (record {
+  next = h.next ∙ ap (λ (l : Log). top_of l + 1) log;
+  base_ = h.base_;
+  start = h.start ∙ ap (λ (l : Log). l.start) log;
+  more = h.more;
+  entries = h.entries ∙ ap (λ (l : Log). (l.entries ++ e ∷ []) ++ h.more) log;
+})
+
+-- ---- a numbered entry
+
+stored_one : (m : Node) (s base number : ℕ) (e : Entry) (missing : Outcome) → number ≡ top m + 1 → base ≤ m.core.base
+    → Does m (store m s number (Some e) missing).node base number e (is_view e ≡ false)
+stored_one m s base number e missing next low = either m base number e (is_view e ≡ false)
+    (is_view e || (not (fits (told m) e) || not (is_within_bound m m.core.base number))) (quiet m said.Unfit) _
+    (λ t. nothing refl (omega arith))
+    (λ f. one (or_first _ _ f) (record { next = next; base_ = low; start = refl; more = []; entries = sym (append-nil (m.core.log.entries ++ e ∷ [])) }))
+  where
+    or_first : (a b : Bool) → (a || b) ≡ false → a ≡ false
+    or_first true b h = absurd (cc)
+    or_first false b h = refl
+
+received_one : (m p : Node) (s base number : ℕ) (e : Entry) (missing : Outcome) → p.core.log ≡ m.core.log → m.core.base ≤ p.core.base
+    → (nat_lt p.core.taken base ≡ false → base ≤ p.core.base) → Does m (received p s base number (Some e) missing).node base number e (is_view e ≡ false)
+received_one m p s base number e missing log up low = from_same m p _ base number e (is_view e ≡ false) log up
+    (either p base number e _ (nat_le number (top p)) (quiet p said.Known) _ (λ t. nothing refl (omega arith))
+    (λ new. either p base number e _ (has_own_leave p) (quiet p said.Behind) _ (λ t. nothing refl (omega arith))
+    (λ stays. either p base number e _ (nat_lt (top p + 1) number) _ _ (λ t. nothing refl (omega arith))
+    (λ near. either p base number e _ (nat_lt p.core.taken base) (quiet p said.Behind) _ (λ t. nothing refl (omega arith))
+    (λ f. (let next : number ≡ top p + 1 = grind (arith, nat_tests) in stored_one p s base number e missing next (low f)))))))
+
+missing_one : (m p : Node) (s base number : ℕ) (e : Entry) (missing : Outcome) (P : Type 0) → p.core.log ≡ m.core.log → m.core.base ≤ p.core.base
+    → Does m (received p s base number None missing).node base number e P
+missing_one m p s base number e missing P log up = from_same m p _ base number e P log up
+    (either p base number e _ (nat_le number (top p)) (quiet p said.Known) _ (λ t. nothing refl (omega arith))
+    (λ new. either p base number e _ (has_own_leave p) (quiet p said.Behind) _ (λ t. nothing refl (omega arith))
+    (λ stays. either p base number e _ (nat_lt (top p + 1) number) _ _ (λ t. nothing refl (omega arith))
+    (λ near. either p base number e _ (nat_lt p.core.taken base) (quiet p said.Behind) _ (λ t. nothing refl (omega arith)) (λ f. nothing refl (omega arith))))))
+
+noted_low : (m : Node) (base acc : ℕ) → nat_lt (noted m base acc).core.taken base ≡ false → base ≤ (noted m base acc).core.base
+noted_low m base acc f =
+    let low : nat_le base m.core.taken ≡ true = grind (arith, nat_tests) in
+    rw low (omega arith)
+
+-- of a sequencer's packet
+pub record InView (m : Node) (s : ℕ) (v : Stamp) (e : Entry) : Type 0 where
+  pub heard : hears_sequencer m s v ≡ true
+  pub plain : is_view e ≡ false
+
+pub bcast_does : (m : Node) (s : ℕ) (v : Stamp) (base acc number : ℕ) (e : Entry)
+    → Does m (hear_row m (packet.Bcast s v base acc number e)).node base number e (InView m s v e)
+unfolding hear_row bcast_row
+bcast_does m s v base acc number e = either m base number e _ (hears_sequencer m s v) _ (quiet m said.Elsewhere)
+    (λ t. with_why m _ base number e (is_view e ≡ false) _ (λ plain. record { heard = t; plain = plain })
+    (received_one m (noted m base acc) s base number e said.Known refl (omega arith) (noted_low m base acc)))
+    (λ f. nothing refl (omega arith))
+
+-- a send whose body is there
+pub data OrderDoes (m x : Node) (s : ℕ) (v : Stamp) (base number from req : ℕ) : Type 0 where
+  nothing : x.core.log ≡ m.core.log → m.core.base ≤ x.core.base → OrderDoes m x s v base number from req
+  one : (body : List ℕ) → InView m s v (Data from req body) → Stores m x base number (Data from req body) → OrderDoes m x s v base number from req
+
+pub order_does : (m : Node) (s : ℕ) (v : Stamp) (base acc number from req : ℕ)
+    → OrderDoes m (hear_row m (packet.Order s v base acc number from req)).node s v base number from req
+unfolding hear_row order_row
+order_does m s v base acc number from req = split (hears_sequencer m s v)
+    (λ t. rw t (by_body t (body_of (noted m base acc) from req)))
+    (λ f. rw f (nothing refl (omega arith)))
+  where
+    as_order : (x : Node) (body : List ℕ) → Does m x base number (Data from req body) (InView m s v (Data from req body))
+        → OrderDoes m x s v base number from req
+    as_order x body (nothing h up) = nothing h up
+    as_order x body (one why h) = one body why h
+
+    by_body : hears_sequencer m s v ≡ true → (o : Option (List ℕ))
+        → OrderDoes m (received (noted m base acc) s base number (data_of from req o) (said.NoBody from req)).node s v base number from req
+    by_body t None = as_order _ [] (missing_one m (noted m base acc) s base number (Data from req []) (said.NoBody from req) _ refl (omega arith))
+    by_body t (Some body) = as_order _ body (with_why m _ base number (Data from req body) (is_view (Data from req body) ≡ false) _
+        (λ plain. record { heard = t; plain = plain })
+        (received_one m (noted m base acc) s base number (Data from req body) (said.NoBody from req) refl (omega arith) (noted_low m base acc)))
+
+-- ---- a fetched entry
+
+fetched_one : (m : Node) (v : Stamp) (base number : ℕ) (e : Entry) (in_ballot : Bool) (then_ : Node → Plan) (P : Type 0) → P
+    → (number ≡ top m + 1 → Stores m (then_ (pushed (trimmed m base) e)).node base number e)
+    → Does m (fetched m v base number e in_ballot then_).node base number e P
+fetched_one m v base number e in_ballot then_ P why f =
+    either m base number e P (nat_le number (top m)) (quiet m said.Known) _ (λ t. nothing refl (omega arith))
+    (λ new. either m base number e P (has_own_leave m) (quiet m said.Behind) _ (λ t. nothing refl (omega arith))
+    (λ stays. either m base number e P (nat_lt (top m + 1) number) (quiet m (said.Gap (top m + 1))) _ (λ t. nothing refl (omega arith))
+    (λ near. either m base number e P (nat_lt m.core.taken base) (quiet m said.Behind) _ (λ t. nothing refl (omega arith))
+    (λ low. either m base number e P _ (quiet m said.Unfit) _ (λ t. nothing refl (omega arith))
+    (λ g. (let next : number ≡ top m + 1 = grind (arith, nat_tests) in one why (f next)))))))
+
+pushed_one : (m : Node) (base number : ℕ) (e : Entry) → number ≡ top m + 1 → Stores m (pushed (trimmed m base) e) base number e
+pushed_one m base number e next = record {
+  next = next;
+  base_ = omega arith;
+  start = refl;
+  more = [];
+  entries = sym (append-nil (m.core.log.entries ++ e ∷ []));
+}
+
+-- and what a look at the ballot makes of it
+looked_one : (m : Node) (base number : ℕ) (e : Entry) (b : Ballot) → number ≡ top m + 1
+    → Stores m (decide (pushed (trimmed m base) e) b).node base number e
+looked_one m base number e b next =
+    let y = pushed (trimmed m base) e in
+    let a = decide_alike y b in
+    let up = a.base in
+    record {
+      next = next;
+      base_ = omega arith;
+      start = a.log_start;
+      more = a.more;
+      entries = a.entries;
+    }
+
+-- it was fetched without a ballot of the node's own, or for the one that is open
+pub data Fetched (m : Node) (s : ℕ) (v : Stamp) : Type 0 where
+  without : is_unfinished m.ballot ≡ false → (v.by == s) ≡ true → Fetched m s v
+  for_ballot : is_unfinished m.ballot ≡ true → Fetched m s v
+
+pub record Piecewise (m : Node) (s : ℕ) (v : Stamp) : Type 0 where
+  pub member : hears_member m s ≡ true
+  pub promise : stamp_eq v m.core.promise ≡ true
+  pub how : Fetched m s v
+
+pub piece_does : (m : Node) (s : ℕ) (v : Stamp) (base number : ℕ) (e : Entry)
+    → Does m (hear_row m (packet.Piece s v base number e)).node base number e (Piecewise m s v)
+unfolding hear_row piece_row
+piece_does m s v base number e = either m base number e _ (hears_member m s) _ (quiet m said.Elsewhere)
+    (λ t. either m base number e _ (not (stamp_eq v m.core.promise) || stamp_eq (view m) v) (quiet m said.Elsewhere) _ (λ u. nothing refl (omega arith))
+    (λ f. by_ballot t (not_false _ (or_first _ _ f)) m.ballot refl))
+    (λ f. nothing refl (omega arith))
+  where
+    or_first : (a b : Bool) → (a || b) ≡ false → a ≡ false
+    or_first true b h = absurd (cc)
+    or_first false b h = refl
+
+    not_false : (b : Bool) → not b ≡ false → b ≡ true
+    not_false true h = refl
+    not_false false h = absurd (cc)
+
+    promised_one : hears_member m s ≡ true → stamp_eq v m.core.promise ≡ true → is_unfinished m.ballot ≡ false
+        → Does m (piece_promised m s v base number e).node base number e (Piecewise m s v)
+    promised_one t p none = either m base number e _ (not (v.by == s)) (quiet m said.Elsewhere) _ (λ u. nothing refl (omega arith))
+        (λ f. fetched_one m v base number e false (caught_up s v number) (Piecewise m s v)
+        (record { member = t; promise = p; how = without none (not_false _ f) })
+        (pushed_one m base number e))
+
+    by_ballot : hears_member m s ≡ true → stamp_eq v m.core.promise ≡ true → (o : Option Ballot) → m.ballot ≡ o
+        → Does m (piece_for m s v base number e o).node base number e (Piecewise m s v)
+    by_ballot t p None is = promised_one t p (ap is_unfinished is)
+    by_ballot t p (Some b) is = either m base number e _ b.is_over (piece_promised m s v base number e) _
+        (λ u. promised_one t p (ap is_unfinished is ∙ ap not u))
+        (λ f. either m base number e _ (not (fetches_from b.answer s)) (quiet m said.Elsewhere) _ (λ u. nothing refl (omega arith))
+        (λ g. fetched_one m v base number e true (fetched_for b) (Piecewise m s v)
+        (record { member = t; promise = p; how = for_ballot (ap is_unfinished is ∙ ap not f) })
+        (looked_one m base number e b)))
+
+-- ---- a View
+
+pub record Viewing (m : Node) (s : ℕ) (v : Stamp) : Type 0 where
+  pub member : hears_member m s ≡ true
+  pub by : (v.by == s) ≡ true
+
+pub result_does : (m : Node) (s : ℕ) (v : Stamp) (base number : ℕ) (names : List ℕ) (resilience : ℕ)
+    → Does m (hear_row m (packet.Result s v base number names resilience)).node base number (View v names resilience) (Viewing m s v)
+unfolding hear_row result_row
+result_does m s v base number names resilience =
+    let e = View v names resilience in
+    let p = promised m v in
+    either m base number e _ (hears_member m s && (v.by == s)) _ (quiet m said.Elsewhere)
+    (λ t. either m base number e _ ((v.by == m.core.who) || stamp_lt v m.core.promise) (quiet m said.Elsewhere) _ (λ u. nothing refl (omega arith))
+    (λ f.
+    let why : Viewing m s v = (let b = and_both _ _ t in record { member = b.0; by = b.1 }) in
+    from_same m p _ base number e (Viewing m s v) refl (omega arith)
+    (either p base number e _ (stamp_eq (view p) v) _ _ (λ u. nothing refl (omega arith))
+    (λ other. either p base number e _ (nat_le number (top p)) (quiet p said.Unfit) _ (λ u. nothing refl (omega arith))
+    (λ new. either p base number e _ (has_own_leave p) (quiet p said.Behind) _ (λ u. nothing refl (omega arith))
+    (λ stays. either p base number e _ (nat_lt (top p + 1) number) _ _ (λ u. nothing refl (omega arith))
+    (λ near. either p base number e _ (nat_lt p.core.taken base) (quiet p said.Behind) _ (λ u. nothing refl (omega arith))
+    (λ low. either p base number e _ _ (quiet p said.Unfit) _ (λ u. nothing refl (omega arith))
+    (λ g. (let next : number ≡ top p + 1 = grind (arith, nat_tests) in one why (pushed_one p base number e next)))))))))))
+    (λ f. nothing refl (omega arith))
+
+-- ---- the end of the step
+
+ended : (x : Node) (b : Bool) → (if b then record x { status = Departed } else x).core ≡ x.core
+ended x true = refl
+ended x false = refl
+
+-- what is heard ends with what its row does
+pub record Ends (m : Node) (p : Packet) : Type 0 where
+  pub log : (hear m p).node.core.log ≡ (hear_row m p).node.core.log
+  pub base : (hear_row m p).node.core.base ≤ (hear m p).node.core.base
+
+pub row_ends : (m : Node) (p : Packet) → Ends m p
+unfolding hear finish
+row_ends m p =
+    let x = (hear_row m p).node in
+    let r = rests_at_end x in
+    let e = ended (refresh_at_end x) (hear_row m p).departs in
+    let up = r.rests.base in
+    let base = ap (λ (c : CoreState). c.base) e in
+    record { log = ap (λ (c : CoreState). c.log) e ∙ r.log; base = omega arith }

@@ -1,0 +1,220 @@
+-- What moves keep of each list, whoever has stopped or departed: it is a good one, on the line of a decided view; and each decided view has
+-- a set of names.
+use Rattle.std.proofs.Common.{◌≡◌, ◌≢◌, ◌⊎◌, ⊎_elim, inl, inr, ℕ, ◌≤◌, List, length, Some, [], true, refl, sym, ap, ◌∙◌, subst}
+use Rattle.am_base.specs.declared.entry.Entry.{Entry}
+use Rattle.am_base.specs.declared.entry.Entry.TheVariants.{Leave}
+use Rattle.am_base.specs.Names.{IsSet}
+use Rattle.am_group.specs.Journals.{item_at}
+use Rattle.am_chain_lists.specs.Whole.{Begins, IsGood, view_of, key}
+use Rattle.am_chain_lists.proofs.Prefixes.{begins_refl, begins_trans}
+use Rattle.am_chain_lists.proofs.Members.{good_begins}
+use Rattle.am_chain_moves.specs.Group as groups
+use Rattle.am_chain_moves.specs.Group.{Group, Chosen, IsUp, put, chain_of}
+use Rattle.am_chain_moves.specs.Moves.{Move, with_node, choice_of, longer, numbers, stores, accepts, learns, begins, raises, shows, serves}
+use Rattle.am_chain_moves.specs.Moves.{fetches, decides, gives_over, welcomes, asks, departs, closes, stops}
+use Rattle.am_chain_moves.specs.Kept.{Kept}
+use Rattle.am_chain_moves.proofs.Puts.{put_cases, put_same}
+use Rattle.am_stands.specs.Moving.{MoveOk, Moves, none, moves}
+use Rattle.am_stands.specs.Growing.{Grows}
+use Rattle.am_stands.specs.Keeping.{GroupOk}
+use Rattle.am_stands.proofs.Onward.{group_kept, move_on}
+use Rattle.am_headline.proofs.Lists.{item_begins, item_back}
+
+-- a list on the line of a decided view
+pub record OnLine (s : Group) (list : List Entry) : Type 0 where
+  pub view : ℕ
+  pub decided : s.views.decided view ≡ true
+  pub line : Begins list (s.views.line view)
+
+pub record Shaped (s : Group) : Type 0 where
+  pub lines : (i : ℕ) → (s.node i).list ≢ [] → OnLine s (s.node i).list
+  pub sets : (x : ℕ) → s.views.decided x ≡ true → IsSet (s.views.chosen x).members
+  pub good : (i : ℕ) → IsGood (s.node i).list
+
+-- ---- a move
+
+-- a name's list is as it was, or the name is up, or it is the last member that goes
+pub data ListGoes (s t : Group) (i : ℕ) : Type 0 where
+  same : (t.node i).list ≡ (s.node i).list → ListGoes s t i
+  up : IsUp (t.node i) → ListGoes s t i
+  gone : Begins (t.node i).list (chain_of t.views) → ListGoes s t i
+
+put_goes : (s t : Group) (i : ℕ) (m : groups.Node) → t.node ≡ put s.node i m → ((t.node i ≡ m) → ListGoes s t i) → (j : ℕ) → ListGoes s t j
+put_goes s t i m is own j = ⊎_elim
+    (λ (c : (j ≡ i) × (put s.node i m j ≡ m)). subst (ListGoes s t) (sym c.0) (own (ap (λ f. f i) is ∙ put_same s.node i m)))
+    (λ (c : (j ≢ i) × (put s.node i m j ≡ s.node j)). same (ap (λ (a : groups.Node). a.list) (ap (λ f. f j) is ∙ c.1)))
+    (put_cases s.node i m j)
+
+-- its list stays, or it is up with another
+list_stays : (s t : Group) (i : ℕ) (m : groups.Node) → t.node ≡ put s.node i m → m.list ≡ (s.node i).list → (j : ℕ) → ListGoes s t j
+list_stays s t i m is list j = put_goes s t i m is (λ own. same (ap (λ (a : groups.Node). a.list) own ∙ list)) j
+
+now_up : (s t : Group) (i : ℕ) (m : groups.Node) → t.node ≡ put s.node i m → IsUp m → (j : ℕ) → ListGoes s t j
+now_up s t i m is there j = put_goes s t i m is (λ own. up (subst IsUp (sym own) there)) j
+
+-- the same flags
+still_up : (a b : groups.Node) → b.has_log ≡ a.has_log → b.stopped ≡ a.stopped → b.departed ≡ a.departed → IsUp a → IsUp b
+still_up a b log stopped departed h = record { log = log ∙ h.log; there = record { goes = stopped ∙ h.there.goes; stays = departed ∙ h.there.stays } }
+
+closed_line : (s t : Group) (i : ℕ) (m : groups.Node) → Kept s → groups.Leads i (s.node i) → t.node ≡ put s.node i m → t.views.current ≡ s.views.current
+    → t.views.line ≡ put s.views.line (key (view_of (s.node i).list)) m.list → (j : ℕ) → ListGoes s t j
+closed_line s t i m k leads is current line j = put_goes s t i m is
+    (λ own.
+    let ok = (k.each i).leads leads in
+    let viewed : view_of (s.node i).list ≡ s.views.current = ap view_of ok.chain ∙ k.views.view in
+    let at = key (view_of (s.node i).list) in
+    let chain : chain_of t.views ≡ m.list = (λ x. t.views.line (key (current x))) ∙ ap (λ u. t.views.line (key u)) (sym viewed) ∙ ap (λ f. f at) line
+    ∙ put_same s.views.line at m.list in
+    gone (subst (Begins (t.node i).list) (sym chain) (subst (λ (a : groups.Node). Begins (t.node i).list a.list) own (begins_refl (t.node i).list)))) j
+
+pub move_goes : (s t : Group) → Move s t → Kept s → (i : ℕ) → ListGoes s t i
+move_goes s t (numbers i e leads fit may) k = now_up s t i (longer (s.node i) e) refl (still_up (s.node i) (longer (s.node i) e) refl refl refl leads.up)
+move_goes s t (stores i e there decided other stays next) k = now_up s t i (longer (s.node i) e) refl
+    (still_up (s.node i) (longer (s.node i) e) refl refl refl there)
+move_goes s t (accepts i n leads may) k = λ j. same refl
+move_goes s t (learns i told acc there rises within before up_to given low) k = list_stays s t i _ refl refl
+move_goes s t (begins i few there stays member) k = list_stays s t i _ refl refl
+move_goes s t (raises i stamp there above) k = list_stays s t i _ refl refl
+move_goes s t (shows i there small other begun unshown) k = λ j. same refl
+move_goes s t (serves i list there shown others) k = λ j. same refl
+move_goes s t (fetches i f list e there ballot served shown next) k = now_up s t i (longer (s.node i) e) refl
+    (still_up (s.node i) (longer (s.node i) e) refl refl refl there)
+move_goes s t (decides i members resilience may) k = now_up s t i _ refl (still_up (s.node i) _ refl refl refl may.up)
+move_goes s t (gives_over i) k = list_stays s t i _ refl refl
+move_goes s t (welcomes j stamp base join may) k = now_up s t j _ refl (record {
+  log = refl;
+  there = record {
+    goes = may.there.goes;
+    stays = may.there.stays;
+  };
+})
+move_goes s t (asks i there unballoted) k = list_stays s t i _ refl refl
+move_goes s t (departs i before may) k = list_stays s t i _ refl refl
+move_goes s t (closes i n leads leaving alone may) k = closed_line s t i (record (longer (s.node i) (Leave i)) { departed = true }) k leads refl refl refl
+move_goes s t (stops i) k = list_stays s t i _ refl refl
+
+-- ---- what is kept
+
+lines_on : (s t : Group) → Kept t → Grows s t → ((i : ℕ) → ListGoes s t i) → Shaped s → (i : ℕ) → (t.node i).list ≢ [] → OnLine t (t.node i).list
+lines_on s t k g each h i some = by_way (each i)
+  where
+    by_way : ListGoes s t i → OnLine t (t.node i).list
+    by_way (same is) =
+        let o = h.lines i (λ none_. some (is ∙ none_)) in
+        record {
+          view = o.view;
+          decided = (g.decided o.view o.decided).0;
+          line = begins_trans (subst (λ l. Begins l (s.views.line o.view)) (sym is) o.line) (g.lines o.view o.decided);
+        }
+    by_way (up there) = record { view = key t.views.current; decided = k.views.now; line = (k.each i).list there }
+    by_way (gone on) = record { view = key t.views.current; decided = k.views.now; line = on }
+
+good_on : (s t : Group) → Kept t → ((i : ℕ) → ListGoes s t i) → Shaped s → (i : ℕ) → IsGood (t.node i).list
+good_on s t k each h i = by_way (each i)
+  where
+    by_way : ListGoes s t i → IsGood (t.node i).list
+    by_way (same is) = subst IsGood (sym is) (h.good i)
+    by_way (up there) = good_begins ((k.each i).list there) k.views.good
+    by_way (gone on) = good_begins on k.views.good
+
+sets_on : (s t : Group) (move : Move s t) → MoveOk move → Shaped s → (x : ℕ) → t.views.decided x ≡ true → IsSet (t.views.chosen x).members
+sets_on s t (decides i members resilience may) ok h x d =
+    let at = key (s.node i).promise in
+    let choice = choice_of (s.node i) members resilience in
+    by_number (put_cases s.views.chosen at choice x) (put_cases s.views.decided at true x)
+  where
+    by_number : ((x ≡ key (s.node i).promise) × (put s.views.chosen (key (s.node i).promise) (choice_of (s.node i) members resilience) x ≡ choice_of
+        (s.node i) members resilience))
+        ⊎ ((x ≢ key (s.node i).promise) × (put s.views.chosen (key (s.node i).promise) (choice_of (s.node i) members resilience) x ≡ s.views.chosen x))
+        → ((x ≡ key (s.node i).promise) × (put s.views.decided (key (s.node i).promise) true x ≡ true))
+        ⊎ ((x ≢ key (s.node i).promise) × (put s.views.decided (key (s.node i).promise) true x ≡ s.views.decided x))
+        → IsSet (put s.views.chosen (key (s.node i).promise) (choice_of (s.node i) members resilience) x).members
+    by_number (inl a) c = subst (λ (b : Chosen). IsSet b.members) (sym a.1) ok.0
+    by_number (inr a) (inl c) = absurd (a.0 c.0)
+    by_number (inr a) (inr c) = subst (λ (b : Chosen). IsSet b.members) (sym a.1) (h.sets x (sym c.1 ∙ d))
+sets_on s t (numbers i e leads fit may) ok h x d = h.sets x d
+sets_on s t (stores i e there decided other stays next) ok h x d = h.sets x d
+sets_on s t (accepts i n leads may) ok h x d = h.sets x d
+sets_on s t (learns i told acc there rises within before up_to given low) ok h x d = h.sets x d
+sets_on s t (begins i few there stays member) ok h x d = h.sets x d
+sets_on s t (raises i stamp there above) ok h x d = h.sets x d
+sets_on s t (shows i there small other begun unshown) ok h x d = h.sets x d
+sets_on s t (serves i list there shown others) ok h x d = h.sets x d
+sets_on s t (fetches i f list e there ballot served shown next) ok h x d = h.sets x d
+sets_on s t (gives_over i) ok h x d = h.sets x d
+sets_on s t (welcomes j stamp base join may) ok h x d = h.sets x d
+sets_on s t (asks i there unballoted) ok h x d = h.sets x d
+sets_on s t (departs i before may) ok h x d = h.sets x d
+sets_on s t (closes i n leads leaving alone may) ok h x d = h.sets x d
+sets_on s t (stops i) ok h x d = absurd ok
+
+pub shaped_move : (founders : List ℕ) (first resilience : ℕ) (s t : Group) → GroupOk founders first resilience s → (move : Move s t) → MoveOk move → Shaped s
+    → Shaped t
+shaped_move founders first resilience s t g move ok h =
+    let on = move_on founders first resilience s t g move ok in
+    record {
+      lines = lines_on s t (group_kept founders first resilience t on.group_) on.grows
+          (move_goes s t move (group_kept founders first resilience s g)) h;
+      sets = sets_on s t move ok h;
+      good = good_on s t (group_kept founders first resilience t on.group_)
+          (move_goes s t move (group_kept founders first resilience s g)) h;
+    }
+
+pub shaped_moves : (founders : List ℕ) (first resilience : ℕ) (s t : Group) → GroupOk founders first resilience s → Moves s t → Shaped s → Shaped t
+shaped_moves founders first resilience s t g none h = h
+shaped_moves founders first resilience s t g (moves {t = u} move ok rest) h =
+    let on = move_on founders first resilience s u g move ok in
+    shaped_moves founders first resilience u t on.group_ rest (shaped_move founders first resilience s u g move ok h)
+
+-- ---- a stop
+
+pub shaped_stop : (s : Group) (i : ℕ) → Shaped s → Shaped (with_node s i (record (s.node i) { stopped = true }))
+shaped_stop s i h = record {
+  lines = λ j. ⊎_elim
+      (λ (c : (j ≡ i) × (put s.node i (record (s.node i) { stopped = true }) j ≡ record (s.node i) { stopped = true })). of_node j (s.node i).list
+      (ap (λ (a : groups.Node). a.list) c.1) (ap (λ k. (s.node k).list) c.0))
+      (λ (c : (j ≢ i) × (put s.node i (record (s.node i) { stopped = true }) j ≡ s.node j)). of_node j (s.node j).list
+      (ap (λ (a : groups.Node). a.list) c.1) refl)
+      (put_cases s.node i (record (s.node i) { stopped = true }) j);
+  sets = h.sets;
+  good = λ j. ⊎_elim
+      (λ (c : (j ≡ i) × (put s.node i (record (s.node i) { stopped = true }) j ≡ record (s.node i) { stopped = true })).
+      subst IsGood (sym (ap (λ (a : groups.Node). a.list) c.1)) (h.good i))
+      (λ (c : (j ≢ i) × (put s.node i (record (s.node i) { stopped = true }) j ≡ s.node j)).
+      subst IsGood (sym (ap (λ (a : groups.Node). a.list) c.1)) (h.good j))
+      (put_cases s.node i (record (s.node i) { stopped = true }) j);
+}
+  where
+    of_node : (j : ℕ) (list : List Entry) → (put s.node i (record (s.node i) { stopped = true }) j).list ≡ list → (s.node j).list ≡ list
+        → (put s.node i (record (s.node i) { stopped = true }) j).list ≢ []
+        → OnLine (with_node s i (record (s.node i) { stopped = true })) (put s.node i (record (s.node i) { stopped = true }) j).list
+    of_node j list now was some =
+        let same : (put s.node i (record (s.node i) { stopped = true }) j).list ≡ (s.node j).list = now ∙ sym was in
+        let o = h.lines j (λ none_. some (same ∙ none_)) in
+        record { view = o.view; decided = o.decided; line = subst (λ l. Begins l (s.views.line o.view)) (sym same) o.line }
+
+-- ---- a name's list goes on along the chain
+
+-- as far as the group list was at the beginning of a step, a name's list has its entries
+abbrev pub Along : Group → Group → ℕ → Type 0
+Along s t i = (number : ℕ) (e : Entry) → number ≤ length s.group → item_at (t.node i).list number ≡ Some e → item_at s.group number ≡ Some e
+
+along_chain : (s t : Group) (i : ℕ) → Begins s.group t.group → Kept t → Begins (t.node i).list (chain_of t.views) → Along s t i
+along_chain s t i grows k on number e low at = item_back number e (begins_trans grows k.group) low (item_begins number e on at)
+
+pub along_up : (s : Group) (i : ℕ) → Kept s → IsUp (s.node i) → Along s s i
+along_up s i k up_ = along_chain s s i (begins_refl s.group) k ((k.each i).list up_)
+
+along_move : (r s t : Group) (i : ℕ) → Begins r.group t.group → Kept t → ListGoes s t i → Along r s i → Along r t i
+along_move r s t i grows k (same is) h number e low at = h number e low (ap (λ l. item_at l number) (sym is) ∙ at)
+along_move r s t i grows k (up there) h number e low at = along_chain r t i grows k ((k.each i).list there) number e low at
+along_move r s t i grows k (gone on) h number e low at = along_chain r t i grows k on number e low at
+
+pub along_moves : (founders : List ℕ) (first resilience : ℕ) (r s t : Group) (i : ℕ) → Begins r.group s.group → GroupOk founders first resilience s → Moves s t
+    → Along r s i → Along r t i
+along_moves founders first resilience r s t i grows g none h = h
+along_moves founders first resilience r s t i grows g (moves {t = u} move ok rest) h =
+    let on = move_on founders first resilience s u g move ok in
+    let more = begins_trans grows on.grows.group in
+    along_moves founders first resilience r u t i more on.group_ rest
+    (along_move r s u i more (group_kept founders first resilience u on.group_) (move_goes s u move (group_kept founders first resilience s g) i) h)

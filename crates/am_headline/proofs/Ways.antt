@@ -1,0 +1,156 @@
+-- The changes of a node by what they do to what its application was given, and to its own sends.
+use Rattle.std.proofs.Common.{◌≡◌, ℕ, ◌+◌, ◌≤◌, ◌-◌, ◌==◌, ◌||◌, not, max, nat_lt, Bool, true, false, if◌then◌else◌, List, [], ◌∷◌, ◌++◌, refl, sym, ◌∙◌}
+use Rattle.std.proofs.Common.{append-nil, arith}
+use Rattle.am_base.specs.declared.entry.Entry.{Entry}
+use Rattle.am_base.specs.declared.entry.Entry.TheVariants.{Leave, View}
+use Rattle.am_base.specs.declared.image.Image.{Image}
+use Rattle.am_base.specs.declared.name.Stamp.{Stamp}
+use Rattle.am_base.specs.declared.outcome.Outcome.{Outcome}
+use Rattle.am_base.specs.declared.outcome.Outcome.TheVariants as said
+use Rattle.am_base.specs.Names.{has, size}
+use Rattle.am_packet.specs.declared.packet.Packet.TheVariants as packet
+use Rattle.am_sender.specs.Sends as own
+use Rattle.am_model.specs.declared.status.Status.TheVariants as status
+use Rattle.am_model.specs.Node.{Node, Ballot, top, told, those, is_member, is_sequencer, pushed, unsettled}
+use Rattle.am_model.specs.Ballots.{Verdict, decide, ends, goes_on, restarted, trimmed_for, need_of, left_in, best_of, is_waited_for, decide_view}
+use Rattle.am_model.specs.Calls.{queued, is_unfinished}
+use Rattle.am_model.specs.Joining.{begun}
+use Rattle.am_model.specs.Refresh.{refresh, settle, refresh_at_end}
+use Rattle.am_model.proofs.Greatest.{and_both}
+use Rattle.am_effects.specs.Causes.{Cause, hears}
+use Rattle.am_effects.specs.Looks.{Looks, finds_itself_out, waits, fetches_from_best, finds_too_few, finds_no_room, decides}
+use Rattle.am_effects.specs.Changes.{MayBeWelcomed, Change, refreshes, settles, takes_report, admits, numbers, keeps_body, notes, stores, begins_list, departs}
+use Rattle.am_effects.specs.Changes.{promises, opens, looks, fetches, stores_view, queues, collects, takes, asks_to_join, asks_to_leave, closes}
+
+-- nothing of that changes; the list may get more
+pub record Alike (m n : Node) : Type 0 where
+  pub who : n.core.who ≡ m.core.who
+  pub base : m.core.base ≤ n.core.base
+  pub acc : n.core.acc ≡ m.core.acc
+  pub taken : n.core.taken ≡ m.core.taken
+  pub start : n.core.start ≡ m.core.start
+  pub status : n.status ≡ m.status
+  pub leaving : n.leaving ≡ m.leaving
+  pub sends : n.sends ≡ m.sends
+  pub log_start : n.core.log.start ≡ m.core.log.start
+  pub more : List Entry
+  pub entries : n.core.log.entries ≡ m.core.log.entries ++ more
+
+abbrev pub closed : Node → Node
+closed m = record (refresh_at_end (pushed m (Leave m.core.who))) { status = status.Departed }
+
+pub data Kind (c : Cause) (o : Outcome) (m : Node) : Node → Type 0 where
+  alike : {n : Node} → Alike m n → Kind c o m n
+  refreshed : Kind c o m (refresh m)
+  settled : Kind c o m (settle m)
+  began : (s : ℕ) (v : Stamp) (base join : ℕ) (image : Image) → c ≡ hears (packet.Welcome s v base join image) → o ≡ said.Welcomed join
+      → MayBeWelcomed m s v base join image → Kind c o m (begun m v base join image)
+  left : is_member m.status ≡ true → m.leaving ≡ true → Kind c o m (record m { status = status.Departed })
+  sent : (body : List ℕ) → m.leaving ≡ false → Kind c o m (queued m body)
+  collected : (req : ℕ) → Kind c o m (record m { sends = own.collect req m.sends })
+  took : (e : Entry) → o ≡ said.Took (m.core.taken + 1) e → is_member m.status ≡ true → (m.core.taken == m.core.acc) ≡ false
+      → Kind c o m (record m { core = record (m.core) { taken = m.core.taken + 1 } })
+  asked_in : m.status ≡ status.Stranger → Kind c o m (record m { status = status.Asking })
+  asked_out : m.status ≡ status.Member → (nat_lt 0 (unsettled m) || is_unfinished m.ballot) ≡ false → Kind c o m (record m { leaving = true })
+  gone : is_member m.status ≡ true → m.leaving ≡ true → Kind c o m (closed m)
+
+-- with more entries, and anything else but what is told here
+pushes : (m n : Node) (es : List Entry) → n.core.who ≡ m.core.who → m.core.base ≤ n.core.base → n.core.acc ≡ m.core.acc → n.core.taken ≡ m.core.taken
+    → n.core.start ≡ m.core.start
+    → n.status ≡ m.status → n.leaving ≡ m.leaving → n.sends ≡ m.sends → n.core.log.start ≡ m.core.log.start
+    → n.core.log.entries ≡ m.core.log.entries ++ es → Alike m n
+pushes m n es who base acc taken start status_ leaving sends log entries = record {
+  who = who;
+  base = base;
+  acc = acc;
+  taken = taken;
+  start = start;
+  status = status_;
+  leaving = leaving;
+  sends = sends;
+  log_start = log;
+  more = es;
+  entries = entries;
+}
+
+same_log : (m n : Node) → n.core.who ≡ m.core.who → m.core.base ≤ n.core.base → n.core.acc ≡ m.core.acc → n.core.taken ≡ m.core.taken
+    → n.core.start ≡ m.core.start
+    → n.status ≡ m.status → n.leaving ≡ m.leaving → n.sends ≡ m.sends → n.core.log.start ≡ m.core.log.start
+    → n.core.log.entries ≡ m.core.log.entries → Alike m n
+same_log m n who base acc taken start status_ leaving sends log entries =
+    pushes m n [] who base acc taken start status_ leaving sends log (entries ∙ sym (append-nil m.core.log.entries))
+
+-- with one entry more
+pub pushed_alike : (m : Node) (e : Entry) → Alike m (pushed m e)
+pushed_alike m e = pushes m (pushed m e) (e ∷ []) refl (omega arith) refl refl refl refl refl refl refl refl
+
+pub look_alike : (m : Node) (b : Ballot) (v : Verdict) → Looks m b v → Alike m v.node
+look_alike m b v (finds_itself_out x) = same_log m v.node refl (omega arith) refl refl refl refl refl refl refl refl
+look_alike m b v (waits x y) = same_log m v.node refl (omega arith) refl refl refl refl refl refl refl refl
+look_alike m b v (fetches_from_best x y z) = same_log m v.node refl (omega arith) refl refl refl refl refl refl refl refl
+look_alike m b v (finds_too_few x y) = same_log m v.node refl (omega arith) refl refl refl refl refl refl refl refl
+look_alike m b v (finds_no_room x) = same_log m v.node refl (omega arith) refl refl refl refl refl refl refl refl
+look_alike m b v (decides may) = pushes m v.node (_ ∷ []) refl (omega arith) refl refl refl refl refl refl refl refl
+
+-- whatever a ballot comes to
+alike_if : (m : Node) (b : Bool) (x y : Verdict) → Alike m x.node → Alike m y.node → Alike m (if b then x else y).node
+alike_if m true x y f g = f
+alike_if m false x y f g = g
+
+pub decide_alike : (m : Node) (b : Ballot) → Alike m (decide m b).node
+unfolding decide
+decide_alike m b =
+    let names = left_in b (need_of m b) in
+    let view = View b.stamp names (max b.resilience (told m).resilience) in
+    let over : (o : Outcome) → Alike m (ends m b o).node = λ o. same_log m (ends m b o).node refl (omega arith) refl refl refl refl refl refl refl refl in
+    let on : (o : Outcome) → Alike m (goes_on m b o).node = λ o. same_log m (goes_on m b o).node refl (omega arith) refl refl refl refl refl refl refl refl in
+    let before = trimmed_for m b names in
+    let last : (o : Outcome) → Alike m (ends (restarted (pushed before view)) b o).node = λ o.
+    pushes m (ends (restarted (pushed before view)) b o).node (view ∷ []) refl (omega arith) refl refl refl refl refl refl refl refl in
+    let crowded : (o : Outcome) → Alike m (ends before b o).node = λ o. same_log m (ends before b o).node refl (omega arith) refl refl refl refl refl refl
+    refl refl in
+    let few = those (is_waited_for m.core.who b) (need_of m b) in
+    let crowd : Outcome = said.Crowded before.core.base (top before) in
+    let done : Outcome = said.Decided (top before + 1) names in
+    let decided : Alike m (decide_view before b names).node = alike_if m
+    (nat_lt (before.core.rules.window + 16 - size names) (top before + 1 - before.core.base)) (ends before b crowd)
+    (ends (restarted (pushed before view)) b done)
+    (crowded crowd) (last done) in
+    let small : Outcome = said.TooFew (size names) b.least in
+    let v4 : Verdict = if nat_lt (size names) b.least then ends m b small else decide_view before b names in
+    let a4 : Alike m v4.node = alike_if m (nat_lt (size names) b.least) (ends m b small) (decide_view before b names) (over small) decided in
+    let fetch : Outcome = said.Fetching (best_of m b).by (top m + 1) in
+    let v3 : Verdict = if not ((best_of m b).by == m.core.who) then goes_on m b fetch else v4 in
+    let a3 : Alike m v3.node = alike_if m (not ((best_of m b).by == m.core.who)) (goes_on m b fetch) v4 (on fetch) a4 in
+    let wait : Outcome = said.Waiting few in
+    let v2 : Verdict = if nat_lt 0 (size few) then goes_on m b wait else v3 in
+    let a2 : Alike m v2.node = alike_if m (nat_lt 0 (size few)) (goes_on m b wait) v3 (on wait) a3 in
+    let out : Outcome = said.NotIn (best_of m b).vote.view in
+    alike_if m (not (has (need_of m b) m.core.who)) (ends m b out) v2 (over out) a2
+
+leads_member : (m : Node) → is_sequencer m ≡ true → is_member m.status ≡ true
+leads_member m t = (and_both (is_member m.status) _ (and_both _ _ t).0).0
+
+pub kind_of : {c : Cause} {o : Outcome} (m n : Node) → Change c o m n → Kind c o m n
+kind_of m n refreshes = refreshed
+kind_of m n settles = settled
+kind_of m n (takes_report s v report by may) = alike (same_log m n refl (omega arith) refl refl refl refl refl refl refl refl)
+kind_of m n (admits s v is leads fit) = alike (same_log m n refl (omega arith) refl refl refl refl refl refl refl refl)
+kind_of m n (numbers e leads room why) = alike (pushes m n (e ∷ []) refl (omega arith) refl refl refl refl refl refl refl refl)
+kind_of m n (keeps_body s v report req body is heard) = alike (same_log m n refl (omega arith) refl refl refl refl refl refl refl refl)
+kind_of m n (notes s v base acc by heard) = alike (same_log m n refl (omega arith) refl refl refl refl refl refl refl refl)
+kind_of m n (stores s v base acc number e by heard plain may) = alike (pushes m n (e ∷ []) refl (omega arith) refl refl refl refl refl refl refl refl)
+kind_of m n (begins_list s v base join image is o may) = began s v base join image is o may
+kind_of m n (departs s v number is heard leaves) = left (and_both _ (is_member m.status) heard).1 leaves
+kind_of m n (promises v low why) = alike (same_log m n refl (omega arith) refl refl refl refl refl refl refl refl)
+kind_of m n (opens least resilience by may) = alike (same_log m n refl (omega arith) refl refl refl refl refl refl refl refl)
+kind_of m n (looks b verdict over why look is) = alike (look_alike m b verdict look)
+kind_of m n (fetches s v base number e is heard promise below from may) = alike (pushes m n (e ∷ []) refl (omega arith) refl refl refl refl refl refl refl refl)
+kind_of m n (stores_view s v base number names resilience is heard own_ other promise below may) =
+    alike (pushes m n (View v names resilience ∷ []) refl (omega arith) refl refl refl refl refl refl refl refl)
+kind_of m n (queues body is o member stays few) = sent body stays
+kind_of m n (collects req is) = collected req
+kind_of m n (takes e is o member some there) = took e o member some
+kind_of m n (asks_to_join is was) = asked_in was
+kind_of m n (asks_to_leave is was stays done) = asked_out was done
+kind_of m n (closes leads leaves alone room) = gone (leads_member m leads) leaves

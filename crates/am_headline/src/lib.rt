@@ -1,0 +1,17 @@
+//! The headline, from the argument why a group has one list (docs/SAFETY.md): what every run keeps up to its lawful front. Each step of a
+//! name is moves of the group that stands for its world (`am_steps`).
+#![tactic(auto)]
+
+ghost use Rattle.am_model.specs.Claims.{HeadlineHolds, ViewsFit};
+
+/// Up to its lawful front each run keeps the headline: each name is given a gapless segment of the group's list, which has each accepted send
+/// once, and only what was sent before, each sender's requests in turn; and a complete view keeps what was given out before it. And each node is
+/// bounded, in every run.
+pub fn the_headline_holds()
+    ensures { HeadlineHolds }
+{}
+
+/// Up to there a View that leaves somebody out always fits: each entry lies so far above its node's base that there is room for it.
+pub fn views_fit()
+    ensures { ViewsFit }
+{}

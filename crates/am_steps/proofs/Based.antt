@@ -1,0 +1,145 @@
+-- Where a node's list begins after a step: where it did, unless it was welcomed, and then it doesn't lead.
+use Rattle.std.proofs.Common.{◌≡◌, ℕ, zero, suc, ◌+◌, ◌-◌, ◌<◌, ◌≤◌, ◌==◌, ◌||◌, not, nat_le, true, false, List, [], ◌∷◌, Some, slice_get, refl, sym}
+use Rattle.std.proofs.Common.{ap, ◌∙◌, subst, arith}
+use Rattle.std.proofs.lemmas.Bool.Decides.{nat_tests}
+use Rattle.am_base.specs.declared.name.Stamp.{Stamp}
+use Rattle.am_base.specs.declared.image.Image.{Image}
+use Rattle.am_base.specs.declared.entry.Entry.{Entry}
+use Rattle.am_base.specs.declared.entry.Entry.TheVariants.{View}
+use Rattle.am_base.specs.declared.outcome.Outcome.{Outcome}
+use Rattle.am_base.specs.Founding.{Rules}
+use Rattle.am_base.specs.Stamps.{stamp_eq}
+use Rattle.am_base.specs.Lists.{Log, top_of, told_by, entry_at, after, fold}
+use Rattle.am_fronts.proofs.Views.{view_grows}
+use Rattle.am_model.specs.Node.{Node, Ballot, view, acts, is_member, is_asking, is_sequencer}
+use Rattle.am_model.specs.Ballots.{Verdict}
+use Rattle.am_model.specs.Receiving.{is_view}
+use Rattle.am_model.proofs.Greatest.{split, and_both}
+use Rattle.am_effects.specs.Causes.{Cause}
+use Rattle.am_effects.specs.Looks.{BeginsBy, by_reset, by_hand_over, Looks, finds_itself_out, waits, fetches_from_best, finds_too_few, finds_no_room, decides}
+use Rattle.am_effects.specs.Changes.{Promises, invited, overtaken, told_result, Change, refreshes, settles, takes_report, admits, numbers, keeps_body}
+use Rattle.am_effects.specs.Changes.{notes, stores, begins_list, departs, promises, opens, looks, fetches, stores_view, queues, collects, takes, asks_to_join}
+use Rattle.am_effects.specs.Changes.{asks_to_leave, closes, Changes, unchanged, changed}
+use Rattle.am_effects.proofs.Rests.{rests_refresh, rests_closed, settle_is}
+use Rattle.am_effects.proofs.Runs.{along}
+use Rattle.am_effects.proofs.Tests.{not_true}
+use Rattle.am_laws.proofs.ViewNames.{HeardNames}
+use Rattle.am_laws.proofs.Stamps.{same_stamp}
+use Rattle.am_laws.proofs.Taken.{HeardUsed}
+use Rattle.am_laws.proofs.TakenRuns.{Along, along_changes}
+use Rattle.am_stands.proofs.Parts.{view_its}
+use Rattle.am_steps.proofs.Courses.{was_welcomed, both_ways}
+use Rattle.am_steps.proofs.Statuses.{asking_bare}
+
+-- ---- along the changes
+
+pub data Based (c : Cause) (m x : Node) : Type 0 where
+  as_it_was : x.core.log.start ≡ m.core.log.start → m.core.acc ≤ x.core.acc → Based c m x
+  was_bare : was_welcomed c ≡ true → (x.core.promise.by == x.core.who) ≡ false → m.core.acc ≤ x.core.acc → Based c m x
+
+based_same : {c : Cause} (m x y : Node) → y.core.log.start ≡ x.core.log.start → y.core.promise ≡ x.core.promise → y.core.who ≡ x.core.who
+    → x.core.acc ≤ y.core.acc → Based c m x → Based c m y
+based_same m x y start promise who up (as_it_was same low) = as_it_was (start ∙ same) (omega arith)
+based_same m x y start promise who up (was_bare welcomed other low) = was_bare welcomed ((λ i. (promise i).by == who i) ∙ other) (omega arith)
+
+-- a promise that rises is of another cause
+based_other : {c : Cause} (m x y : Node) → y.core.log.start ≡ x.core.log.start → y.core.acc ≡ x.core.acc → was_welcomed c ≡ false → Based c m x → Based c m y
+based_other m x y start acc f (as_it_was same low) = as_it_was (start ∙ same) (omega arith)
+based_other m x y start acc f (was_bare welcomed other low) = absurd (both_ways _ welcomed f)
+
+promise_welcomes : {c : Cause} {m : Node} (v : Stamp) → Promises c m v → was_welcomed c ≡ false
+promise_welcomes v (invited s u is heard own) = ap was_welcomed is
+promise_welcomes v (overtaken s u shown is heard above) = ap was_welcomed is
+promise_welcomes v (told_result s u base number names resilience is heard own other) = ap was_welcomed is
+
+begin_welcomes : {c : Cause} {m : Node} → BeginsBy m c → was_welcomed c ≡ false
+begin_welcomes (by_reset least resilience) = refl
+begin_welcomes (by_hand_over s v heard) = refl
+
+looked_based : {c : Cause} (m x : Node) {b : Ballot} {v : Verdict} → Looks x b v → Based c m x → Based c m v.node
+looked_based m x (finds_itself_out a) h = based_same m x _ refl refl refl (omega arith) h
+looked_based m x (waits a d) h = based_same m x _ refl refl refl (omega arith) h
+looked_based m x (fetches_from_best a d e) h = based_same m x _ refl refl refl (omega arith) h
+looked_based m x (finds_too_few a d) h = based_same m x _ refl refl refl (omega arith) h
+looked_based m x (finds_no_room a) h = based_same m x _ refl refl refl (omega arith) h
+looked_based m x (decides may) h = based_same m x _ refl refl refl (omega arith) h
+
+bare_before : {c : Cause} (m x : Node) → x.core.acc ≡ 0 → Based c m x → m.core.acc ≡ 0
+bare_before m x none (as_it_was same low) = omega arith
+bare_before m x none (was_bare welcomed other low) = omega arith
+
+based_change : {c : Cause} {o : Outcome} (rules : Rules) (m x y : Node) → Change c o x y → Along rules x → Based c m x → Based c m y
+based_change rules m x y refreshes a h = let r = (rests_refresh x).rests in based_same m x y r.start r.promise r.who r.acc h
+based_change rules m x y settles a h = subst (Based _ m) (sym (settle_is x)) (based_same m x _ refl refl refl (omega arith) h)
+based_change rules m x y (takes_report s v report by may) a h = based_same m x y refl refl refl (omega arith) h
+based_change rules m x y (admits s v is leads fit) a h = based_same m x y refl refl refl (omega arith) h
+based_change rules m x y (numbers e leads room why) a h = based_same m x y refl refl refl (omega arith) h
+based_change rules m x y (keeps_body s v report req body is heard) a h = based_same m x y refl refl refl (omega arith) h
+based_change rules m x y (notes s v base acc by heard) a h = based_same m x y refl refl refl (omega arith) h
+based_change rules m x y (stores s v base acc number e by heard plain may) a h = based_same m x y refl refl refl (omega arith) h
+based_change rules m x y (begins_list s v base join image is says may) a h =
+    let asks = and_both (not (s == x.core.who)) (is_member x.status || is_asking x.status) may.asks in
+    let none = a.blanked (asking_bare x.status may.no_member asks.1) in
+    let empty = ap top_of none.blank_ in
+    let high = a.owned.fronts.accepted in
+    let before = bare_before m x (omega arith) h in
+    let other = not_true (s == x.core.who) asks.0 in
+    let own = may.own in
+    was_bare (ap was_welcomed is) (grind (arith, nat_tests)) (omega arith)
+based_change rules m x y (departs s v number is heard leaves) a h = based_same m x y refl refl refl (omega arith) h
+based_change rules m x y (promises v low why) a h = based_other m x y refl refl (promise_welcomes v why) h
+based_change rules m x y (opens least resilience by may) a h = based_other m x y refl refl (begin_welcomes by) h
+based_change rules m x y (looks b verdict over why look is) a h = looked_based m x look h
+based_change rules m x y (fetches s v base number e is heard promise below why may) a h = based_same m x y refl refl refl (omega arith) h
+based_change rules m x y (stores_view s v base number names resilience is heard own other promise below may) a h = based_same m x y refl refl refl
+    (omega arith) h
+based_change rules m x y (queues body is says member stays few) a h = based_same m x y refl refl refl (omega arith) h
+based_change rules m x y (collects req is) a h = based_same m x y refl refl refl (omega arith) h
+based_change rules m x y (takes e is says member some there) a h = based_same m x y refl refl refl (omega arith) h
+based_change rules m x y (asks_to_join is was) a h = based_same m x y refl refl refl (omega arith) h
+based_change rules m x y (asks_to_leave is was stays done) a h = based_same m x y refl refl refl (omega arith) h
+based_change rules m x y (closes leads leaves alone room) a h = let r = rests_closed x in based_same m x y r.start r.promise r.who r.acc h
+
+record Basing (rules : Rules) (c : Cause) (m x : Node) : Type 0 where
+  along_ : Along rules x
+  based : Based c m x
+
+pub step_based : {c : Cause} {o : Outcome} (rules : Rules) (m n : Node) → HeardNames c → HeardUsed c → Changes c o m n → Along rules m → Based c m n
+step_based {c = c} {o = o} rules m n names used zs a = (along (Basing rules c m) (λ x y z h. record {
+  along_ = along_changes rules {c = c} {o = o} x y names used (changed z unchanged) h.along_;
+  based = based_change rules m x y z h.along_ h.based;
+}) zs (record { along_ = a; based = as_it_was refl (omega arith) })).based
+
+-- who was welcomed doesn't lead
+pub bare_follows : (n : Node) → (n.core.promise.by == n.core.who) ≡ false → is_sequencer n ≡ false
+bare_follows n other = split (is_sequencer n)
+    (λ t. absurd (
+    let a = and_both (acts n) ((view n).by == n.core.who) t in
+    let b = and_both (is_member n.status) (stamp_eq n.core.promise (view n)) a.0 in
+    let same = ap (λ (u : Stamp). u.by == n.core.who) (same_stamp n.core.promise (view n) b.1) in
+    let z : (n.core.promise.by == n.core.who) ≡ true = same ∙ a.1 in
+    cc))
+    (λ f. f)
+
+-- ---- where a View stands
+
+view_number_up : (image : Image) (n k : ℕ) (es : List Entry) (stamp : Stamp) (names : List ℕ) (resilience : ℕ)
+    → slice_get es k ≡ Some (View stamp names resilience) → n + k ≤ (fold image n es).view_number
+unfolding fold
+view_number_up image n k [] stamp names resilience at = absurd (cc)
+view_number_up image n zero (e ∷ es) stamp names resilience at =
+    let is : e ≡ View stamp names resilience = cc in
+    let its : (after image n e).view_number ≡ n = view_its image n e (ap is_view is) in
+    let up = view_grows (after image n e) (n + 1) es (omega arith) in
+    omega arith
+view_number_up image n (suc k) (e ∷ es) stamp names resilience at =
+    (let up = view_number_up (after image n e) (n + 1) k es stamp names resilience at in omega arith)
+
+pub view_above : (log : Log) (number : ℕ) (stamp : Stamp) (names : List ℕ) (resilience : ℕ) → entry_at log number ≡ Some (View stamp names resilience)
+    → log.start < (told_by log).view_number
+view_above log zero stamp names resilience at = absurd (cc)
+view_above log (suc before) stamp names resilience at = split (nat_le log.start before)
+    (λ t. (let there = rw t at at in
+    let up = view_number_up log.image (log.start + 1) (before - log.start) log.entries stamp names resilience there in
+    omega arith))
+    (λ f. absurd (let z = rw f at at in cc))

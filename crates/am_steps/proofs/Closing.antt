@@ -1,0 +1,110 @@
+-- The last member's end, which is one move.
+use Rattle.std.proofs.Common.{◌≡◌, ℕ, nat_lt, true, false, List, refl, sym, subst}
+use Rattle.std.proofs.lemmas.List.Elements.{All-push}
+use Rattle.am_base.specs.declared.entry.Entry.TheVariants.{Leave}
+use Rattle.am_base.specs.Founding.{Rules}
+use Rattle.am_base.specs.Names.{size}
+use Rattle.am_group.specs.declared.event.Event.{Event}
+use Rattle.am_group.specs.declared.event.Record.{Record}
+use Rattle.am_chain_moves.specs.Group.{Group, chain_of}
+use Rattle.am_chain_moves.specs.Moves.{longer}
+use Rattle.am_chain_moves.specs.Kept.{Kept}
+use Rattle.am_model.specs.Node.{Node, view, others, is_member, is_sequencer, pushed}
+use Rattle.am_model.specs.Emit.{Step}
+use Rattle.am_model.specs.World.{World, stepped}
+use Rattle.am_effects.specs.Causes.{Cause}
+use Rattle.am_laws.proofs.ViewChanges.{leads_member}
+use Rattle.am_stands.specs.Standing.{NameStands, StandsBut, Stands, within}
+use Rattle.am_stands.specs.Accepting.{CountsNames, ComesTo}
+use Rattle.am_stands.specs.Ends.{NeedsClose, closed}
+use Rattle.am_stands.specs.Moving.{NamesNamed, Leads}
+use Rattle.am_stands.specs.Steps.{MayMove}
+use Rattle.am_stands.specs.Keeping.{Stepping}
+use Rattle.am_stands.proofs.Changes.{is_up}
+use Rattle.am_stands.proofs.ChainNames.{front_named, counts_names}
+use Rattle.am_stands.proofs.Closing.{close_stands}
+use Rattle.am_stands.proofs.Entries.{name_longer}
+use Rattle.am_stands.proofs.Keeping.{kept, old, may_move}
+use Rattle.am_stands.proofs.Lasts.{closing_accepts}
+use Rattle.am_stands.proofs.Names.{name_in, views_in}
+use Rattle.am_steps.proofs.Statuses.{member_here}
+use Rattle.am_steps.proofs.Starting.{recorded}
+use Rattle.am_steps.proofs.Refreshed.{Fronted, comes}
+
+-- a world with other records
+module _ (rules : Rules) (w : World) (records : List Record) (name : ℕ) (c : Cause) (x : Node) (t : Group)
+    (h : Stepping rules (recorded w records) name c x t) (f : Fronted (recorded w records) name x t) (leads : is_sequencer x ≡ true) where
+  v : World
+  v = recorded w records
+
+  k : Kept t
+  k = kept rules (recorded w records) name c x t h
+
+  mine : NameStands (within (recorded w records) name x) name x (t.node name)
+  mine = old rules (recorded w records) name c x t h
+
+  here : NameStands (within w name x) name x (t.node name)
+  here = name_in (within (recorded w records) name x) (within w name x) name x (t.node name) refl refl mine
+
+  member : is_member x.status ≡ true
+  member = leads_member x leads
+
+  comes_here : ComesTo w t name f.heard x
+  comes_here =
+      let a = comes rules (recorded w records) name c x t h f member (member_here x.status member) in
+      record {
+        stands = here;
+        group = a.group;
+        who = a.who;
+        runs = a.runs;
+        member = a.member;
+        acc = a.acc;
+        up_to = a.up_to;
+        given = a.given;
+        within = a.within;
+        leads = a.leads;
+        follows = a.follows;
+        word = a.word;
+      }
+
+  -- who counts, with its own Leave
+  counts : CountsNames (pushed x (Leave x.core.who))
+  counts =
+      let e = Leave x.core.who in
+      let list = (t.node name).list in
+      let named = front_named list (chain_of t.views) ((k.each name).list (is_up (recorded w records) name x (t.node name) h.runs member mine)) h.group.named in
+      counts_names (within w name (pushed x e)) name (pushed x e) (longer (t.node name) e)
+      (name_longer w name x (pushed x e) e (t.node name)
+      (record { log = refl; stays = refl; leaving = refl; promise = refl; ballot = refl; start = refl }) here)
+      (All-push NamesNamed list e named tt)
+
+  moves_here : MayMove w name c x t
+  moves_here =
+      let a = may_move rules (recorded w records) name c x t h in
+      record {
+        few = a.few;
+        runs = a.runs;
+        who = a.who;
+        promise = a.promise;
+        ballot = a.ballot;
+        stamps = a.stamps;
+        noted = a.noted;
+        gone = a.gone;
+      }
+
+  stands_here : StandsBut name (within w name x) t
+  stands_here =
+      let a = h.stands in
+      let u = within (recorded w records) name x in
+      record {
+        each = λ i few. name_in u (within w name x) i (u.nodes i) (t.node i) refl refl (a.each i few);
+        fronts = a.fronts;
+        views = views_in u (within w name x) t.views refl (λ stamp. refl) a.views;
+        group = a.group;
+      }
+
+  pub closes_on : (e : Event) (step : Step) → x.leaving ≡ true → nat_lt 0 (size (others x)) ≡ false → view (w.nodes name) ≡ view x → step.node ≡ closed x
+      → Leads (Stands (stepped w e name step)) t
+  closes_on e step leaves alone viewed is =
+      let needs = closing_accepts w t name f.heard x k comes_here h.few leads alone counts viewed in
+      close_stands w e name c x step t moves_here leads leaves is (subst (NeedsClose w t name) (sym is) needs) stands_here

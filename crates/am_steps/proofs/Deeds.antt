@@ -1,0 +1,147 @@
+-- A look at a ballot, which comes last before the end of a step: a view that it decided was noted.
+use Rattle.std.proofs.Common.{◌≡◌, ◌⊎◌, inl, inr, ⊎_elim, ℕ, max, true, false, List, [], ◌∷◌, ◌++◌, refl, sym, ap, ◌∙◌, subst}
+use Rattle.am_base.specs.declared.name.Stamp.{Stamp}
+use Rattle.am_base.specs.declared.entry.Entry.{Entry}
+use Rattle.am_base.specs.declared.outcome.Outcome.{Outcome}
+use Rattle.am_base.specs.Founding.{Rules}
+use Rattle.am_base.specs.Stamps.{stamp_lt}
+use Rattle.am_chain_moves.specs.Group.{Group}
+use Rattle.am_model.specs.Node.{Node, Ballot, view, is_member, told}
+use Rattle.am_model.specs.Ballots.{Verdict, trimmed_for, left_in, need_of}
+use Rattle.am_model.specs.World.{Decided, World, last_view}
+use Rattle.am_effects.specs.Causes.{Cause}
+use Rattle.am_effects.specs.Looks.{Balloting, Looks, finds_itself_out, waits, fetches_from_best, finds_too_few, finds_no_room, decides}
+use Rattle.am_effects.specs.Changes.{looks}
+use Rattle.am_effects.specs.Courses.{Course, nothing_yet, used_report, and_then, Deeds, plainly, looked}
+use Rattle.am_effects.proofs.Plans.{course_changes}
+use Rattle.am_effects.proofs.Rests.{rests_refresh}
+use Rattle.am_laws.proofs.Stamps.{below, not_above}
+use Rattle.am_laws.proofs.ViewSteps.{SameView, Stood, view_last}
+use Rattle.am_laws.proofs.ViewChanges.{changes_do, looked_at, log_of_member}
+use Rattle.am_sent.proofs.Changes.{CauseSent}
+use Rattle.am_stands.specs.Growing.{Grows}
+use Rattle.am_stands.specs.Moving.{Moves}
+use Rattle.am_stands.specs.Steps.{after_look}
+use Rattle.am_stands.specs.Keeping.{Stepping}
+use Rattle.am_stands.proofs.Changes.{looked_open}
+use Rattle.am_stands.proofs.Ends.{then_moves}
+use Rattle.am_stands.proofs.Onward.{grows_trans}
+use Rattle.am_stands.proofs.Stepped.{changes_go_on}
+use Rattle.am_steps.proofs.Worlds.{growing}
+use Rattle.am_steps.proofs.Refreshed.{Fronted}
+use Rattle.am_steps.proofs.Courses.{was_welcomed, look_brings, look_welcomes, both_ways, stays}
+use Rattle.am_steps.proofs.Fronts.{fronts_next}
+use Rattle.am_steps.proofs.Going.{Grown, as_before, by_reports, going_on}
+
+-- with these views
+abbrev pub further : World → List Entry → List Decided → World
+further w group views = record w { group = group; views = views }
+
+-- the views by now: as before, or with one that the last look decided
+pub record Decides (m x : Node) : Type 0 where
+  pub member : is_member m.status ≡ true
+  pub own : (view x).by ≡ x.core.who
+  pub above : stamp_lt (view m) (view x) ≡ true
+
+pub data Seen (w : World) (m x : Node) (views : List Decided) : Type 0 where
+  none_new : views ≡ w.views → Seen w m x views
+  one_new : Decides m x → views ≡ w.views ++ last_view x ∷ [] → Seen w m x views
+
+-- the moves so far, and what is known of the group that they lead to
+pub record Done (rules : Rules) (w : World) (name : ℕ) (c : Cause) (m x : Node) (s : Group) : Type 0 where
+  pub group : List Entry
+  pub views : List Decided
+  pub to : Group
+  pub path : Moves s to
+  pub grows : Grows s to
+  pub goes : Stepping rules (further w group views) name c x to
+  pub fronts : Fronted (further w group views) name x to
+  pub grown : Grown c w.group group x
+  pub seen : Seen w m x views
+
+-- ---- who was a member
+
+course_member : {c : Cause} {o : Outcome} (m x : Node) → Course c o m x → was_welcomed c ≡ false → is_member x.status ≡ true → is_member m.status ≡ true
+course_member m x nothing_yet f t = t
+course_member m x (used_report from v report by may) f t = ap is_member (sym (rests_refresh _).rests.status) ∙ t
+course_member m x (and_then {n = n} before z plain) f t = course_member m n before f ((stays n x z plain).member f t)
+
+-- ---- a look
+
+-- what is noted by it
+seen_by : {x : Node} {b : Ballot} {v : Verdict} (look : Looks x b v) (w : World) (m : Node) → (is_member m.status ≡ true) → b.stamp.by ≡ x.core.who
+    → stamp_lt (view m) b.stamp ≡ true → Seen w m v.node (after_look look w).views
+seen_by (finds_itself_out a) w m member own above = none_new refl
+seen_by (waits a d) w m member own above = none_new refl
+seen_by (fetches_from_best a d e) w m member own above = none_new refl
+seen_by (finds_too_few a d) w m member own above = none_new refl
+seen_by (finds_no_room a) w m member own above = none_new refl
+seen_by {x = x} {b = b} {v = v} (decides may) w m member own above = one_new (record {
+  member = member;
+  own = ap (λ (u : Stamp). u.by) is ∙ own;
+  above = ap (stamp_lt (view m)) is ∙ above;
+}) refl
+  where
+    is : view v.node ≡ b.stamp
+    is = view_last (trimmed_for x b (left_in b (need_of x b))) b.stamp (left_in b (need_of x b)) (max b.resilience (told x).resilience)
+
+world_after : {x : Node} {b : Ballot} {v : Verdict} (look : Looks x b v) (w : World) (group : List Entry)
+    → after_look look (growing w group) ≡ further w group (after_look look w).views
+world_after (finds_itself_out a) w group = refl
+world_after (waits a d) w group = refl
+world_after (fetches_from_best a d e) w group = refl
+world_after (finds_too_few a d) w group = refl
+world_after (finds_no_room a) w group = refl
+world_after (decides may) w group = refl
+
+-- a sequencer that took a report looks at no ballot
+before_look : {c : Cause} {x y : Node} (b : Ballot) (old group : List Entry) → Balloting c x b → Grown c old group x → Grown c old group y
+before_look b old group why (as_before is) = as_before is
+before_look b old group why (by_reports brings leads start is) = absurd (both_ways _ brings (look_brings b why))
+
+view_up : (a b stamp : Stamp) → (b ≡ a) ⊎ (stamp_lt a b ≡ true) → stamp_lt b stamp ≡ true → stamp_lt a stamp ≡ true
+view_up a b stamp h above = ⊎_elim
+    (λ (same : b ≡ a). ap (λ u. stamp_lt u stamp) (sym same) ∙ above)
+    (λ (up : stamp_lt a b ≡ true). below a b stamp up (not_above b stamp above))
+    h
+
+pub deeds_on : (rules : Rules) (w : World) (name : ℕ) (c : Cause) (o : Outcome) (m x : Node) (s : Group) → Deeds c o m x → Stepping rules w name c m s
+    → Fronted w name m s → CauseSent w.records name o c → Done rules w name c m x s
+deeds_on rules w name c o m x s (plainly course) h f sent =
+    let g = going_on rules w name c o m x s course h f sent in
+    record {
+      group = g.group;
+      views = w.views;
+      to = g.to;
+      path = g.path;
+      grows = g.grows;
+      goes = g.goes;
+      fronts = g.fronts;
+      grown = g.grown;
+      seen = none_new refl;
+    }
+deeds_on rules w name c o m x s (looked {n = n} b verdict course over why look is) h f sent =
+    let g = going_on rules w name c o m n s course h f sent in
+    let now = growing w g.group in
+    let z = looks {m = n} b verdict over why look is in
+    let one = changes_go_on rules now name c o n x g.to z tt g.goes sent in
+    let goes = subst (λ v. Stepping rules v name c x one.to) (world_after look w g.group) one.goes in
+    let fronts = fronts_next rules now name c o n x g.to one.to z tt g.goes goes.accepted one.fronts one.grows g.fronts in
+    let open_ = (looked_at n b why g.goes.along.balloted).open_ in
+    let member = course_member m n course (look_welcomes b why) (g.goes.keeps.opens (looked_open c n b why)).0 in
+    let gone = changes_do m n h.names (course_changes course) h.along.names h.along.balloted in
+    let up : (view n ≡ view m) ⊎ (stamp_lt (view m) (view n) ≡ true) = ⊎_elim
+    (λ (same : SameView (told n) (told m)). inl same.view)
+    (λ (k : (stamp_lt (view m) (view n) ≡ true) × Stood n.core.log). inr k.0)
+    (gone.does.goes (log_of_member m.status member)).view in
+    record {
+      group = g.group;
+      views = (after_look look w).views;
+      to = one.to;
+      path = then_moves g.path one.path;
+      grows = grows_trans s g.to one.to g.grows one.grows;
+      goes = goes;
+      fronts = record { low = fronts.low; heard = fronts.heard; word = fronts.word; acc = fronts.acc; told = fronts.told };
+      grown = before_look b w.group g.group why g.grown;
+      seen = seen_by look w m member open_.own (view_up (view m) (view n) b.stamp up open_.above);
+    }

@@ -1,0 +1,116 @@
+-- A step up to its end, as moves of the group.
+use Rattle.std.proofs.Common.{◌≡◌, ℕ, ◌≤◌, true, List, length, refl, sym, ap, ◌∙◌, subst, arith}
+use Rattle.am_base.specs.declared.entry.Entry.{Entry}
+use Rattle.am_base.specs.declared.outcome.Outcome.{Outcome}
+use Rattle.am_base.specs.Founding.{Rules}
+use Rattle.am_base.specs.Lists.{Log}
+use Rattle.am_chain_moves.specs.Group.{Group}
+use Rattle.am_model.specs.Node.{Node, top, is_sequencer, with_report}
+use Rattle.am_model.specs.Refresh.{refresh}
+use Rattle.am_model.specs.World.{World, group_after}
+use Rattle.am_effects.specs.Causes.{Cause}
+use Rattle.am_effects.specs.Changes.{Change, takes_report}
+use Rattle.am_effects.specs.Courses.{IsPlain, Course, nothing_yet, used_report, and_then}
+use Rattle.am_effects.proofs.Rests.{rests_refresh, leads_rests}
+use Rattle.am_sent.proofs.Changes.{CauseSent}
+use Rattle.am_stands.specs.Growing.{Grows}
+use Rattle.am_stands.specs.Moving.{Moves, none}
+use Rattle.am_stands.specs.Steps.{after_change}
+use Rattle.am_stands.specs.Keeping as plainly
+use Rattle.am_stands.specs.Keeping.{Next, Stepping}
+use Rattle.am_stands.proofs.Ends.{then_moves}
+use Rattle.am_stands.proofs.Keeping.{old}
+use Rattle.am_stands.proofs.Onward.{grows_same, grows_trans}
+use Rattle.am_stands.proofs.Stepped.{changes_go_on}
+use Rattle.am_steps.proofs.Worlds.{growing}
+use Rattle.am_steps.proofs.Refreshed.{Fronted, refresh_on}
+use Rattle.am_steps.proofs.Courses.{brings_report, brings_true, plain_too, none_noted, leads_on}
+use Rattle.am_steps.proofs.Fronts.{fronts_next}
+
+-- what the group list is by now: as before the step, or a sequencer that took a report has accepted more
+pub data Grown (c : Cause) (old group : List Entry) (x : Node) : Type 0 where
+  as_before : group ≡ old → Grown c old group x
+  by_reports : brings_report c ≡ true → is_sequencer x ≡ true → x.core.log.start ≤ length old → group ≡ group_after old x → Grown c old group x
+
+-- the moves so far, and what is known of the group that they lead to
+pub record Going (rules : Rules) (w : World) (name : ℕ) (c : Cause) (x : Node) (s : Group) : Type 0 where
+  pub group : List Entry
+  pub to : Group
+  pub path : Moves s to
+  pub grows : Grows s to
+  pub goes : Stepping rules (growing w group) name c x to
+  pub fronts : Fronted (growing w group) name x to
+  pub grown : Grown c w.group group x
+
+-- ---- one change more
+
+pub record Changed (rules : Rules) (w : World) (name : ℕ) (c : Cause) (y : Node) (s : Group) : Type 0 where
+  pub to : Group
+  pub path : Moves s to
+  pub grows : Grows s to
+  pub goes : Stepping rules w name c y to
+  pub fronts : Fronted w name y to
+
+-- by a change that goes on, and notes no view
+pub change_on : (rules : Rules) (w : World) (name : ℕ) (c : Cause) (o : Outcome) (x y : Node) (s : Group) (z : Change c o x y) → plainly.IsPlain z
+    → after_change z w ≡ w → Stepping rules w name c x s → CauseSent w.records name o c → Fronted w name x s → Changed rules w name c y s
+change_on rules w name c o x y s z plain same h sent f =
+    let one = changes_go_on rules w name c o x y s z plain h sent in
+    let goes = subst (λ v. Stepping rules v name c y one.to) same one.goes in
+    record {
+      to = one.to;
+      path = one.path;
+      grows = one.grows;
+      goes = goes;
+      fronts = fronts_next rules w name c o x y s one.to z plain h goes.accepted one.fronts one.grows f;
+    }
+
+-- the group list stays what it is
+grown_next : {c : Cause} {o : Outcome} (old_ group : List Entry) (x y : Node) (z : Change c o x y) → IsPlain z → x.core.acc ≤ top x → Grown c old_ group x
+    → Grown c old_ group y
+grown_next old_ group x y z plain high (as_before is) = as_before is
+grown_next old_ group x y z plain high (by_reports brings leads start is) =
+    let on = leads_on old_ x y z plain brings leads start high in
+    by_reports brings on.leads on.start (is ∙ sym on.same)
+
+-- ---- the course
+
+pub going_on : (rules : Rules) (w : World) (name : ℕ) (c : Cause) (o : Outcome) (m x : Node) (s : Group) → Course c o m x → Stepping rules w name c m s
+    → Fronted w name m s → CauseSent w.records name o c → Going rules w name c x s
+going_on rules w name c o m x s nothing_yet h f sent = record {
+  group = w.group;
+  to = s;
+  path = none;
+  grows = grows_same s;
+  goes = h;
+  fronts = f;
+  grown = as_before refl;
+}
+going_on rules w name c o m x s (used_report from v report by may) h f sent =
+    let told = with_report m from report in
+    let one = change_on rules w name c o m told s (takes_report {m = m} from v report by may) tt refl h sent f in
+    let two = refresh_on rules w name c told one.to one.goes one.fronts in
+    let start = (old rules w name c told one.to one.goes).begins.within in
+    let same = ap (λ (l : Log). l.start) (rests_refresh told).log in
+    record {
+      group = group_after w.group (refresh told);
+      to = two.to;
+      path = then_moves one.path two.path;
+      grows = grows_trans s one.to two.to one.grows two.grows;
+      goes = two.goes;
+      fronts = two.fronts;
+      grown = by_reports (brings_true from v report by) (leads_rests (rests_refresh told).rests ∙ may.leads) (omega arith) refl;
+    }
+going_on rules w name c o m x s (and_then {n = n} before z plain) h f sent =
+    let prior = going_on rules w name c o m n s before h f sent in
+    let one = change_on rules (growing w prior.group) name c o n x prior.to z (plain_too z plain) (none_noted z plain (growing w prior.group)) prior.goes sent
+    prior.fronts in
+    record {
+      group = prior.group;
+      to = one.to;
+      path = then_moves prior.path one.path;
+      grows = grows_trans s prior.to one.to prior.grows one.grows;
+      goes = one.goes;
+      fronts = one.fronts;
+      grown = grown_next w.group prior.group n x z plain prior.goes.along.owned.fronts.accepted prior.grown;
+    }

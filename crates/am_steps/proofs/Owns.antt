@@ -1,0 +1,194 @@
+-- Where a node's last ballot was decided and its promise is its own, it is that of the ballot, in every run.
+use Rattle.std.proofs.Common.{◌≡◌, inr, ⊎_elim, ℕ, ◌<◌, ◌==◌, ◌&&◌, ◌||◌, not, true, false, List, Option, Some, None, sym, ap, ◌∙◌, subst, arith}
+use Rattle.std.proofs.lemmas.Bool.Decides.{nat_tests}
+use Rattle.am_base.specs.declared.name.Stamp.{Stamp}
+use Rattle.am_base.specs.declared.outcome.Outcome.{Outcome}
+use Rattle.am_base.specs.declared.outcome.Outcome.TheVariants as said
+use Rattle.am_base.specs.Founding.{Rules, MayFound}
+use Rattle.am_base.specs.Names.{has}
+use Rattle.am_base.specs.Stamps.{stamp_lt, no_stamp}
+use Rattle.am_group.specs.declared.event.Event.{Event}
+use Rattle.am_model.specs.Node.{Node, Ballot, is_member, is_asking}
+use Rattle.am_model.specs.Ballots.{Verdict, overtaken}
+use Rattle.am_model.specs.World.{World, start, unchanged, stepped, run}
+use Rattle.am_model.proofs.Greatest.{split, and_both}
+use Rattle.am_effects.specs.Causes.{Cause}
+use Rattle.am_effects.specs.Looks.{Looks, finds_itself_out, waits, fetches_from_best, finds_too_few, finds_no_room, decides}
+use Rattle.am_effects.specs.Changes.{Promises, invited, overtaken as overtaken_by, told_result, Change, refreshes, settles, takes_report, admits, numbers}
+use Rattle.am_effects.specs.Changes.{keeps_body, notes, stores, begins_list, departs, promises, opens, looks, fetches, stores_view, queues, collects, takes}
+use Rattle.am_effects.specs.Changes.{asks_to_join, asks_to_leave, closes}
+use Rattle.am_effects.specs.Events.{actor, idles, stops, returns, steps}
+use Rattle.am_effects.proofs.Rests.{rests_refresh, rests_closed, settle_is}
+use Rattle.am_effects.proofs.Runs.{along, EachKeeps, runs_keep}
+use Rattle.am_laws.proofs.Named.{few_names}
+use Rattle.am_laws.proofs.Stamps.{equal_stamps}
+use Rattle.am_laws.proofs.ViewNames.{HasNames, HeardNames, change_names, promised_named}
+use Rattle.am_laws.proofs.ViewChanges.{Balloted, change_does, looked_at}
+use Rattle.am_laws.proofs.Views.{AllViews, each_views, heard_names, views_start}
+use Rattle.am_promises.specs.Claim.{AtMost, IsBegun}
+use Rattle.am_promises.proofs.Stamps.{most_same, most_through}
+use Rattle.am_promises.proofs.Changes.{CauseBegun, Promised, promise_change}
+use Rattle.am_promises.proofs.Runs.{AllBegun, cause_begun, each_keeps, start_begun}
+use Rattle.am_stands.specs.States.{OwnDecided}
+use Rattle.am_steps.proofs.Statuses.{asking_bare}
+
+-- ---- by the parts of a node
+
+abbrev Owning : ℕ → Stamp → Option Ballot → Type 0
+Owning who promise ballot = (b : Ballot) (number : ℕ) (names : List ℕ) → ballot ≡ Some b → b.answer ≡ said.Decided number names → promise.by ≡ who
+    → promise ≡ b.stamp
+
+same_owning : (x y : Node) → y.core.who ≡ x.core.who → y.core.promise ≡ x.core.promise → y.ballot ≡ x.ballot → OwnDecided x → OwnDecided y
+same_owning x y who promise ballot h = subst (λ k. Owning k y.core.promise y.ballot) (sym who)
+    (subst (λ (v : Stamp). Owning x.core.who v y.ballot) (sym promise) (subst (Owning x.core.who x.core.promise) (sym ballot) h))
+
+-- a ballot that was decided isn't overtaken
+still_decided : (v : Stamp) (ballot : Option Ballot) (b : Ballot) (number : ℕ) (names : List ℕ) → overtaken v ballot ≡ Some b
+    → b.answer ≡ said.Decided number names
+    → ballot ≡ Some b
+still_decided v None b number names is answer = is
+still_decided v (Some a) b number names is answer = split (not a.is_over && stamp_lt a.stamp v)
+    (λ t. absurd (let z = rw t at is in
+    let same : record a { answer = said.Overtaken v; is_over = true } ≡ b = cc in
+    let said_ : said.Overtaken v ≡ said.Decided number names = ap (λ (x : Ballot). x.answer) same ∙ answer in cc))
+    (λ f. rw f at is)
+
+none_least : (p : Stamp) → AtMost no_stamp p
+none_least p = grind (arith, nat_tests)
+
+-- ---- a change
+
+-- what is known along a step
+record Knows (nodes : ℕ → Node) (i : ℕ) (x : Node) : Type 0 where
+  named : HasNames x
+  balloted : Balloted x
+  promised : Promised nodes i x
+  owns : OwnDecided x
+
+promise_owns : (nodes : ℕ → Node) (i : ℕ) (c : Cause) (x : Node) (v : Stamp) → HeardNames c → CauseBegun nodes c → Promises c x v
+    → stamp_lt v x.core.promise ≡ false
+    → IsBegun nodes v → Knows nodes i x → Owning x.core.who v (overtaken v x.ballot)
+promise_owns nodes i c x v names begun why low is h b number all at answer mine =
+    let old = still_decided v x.ballot b number all at answer in
+    let who = h.promised.who in
+    let small : v.by < 256 = promised_named c x v why names in
+    let most : AtMost v x.core.promise = ⊎_elim
+    (λ (z : v ≡ no_stamp). subst (λ (u : Stamp). AtMost u x.core.promise) (sym z) (none_least x.core.promise))
+    (λ (z : AtMost v (nodes v.by).core.promise). most_through v (nodes i).core.promise x.core.promise
+    (subst (λ k. AtMost v (nodes k).core.promise) (mine ∙ who) z) h.promised.up)
+    is in
+    let same : v ≡ x.core.promise = equal_stamps v x.core.promise small h.named.promise_ low most in
+    same ∙ h.owns b number all old answer (ap (λ (u : Stamp). u.by) (sym same) ∙ mine)
+
+abbrev answer_in : Option Ballot → Outcome
+answer_in None = said.Asked
+answer_in (Some a) = a.answer
+
+abbrev stamp_in : Option Ballot → Stamp
+stamp_in None = no_stamp
+stamp_in (Some a) = a.stamp
+
+look_owns : (x : Node) (b : Ballot) (v : Verdict) → Looks x b v → x.core.promise ≡ b.stamp → OwnDecided v.node
+look_owns x b v (finds_itself_out y) promise = λ a number names is answer mine. absurd (let z = ap answer_in is ∙ answer in cc)
+look_owns x b v (waits y z) promise = λ a number names is answer mine. absurd (let u = ap answer_in is ∙ answer in cc)
+look_owns x b v (fetches_from_best y z u) promise = λ a number names is answer mine. absurd (let t = ap answer_in is ∙ answer in cc)
+look_owns x b v (finds_too_few y z) promise = λ a number names is answer mine. absurd (let u = ap answer_in is ∙ answer in cc)
+look_owns x b v (finds_no_room y) promise = λ a number names is answer mine. absurd (let z = ap answer_in is ∙ answer in cc)
+look_owns x b v (decides may) promise = λ a number names is answer mine. promise ∙ ap stamp_in is
+
+change_owns : (nodes : ℕ → Node) (i : ℕ) (c : Cause) (o : Outcome) (x y : Node) → HeardNames c → CauseBegun nodes c → Change c o x y → Knows nodes i x
+    → OwnDecided y
+change_owns nodes i c o x y names begun refreshes h = let r = (rests_refresh x).rests in same_owning x y r.who r.promise r.ballot h.owns
+change_owns nodes i c o x y names begun settles h = same_owning x y (ap (λ (n : Node). n.core.who) (settle_is x))
+    (ap (λ (n : Node). n.core.promise) (settle_is x))
+    (ap (λ (n : Node). n.ballot) (settle_is x)) h.owns
+change_owns nodes i c o x y names begun (takes_report s v report by may) h = h.owns
+change_owns nodes i c o x y names begun (admits s v is leads fit) h = h.owns
+change_owns nodes i c o x y names begun (numbers e leads room why) h = h.owns
+change_owns nodes i c o x y names begun (keeps_body s v report req body is heard) h = h.owns
+change_owns nodes i c o x y names begun (notes s v base a by heard) h = h.owns
+change_owns nodes i c o x y names begun (stores s v base a number e by heard plain may) h = h.owns
+change_owns nodes i c o x y names begun (begins_list s v base join image is says may) h = λ b number all at answer mine. absurd (
+    let asks = and_both (not (s == x.core.who)) (is_member x.status || is_asking x.status) may.asks in
+    let none = h.balloted.none (asking_bare x.status may.no_member asks.1) in
+    let z = sym none ∙ at in
+    cc)
+change_owns nodes i c o x y names begun (departs s v number is heard leaves) h = h.owns
+change_owns nodes i c o x y names begun (promises v low why) h = promise_owns nodes i c x v names begun why low (raised why) h
+  where
+    raised : {v : Stamp} → Promises c x v → IsBegun nodes v
+    raised (invited s w is heard own) = subst (CauseBegun nodes) is begun
+    raised (overtaken_by s w shown is heard above) = subst (CauseBegun nodes) is begun
+    raised (told_result s w base number names_ resilience is heard own other) = subst (CauseBegun nodes) is begun
+change_owns nodes i c o x y names begun (opens least resilience by may) h = λ b number all at answer mine. absurd (let z = ap answer_in at ∙ answer in cc)
+change_owns nodes i c o x y names begun (looks b verdict over why look is) h = look_owns x b verdict look (looked_at x b why h.balloted).open_.promised
+change_owns nodes i c o x y names begun (fetches s v base number e is heard promise below from may) h = h.owns
+change_owns nodes i c o x y names begun (stores_view s v base number all resilience is heard own other promise below may) h = h.owns
+change_owns nodes i c o x y names begun (queues body is says member stays few) h = h.owns
+change_owns nodes i c o x y names begun (collects req is) h = h.owns
+change_owns nodes i c o x y names begun (takes e is says member some there) h = h.owns
+change_owns nodes i c o x y names begun (asks_to_join is was) h = h.owns
+change_owns nodes i c o x y names begun (asks_to_leave is was stays done) h = h.owns
+change_owns nodes i c o x y names begun (closes leads leaves alone room) h = let r = rests_closed x in same_owning x y r.who r.promise r.ballot h.owns
+
+change_knows : (nodes : ℕ → Node) (i : ℕ) (c : Cause) (o : Outcome) → HeardNames c → CauseBegun nodes c → (x y : Node) → Change c o x y → Knows nodes i x
+    → Knows nodes i y
+change_knows nodes i c o names begun x y z h = record {
+  named = change_names names x y z h.named;
+  balloted = (change_does names x y z h.named h.balloted).balloted;
+  promised = promise_change nodes i c o x y begun z h.promised;
+  owns = change_owns nodes i c o x y names begun z h;
+}
+
+-- ---- runs
+
+pub record AllOwns (rules : Rules) (w : World) : Type 0 where
+  pub views : AllViews rules w
+  pub begun : AllBegun w
+  pub each : (i : ℕ) → i < 256 → OwnDecided (w.nodes i)
+
+pub owns_next : (rules : Rules) → EachKeeps (AllOwns rules)
+unfolding unchanged stepped
+owns_next rules w e v (idles o idle) h = record {
+  views = each_views rules w e v (idles o idle) h.views;
+  begun = each_keeps w e v (idles o idle) h.begun;
+  each = h.each;
+}
+owns_next rules w e v (stops runs) h = record {
+  views = each_views rules w e v (stops runs) h.views;
+  begun = each_keeps w e v (stops runs) h.begun;
+  each = h.each;
+}
+owns_next rules w e v (returns place is gone more) h = record {
+  views = each_views rules w e v (returns place is gone more) h.views;
+  begun = each_keeps w e v (returns place is gone more) h.begun;
+  each = h.each;
+}
+owns_next rules w e v (steps c s runs cause effect) h =
+    let i = actor w e in
+    let few = few_names rules w e h.views.named in
+    let k = h.views.each i few in
+    let now = along (Knows w.nodes i)
+    (change_knows w.nodes i c s.outcome (heard_names rules w e c h.views cause) (cause_begun w i e.act c h.begun.letters cause))
+    effect.changes (record {
+      named = k.names;
+      balloted = k.balloted;
+      promised = record { who = h.begun.who i; up = most_same (w.nodes i).core.promise; begun = inr (h.begun.each i) };
+      owns = h.each i few;
+    }) in
+    record {
+      views = each_views rules w e v (steps c s runs cause effect) h.views;
+      begun = each_keeps w e v (steps c s runs cause effect) h.begun;
+      each = λ j low. split (j == i) (λ t. rw t now.owns) (λ f. rw f (h.each j low));
+    }
+
+owns_start : (rules : Rules) → MayFound rules → AllOwns rules (start rules)
+owns_start rules may = record {
+  views = views_start rules may;
+  begun = start_begun rules may;
+  each = λ i low. split (has rules.founders i) (λ t. rw t (λ b number all at answer mine. absurd (cc)))
+      (λ f. rw f (λ b number all at answer mine. absurd (cc)));
+}
+
+pub run_owns : (rules : Rules) (events : List Event) → MayFound rules → AllOwns rules (run rules events)
+run_owns rules events may = runs_keep (AllOwns rules) (owns_next rules) (start rules) events (owns_start rules may)

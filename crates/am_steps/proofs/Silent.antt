@@ -1,0 +1,96 @@
+-- A step of who had departed before it sends nothing.
+use Rattle.std.proofs.Common.{◌≡◌, ℕ, ◌==◌, ◌||◌, nat_lt, nat_le, not, Bool, true, false, if◌then◌else◌, [], ◌++◌, length, Option, Some, None, refl}
+use Rattle.std.proofs.Common.{sym, ap, ◌∙◌, arith, append-nil}
+use Rattle.std.proofs.Common.{length-append}
+use Rattle.am_base.specs.declared.outcome.Outcome.TheVariants as said
+use Rattle.am_base.specs.declared.event.NodeEvent.{NodeEvent}
+use Rattle.am_base.specs.declared.event.NodeEvent.TheVariants as does
+use Rattle.am_base.specs.Names.{place_of}
+use Rattle.am_packet.specs.declared.packet.Packet.{Packet}
+use Rattle.am_packet.specs.Boxes.{Letter}
+use Rattle.am_group.specs.declared.event.Act.{Act}
+use Rattle.am_group.specs.declared.event.Act.TheVariants as act
+use Rattle.am_group.specs.declared.event.Event.{Event}
+use Rattle.am_group.specs.Addressed.{is_for}
+use Rattle.am_group.specs.Journals.{letter_at}
+use Rattle.am_model.specs.Node.{Node}
+use Rattle.am_model.specs.Emit.{Step}
+use Rattle.am_model.specs.Step.{step, hear, refused}
+use Rattle.am_model.specs.Lengths.{packet_length}
+use Rattle.am_model.specs.World.{World, current, is_stopped, has_departed, unchanged, stepped, does_event, gives_up, heard, hear_cut, returned}
+use Rattle.am_model.specs.World.{acts_as, happens}
+use Rattle.am_effects.specs.Events.{actor}
+use Rattle.am_unballoted.proofs.Steps.{nil_of}
+use Rattle.am_stands.specs.Sending.{SendsNothing}
+
+abbrev Same : World → World → Type 0
+Same w v = v.letters ≡ w.letters
+
+same_if : (w : World) (b : Bool) (u v : World) → Same w u → Same w v → Same w (if b then u else v)
+same_if w true u v h k = h
+same_if w false u v h k = k
+
+quiet_step : (w : World) (e : Event) (name : ℕ) (s : Step) → s.letters ≡ [] → Same w (stepped w e name s)
+unfolding stepped
+quiet_step w e name s none = ap (λ l. w.letters ++ l) none ∙ append-nil w.letters
+
+same_unchanged : (w : World) (e : Event) (o : _) → Same w (unchanged w e o)
+unfolding unchanged
+same_unchanged w e o = refl
+
+module _ (w : World) (e : Event) (name : ℕ) (h : SendsNothing (w.nodes name)) where
+  m : Node
+  m = w.nodes name
+
+  called : (event : NodeEvent) → Same w (does_event w e name event)
+  called event = same_if w (is_stopped w name) _ _ (same_unchanged w e said.IsStopped) (quiet_step w e name (step (w.nodes name) event) (h.calls_ event))
+
+  given_up : (other : ℕ) → Same w (gives_up w e name other)
+  given_up other = same_if w (is_stopped w name) _ _ (same_unchanged w e said.IsStopped)
+      (same_if w (is_stopped w other) _ _ (quiet_step w e name (step (w.nodes name) (does.GiveUp other)) (h.calls_ (does.GiveUp other)))
+      (same_unchanged w e said.NotStopped))
+
+  heard_so : (hearing : Packet → Step) (l : Option Letter) → ((p : Packet) → (hearing p).letters ≡ []) → Same w (heard w e name hearing l)
+  heard_so hearing None quiet = same_unchanged w e said.NoPacket
+  heard_so hearing (Some l) quiet = same_if w (not (is_for l name)) _ _ (same_unchanged w e said.NotAddressed)
+      (same_if w (is_stopped w name) _ _ (same_unchanged w e said.IsStopped) (quiet_step w e name (hearing l.packet) (quiet l.packet)))
+
+  cut : (keep : ℕ) (p : Packet) → (hear_cut (w.nodes name) keep p).letters ≡ []
+  cut keep p = by_test (nat_le (packet_length p) keep) (nat_lt keep 12)
+    where
+      by_test : (whole none : Bool)
+          → (if whole then hear (w.nodes name) p else if none then refused (w.nodes name) 1 else refused (w.nodes name) 5).letters ≡ []
+      by_test true none = h.hears_ p
+      by_test false true = h.refuses_ 1
+      by_test false false = h.refuses_ 5
+
+  gone_back : (place : ℕ) → Same w (returned w e place)
+  unfolding unchanged
+  gone_back place = same_if w (not (is_stopped w (current w place) || has_departed (w.nodes (current w place)).status)) _ _ refl
+      (same_if w (w.lives place == 16) _ _ refl refl)
+
+  acts : (a : Act) → Same w (acts_as w e name a)
+  unfolding unchanged
+  acts (act.Send body) = called (does.Send body)
+  acts (act.Done req) = called (does.Done req)
+  acts act.Take = called does.Take
+  acts act.Join = called does.Join
+  acts act.State = called does.State
+  acts act.Leave = called does.Leave
+  acts (act.Reset least resilience) = called (does.Reset least resilience)
+  acts (act.Ask round) = called (does.Ask round)
+  acts (act.GiveUp other) = given_up other
+  acts act.Stop = same_if w (is_stopped w name) _ _ refl refl
+  acts act.Tick = called does.Tick
+  acts (act.Hear number) = heard_so (hear (w.nodes name)) (letter_at w.letters number) h.hears_
+  acts (act.Cut number keep) = heard_so (hear_cut (w.nodes name) keep) (letter_at w.letters number) (cut keep)
+  acts act.Return = gone_back (place_of name)
+
+pub departed_quiet : (w : World) (e : Event) (s : Step) → SendsNothing (w.nodes (actor w e)) → happens w e ≡ stepped w e (actor w e) s → s.letters ≡ []
+unfolding happens stepped
+departed_quiet w e s h is =
+    let same : (happens w e).letters ≡ w.letters = acts w e (actor w e) h e.act in
+    let all : w.letters ++ s.letters ≡ w.letters = sym (ap (λ (v : World). v.letters) is) ∙ same in
+    let long = length-append w.letters s.letters in
+    let size = ap length all in
+    nil_of s.letters (omega arith)

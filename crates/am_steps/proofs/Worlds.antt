@@ -1,0 +1,98 @@
+-- A world within a step whose group list, and views, have gone on.
+use Rattle.std.proofs.Common.{◌≡◌, ℕ, ◌<◌, true, List, ◌++◌, Some, slice_get, refl, sym, ap, ◌∙◌}
+use Rattle.am_base.specs.declared.entry.Entry.{Entry}
+use Rattle.am_group.specs.declared.event.Record.{Record}
+use Rattle.am_chain_lists.specs.Whole.{Begins}
+use Rattle.am_chain_moves.specs.Group as groups
+use Rattle.am_chain_moves.specs.Group.{Group, put}
+use Rattle.am_chain_moves.specs.Moves.{with_node}
+use Rattle.am_model.specs.Node.{Node}
+use Rattle.am_model.specs.World.{Decided, World, is_stopped}
+use Rattle.am_model.specs.Claims.{up_to_next}
+use Rattle.am_stands.specs.Standing.{NameStands, StandsBut, within}
+use Rattle.am_stands.specs.Letters.{WasAsked}
+use Rattle.am_stands.specs.States.{SendsOnce}
+use Rattle.am_stands.specs.Keeping.{NodeKeeps}
+use Rattle.am_stands.proofs.Names.{views_noted, each_within, fronts_within, lines_within, views_in}
+use Rattle.am_stands.proofs.Changes.{Unmoved, others_same, others_fronts, same_name}
+use Rattle.am_stands.proofs.Ends.{taken_more, name_grows}
+use Rattle.am_stands.proofs.Others.{last_stays}
+
+-- views were noted by names
+abbrev pub AreNoted : List Decided → Type 0
+AreNoted views = (k : ℕ) (d : Decided) → slice_get views k ≡ Some d → d.stamp.by < 256
+
+abbrev pub growing : World → List Entry → World
+growing w group = record w { group = group }
+
+-- ---- what stands
+
+-- with more accepted
+pub grown_stands : (v : World) (group : List Entry) (name : ℕ) (s : Group) → Begins v.group group → AreNoted v.views → StandsBut name v s
+    → StandsBut name (growing v group) (record s { group = group })
+grown_stands v group name s grows noted h = record {
+  each = λ i few. name_grows v (growing v group) i (v.nodes i) (s.node i) grows refl (h.each i few);
+  fronts = h.fronts;
+  views = views_noted v (growing v group) s.views refl (λ k d at. (let m = v.nodes d.stamp.by in
+      ap (λ l. up_to_next d.stamp (l ++ m.core.log.entries))
+      (taken_more m.core.log.start v.group group grows (h.each d.stamp.by (noted k d at)).begins.within))) h.views;
+  group = refl;
+}
+
+-- a node that is the same to the group
+pub same_stands : (w : World) (name : ℕ) (x y : Node) (s : Group) → Unmoved x y → StandsBut name (within w name x) s → StandsBut name (within w name y) s
+same_stands w name x y s u h = record {
+  each = others_same w name x y s u h.each;
+  fronts = others_fronts w name x y s h.fronts;
+  views = views_in (within w name x) (within w name y) s.views refl (lines_within w name x y u.log) h.views;
+  group = h.group;
+}
+
+-- and that has learned
+abbrev pub learned : groups.Node → ℕ → ℕ → groups.Node
+learned a told acc = record a { told = told; acc = acc }
+
+name_learned : (v : World) (i : ℕ) (m : Node) (a : groups.Node) (told acc : ℕ) → NameStands v i m a → NameStands v i m (learned a told acc)
+name_learned v i m a told acc h = record {
+  begins = h.begins;
+  list = h.list;
+  log_ = h.log_;
+  stopped = h.stopped;
+  departed = h.departed;
+  leaving = h.leaving;
+  promise = h.promise;
+  ballot = h.ballot;
+  start = h.start;
+}
+
+pub learned_stands : (w : World) (name : ℕ) (x y : Node) (s : Group) (told acc : ℕ) → Unmoved x y → StandsBut name (within w name x) s
+    → StandsBut name (within w name y) (with_node s name (learned (s.node name) told acc))
+learned_stands w name x y s told acc u h = record {
+  each = each_within w name x y s (learned (s.node name) told acc)
+      (λ k. name_learned (within w name y) name y (s.node name) told acc (same_name w name name x y (s.node name) u k)) h.each;
+  fronts = fronts_within w name x y s (learned (s.node name) told acc) h.fronts;
+  views = views_in (within w name x) (within w name y) s.views refl (lines_within w name x y u.log) h.views;
+  group = h.group;
+}
+
+-- ---- what a node keeps, and what was asked
+
+pub keeps_in : (w v : World) (s : Group) (i : ℕ) (x : Node) → ((j : ℕ) → is_stopped w j ≡ true → is_stopped v j ≡ true) → NodeKeeps w s i x → NodeKeeps v s i x
+keeps_in w v s i x stopped h = record {
+  good = h.good;
+  votes = h.votes;
+  fetches = h.fetches;
+  last = last_stays w v x.ballot stopped h.last;
+  opens = h.opens;
+  reports = h.reports;
+  fresh = h.fresh;
+  trimmed = h.trimmed;
+  turn = h.turn;
+  leaves = h.leaves;
+}
+
+pub once_in : (w v : World) → v.records ≡ w.records → SendsOnce w → SendsOnce v
+once_in w v same h name req a b p q = h name req a b (asked_in name req a p) (asked_in name req b q)
+  where
+    asked_in : (name req : ℕ) (body : List ℕ) → WasAsked v name req body → WasAsked w name req body
+    asked_in name req body k = record { index = k.index; done = k.done; there = ap (λ (l : List Record). slice_get l k.index) (sym same) ∙ k.there; is = k.is }
