@@ -172,12 +172,6 @@ IsUnplayed bytes (unplayed.BadScript cause) = reading key.Play bytes ≡ Err cau
 IsUnplayed bytes unplayed.Spent = IsSpent bytes
 IsUnplayed bytes unplayed.NoMemory = Unit {0}
 
--- why bytes have no text as a race
-abbrev pub IsUnraced : List ℕ → Unplayed → Type 0
-IsUnraced bytes (unplayed.BadScript cause) = reading key.Race bytes ≡ Err cause
-IsUnraced bytes unplayed.Spent = ⊥
-IsUnraced bytes unplayed.NoMemory = Unit {0}
-
 -- the cause by a world's
 abbrev pub unplayed_for : WorldRefusal → Unplayed
 unplayed_for refusals.NoMemory = unplayed.NoMemory

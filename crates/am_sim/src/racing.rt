@@ -32,7 +32,6 @@ fn events_of(alloc: Global, records: &[Record]) -> Result<Items<Event>, NoMemory
 }
 
 /// What was done in a race. The journal that it left is let go, since the run of these events keeps one of its own.
-#[tactic(auto, using(crate::proofs::Raced::may_race))]
 fn events_of_race<R: Threads + Wait + Sync, G: Gate + Sync>(
     rt: &R,
     alloc: Global,
@@ -40,13 +39,16 @@ fn events_of_race<R: Threads + Wait + Sync, G: Gate + Sync>(
     plan: &RacePlan,
 ) -> Result<Items<Event>, NoMemory>
     requires { RaceWithin plan.now }
-    ensures { IfOk result (λ events. (journal : List Record) × IsRaced plan.now journal × (events ≡ events_of journal)) }
+    ensures raced { IfOk result (λ events. (journal : List Record) × IsRaced plan.now journal × (events ≡ events_of journal)) }
+    ensures few { IfOk result (λ events. length events ≤ most_events) }
 {
     let journal = race(rt, alloc, plan, gate)?;
-    events_of(alloc, journal.records())
+    let events = events_of(alloc, journal.records())?;
+    Ok(events)
 }
 
 /// The text of the run of at most 100,000 events.
+#[tactic(auto, unfolding(crate::specs::Playing::IsRunText, crate::specs::Playing::IsLong))]
 fn text_of_events(alloc: Global, founding: &Founding, events: &[Event]) -> Result<String, NoMemory>
     requires { length events.now ≤ most_events }
     ensures { IfOk result (λ text. string_bytes text ≡ text_of founding.now events.now) }
@@ -85,5 +87,6 @@ pub fn text_of_race<R: Threads + Wait + Sync, G: Gate + Sync>(
     ensures { IfOk result (λ text. IsRaceText plan.now (string_bytes text)) }
 {
     let events = events_of_race(rt, alloc, gate, plan)?;
-    text_with_script(alloc, &plan.founding, events.as_slice())
+    let text = text_with_script(alloc, &plan.founding, events.as_slice())?;
+    Ok(text)
 }

@@ -1,4 +1,4 @@
-ghost use Rattle.std.specs.Prelude.{◌≡◌, ◌≢◌, ◌↔◌, ℕ, List, None, Some, Err, IfOk, IfErr, IfSome, Ok, string_bytes};
+ghost use Rattle.std.specs.Prelude.{◌≡◌, ◌≢◌, ◌↔◌, ℕ, List, None, Some, Err, IfOk, IfErr, IfSome, Ok, string_bytes, true};
 ghost use Rattle.std.specs.Io.KnownBytes.{Appends};
 ghost use Rattle.am_io.specs.Outside.{ReadToEnd, GaveMore, GaveAtMost};
 ghost use Rattle.am_script.specs.declared.key.Key.TheVariants as key;
@@ -8,7 +8,7 @@ ghost use Rattle.am_script.specs.Scripts.{IsOfKind, reading};
 ghost use Rattle.am_sim.specs.declared.simulate.Unplayed.TheVariants as unplayed;
 ghost use Rattle.am_words.specs.declared.form.Form.TheVariants as form;
 ghost use Rattle.am_words.specs.Forms.{IsGen};
-ghost use Rattle.am_sim.specs.Simulation.{asked, Reads, key_for, EndsGen, IsAnswer, IsPlayed, IsRacedText, IsSummary, OnDone, OnWriteFault, IfBadScript, Writes, Played, Raced, WrotePart, IsSpent, IsText, IsUnrun, IsUnplayed, IsUnraced, unplayed_for, reads_after, writes_after, number_of};
+ghost use Rattle.am_sim.specs.Simulation.{asked, Reads, key_for, EndsGen, IsAnswer, IsPlayed, IsRacedText, IsSummary, OnDone, OnWriteFault, IfBadScript, Writes, Played, Raced, WrotePart, IsSpent, IsText, IsUnrun, IsUnplayed, unplayed_for, reads_after, writes_after, number_of};
 
 use crate::generating::summary_of_run;
 use crate::playing::text_of_run;
@@ -98,9 +98,24 @@ pub fn simulate<R: Threads + Wait + Sync, S: Source, K: Sink, G: Gate + Sync>(
     ensures done { OnDone result ((text : List ℕ) × IsAnswer (asked words.now) (S.left source.old) (S.left source.new) text × Appends (K.contents sink.old) (K.contents sink.new) text) }
     ensures unwritten { (Writes result → ⊥) → sink.new ≡ sink.old }
 {
+    if is_race(words) {
+        return race_script(rt, alloc, gate, source, sink);
+    }
     match simulate_alone(alloc, words, source, sink) {
         Some(status) => status,
-        None => race_script(rt, alloc, gate, source, sink),
+        None => unreachable!(),
+    }
+}
+
+/// Whether words are the one word `race`.
+fn is_race(words: &[&str]) -> bool
+    ensures { (result ≡ true) ↔ (asked words.now ≡ Some form.Race) }
+{
+    match form_of(words) {
+        Some(Form::Race) => true,
+        Some(Form::Play) => false,
+        Some(Form::Gen(_)) => false,
+        None => false,
     }
 }
 
@@ -224,9 +239,12 @@ fn race_script<R: Threads + Wait + Sync, S: Source, K: Sink, G: Gate + Sync>(
     };
     let text = match race_answer(rt, alloc, gate, bytes.as_slice()) {
         Ok(text) => text,
-        Err(Unplayed::BadScript(why)) => return Status::BadScript(why),
-        Err(Unplayed::Spent) => unreachable!(),
-        Err(Unplayed::NoMemory) => return Status::NoMemory,
+        Err(cause) => {
+            if cause == ScriptRefusal::NoMemory {
+                return Status::NoMemory;
+            }
+            return Status::BadScript(cause);
+        }
     };
     match write_all(sink, text.as_bytes()) {
         Ok(()) => Status::Done,
@@ -235,35 +253,31 @@ fn race_script<R: Threads + Wait + Sync, S: Source, K: Sink, G: Gate + Sync>(
 }
 
 /// The plan of the race that bytes are.
-fn plan_of(alloc: Global, bytes: &[u8]) -> Result<RacePlan, Unplayed>
+fn plan_of(alloc: Global, bytes: &[u8]) -> Result<RacePlan, ScriptRefusal>
     ensures plan { IfOk result (λ plan. reading key.Race bytes.now ≡ Ok (scripts.Race plan)) }
     ensures within { IfOk result RaceWithin }
-    ensures unraced { IfErr result (λ e. IsUnraced bytes.now e) }
+    ensures refused { IfErr result (λ e. e ≢ ScriptRefusal.NoMemory → reading key.Race bytes.now ≡ Err e) }
 {
-    match read_script(alloc, Key::Race, bytes) {
-        Ok(Script::Race(plan)) => Ok(plan),
-        Ok(Script::Play { .. }) => unreachable!(),
-        Err(ScriptRefusal::NoMemory) => Err(Unplayed::NoMemory),
-        Err(cause) => Err(Unplayed::BadScript(cause)),
+    let script = read_script(alloc, Key::Race, bytes)?;
+    match script {
+        Script::Race(plan) => Ok(plan),
+        Script::Play { .. } => unreachable!(),
     }
 }
 
 /// The text of the race that bytes are.
-#[tactic(auto, using(crate::proofs::Answered::raced_by))]
 fn race_answer<R: Threads + Wait + Sync, G: Gate + Sync>(
     rt: &R,
     alloc: Global,
     gate: &G,
     bytes: &[u8],
-) -> Result<String, Unplayed>
+) -> Result<String, ScriptRefusal>
     ensures raced { IfOk result (λ text. Raced bytes.now (string_bytes text)) }
-    ensures unraced { IfErr result (λ e. IsUnraced bytes.now e) }
+    ensures refused { IfErr result (λ e. e ≢ ScriptRefusal.NoMemory → reading key.Race bytes.now ≡ Err e) }
 {
     let plan = plan_of(alloc, bytes)?;
-    match text_of_race(rt, alloc, gate, &plan) {
-        Ok(text) => Ok(text),
-        Err(_) => Err(Unplayed::NoMemory),
-    }
+    let text = text_of_race(rt, alloc, gate, &plan)?;
+    Ok(text)
 }
 
 /// Why there is no text of a script's run.
