@@ -10,7 +10,8 @@ use Rattle.am_model.specs.Lawful.{Watch, watch_start, watch, watch_all, watched}
 use Rattle.am_model.specs.Play.{watched_text, text_of, summary_text_of}
 use Rattle.am_model.specs.Settle.{settle_events}
 use Rattle.am_model.proofs.Runs.{watched_is_run}
-use Rattle.am_headline.proofs.Headline.{headline_holds}
+use Rattle.am_headline.proofs.Fitted.{views_fit}
+use Rattle.am_headline.proofs.Holds.{headline_holds}
 use Rattle.am_sent.proofs.Runs.{sent_holds}
 use Rattle.am_unballoted.proofs.Holds.{unballoted_holds}
 use Rattle.am_pump.specs.Generating.{generated_rules, generated}
@@ -46,6 +47,7 @@ text_is rules events true =
 keeps_all : (rules : Rules) (events : List Event) → MayFound rules → Keeps rules events
 keeps_all rules events may = record {
   headline = headline_holds rules events may;
+  fits = λ name. views_fit rules events name may;
   sent = sent_holds rules events may;
   unballoted = λ none. unballoted_holds rules events may none;
 }

@@ -9,7 +9,8 @@ use Rattle.am_group.specs.declared.event.Record.{Record}
 use Rattle.am_group.specs.declared.plan.RacePlan.{RacePlan}
 use Rattle.am_model.specs.World.{run}
 use Rattle.am_model.specs.Play.{text_of, settled_text_of, summary_text_of}
-use Rattle.am_model.specs.Claims.{Headline, Sent, NoBallot, HoldsUnballoted}
+use Rattle.am_model.specs.Claims.{Headline, FitsView, Sent, NoBallot, HoldsUnballoted}
+use Rattle.am_model.specs.Lawful.{lawful_front}
 use Rattle.am_script.specs.Scripts.{reading}
 use Rattle.am_script.specs.declared.key.Key.{Key}
 use Rattle.am_script.specs.declared.key.Key.TheVariants as key
@@ -39,11 +40,12 @@ asked words = form_of (map (λ word. word.now) words)
 abbrev pub run_text : Rules → List Event → Bool → List ℕ
 run_text rules events settles = if settles then settled_text_of rules events else text_of rules events
 
--- What is claimed of every run: the headline, which is up to its lawful front, and that no node ever kept more than it may. Besides, of the whole
--- run, whoever stops: everything in the one group list was sent before it stood there; and where nobody began a ballot, all but what the
--- headline says of complete views.
+-- What is claimed of every run: the headline, which is up to its lawful front, and that no node ever kept more than it may; and that up to there a
+-- View which leaves somebody out fits each node. Besides, of the whole run, whoever stops: everything in the one group list was sent before it
+-- stood there; and where nobody began a ballot, all but what the headline says of complete views.
 pub record Keeps (rules : Rules) (events : List Event) : Type 0 where
   pub headline : Headline rules events
+  pub fits : (name : ℕ) → FitsView rules ((run rules (lawful_front rules events)).nodes name)
   pub sent : Sent rules events
   pub unballoted : NoBallot (run rules events) → HoldsUnballoted rules events
 
