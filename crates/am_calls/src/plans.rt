@@ -36,13 +36,24 @@ fn calls_in(threads: &[ThreadPlan]) -> u64
     sum
 }
 
+/// Whether all acts of threads are calls.
+fn have_calls(threads: &[ThreadPlan]) -> bool
+    ensures { result ≡ list_all (λ thread. list_all is_call thread.calls) threads.now }
+{
+    threads.iter().all(has_calls)
+}
+
 /// Whether a plan may be raced: by sixteen threads at most, which make calls alone, so few that all their records fit into
 /// one journal.
 pub fn may_race(plan: &RacePlan) -> bool
     ensures { (result ≡ true) ↔ MayRace plan.now }
 {
     let threads = plan.threads.as_slice();
-    threads.len() <= 16
-        && threads.iter().all(has_calls)
-        && calls_in(threads) * (u64::from(plan.turns) + 2) <= MOST_EVENTS as u64
+    if threads.len() > 16 {
+        return false;
+    }
+    if !have_calls(threads) {
+        return false;
+    }
+    calls_in(threads) * (u64::from(plan.turns) + 2) <= MOST_EVENTS as u64
 }

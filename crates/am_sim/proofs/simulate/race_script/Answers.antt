@@ -1,4 +1,5 @@
 use Rattle.std.proofs.Common.{sym, string_bytes}
+use Rattle.am_sim.proofs.Answered.{gave_whole}
 use Rattle.am_sim.proofs.simulate.race_script.Goals as goal
 
 pub returns-in-Ok-write_all-clause-done : goal.returns-in-Ok-write_all-clause-done
@@ -14,3 +15,9 @@ returns-clause-part g c = (
   (c.as_slice.result.now, rw (sym c.as_slice.ensures.value) at (c.in-Ok.ensures.ok), c.in-Ok-race_answer.ensures.raced),
   (c.in-Err.field-0.written, rw c.as_bytes.ensures.value at (c.in-Err.ensures.part)),
 )
+
+pub returns-in-Ok-write_all-clause-within : goal.returns-in-Ok-write_all-clause-within
+returns-in-Ok-write_all-clause-within g c = λ other. gave_whole 16777216 _ _ _ c.in-Ok.ensures.ok c.in-Ok.ensures.within
+
+pub returns-clause-within : goal.returns-clause-within
+returns-clause-within g c = λ other. gave_whole 16777216 _ _ _ c.in-Ok.ensures.ok c.in-Ok.ensures.within
