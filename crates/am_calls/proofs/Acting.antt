@@ -43,7 +43,7 @@ use Rattle.am_calls.proofs.Knows.{Knows, knows, name_now, each_keeps, told_more}
 
 -- ---- the run
 
-events_of : List Record → List Event
+pub events_of : List Record → List Event
 events_of records = map (λ r. r.event) records
 
 IsTheRun : Rules → List Record → Type 0
@@ -62,6 +62,10 @@ told_runs terms before follows =
     (λ done r lawful so_far. told_more terms.founding done r ∙ next_tells terms.founding done r lawful.next ∙ ap (λ (w : World). happens w r.event) so_far
     ∙ sym (ap (run terms.founding) (events_more done r) ∙ replay_after (record { rules = terms.founding; events = events_of done }) r.event))
     [] before refl follows
+
+pub told_is_run : (terms : Terms) (before : List Record) → Follows (IsLawful terms) before → told terms.founding before ≡ run terms.founding (events_of before)
+unfolding IsTheRun
+told_is_run terms before follows = told_runs terms before follows
 
 -- the numbers of a node are within a step's limits
 pub numbers_left : (terms : Terms) (before : List Record) (name : ℕ) (m : Node) → Follows (IsLawful terms) before → length before ≤ most_events

@@ -45,7 +45,9 @@ use Rattle.am_calls.specs.Tags.{of_place, is_turn_part}
 use Rattle.am_calls.specs.Turns.{is_turn, greatest, passed, cursor, last_heard, lost_by, unless_nought, or_nought}
 use Rattle.am_calls.specs.Laws.{IsApart}
 use Rattle.am_calls.specs.Lawful.{is_of_race, plan_by, terms_of, IsLawful}
-use Rattle.am_calls.specs.Boxes.{what_of, Steps, Hears, MayAct, Boxed, Keeps, IsBox, IsShareOf, IsTurn, IsRefused, refused}
+use Rattle.am_calls.specs.Boxes.{what_of, Steps, Hears, MayAct, Boxed, Keeps, IsBox, IsShareOf, IsTurn, Acted, Looks, IsRefused, refused}
+use Rattle.am_calls.specs.declared.ready.Came.{Came}
+use Rattle.am_calls.specs.Ready.{round_in}
 use Rattle.am_calls.proofs.Knows.{Knows, knows, name_now, told_more, stopped_more}
 use Rattle.am_calls.proofs.Legality.{next_tells}
 use Rattle.am_calls.proofs.Nexts.{nodes_stay, stopped_in_more, none_stop, or_true, or_none, item_more, lives_of, all_cons}
@@ -394,6 +396,32 @@ module _ (wire : TableId) (plan : RacePlan) (name : ℕ) (pass share : Known) (m
           is_none None = true
           is_none (Some y) = false
 
+module _ (wire : TableId) (plan : RacePlan) (name : ℕ) (pass share : Known) (m n : Node) (far : ℕ) (last : Option ℕ) (stopped : Bool) (closed : Option WireRefusal)
+    (a : Act) (by : By) (l : Option Letter) (what : Option NodeEvent) (outcome : Outcome) (letters : List Letter)
+    (d : Doing wire plan name pass share m n far last stopped closed a by l what outcome letters) where
+  -- what it leaves
+  pub box_acted : (b : Boxed) (item : Record) (count : ℕ) (pass' share' : Known) (came : Came) → record { name = name; seen = pass.seen; closed = closed } ≡ b
+      → item ≡ item_of name a by outcome letters → Committed (IsLawful pass.terms) pass share item count pass' share' → came.outcome ≡ outcome → came.round ≡ round_in letters
+      → Acted b (record { name = name; seen = pass'.seen; closed = closed }) share share' a by came
+  box_acted b item count pass' share' came view is done told_ round =
+      subst (λ (x : Boxed). Acted x (record { name = name; seen = pass'.seen; closed = closed }) share share' a by came) view (record {
+        before = done.before;
+        item = item;
+        is = record {
+          node = ap (λ (r : Record). r.event.node) is;
+          act_ = ap (λ (r : Record). r.event.act) is;
+          life = ap (λ (r : Record). r.life) is;
+          by_ = ap (λ (r : Record). r.by) is;
+          outcome = ap (λ (r : Record). r.outcome) is ∙ sym told_;
+          round = ap (λ (r : Record). round_in r.packets) is ∙ sym round;
+        };
+        box = subst (λ (ks : List Key). GoesOn ks pass.seen done.before) d.box.keys done.pass;
+        caller = done.share;
+        seen = ap (λ (p : Known). p.seen) done.pass_after;
+        share_ = done.share_after;
+        open_ = d.runs;
+      })
+
 -- a box whose pass has seen more, without a record of its place
 open_sees : (wire : TableId) (plan : RacePlan) (name : ℕ) (pass pass' : Known) (m : Node) (far : ℕ) (last : Option ℕ) (stopped : Bool) (closed : Option WireRefusal)
     → IsBox wire plan name pass m far last stopped closed → closed ≡ None → Sees pass pass' → Follows (IsLawful pass.terms) pass'.seen → IsBox wire plan name pass' m far last stopped closed
@@ -476,3 +504,24 @@ pub refusal_of : (wire : TableId) (plan : RacePlan) (name : ℕ) (pass : Known) 
     → IsBox wire plan name pass m far last stopped closed → closed ≡ Some refusal → IsRefused pass.seen name (refused refusal)
 refusal_of wire plan name pass m far last stopped closed refusals.NoMemory box e = tt
 refusal_of wire plan name pass m far last stopped closed refusals.Spent box e = box.spent e
+
+-- a box that runs still does where it has seen more
+pub still_runs : (wire : TableId) (plan : RacePlan) (name : ℕ) (pass : Known) (m : Node) (far : ℕ) (last : Option ℕ) (stopped : Bool) (closed : Option WireRefusal) (old new : Boxed)
+    → record { name = name; seen = pass.seen; closed = closed } ≡ new → IsBox wire plan name pass m far last stopped closed → Looks old new → has_stopped old.seen old.name ≡ false
+    → has_stopped new.seen new.name ≡ false
+still_runs wire plan name pass m far last stopped closed old new is box looks runs =
+    let n_is : name ≡ old.name = ap (λ (b : Boxed). b.name) is ∙ looks.name in
+    let low : old.name < 16 = subst (λ (n : ℕ). n < 16) n_is box.place in
+    let goes = looks.goes in
+    let more : List Record = drop (length old.seen) new.seen in
+    let whole : new.seen ≡ old.seen ++ more = rest_of new.seen old.seen goes.begins in
+    let none = none_of (Place old.name) old.seen more (ap (of_key (Place old.name)) (sym whole) ∙ goes.own (Place old.name) (own_key (Place old.name))) in
+    let far_ : All (λ r. place_of r.event.node ≢ place_of old.name) more =
+    λ k d h. not_equal (place_of (get_or more k d).event.node) (place_of old.name) (ap (λ (p : ℕ). place_of (get_or more k d).event.node == p) (low_place old.name low) ∙ none k d h)
+    in
+    let follows : Follows (IsLawful (terms_of plan)) (old.seen ++ more) =
+    subst (Follows (IsLawful (terms_of plan))) (ap (λ (b : Boxed). b.seen) is ∙ whole) box.lawful
+    in
+    let lives = lives_of (terms_of plan) old.seen more follows in
+    ap (has_stopped new.seen) looks.name ∙ ap (λ (rs : List Record). has_stopped rs old.name) whole ∙ stopped_in_more old.seen more old.name
+    ∙ or_none (has_stopped old.seen old.name) (has_stopped more old.name) (none_stop more old.name far_ lives low) ∙ runs

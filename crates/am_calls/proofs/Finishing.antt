@@ -40,17 +40,16 @@ pub fresh_luck : (plan : RacePlan) (number stream : ℕ) (luck : Luck) → strea
 unfolding later
 fresh_luck plan number stream luck same is = is ∙ ap (λ (n : ℕ). luck_after plan n 0) same
 
-pub fresh_hand : (wire : TableId) (plan plan' : RacePlan) (number drawn : ℕ) (share its : Known) (luck : Luck) → plan' ≡ plan → its ≡ share → share ≡ fresh wire (terms_of plan) (Caller number)
-    → luck ≡ luck_after plan' number 0 → drawn ≡ 0 → IsHand wire plan number its luck drawn × HasMade plan number 0 its.seen
-fresh_hand wire plan plan' number drawn share its luck same is new its_luck none =
+pub fresh_hand : (wire : TableId) (plan plan' : RacePlan) (number : ℕ) (share its : Known) (luck : Luck) → plan' ≡ plan → its ≡ share → share ≡ fresh wire (terms_of plan) (Caller number)
+    → luck ≡ luck_after plan' number 0 → IsHand wire plan number its luck × HasMade plan number 0 its.seen
+fresh_hand wire plan plan' number share its luck same is new its_luck =
     let all : its ≡ fresh wire (terms_of plan) (Caller number) = is ∙ new in
-    subst (λ (k : Known). IsHand wire plan number k luck drawn × HasMade plan number 0 k.seen) (sym all) (
+    subst (λ (k : Known). IsHand wire plan number k luck × HasMade plan number 0 k.seen) (sym all) (
       record {
         own = refl;
         terms = refl;
         keys = refl;
-        words = none;
-        luck_ = its_luck ∙ ap (λ (p : RacePlan). luck_after p number 0) same ∙ ap (luck_after plan number) (sym none);
+        luck_ = its_luck ∙ ap (λ (p : RacePlan). luck_after p number 0) same;
       },
       record { planned = none_called plan.turns 0 (calls_of plan number); earlier = λ k d h. absurd (omega arith) },
     )

@@ -14,3 +14,9 @@ pub mod Counting
 pub mod Playing
 pub mod Joined
 pub mod Raced
+pub mod Requests
+pub mod Telling
+pub mod Growing
+pub mod Shapes
+pub mod Making
+pub mod Looking

@@ -37,6 +37,14 @@ use Rattle.am_calls.specs.Ready.{round_in}
 abbrev pub by_of : Tag → Part → By
 by_of tag part = record { caller = tag.caller; call = tag.call; part = part }
 
+-- the calls that end with a check
+abbrev pub has_check : Act → Bool
+has_check (act.Send body) = true
+has_check act.Join = true
+has_check act.Leave = true
+has_check (act.Reset least resilience) = true
+has_check _ = false
+
 -- what a call does at its end, by what came of its own act
 abbrev pub end_act : Act → Option Came → Act
 end_act (act.Send body) (Some came) = act.Done (request_in came.outcome)
@@ -69,13 +77,12 @@ pub record IsOwn (a : Act) (came : Came) (r : Record) : Type 0 where
 -- what came of a call's own act is what its record says; a receive hasn't done it yet
 abbrev pub IsCame : Act → Option Came → Option Record → Type 0
 IsCame a None own = (is_take a ≡ true) × (own ≡ None)
-IsCame a (Some came) own = (is_take a ≡ false) × ((r : Record) × (own ≡ Some r) × IsOwn a came r)
+IsCame a (Some came) own = (r : Record) × (own ≡ Some r) × IsOwn a came r
 
 -- the records of a call before its turns: that of its own act, which has no answer; a receive has none
 abbrev pub HasBegun : Act → Option Came → List Record → Type 0
 HasBegun a None first = (is_take a ≡ true) × (first ≡ [])
-HasBegun a (Some came) first =
-    (is_take a ≡ false) × ((own_answer a came.outcome ≡ None) × ((end_act a (Some came) ≡ act.Take → ⊥) × ((r : Record) × (first ≡ r ∷ []) × IsOwn a came r)))
+HasBegun a (Some came) first = (has_check a ≡ true) × (own_answer a came.outcome ≡ None) × ((r : Record) × (first ≡ r ∷ []) × IsOwn a came r)
 
 -- ---- words
 
@@ -142,6 +149,16 @@ pub record Ended (name : ℕ) (tag : Tag) (a : Act) (came : Option Came) (outcom
   pub act_ : item.event.act ≡ end_act a came
   pub by_ : item.by ≡ by_of tag (end_part a)
   pub told : item.outcome ≡ outcome
+
+-- a look was a turn
+abbrev pub HasSpent : ℕ → Tag → List Record → List Record → Looked → Type 0
+HasSpent name tag old new (looked.Turn outcome) = Turned name tag outcome old new
+HasSpent name tag old new (looked.End outcome) = ⊥
+
+-- a look was the end, which tells an answer where the node did before
+abbrev pub HasEnded : RacePlan → ℕ → Tag → Act → Option Came → List Record → List Record → Looked → Type 0
+HasEnded plan name tag a came old new (looked.Turn outcome) = ⊥
+HasEnded plan name tag a came old new (looked.End outcome) = (EndTells (node_by plan old name) a came → is_some (told_at_end a outcome) ≡ true) × Ended name tag a came outcome old new
 
 -- what a look did: a turn, where it had one; or the end, which has an answer where a turn was left
 abbrev pub HasLooked : ℕ → Tag → Act → Option Came → Bool → List Record → List Record → Looked → Type 0

@@ -7,14 +7,14 @@ ghost use Rattle.am_model.specs.World.{first_node};
 ghost use Rattle.am_node.specs.Nodes.{HasNumbersLeft};
 ghost use Rattle.am_node.specs.Stands.{state_of};
 ghost use Rattle.am_group.specs.declared.event.Record.{Record};
-ghost use Rattle.am_wire.specs.declared.rule.Key.TheVariants.{Place};
+ghost use Rattle.am_wire.specs.declared.rule.Key.TheVariants.{Place, Caller as CallerKey};
 ghost use Rattle.am_wire.specs.declared.wire.WireRefusal.TheVariants as refusals;
 ghost use Rattle.am_wire.specs.Seats.{GoesOn};
 ghost use Rattle.am_wire.specs.Passes.{Sees, fresh};
 ghost use Rattle.am_wire.specs.Stops.{is_stop, has_stopped};
 ghost use Rattle.am_calls.specs.Boxes.{what_of, Steps, MayAct, IsShareOf, IsTurn, Acted, IsRefused, Looks, refused, Hears, GivesUp, node_by, IsLeastOf, InBoth, heard_in, lost_in, Picked, is_turn_act, Found, event_at, turn_by};
 ghost use Rattle.am_calls.specs.Callings.{IsHand, luck_after};
-ghost use Rattle.am_calls.specs.Going.{end_act, end_part, luck_behind, is_asked, ToldBy, Asked, IsCame, EndTells, Began, Turned, HasLooked, WasRefused};
+ghost use Rattle.am_calls.specs.Going.{end_act, end_part, luck_behind, is_asked, ToldBy, Asked, IsCame, EndTells, Began, HasSpent, HasEnded, HasLooked, WasRefused};
 ghost use Rattle.am_calls.specs.Plans.{is_call};
 ghost use Rattle.am_calls.specs.Ready.{is_ready};
 ghost use Rattle.am_calls.specs.Tags.{of_call, own_of, is_turn_part};
@@ -323,9 +323,10 @@ impl<N: Racing> NodeBox<N> {
         }
     }
 
-    /// The name of its node.
+    /// The name of its node, of its place's first life.
     pub fn name(&self) -> Name
-        ensures { result ≡ self.now.name }
+        ensures value { result ≡ self.now.name }
+        ensures place { result < 16 }
     {
         self.name
     }
@@ -558,12 +559,28 @@ impl<N: Racing> NodeBox<N> {
     fn is_ready(&self, act: &Act, came: &Option<Came>) -> bool
         requires open_ { self.now.closed ≡ None }
         ensures ready { (own : Option Record) → IsCame act.now came.now own → result ≡ is_ready (node_by N.plan self.now.seen self.now.name) own }
-        ensures told { result ≡ true → EndTells (node_by N.plan self.now.seen self.now.name) act.now came.now }
+        ensures told { (own : Option Record) → IsCame act.now came.now own → result ≡ true → EndTells (node_by N.plan self.now.seen self.now.name) act.now came.now }
     {
         match came {
             None => may_take(&self.node),
             Some(came) => is_ready_after(&self.node, act, came),
         }
+    }
+
+    /// The box and a caller see what either has seen. It is an error where the box does nothing more.
+    fn meet_caller(&mut self, wire: &Wire<RaceLaw>, hand: &mut Hand, tag: Tag) -> Result<(), Answer>
+        requires own { wire.now.id ≡ N.wire }
+        requires hand { IsHand N.wire N.plan tag.caller hand.old.share hand.old.chooser }
+        ensures hand { IsHand N.wire N.plan tag.caller hand.new.share hand.new.chooser }
+        ensures name { self.new.name ≡ self.old.name }
+        ensures both { hand.new.share.seen ≡ self.new.seen }
+        ensures few { length self.new.seen ≤ most_events }
+        ensures open_ { OnOk result (self.new.closed ≡ None) }
+        ensures runs { OnOk result (has_stopped self.new.seen self.new.name ≡ false) }
+        ensures goes { GoesOn (CallerKey tag.caller ∷ []) hand.old.share.seen hand.new.share.seen }
+        ensures err { IfErr result (WasRefused self.old.name tag.caller hand.old.share.seen hand.new.share.seen) }
+    {
+        self.meet(wire, &mut hand.share)
     }
 
     /// A turn of a caller's call, which isn't ready.
@@ -575,7 +592,7 @@ impl<N: Racing> NodeBox<N> {
         gate: &G,
         hand: &mut Hand,
         tag: Tag,
-    ) -> Result<Outcome, WireRefusal>
+    ) -> Result<Looked, Answer>
         requires own { wire.now.id ≡ N.wire }
         requires hand { IsHand N.wire N.plan tag.caller hand.old.share hand.old.chooser }
         requires open_ { self.old.closed ≡ None }
@@ -583,19 +600,23 @@ impl<N: Racing> NodeBox<N> {
         requires met { hand.old.share.seen ≡ self.old.seen }
         requires unready { is_ready (node_by N.plan self.old.seen self.old.name) (own_of (of_call tag.caller tag.call self.old.seen)) ≡ false }
         ensures hand { IsHand N.wire N.plan tag.caller hand.new.share hand.new.chooser }
-        ensures ok { IfOk result (λ outcome. Turned self.old.name tag outcome hand.old.share.seen hand.new.share.seen) }
-        ensures err { IfErr result (λ refusal. WasRefused self.old.name tag.caller hand.old.share.seen hand.new.share.seen (refused refusal)) }
+        ensures ok { IfOk result (HasSpent self.old.name tag hand.old.share.seen hand.new.share.seen) }
+        ensures err { IfErr result (WasRefused self.old.name tag.caller hand.old.share.seen hand.new.share.seen) }
     {
         let Ok(mut chooser) = hand.chooser.copied() else {
-            return Err(WireRefusal::NoMemory);
+            return Err(Answer::NoMemory);
         };
         let turn = self.turn(rt, wire, &mut hand.share, &mut chooser, tag);
         let by = tag.with(Part::Turn(turn.lost));
         gate.between(self.name, &by);
         let Turn { act, letter, .. } = turn;
-        let came = self.act(rt, alloc, wire, &mut hand.share, act, letter.as_ref(), by)?;
-        hand.chooser = chooser;
-        Ok(came.outcome)
+        match self.act(rt, alloc, wire, &mut hand.share, act, letter.as_ref(), by) {
+            Ok(came) => {
+                hand.chooser = chooser;
+                Ok(Looked::Turn(came.outcome))
+            }
+            Err(refusal) => Err(answer_of(refusal)),
+        }
     }
 
     /// A call's own act, or its check.
@@ -608,7 +629,7 @@ impl<N: Racing> NodeBox<N> {
         hand: &mut Hand,
         act: Act,
         by: By,
-    ) -> Result<Came, WireRefusal>
+    ) -> Result<Came, Answer>
         requires own { wire.now.id ≡ N.wire }
         requires hand { IsHand N.wire N.plan by.caller hand.old.share hand.old.chooser }
         requires open_ { self.old.closed ≡ None }
@@ -619,10 +640,43 @@ impl<N: Racing> NodeBox<N> {
         requires no_turn { is_turn_part by.part ≡ false }
         ensures hand { IsHand N.wire N.plan by.caller hand.new.share hand.new.chooser }
         ensures ok { IfOk result (λ came. Asked N.plan self.old.name act by came hand.old.share.seen hand.new.share.seen) }
-        ensures err { IfErr result (λ refusal. WasRefused self.old.name by.caller hand.old.share.seen hand.new.share.seen (refused refusal)) }
+        ensures err { IfErr result (WasRefused self.old.name by.caller hand.old.share.seen hand.new.share.seen) }
     {
         gate.between(self.name, &by);
-        self.act(rt, alloc, wire, &mut hand.share, act, None, by)
+        match self.act(rt, alloc, wire, &mut hand.share, act, None, by) {
+            Ok(came) => Ok(came),
+            Err(refusal) => Err(answer_of(refusal)),
+        }
+    }
+
+    /// The end of a call: its check, or the act of a receive.
+    fn end<R: Wait, G: Gate>(
+        &mut self,
+        rt: &R,
+        alloc: Global,
+        wire: &Wire<RaceLaw>,
+        gate: &G,
+        hand: &mut Hand,
+        tag: Tag,
+        act: &Act,
+        came: &Option<Came>,
+    ) -> Result<Looked, Answer>
+        requires own { wire.now.id ≡ N.wire }
+        requires hand { IsHand N.wire N.plan tag.caller hand.old.share hand.old.chooser }
+        requires open_ { self.old.closed ≡ None }
+        requires runs { has_stopped self.old.seen self.old.name ≡ false }
+        requires few { length self.old.seen ≤ most_events }
+        requires met { hand.old.share.seen ≡ self.old.seen }
+        ensures hand { IsHand N.wire N.plan tag.caller hand.new.share hand.new.chooser }
+        ensures ok { IfOk result (HasEnded N.plan self.old.name tag act.entry.now came.entry.now hand.old.share.seen hand.new.share.seen) }
+        ensures err { IfErr result (WasRefused self.old.name tag.caller hand.old.share.seen hand.new.share.seen) }
+    {
+        let last = end_act(act, came);
+        let part = end_part(act);
+        match self.ask(rt, alloc, wire, gate, hand, last, tag.with(part)) {
+            Ok(came) => Ok(Looked::End(came.outcome)),
+            Err(answer) => Err(answer),
+        }
     }
 
     /// The first look of a call that is no receive: its own act.
@@ -643,14 +697,11 @@ impl<N: Racing> NodeBox<N> {
         ensures ok { IfOk result (λ came. Began self.old.name tag act.entry.now came hand.old.share.seen hand.new.share.seen) }
         ensures err { IfErr result (WasRefused self.old.name tag.caller hand.old.share.seen hand.new.share.seen) }
     {
-        self.meet(wire, &mut hand.share)?;
+        self.meet_caller(wire, hand, tag)?;
         let Ok(own) = act.copied() else {
             return Err(Answer::NoMemory);
         };
-        match self.ask(rt, alloc, wire, gate, hand, own, tag.with(Part::Call)) {
-            Ok(came) => Ok(came),
-            Err(refusal) => Err(answer_of(refusal)),
-        }
+        self.ask(rt, alloc, wire, gate, hand, own, tag.with(Part::Call))
     }
 
     /// A further look of a call: a turn, where it has one left and isn't ready, and else its end.
@@ -673,17 +724,13 @@ impl<N: Racing> NodeBox<N> {
         ensures ok { IfOk result (HasLooked self.old.name tag act.entry.now came.entry.now has_turn hand.old.share.seen hand.new.share.seen) }
         ensures err { IfErr result (WasRefused self.old.name tag.caller hand.old.share.seen hand.new.share.seen) }
     {
-        self.meet(wire, &mut hand.share)?;
-        if has_turn && !self.is_ready(act, came) {
-            return match self.spend(rt, alloc, wire, gate, hand, tag) {
-                Ok(outcome) => Ok(Looked::Turn(outcome)),
-                Err(refusal) => Err(answer_of(refusal)),
-            };
+        self.meet_caller(wire, hand, tag)?;
+        if !has_turn {
+            return self.end(rt, alloc, wire, gate, hand, tag, act, came);
         }
-        let end = end_act(act, came);
-        match self.ask(rt, alloc, wire, gate, hand, end, tag.with(end_part(act))) {
-            Ok(came) => Ok(Looked::End(came.outcome)),
-            Err(refusal) => Err(answer_of(refusal)),
+        if self.is_ready(act, came) {
+            return self.end(rt, alloc, wire, gate, hand, tag, act, came);
         }
+        self.spend(rt, alloc, wire, gate, hand, tag)
     }
 }

@@ -1,8 +1,9 @@
-ghost use Rattle.std.specs.Prelude.{◌≡◌, ◌≤◌, IfOk, Some, map, length, slice_get, All};
+ghost use Rattle.std.specs.List.{list_all};
+ghost use Rattle.std.specs.Prelude.{◌≡◌, ◌≤◌, true, IfOk, Some, map, length, slice_get, All};
 ghost use Rattle.am_base.specs.Most.{most_events};
 ghost use Rattle.am_calls.specs.Lawful.{terms_of};
 ghost use Rattle.am_calls.specs.Legal.{IsLegalWithTags};
-ghost use Rattle.am_calls.specs.Plans.{calls_of, MayRace, ArePlayed};
+ghost use Rattle.am_calls.specs.Plans.{calls_of, is_call, MayRace, ArePlayed};
 ghost use Rattle.am_wire.specs.Keys.{place_keys, caller_keys};
 ghost use Rattle.am_wire.specs.Passes.{fresh};
 ghost use Rattle.am_calls.specs.Ran.{fresh_caller, fresh_callers, numbers_of, HasRun, refusal_in, ends_thread, first_refusal};
@@ -64,6 +65,7 @@ fn play<R: Wait, N: Racing, G: Gate>(
 ) -> Ran<N>
     requires fresh { caller ≡ fresh_caller caller.number }
     requires its { slice_get N.plan.threads caller.number ≡ Some thread.now }
+    requires calls { list_all is_call thread.now.calls ≡ true }
     requires few { length thread.now.calls ≤ most_events }
     ensures number { result.caller.number ≡ caller.number }
     ensures ran { HasRun N.plan result.caller result.refusal }

@@ -84,6 +84,7 @@ fn adds<R: Wait>(
     requires ready { IsReady (λ before r. 0 < r.life) wire.now.id pass share item }
     ensures own { (result.0.wire ≡ wire.now.id) × (result.1.wire ≡ wire.now.id) }
     ensures keys { (result.0.keys ≡ pass.keys) × (result.1.keys ≡ share.keys) }
+    ensures terms { (result.0.terms ≡ pass.terms) × (result.1.terms ≡ share.terms) }
 {
     let done = wire.commit(rt, &mut pass, &mut share, item).is_ok();
     (pass, share, done)
@@ -100,6 +101,7 @@ fn add_both<R: Threads + Wait + Sync>(
     requires second { IsReady (λ before r. 0 < r.life) wire.now.id second.0 second.1 second.2 }
     ensures own { (result.0.wire ≡ wire.now.id) × (result.1.wire ≡ wire.now.id) }
     ensures keys { (result.0.keys ≡ first.0.keys) × (result.1.keys ≡ second.1.keys) }
+    ensures terms { (result.0.terms ≡ first.0.terms) × (result.1.terms ≡ second.1.terms) }
 {
     let (one, mine, its) = first;
     let (two, other, item) = second;
@@ -107,11 +109,11 @@ fn add_both<R: Threads + Wait + Sync>(
         rt,
         || -> (Pass, Share, bool)
             requires { IsReady (λ before r. 0 < r.life) wire.now.id one mine its }
-            ensures { (result.0.wire ≡ wire.entry.now.id) × (result.0.keys ≡ one.keys) }
+            ensures { (result.0.wire ≡ wire.entry.now.id) × (result.0.keys ≡ one.keys) × (result.0.terms ≡ one.terms) }
         { adds(rt, wire, one, mine, its) },
         || -> (Pass, Share, bool)
             requires { IsReady (λ before r. 0 < r.life) wire.now.id two other item }
-            ensures { (result.1.wire ≡ wire.entry.now.id) × (result.1.keys ≡ other.keys) }
+            ensures { (result.1.wire ≡ wire.entry.now.id) × (result.1.keys ≡ other.keys) × (result.1.terms ≡ other.terms) }
         { adds(rt, wire, two, other, item) },
     );
     (one, other, a && b)

@@ -62,3 +62,17 @@ add_both-pass-requires-clause-second g c =
     (given _ _ _ _ _ _ c.into_iter-shares.ensures.rest c.in-Some-Some.ensures'.items c.in-Some-Some-2.ensures'.items) in
     λ _. ready _ _ _ _ 1 1 c.in_ok-second.second p.1 q.1
     (ap place_of c.in_ok-second.ensures.place) c.in_ok-second.ensures.caller c.in_ok-second.ensures.few c.in_ok-second.ensures.life
+
+pub meet-requires-clause-terms : goal.meet-requires-clause-terms
+meet-requires-clause-terms g c κs =
+    let p = places _ _ _ _ _ c.in_ok-wire.ensures.passes
+    (given _ _ _ _ _ _ c.into_iter-passes.ensures.rest c.in-Some-Some.ensures.items c.in-Some-Some-2.ensures.items) in
+    let q = callers _ _ _ _ _ (c.in_ok-wire.ensures.shares ∙ ap (λ (n : ℕ). map (fresh c.in_ok-wire.wire.id c.in_ok-terms_of.field-0) (caller_keys n)) c.in_ok-terms_of.ensures)
+    (given _ _ _ _ _ _ c.into_iter-shares.ensures.rest c.in-Some-Some.ensures'.items c.in-Some-Some-2.ensures'.items) in
+    c.add_both-pass.ensures.terms.1 ∙ ap (λ (x : Known). x.terms) q.1 ∙ sym (ap (λ (x : Known). x.terms) p.0) ∙ sym c.add_both-pass.ensures.terms.0
+
+pub meet-requires-clause-one : goal.meet-requires-clause-one
+meet-requires-clause-one g c κs =
+    let q = callers _ _ _ _ _ (c.in_ok-wire.ensures.shares ∙ ap (λ (n : ℕ). map (fresh c.in_ok-wire.wire.id c.in_ok-terms_of.field-0) (caller_keys n)) c.in_ok-terms_of.ensures)
+    (given _ _ _ _ _ _ c.into_iter-shares.ensures.rest c.in-Some-Some.ensures'.items c.in-Some-Some-2.ensures'.items) in
+    ap length c.add_both-pass.ensures.keys.1 ∙ ap (λ (x : Known). length x.keys) q.1
