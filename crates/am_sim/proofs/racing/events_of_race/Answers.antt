@@ -6,7 +6,7 @@ use Rattle.am_sim.proofs.Raced.{may_race}
 use Rattle.am_sim.proofs.racing.events_of_race.Goals as goal
 
 pub race-requires-clause-within : goal.race-requires-clause-within
-race-requires-clause-within g c = λ _. may_race c.args.plan.now c.requires
+race-requires-clause-within g c = λ _ _. may_race c.args.plan.now c.requires
 
 pub returns-clause-raced : goal.returns-clause-raced
 returns-clause-raced g c = (

@@ -13,7 +13,7 @@ pub returns-clause-part : goal.returns-clause-part
 returns-clause-part g c = (
   string_bytes c.in-Ok-race_answer.text,
   (c.as_slice.result.now, rw (sym c.as_slice.ensures.value) at (c.in-Ok.ensures.ok), c.in-Ok-race_answer.ensures.raced),
-  (c.in-Err.field-0.written, rw c.as_bytes.ensures.value at (c.in-Err.ensures.part)),
+  (c.in-Err-write_all.field-0.written, rw c.as_bytes.ensures.value at (c.in-Err-write_all.ensures.part)),
 )
 
 pub returns-in-Ok-write_all-clause-within : goal.returns-in-Ok-write_all-clause-within
