@@ -1,7 +1,7 @@
-use am_calls::ready::may_take;
-use am_group::event::{Act, Event};
 use am_base::name::Name;
 use am_base::outcome::Outcome;
+use am_calls::ready::may_take;
+use am_group::event::{Act, Event};
 use am_group::plan::{RacePlan, ThreadPlan};
 use am_node::node::Node;
 use am_pump::chooser::Chooser;
@@ -78,7 +78,13 @@ impl Whole {
     }
 
     /// One look: a turn, or the end of the call. Whether it was the end.
-    fn look(&mut self, chooser: &mut Chooser, node: Name, wanted: Wanted, has_turn: bool) -> Result<bool, WorldRefusal> {
+    fn look(
+        &mut self,
+        chooser: &mut Chooser,
+        node: Name,
+        wanted: Wanted,
+        has_turn: bool,
+    ) -> Result<bool, WorldRefusal> {
         if has_turn && !wanted.has_come(self.world.node(node)) {
             self.turn(chooser, node)?;
             return Ok(false);
@@ -111,7 +117,12 @@ fn call<R: Wait>(
 }
 
 /// A thread makes its calls, up to one that uses its turns.
-fn make<R: Wait>(rt: &R, whole: &Mutex<Whole>, plan: &RacePlan, number: usize) -> Result<(), WorldRefusal> {
+fn make<R: Wait>(
+    rt: &R,
+    whole: &Mutex<Whole>,
+    plan: &RacePlan,
+    number: usize,
+) -> Result<(), WorldRefusal> {
     let Some(thread) = plan.threads.as_slice().get(number) else {
         return Ok(());
     };
@@ -134,7 +145,8 @@ pub fn race_in_one<R: Threads + Wait + Sync>(rt: &R, alloc: Global, plan: &RaceP
         progress: [Progress::new(); 16],
     });
     let many = plan.threads.as_slice().len();
-    let Ok(made) = thread::map_indices(rt, alloc, many, &|number| make(rt, &whole, plan, number)) else {
+    let Ok(made) = thread::map_indices(rt, alloc, many, &|number| make(rt, &whole, plan, number))
+    else {
         return 0;
     };
     if made.as_slice().iter().any(|one| one.is_err()) {

@@ -97,12 +97,17 @@ fn main(rt: HostRuntime) -> io::Result<()> {
     let words: Vec<String> = env::args(&rt)?.collect(alloc)?;
     let threads = number_in(words.as_slice(), 1).clamp(1, 16) as u8;
     let rounds = number_in(words.as_slice(), 2);
-    let Some(founding) = Founding::new(Names::of_mask((1u32 << threads) as u16 - 1), 0, 64, 256) else {
+    let Some(founding) = Founding::new(Names::of_mask((1u32 << threads) as u16 - 1), 0, 64, 256)
+    else {
         return Ok(());
     };
     let plan = plan_of(alloc, founding, threads)?;
     if rounds == 0 {
-        println!(rt; "{} {}", race_in_boxes(&rt, alloc, &plan), race_in_one(&rt, alloc, &plan))?;
+        println!(rt;
+            "{} {}",
+            race_in_boxes(&rt, alloc, &plan),
+            race_in_one(&rt, alloc, &plan)
+        )?;
         return Ok(());
     }
     let boxes = rate(&rt, rounds, || race_in_boxes(&rt, alloc, &plan))?;

@@ -350,9 +350,11 @@ mod tests {
 
     const TICKED: &str = "1 tick 0 : ticked\ngroup 1 view 1.0 0\nlog 0 empty\nlawful\n";
 
-    const RACE: &str = "{\"race\":{\"founders\":[0],\"seed\":1,\"threads\":[{\"node\":0,\"calls\":[{\"do\":\"stop\"}]}]}}";
+    const RACE: &str =
+        "{\"race\":{\"founders\":[0],\"seed\":1,\"threads\":[{\"node\":0,\"calls\":[{\"do\":\"stop\"}]}]}}";
 
-    const RACED: &str = "{\"play\":{\"events\":[{\"do\":\"stop\",\"node\":0}],\"founders\":[0],\"pb_up_to\":256,\"resilience\":0,\"window\":64}}\n1 stop 0 : stopped\ngroup 1 view 1.0 0\nlog 0 empty\nvoid from 1\n";
+    const RACED: &str =
+        "{\"play\":{\"events\":[{\"do\":\"stop\",\"node\":0}],\"founders\":[0],\"pb_up_to\":256,\"resilience\":0,\"window\":64}}\n1 stop 0 : stopped\ngroup 1 view 1.0 0\nlog 0 empty\nvoid from 1\n";
 
     const SUMMARY: &str = "events 50\npackets 18\nentries 2\ntook 5\nsent 0\nheld 0\nlawful\n";
 
@@ -398,8 +400,24 @@ mod tests {
             "",
         ),
         (GEN, "", &[1], &[], 59, Status::Done, SUMMARY),
-        (GEN, "", &[], &[2], 59, Status::WriteFault, "events 50\npackets 18"),
-        (&["gen", "--seed", "1", "--count", "0"], "", &[], &[], 59, Status::Usage, ""),
+        (
+            GEN,
+            "",
+            &[],
+            &[2],
+            59,
+            Status::WriteFault,
+            "events 50\npackets 18",
+        ),
+        (
+            &["gen", "--seed", "1", "--count", "0"],
+            "",
+            &[],
+            &[],
+            59,
+            Status::Usage,
+            "",
+        ),
         (&["race"], RACE, &[], &[], 164, Status::Done, RACED),
         (&["race"], RACE, &[2], &[], 164, Status::ReadFault, ""),
         (&["race"], RACE, &[], &[1], 164, Status::WriteFault, ""),
