@@ -13,6 +13,7 @@ use Rattle.am_headline.proofs.Fitted.{views_fit}
 use Rattle.am_headline.proofs.Holds.{headline_holds}
 use Rattle.am_sent.proofs.Runs.{sent_holds}
 use Rattle.am_unballoted.proofs.Holds.{unballoted_holds}
+use Rattle.am_repaired.proofs.Settled.{settled_is_repaired}
 use Rattle.am_pump.specs.Generating.{generated_rules, generated}
 use Rattle.am_pump.proofs.Rules.{may_found}
 use Rattle.am_words.specs.declared.form.Numbers.{Numbers}
@@ -24,7 +25,7 @@ use Rattle.am_script.specs.Limits.{ScriptWithin}
 use Rattle.am_sim.specs.declared.simulate.Unplayed.{Unplayed}
 use Rattle.am_sim.specs.declared.simulate.Unplayed.TheVariants as unplayed
 use Rattle.am_sim.specs.Playing.{done_of, IsRunText}
-use Rattle.am_sim.specs.Simulation.{Keeps, Played, Generated, IsText, IsUnrun, IsUnplayed, script_text}
+use Rattle.am_sim.specs.Simulation.{Keeps, Repaired, Played, Generated, IsText, IsUnrun, IsUnplayed, script_text}
 
 -- ---- a run that is settled behind its own events
 
@@ -50,6 +51,10 @@ keeps_all rules events may = record {
   unballoted = λ none. unballoted_holds rules events may none;
 }
 
+-- a settled run is repaired
+repaired : (rules : Rules) (events : List Event) → MayFound rules → Repaired rules events
+repaired rules events may place low repair trims name member = settled_is_repaired rules events place may low repair trims name member
+
 pub played_by : (bytes text : List ℕ) (script : Script) → reading key.Play bytes ≡ Ok script → ScriptWithin script → IsText script text → Played bytes text
 unfolding IsRunText
 played_by bytes text (Play founding events settles) is within same =
@@ -63,6 +68,7 @@ played_by bytes text (Play founding events settles) is within same =
       written = same.0 ∙ text_is founding events settles;
       few = same.1;
       keeps = keeps_all founding done may;
+      repaired = λ settled. repaired founding events may;
     }
 played_by bytes text (Race plan) is within same = absurd same
 

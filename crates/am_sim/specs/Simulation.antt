@@ -1,13 +1,15 @@
 -- What a call of the program did.
-use Rattle.std.specs.Prelude.{◌≡◌, ℕ, ◌≤◌, List, length, map, take, Option, Some, Ok, Err, Bool, if◌then◌else◌}
+use Rattle.std.specs.Prelude.{◌≡◌, ℕ, ◌<◌, ◌≤◌, true, List, length, map, take, Option, Some, Ok, Err, Bool, if◌then◌else◌}
 use Rattle.std.specs.Borrow.{Bor}
 use Rattle.std.specs.Io.KnownBytes.{Appends}
 use Rattle.am_base.specs.Most.{most_events}
 use Rattle.am_base.specs.Founding.{Rules}
+use Rattle.am_base.specs.Names.{has}
 use Rattle.am_group.specs.declared.event.Event.{Event}
-use Rattle.am_model.specs.World.{run}
+use Rattle.am_model.specs.Node.{top, members}
+use Rattle.am_model.specs.World.{current, run}
 use Rattle.am_model.specs.Play.{text_of, settled_text_of, summary_text_of}
-use Rattle.am_model.specs.Claims.{Headline, FitsView, Sent, NoBallot, HoldsUnballoted}
+use Rattle.am_model.specs.Claims.{Headline, FitsView, Sent, NoBallot, HoldsUnballoted, MayRepair, HasCaughtUp}
 use Rattle.am_model.specs.Lawful.{lawful_front}
 use Rattle.am_script.specs.Scripts.{reading}
 use Rattle.am_script.specs.declared.key.Key.TheVariants as key
@@ -18,6 +20,7 @@ use Rattle.am_world.specs.declared.world.WorldRefusal.{WorldRefusal}
 use Rattle.am_world.specs.declared.world.WorldRefusal.TheVariants as refusals
 use Rattle.am_sim.specs.Playing.{done_of, IsRunText, IsLong}
 use Rattle.am_io.specs.Outside.{next, ReadToEnd}
+use Rattle.am_repaired.specs.Trimmed.{TrimsTaken}
 use Rattle.am_pump.specs.Generating.{generated_rules, generated}
 use Rattle.am_words.specs.Forms.{form_of}
 use Rattle.am_words.specs.declared.form.Form.{Form}
@@ -45,7 +48,16 @@ pub record Keeps (rules : Rules) (events : List Event) : Type 0 where
   pub sent : Sent rules events
   pub unballoted : NoBallot (run rules events) → HoldsUnballoted rules events
 
--- what was read is a script, what was written is the text of its run, which has at most 100,000 events, and that run keeps what is claimed
+-- Where a run's group may be repaired, and its sequencer trimmed no more than each member of its list has taken, the events that settle the run bring
+-- each of them to where the sequencer stood: it has stored and accepted all up to there.
+abbrev pub Repaired : Rules → List Event → Type 0
+Repaired rules events = (place : ℕ) → place < 16 → MayRepair (run rules events) place
+    → TrimsTaken (run rules events) ((run rules events).nodes (current (run rules events) place))
+    → (name : ℕ) → has (members ((run rules events).nodes (current (run rules events) place))) name ≡ true
+    → HasCaughtUp ((run rules (done_of rules events true)).nodes name) (top ((run rules events).nodes (current (run rules events) place)))
+
+-- what was read is a script, what was written is the text of its run, which has at most 100,000 events, and that run keeps what is claimed; where it is
+-- settled, it is repaired
 pub record Played (bytes text : List ℕ) : Type 0 where
   pub founding : Rules
   pub events : List Event
@@ -54,6 +66,7 @@ pub record Played (bytes text : List ℕ) : Type 0 where
   pub written : text ≡ script_text founding events settles
   pub few : length (done_of founding events settles) ≤ most_events
   pub keeps : Keeps founding (done_of founding events settles)
+  pub repaired : settles ≡ true → Repaired founding events
 
 -- what was written is the summary of the run of two numbers, and that run keeps what is claimed
 pub record Generated (numbers : Numbers) (text : List ℕ) : Type 0 where
