@@ -41,7 +41,8 @@ abbrev pub CauseTaken : (ℕ → Node) → Cause → Type 0
 CauseTaken nodes (hears p) = ReportTaken nodes p
 CauseTaken nodes _ = Unit {0}
 
-told_so : (nodes : ℕ → Node) (c : Cause) (s : ℕ) (v : Stamp) (report : Report) → BringsReport c s v report → CauseTaken nodes c
+-- what a report tells to be taken was taken
+pub told_so : (nodes : ℕ → Node) (c : Cause) (s : ℕ) (v : Stamp) (report : Report) → BringsReport c s v report → CauseTaken nodes c
     → report.taken ≤ (nodes s).core.taken
 told_so nodes c s v report (with_send s_ v_ report_ req body (by_request s1 v1 report1 req1 body1)) h = h
 told_so nodes c s v report (with_send s_ v_ report_ req body (by_spread s1 v1 report1 req1 body1)) h = h
@@ -73,15 +74,16 @@ truly_more nodes m n who up same h name other =
     let b = ap (λ (r : Report). r.taken) (same name o) in
     omega arith
 
+-- a refresh, and the end of a step, leave what others reported
 lead_same : (m : Node) (name : ℕ) → (name == m.core.who) ≡ false → (lead m).reports name ≡ m.reports name
 unfolding lead own_report tell go_on let_go accepts pass_over
 lead_same m name other = rw other refl
 
-refresh_same : (m : Node) (name : ℕ) → (name == m.core.who) ≡ false → (refresh m).reports name ≡ m.reports name
+pub refresh_same : (m : Node) (name : ℕ) → (name == m.core.who) ≡ false → (refresh m).reports name ≡ m.reports name
 unfolding refresh
 refresh_same m name other = split (is_sequencer m) (λ t. rw t (lead_same m name other)) (λ f. rw f refl)
 
-end_same : (m : Node) (name : ℕ) → (name == m.core.who) ≡ false → (refresh_at_end m).reports name ≡ m.reports name
+pub end_same : (m : Node) (name : ℕ) → (name == m.core.who) ≡ false → (refresh_at_end m).reports name ≡ m.reports name
 unfolding refresh_at_end
 end_same m name other = ap (λ (n : Node). n.reports name) (settle_is (refresh m)) ∙ refresh_same m name other
 

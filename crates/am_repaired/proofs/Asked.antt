@@ -1,5 +1,5 @@
 -- What a node knows of others to be taken, through a request to join: the row itself.
-use Rattle.std.proofs.Common.{◌≡◌, ℕ, ◌<◌, ◌==◌, ◌&&◌, ◌||◌, not, nat_lt, nat_le, Bool, true, false, if◌then◌else◌, refl, sym, ap, ◌∙◌, arith}
+use Rattle.std.proofs.Common.{◌≡◌, ℕ, ◌==◌, ◌&&◌, ◌||◌, not, nat_lt, nat_le, Bool, true, false, if◌then◌else◌, refl, ap, ◌∙◌, arith}
 use Rattle.std.proofs.lemmas.Bool.Decides.{nat_tests}
 use Rattle.am_base.specs.declared.name.Stamp.{Stamp}
 use Rattle.am_base.specs.declared.entry.Entry.TheVariants.{Join}
@@ -14,21 +14,16 @@ use Rattle.am_model.specs.Step.{hear, refused}
 use Rattle.am_model.specs.Joining.{admitted, asks_to_join, join_ask_row}
 use Rattle.am_model.specs.Hearing.{hears_member, hear_row}
 use Rattle.am_model.specs.Lengths.{packet_length}
-use Rattle.am_model.specs.Refresh.{refresh, refresh_at_end}
+use Rattle.am_model.specs.Refresh.{refresh_at_end}
 use Rattle.am_model.specs.World.{hear_cut}
 use Rattle.am_model.proofs.Greatest.{split, and_both}
-use Rattle.am_effects.proofs.Rests.{settle_is}
-use Rattle.am_repaired.proofs.Knew.{refresh_same}
+use Rattle.am_repair.proofs.Reported.{end_same}
 
 -- as before, but that a joiner whose Join fits the sequencer's list begins at the base
 pub data Asked (m y : Node) (s : ℕ) : Type 0 where
   as_before : ((j : ℕ) → (j == m.core.who) ≡ false → y.reports j ≡ m.reports j) → Asked m y s
   admitted_ : is_sequencer m ≡ true → fits (told m) (Join s) ≡ true → (y.reports s).taken ≡ m.core.base
       → ((j : ℕ) → (j == m.core.who) ≡ false → (j == s) ≡ false → y.reports j ≡ m.reports j) → Asked m y s
-
-end_same : (m : Node) (j : ℕ) → (j == m.core.who) ≡ false → (refresh_at_end m).reports j ≡ m.reports j
-unfolding refresh_at_end
-end_same m j other = ap (λ (n : Node). n.reports j) (settle_is (refresh m)) ∙ refresh_same m j other
 
 record PlanAsked (m : Node) (s : ℕ) (p : Plan) : Type 0 where
   stays : p.departs ≡ false

@@ -1,5 +1,5 @@
 -- Whose Join fits the sequencer's list has no list, and no Welcome could make it begin one.
-use Rattle.std.proofs.Common.{◌≡◌, ◌⊎◌, inl, ⊎_elim, ℕ, ◌<◌, ◌≤◌, ◌==◌, true, false, List, Some, slice_get, take, refl, sym, ap, ◌∙◌, subst, arith}
+use Rattle.std.proofs.Common.{◌≡◌, inl, ⊎_elim, ℕ, ◌<◌, ◌==◌, true, false, List, Some, slice_get, take, refl, sym, ap, ◌∙◌, subst, arith}
 use Rattle.std.proofs.lemmas.Bool.Decides.{nat_tests}
 use Rattle.am_base.specs.declared.entry.Entry.{Entry}
 use Rattle.am_base.specs.declared.entry.Entry.TheVariants.{Join}
@@ -8,7 +8,6 @@ use Rattle.am_base.specs.declared.name.Stamp.{Stamp}
 use Rattle.am_base.specs.Founding.{Rules}
 use Rattle.am_base.specs.Names.{place_of, life_of, has}
 use Rattle.am_base.specs.Lists.{at_place, fits}
-use Rattle.am_packet.specs.declared.packet.Packet.{Packet}
 use Rattle.am_packet.specs.declared.packet.Packet.TheVariants as packet
 use Rattle.am_packet.specs.Boxes.{Letter}
 use Rattle.am_packet.specs.Kinds.{kind_of}
@@ -20,7 +19,7 @@ use Rattle.am_chain_lists.proofs.Members.{mem_in, was_begins}
 use Rattle.am_chain_lists.proofs.Prefixes.{begins_take, begins_trans}
 use Rattle.am_chain_moves.specs.Group.{Group, IsUp, chain_of}
 use Rattle.am_chain_moves.specs.Kept.{Kept}
-use Rattle.am_model.specs.Node.{Node, told, acts, is_member, is_sequencer, view}
+use Rattle.am_model.specs.Node.{Node, told, acts, is_member, is_sequencer}
 use Rattle.am_model.specs.Group.{has_log}
 use Rattle.am_model.specs.World.{World, is_stopped, has_departed}
 use Rattle.am_model.specs.declared.status.Status.{Status}
@@ -31,7 +30,7 @@ use Rattle.am_stands.specs.Standing.{NameStands}
 use Rattle.am_stands.specs.Letters.{PacketSays, WelcomeTo, has_begun, has_gone, has_left, is_leaving, may_begin}
 use Rattle.am_stands.specs.Running.{Following}
 use Rattle.am_stands.proofs.Changes.{told_all}
-use Rattle.am_stands.proofs.Sent.{Leading, leading}
+use Rattle.am_stands.proofs.Sent.{leading}
 use Rattle.am_steps.proofs.Any.{GoesSo}
 use Rattle.am_steps.proofs.Statuses.{member_here}
 

@@ -1,19 +1,16 @@
 -- What a sequencer knows of others to be taken, through a step that neither decides a view nor hears a request to join.
-use Rattle.std.proofs.Common.{◌≡◌, ℕ, ◌+◌, ◌≤◌, ◌==◌, max, nat_lt, true, false, List, refl, sym, ap, ◌∙◌, subst, arith}
+use Rattle.std.proofs.Common.{◌≡◌, ℕ, ◌≤◌, ◌==◌, max, true, false, refl, sym, ap, ◌∙◌, subst, arith}
 use Rattle.std.proofs.lemmas.Bool.Decides.{nat_tests}
 use Rattle.am_base.specs.declared.image.Report.{Report}
-use Rattle.am_base.specs.declared.name.Stamp.{Stamp}
 use Rattle.am_base.specs.declared.entry.Entry.TheVariants.{Leave}
 use Rattle.am_base.specs.declared.outcome.Outcome.{Outcome}
 use Rattle.am_base.specs.Founding.{Rules}
 use Rattle.am_base.specs.Stamps.{stamp_lt}
-use Rattle.am_core.specs.Cores.{accept as accepts, pass_over}
-use Rattle.am_fronts.specs.Refresh.{go_on, let_go, tell, own_report}
-use Rattle.am_model.specs.Node.{Node, Ballot, view, told, pushed, is_sequencer, with_report}
+use Rattle.am_model.specs.Node.{Node, Ballot, view, told, pushed}
 use Rattle.am_model.specs.Ballots.{Verdict, trimmed_for, left_in, need_of}
-use Rattle.am_model.specs.Refresh.{lead, refresh, settle, refresh_at_end}
+use Rattle.am_model.specs.Refresh.{refresh}
 use Rattle.am_model.proofs.Greatest.{split}
-use Rattle.am_effects.specs.Causes.{Cause, BringsReport, with_send, by_request, by_spread, by_ack, by_nack, by_leave_ask}
+use Rattle.am_effects.specs.Causes.{Cause}
 use Rattle.am_effects.specs.Looks.{Looks, finds_itself_out, waits, fetches_from_best, finds_too_few, finds_no_room, decides}
 use Rattle.am_effects.specs.Changes.{Change, refreshes, settles, takes_report, admits, numbers, keeps_body, notes, stores, begins_list, departs, promises}
 use Rattle.am_effects.specs.Changes.{opens}
@@ -27,7 +24,7 @@ use Rattle.am_laws.proofs.ViewChanges.{Balloted, looked_at}
 use Rattle.am_laws.proofs.Taken.{HeardUsed}
 use Rattle.am_laws.proofs.TakenRuns.{Along, along_changes}
 use Rattle.am_repair.proofs.Knowing.{NoJoin}
-use Rattle.am_repair.proofs.Reported.{CauseTaken}
+use Rattle.am_repair.proofs.Reported.{CauseTaken, told_so, refresh_same, end_same}
 use Rattle.am_repaired.proofs.Came.{view_rises}
 
 -- no more than before, or than was taken
@@ -37,22 +34,6 @@ Knew nodes m y = (j : ℕ) → (j == m.core.who) ≡ false → (y.reports j).tak
 pub data Know (nodes : ℕ → Node) (m y : Node) : Type 0 where
   knew : y.core.who ≡ m.core.who → Knew nodes m y → Know nodes m y
   anew : stamp_lt (view m) (view y) ≡ true → Know nodes m y
-
-told_so : (nodes : ℕ → Node) (c : Cause) (s : ℕ) (v : Stamp) (report : Report) → BringsReport c s v report → CauseTaken nodes c
-    → report.taken ≤ (nodes s).core.taken
-told_so nodes c s v report (with_send s_ v_ report_ req body (by_request s1 v1 report1 req1 body1)) h = h
-told_so nodes c s v report (with_send s_ v_ report_ req body (by_spread s1 v1 report1 req1 body1)) h = h
-told_so nodes c s v report (by_ack s_ v_ report_) h = h
-told_so nodes c s v report (by_nack s_ v_ report_) h = h
-told_so nodes c s v report (by_leave_ask s_ v_ report_) h = h
-
-lead_same : (m : Node) (name : ℕ) → (name == m.core.who) ≡ false → (lead m).reports name ≡ m.reports name
-unfolding lead own_report tell go_on let_go accepts pass_over
-lead_same m name other = rw other refl
-
-pub refresh_same : (m : Node) (name : ℕ) → (name == m.core.who) ≡ false → (refresh m).reports name ≡ m.reports name
-unfolding refresh
-refresh_same m name other = split (is_sequencer m) (λ t. rw t (lead_same m name other)) (λ f. rw f refl)
 
 refresh_who : (m : Node) → (refresh m).core.who ≡ m.core.who
 refresh_who m = (rests_refresh m).rests.who
@@ -71,10 +52,6 @@ know_look nodes x b v (decides may) above =
     let is : view v.node ≡ b.stamp = view_last (trimmed_for x b (left_in b (need_of x b))) b.stamp (left_in b (need_of x b))
     (max b.resilience (told x).resilience) in
     anew (ap (stamp_lt (view x)) is ∙ above)
-
-closed_same : (x : Node) (j : ℕ) → (j == x.core.who) ≡ false → (refresh_at_end (pushed x (Leave x.core.who))).reports j ≡ x.reports j
-unfolding refresh_at_end
-closed_same x j other = ap (λ (n : Node). n.reports j) (settle_is (refresh (pushed x (Leave x.core.who)))) ∙ refresh_same (pushed x (Leave x.core.who)) j other
 
 know_change : (nodes : ℕ → Node) (c : Cause) (o : Outcome) (x y : Node) → NoJoin c → CauseTaken nodes c → Balloted x → Change c o x y → Know nodes x y
 know_change nodes c o x y none w k refreshes = same nodes x y (refresh_who x) (refresh_same x)
@@ -101,7 +78,7 @@ know_change nodes c o x y none w k (takes e is says member some there) = same no
 know_change nodes c o x y none w k (asks_to_join is was) = same nodes x y refl (λ j other. refl)
 know_change nodes c o x y none w k (asks_to_leave is was stays done) = same nodes x y refl (λ j other. refl)
 know_change nodes c o x y none w k (closes leads leaves alone room) =
-    same nodes x y (rests_at_end (pushed x (Leave x.core.who))).rests.who (closed_same x)
+    same nodes x y (rests_at_end (pushed x (Leave x.core.who))).rests.who (end_same (pushed x (Leave x.core.who)))
 
 then_know : (nodes : ℕ → Node) (m x y : Node) → stamp_lt (view x) (view m) ≡ false → stamp_lt (view y) (view x) ≡ false → Know nodes m x → Know nodes x y
     → Know nodes m y

@@ -1,29 +1,28 @@
 -- What a sequencer trimmed, its members have taken: what a run keeps of it, with the group that follows.
-use Rattle.std.proofs.Common.{◌≡◌, ◌≢◌, ◌⊎◌, inl, inr, ⊎_elim, ℕ, zero, suc, ◌+◌, ◌<◌, ◌≤◌, ◌==◌, ◌&&◌, max, Bool, true, false, if◌then◌else◌, List, [], ◌∷◌}
-use Rattle.std.proofs.Common.{◌++◌, Some, None}
-use Rattle.std.proofs.Common.{slice_get, refl, sym, ap, ◌∙◌, subst, arith}
+use Rattle.std.proofs.Common.{◌≡◌, ℕ, zero, suc, ◌<◌, ◌≤◌, ◌==◌, max, true, false, List}
+use Rattle.std.proofs.Common.{Some}
+use Rattle.std.proofs.Common.{slice_get, refl, sym, ◌∙◌, subst, arith}
 use Rattle.std.proofs.lemmas.Bool.Decides.{nat_tests}
 use Rattle.am_base.specs.declared.entry.Entry.{Entry}
 use Rattle.am_base.specs.declared.image.Image.{Image}
 use Rattle.am_base.specs.declared.name.Stamp.{Stamp}
 use Rattle.am_base.specs.Founding.{Rules, MayFound}
-use Rattle.am_base.specs.Stamps.{stamp_lt, stamp_eq}
 use Rattle.am_packet.specs.declared.packet.Packet.{Packet}
 use Rattle.am_packet.specs.declared.packet.Packet.TheVariants as packet
 use Rattle.am_packet.specs.Boxes.{Letter}
 use Rattle.am_group.specs.declared.event.Event.{Event}
 use Rattle.am_group.specs.Journals.{item_at}
-use Rattle.am_chain_lists.specs.Whole.{key, view_of}
+use Rattle.am_chain_lists.specs.Whole.{key}
 use Rattle.am_chain_lists.proofs.Order.{key_by}
 use Rattle.am_chain_moves.specs.Group.{Group}
 use Rattle.am_chain_moves.specs.Kept.{Kept}
 use Rattle.am_model.specs.Node.{Node, view, acts, is_member, is_sequencer, lowest_or_first}
 use Rattle.am_model.specs.Group.{has_log}
 use Rattle.am_model.specs.Emit.{Step}
-use Rattle.am_model.specs.World.{World, is_stopped, has_departed, stepped, happens, run}
+use Rattle.am_model.specs.World.{World, is_stopped, stepped, happens, run}
 use Rattle.am_model.specs.Claims.{heard_by}
-use Rattle.am_model.proofs.Greatest.{split, and_both}
-use Rattle.am_effects.specs.Causes.{Cause, hears}
+use Rattle.am_model.proofs.Greatest.{and_both}
+use Rattle.am_effects.specs.Causes.{Cause}
 use Rattle.am_effects.specs.Effects.{Effect}
 use Rattle.am_effects.specs.Events.{actor, WasSentTo, IsCause, steps}
 use Rattle.am_effects.proofs.Statuses.{logged}
@@ -32,14 +31,12 @@ use Rattle.am_laws.proofs.Views.{heard_names}
 use Rattle.am_laws.proofs.ViewNames.{HeardNames}
 use Rattle.am_laws.proofs.Taken.{HeardUsed}
 use Rattle.am_laws.proofs.TakenRuns.{Along, AllOwned, run_owned, each_owned, each_along, heard_used}
-use Rattle.am_stands.specs.Letters.{PacketSays, PieceSays, of_line, of_shown, over, ShownEntry}
-use Rattle.am_stands.specs.Moving.{Moves}
+use Rattle.am_stands.specs.Letters.{PacketSays, PieceSays, of_line, of_shown, over}
 use Rattle.am_stands.specs.Growing.{Grows}
 use Rattle.am_stands.specs.Running.{Following}
 use Rattle.am_stands.proofs.Onward.{group_kept}
-use Rattle.am_headline.proofs.Fold.{Quiet, KeptBy}
 use Rattle.am_headline.proofs.Shapes.{Shaped}
-use Rattle.am_repaired.proofs.Came.{Tells, by_piece, by_result, by_welcome, Came, before, own, told_so, came}
+use Rattle.am_repaired.proofs.Came.{Tells, by_piece, by_result, by_welcome, Came, came}
 use Rattle.am_repaired.proofs.Fresh.{Welcomed}
 
 -- ---- what is kept
