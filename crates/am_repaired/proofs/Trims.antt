@@ -1,7 +1,10 @@
 -- What a sequencer trimmed, its members have taken: what a run keeps of it, with the group that follows.
-use Rattle.std.proofs.Common.{◌≡◌, ℕ, zero, suc, ◌<◌, ◌≤◌, ◌==◌, max, true, false, List}
+use Rattle.std.proofs.Common.{◌≡◌, ⊎_elim, ℕ, zero, suc, ◌<◌, ◌≤◌, ◌==◌, max, true, false, List, [], ◌++◌}
 use Rattle.std.proofs.Common.{Some}
-use Rattle.std.proofs.Common.{slice_get, refl, sym, ◌∙◌, subst, arith}
+use Rattle.std.proofs.Common.{slice_get, refl, sym, ap, ◌∙◌, subst, arith}
+use Rattle.std.specs.Prelude.{All}
+use Rattle.std.proofs.lemmas.List.Elements.{All-nil, All-append, All-weaker}
+use Rattle.std.proofs.lemmas.Option.{slice_get-get_or}
 use Rattle.std.proofs.lemmas.Bool.Decides.{nat_tests}
 use Rattle.am_base.specs.declared.entry.Entry.{Entry}
 use Rattle.am_base.specs.declared.image.Image.{Image}
@@ -24,7 +27,9 @@ use Rattle.am_model.specs.Claims.{heard_by}
 use Rattle.am_model.proofs.Greatest.{and_both}
 use Rattle.am_effects.specs.Causes.{Cause}
 use Rattle.am_effects.specs.Effects.{Effect}
+use Rattle.am_effects.specs.Letters.{LetterSays}
 use Rattle.am_effects.specs.Events.{actor, WasSentTo, IsCause, steps}
+use Rattle.am_effects.proofs.Items.{all_get}
 use Rattle.am_effects.proofs.Statuses.{logged}
 use Rattle.am_laws.proofs.Named.{few_names}
 use Rattle.am_laws.proofs.Views.{heard_names}
@@ -35,9 +40,9 @@ use Rattle.am_stands.specs.Letters.{PacketSays, PieceSays, of_line, of_shown, ov
 use Rattle.am_stands.specs.Growing.{Grows}
 use Rattle.am_stands.specs.Running.{Following}
 use Rattle.am_stands.proofs.Onward.{group_kept}
-use Rattle.am_headline.proofs.Shapes.{Shaped}
 use Rattle.am_repaired.proofs.Came.{Tells, by_piece, by_result, by_welcome, Came, came}
 use Rattle.am_repaired.proofs.Fresh.{Welcomed}
+use Rattle.am_repaired.proofs.Sends.{sent_by}
 
 -- ---- what is kept
 
@@ -68,25 +73,36 @@ pub record Trims (w : World) (s : Group) : Type 0 where
       → l.packet ≡ packet.Welcome from u base join image → s.views.decided (key u) ≡ true
   pub settles : (q : ℕ) → q < 256 → is_sequencer (w.nodes q) ≡ true → is_stopped w q ≡ false → Settles w q
 
-item_get : {A : Type 0} (list : List A) (number : ℕ) (x : A) → item_at list number ≡ Some x → (k : ℕ) × (slice_get list k ≡ Some x)
+pub item_get : {A : Type 0} (list : List A) (number : ℕ) (x : A) → item_at list number ≡ Some x → (k : ℕ) × (slice_get list k ≡ Some x)
 item_get list zero x at = absurd (cc)
 item_get list (suc k) x at = (k, at)
 
-equal : (a b : ℕ) → (a == b) ≡ true → a ≡ b
+pub equal : (a b : ℕ) → (a == b) ≡ true → a ≡ b
 equal a b t = grind (arith, nat_tests)
 
-itself : (a : ℕ) → (a == a) ≡ true
+pub itself : (a : ℕ) → (a == a) ≡ true
 itself a = grind (arith, nat_tests)
 
 -- ---- a step
 
-module _ (rules : Rules) (events : List Event) (e : Event) (c : Cause) (step : Step) (s t : Group) (may : MayFound rules)
-    (runs : is_stopped (run rules events) (actor (run rules events) e) ≡ false) (cause : IsCause (run rules events) (actor (run rules events) e) e.act c)
-    (effect : Effect ((run rules events).nodes (actor (run rules events) e)) c step)
-    (is : stepped (run rules events) e (actor (run rules events) e) step ≡ happens (run rules events) e)
-    (old : Following rules (run rules events) s) (grows : Grows s t) (shaped : Shaped t)
-    (new : Following rules (stepped (run rules events) e (actor (run rules events) e) step) t)
-    (h : Trims (run rules events) s) where
+-- of a run with the group that follows it, from where the record is kept
+pub record OneStep (rules : Rules) (events : List Event) (e : Event) (c : Cause) (step : Step) (s t : Group) : Type 0 where
+  pub may : MayFound rules
+  pub runs : is_stopped (run rules events) (actor (run rules events) e) ≡ false
+  pub cause : IsCause (run rules events) (actor (run rules events) e) e.act c
+  pub effect : Effect ((run rules events).nodes (actor (run rules events) e)) c step
+  pub is : stepped (run rules events) e (actor (run rules events) e) step ≡ happens (run rules events) e
+  pub old : Following rules (run rules events) s
+  pub grows : Grows s t
+  pub new : Following rules (stepped (run rules events) e (actor (run rules events) e) step) t
+  pub trims : Trims (run rules events) s
+
+-- a letter was sent before, or tells of the node after the step
+pub data Sent (w : World) (m n : Node) (c : Cause) (l : Letter) : Type 0 where
+  before : (k : ℕ) → slice_get w.letters k ≡ Some l → Sent w m n c l
+  now : LetterSays m c n l → Sent w m n c l
+
+module _ (rules : Rules) (events : List Event) (e : Event) (c : Cause) (step : Step) (s t : Group) (x : OneStep rules events e c step s t) where
   abbrev w : World
   w = run rules events
 
@@ -102,69 +118,104 @@ module _ (rules : Rules) (events : List Event) (e : Event) (c : Cause) (step : S
   abbrev v : World
   v = stepped w e i step
 
-  laws_w : AllOwned rules w
-  laws_w = run_owned rules events may
+  pub laws_w : AllOwned rules w
+  laws_w = run_owned rules events x.may
 
-  laws_v : AllOwned rules v
-  laws_v = each_owned rules w e v (steps c step runs cause effect) laws_w
+  pub laws_v : AllOwned rules v
+  laws_v = each_owned rules w e v (steps c step x.runs x.cause x.effect) laws_w
 
-  few : i < 256
+  pub few : i < 256
   few = few_names rules w e laws_w.blanks.views.named
 
-  kept_s : Kept s
-  kept_s = group_kept rules.founders (lowest_or_first rules.founders) rules.resilience s old.group
+  pub kept_s : Kept s
+  kept_s = group_kept rules.founders (lowest_or_first rules.founders) rules.resilience s x.old.group
 
-  along : Along rules m
+  pub kept_t : Kept t
+  kept_t = group_kept rules.founders (lowest_or_first rules.founders) rules.resilience t x.new.group
+
+  pub along : Along rules m
   along = each_along rules w i few laws_w
 
-  heard : HeardNames c
-  heard = heard_names rules w e c laws_w.blanks.views cause
+  pub heard : HeardNames c
+  heard = heard_names rules w e c laws_w.blanks.views x.cause
 
-  used : HeardUsed c
-  used = heard_used rules w e c laws_w cause
+  pub used : HeardUsed c
+  used = heard_used rules w e c laws_w x.cause
 
-  node_v : v.nodes i ≡ n
+  pub who_w : (j : ℕ) → (w.nodes j).core.who ≡ j
+  who_w j = laws_w.blanks.views.named.who j
+
+  pub who_v : (j : ℕ) → (v.nodes j).core.who ≡ j
+  who_v j = laws_v.blanks.views.named.who j
+
+  pub node_v : v.nodes i ≡ n
   unfolding stepped
   node_v = let u : (i == i) ≡ true = itself i in rw u refl
 
-  others_v : (j : ℕ) → (j == i) ≡ false → v.nodes j ≡ w.nodes j
+  pub others_v : (j : ℕ) → (j == i) ≡ false → v.nodes j ≡ w.nodes j
   unfolding stepped
   others_v j f = rw f refl
 
-  came_n : acts n ≡ true → Came c m n
-  came_n = came rules m n heard used effect.changes along
+  pub who_n : n.core.who ≡ i
+  who_n = ap (λ (y : Node). y.core.who) (sym node_v) ∙ who_v i
 
-  stays_decided : (u : Stamp) → s.views.decided (key u) ≡ true → t.views.decided (key u) ≡ true
-  stays_decided u d = (grows.decided (key u) d).0
+  pub stopped_v : (j : ℕ) → is_stopped v j ≡ is_stopped w j
+  unfolding stepped
+  stopped_v j = refl
 
-  piece_decided : (from : ℕ) (u : Stamp) (number : ℕ) (x : Entry) → from < 256 → u.by ≡ from → PieceSays s from u number x → s.views.decided (key u) ≡ true
-  piece_decided from u number x low by (of_line same d at) = d
-  piece_decided from u number x low by (of_shown sh) = absurd (
+  letters_v : v.letters ≡ w.letters ++ step.letters
+  unfolding stepped
+  letters_v = refl
+
+  sent_now : All (Sent w m n c) step.letters
+  sent_now = ⊎_elim
+      (λ (none : step.letters ≡ []). subst (All (Sent w m n c)) (sym none) (All-nil (Sent w m n c)))
+      (λ (same : x.effect.sender ≡ n). All-weaker (LetterSays m c x.effect.sender) (Sent w m n c)
+      (λ l says. now (subst (λ y. LetterSays m c y l) same says)) step.letters x.effect.letters)
+      (sent_by rules events e c step s x.effect x.is few x.old)
+
+  -- each letter
+  pub letter_v : (k : ℕ) (l : Letter) → slice_get v.letters k ≡ Some l → Sent w m n c l
+  letter_v k l at =
+      all_get (Sent w m n c) (w.letters ++ step.letters) k l
+      (All-append (Sent w m n c) w.letters step.letters (λ j d low. before j (slice_get-get_or w.letters j d low)) sent_now)
+      (ap (λ (ls : List Letter). slice_get ls k) (sym letters_v) ∙ at)
+
+  pub came_n : acts n ≡ true → Came c m n
+  came_n = came rules m n heard used x.effect.changes along
+
+  pub stays_decided : (u : Stamp) → s.views.decided (key u) ≡ true → t.views.decided (key u) ≡ true
+  stays_decided u d = (x.grows.decided (key u) d).0
+
+  pub piece_decided : (from : ℕ) (u : Stamp) (number : ℕ) (y : Entry) → from < 256 → u.by ≡ from → PieceSays s from u number y
+      → s.views.decided (key u) ≡ true
+  piece_decided from u number y low by (of_line same d at) = d
+  piece_decided from u number y low by (of_shown sh) = absurd (
       let k = kept_s.shown (key u) from sh.list sh.shown in
       k.other (key_by k.stamp u k.small (subst (λ z. z < 256) (sym by) low) k.is ∙ by))
-  piece_decided from u number x low by (over other d) = d
+  piece_decided from u number y low by (over other d) = d
 
   -- the view that a letter of its own name tells was decided
-  told_decided : (from : ℕ) (u : Stamp) (base : ℕ) → Tells c from u base → u.by ≡ from → s.views.decided (key u) ≡ true
-  told_decided from u base tells by = by_kind tells cause heard
+  pub told_decided : (from : ℕ) (u : Stamp) (base : ℕ) → Tells c from u base → u.by ≡ from → s.views.decided (key u) ≡ true
+  told_decided from u base tells by = by_kind tells x.cause heard
     where
       by_kind : {d : Cause} → Tells d from u base → IsCause w i e.act d → HeardNames d → s.views.decided (key u) ≡ true
-      by_kind (by_piece s_ v_ base_ number x) was names =
-          let sent : WasSentTo w i e.act (packet.Piece s_ v_ base_ number x) = was in
+      by_kind (by_piece s_ v_ base_ number y) was names =
+          let sent : WasSentTo w i e.act (packet.Piece s_ v_ base_ number y) = was in
           let at = item_get w.letters (heard_by e.act) sent.letter sent.there in
-          let says : PacketSays w s sent.letter.to (packet.Piece s_ v_ base_ number x) = subst (PacketSays w s sent.letter.to) sent.is
-          (old.letters at.0 sent.letter at.1) in
-          piece_decided s_ v_ number x (names.senders (packet.Piece s_ v_ base_ number x) refl) by says.1
+          let says : PacketSays w s sent.letter.to (packet.Piece s_ v_ base_ number y) = subst (PacketSays w s sent.letter.to) sent.is
+          (x.old.letters at.0 sent.letter at.1) in
+          piece_decided s_ v_ number y (names.senders (packet.Piece s_ v_ base_ number y) refl) by says.1
       by_kind (by_result s_ v_ base_ number names_ resilience) was names =
           let sent : WasSentTo w i e.act (packet.Result s_ v_ base_ number names_ resilience) = was in
           let at = item_get w.letters (heard_by e.act) sent.letter sent.there in
           let says : PacketSays w s sent.letter.to (packet.Result s_ v_ base_ number names_ resilience) =
-          subst (PacketSays w s sent.letter.to) sent.is (old.letters at.0 sent.letter at.1) in
+          subst (PacketSays w s sent.letter.to) sent.is (x.old.letters at.0 sent.letter at.1) in
           (says.1 by).decided
       by_kind (by_welcome s_ v_ base_ join image) was names =
           let sent : WasSentTo w i e.act (packet.Welcome s_ v_ base_ join image) = was in
           let at = item_get w.letters (heard_by e.act) sent.letter sent.there in
-          h.welcomes at.0 sent.letter s_ v_ base_ join image at.1 sent.is
+          x.trims.welcomes at.0 sent.letter s_ v_ base_ join image at.1 sent.is
 
 -- ---- what it gives
 
