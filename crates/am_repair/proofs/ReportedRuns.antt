@@ -13,7 +13,7 @@ use Rattle.am_model.specs.Node.{Node}
 use Rattle.am_packet.specs.declared.packet.Packet.{Packet}
 use Rattle.am_packet.specs.declared.packet.Packet.TheVariants as packet
 use Rattle.std.proofs.lemmas.Bool.Decides.{nat_tests}
-use Rattle.std.proofs.Common.{◌≡◌, ℕ, ◌<◌, ◌≤◌, ◌==◌, true, refl, sym, ap, ◌∙◌, subst, arith}
+use Rattle.std.proofs.Common.{◌≡◌, ℕ, ◌<◌, ◌≤◌, ◌==◌, true, List, refl, sym, ap, ◌∙◌, subst, arith}
 use Rattle.std.specs.Prelude.{All}
 use Rattle.std.proofs.lemmas.List.Elements.{All-nil, All-append, All-weaker}
 use Rattle.am_packet.specs.Boxes.{Letter}
@@ -56,7 +56,7 @@ told_changes rules nodes m n names used w (changed {n = x} one more) a h =
 
 -- ---- worlds
 
-abbrev LetterTaken : (ℕ → Node) → Letter → Type 0
+abbrev pub LetterTaken : (ℕ → Node) → Letter → Type 0
 LetterTaken nodes l = ReportTaken nodes l.packet
 
 pub record AllTold (rules : Rules) (w : World) : Type 0 where
@@ -87,7 +87,7 @@ more_taken old new up (packet.HandOver s v) h = tt
 more_truly : (old new : ℕ → Node) → ((name : ℕ) → (old name).core.taken ≤ (new name).core.taken) → (m : Node) → Truly old m → Truly new m
 more_truly old new up m h name other = let a = h name other in let b = up name in omega arith
 
-cause_taken : (w : World) (e : Event) (c : Cause) → All (LetterTaken w.nodes) w.letters → IsCause w (actor w e) e.act c → CauseTaken w.nodes c
+pub cause_taken : (w : World) (e : Event) (c : Cause) → All (LetterTaken w.nodes) w.letters → IsCause w (actor w e) e.act c → CauseTaken w.nodes c
 cause_taken w e (hears p) all cause =
     let was : WasSentTo w (actor w e) e.act p = cause in
     subst (ReportTaken w.nodes) was.is (all_item (LetterTaken w.nodes) w.letters (heard_by e.act) was.letter all was.there)
@@ -149,9 +149,12 @@ told_start rules may = record {
   letters = All-nil (LetterTaken (start rules).nodes);
 }
 
+pub run_told : (rules : Rules) (events : List Event) → MayFound rules → AllTold rules (run rules events)
+run_told rules events may = runs_keep (AllTold rules) (each_told rules) (start rules) events (told_start rules may)
+
 pub known_is_taken : KnownIsTaken
 known_is_taken rules events q name may few small =
-    let all = runs_keep (AllTold rules) (each_told rules) (start rules) events (told_start rules may) in
+    let all = run_told rules events may in
     let w = run rules events in
     let who = all.laws.blanks.views.named.who q in
     split (name == q)

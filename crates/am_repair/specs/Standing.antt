@@ -69,14 +69,10 @@ OneListAgrees = (rules : Rules) (events : List Event) (place : ℕ) → MayFound
     → IsSettled (run rules events) ((run rules events).nodes (current (run rules events) place))
     → Agree (run rules events) ((run rules events).nodes (current (run rules events) place))
 
--- both of these are so at the end of each run that may be repaired: this isn't proved yet
+-- both of these are so at the end of each run that may be repaired (am_repaired)
 abbrev pub RepairableIsOneList : Type 0
 RepairableIsOneList = (rules : Rules) (events : List Event) (place : ℕ) → MayFound rules → place < 16 → MayRepair (run rules events) place
     → IsOneList (run rules events) ((run rules events).nodes (current (run rules events) place))
-
-abbrev pub RepairableIsSettled : Type 0
-RepairableIsSettled = (rules : Rules) (events : List Event) (place : ℕ) → MayFound rules → place < 16 → MayRepair (run rules events) place
-    → IsSettled (run rules events) ((run rules events).nodes (current (run rules events) place))
 
 -- ---- lawfulness
 

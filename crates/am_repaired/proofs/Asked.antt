@@ -1,28 +1,40 @@
 -- What a node knows of others to be taken, through a request to join: the row itself.
-use Rattle.std.proofs.Common.{◌≡◌, ℕ, ◌==◌, ◌&&◌, ◌||◌, not, nat_lt, nat_le, Bool, true, false, if◌then◌else◌, refl, ap, ◌∙◌, arith}
+use Rattle.std.proofs.Common.{◌≡◌, ℕ, ◌==◌, ◌&&◌, ◌||◌, not, nat_lt, nat_le, Bool, true, false, if◌then◌else◌, Some, refl, sym, ap, ◌∙◌, subst, arith}
 use Rattle.std.proofs.lemmas.Bool.Decides.{nat_tests}
 use Rattle.am_base.specs.declared.name.Stamp.{Stamp}
 use Rattle.am_base.specs.declared.entry.Entry.TheVariants.{Join}
 use Rattle.am_base.specs.declared.image.Report.{Report}
+use Rattle.am_base.specs.declared.outcome.Outcome.{Outcome}
+use Rattle.am_base.specs.declared.outcome.Outcome.TheVariants as said
 use Rattle.am_base.specs.declared.image.Row.{Row}
 use Rattle.am_base.specs.Names.{life_of}
 use Rattle.am_base.specs.Lists.{at_place, fits}
+use Rattle.am_packet.specs.declared.packet.Packet.{Packet}
 use Rattle.am_packet.specs.declared.packet.Packet.TheVariants as packet
+use Rattle.am_packet.specs.Boxes.{Letter}
+use Rattle.am_group.specs.declared.event.Act.{Act}
+use Rattle.am_group.specs.declared.event.Act.TheVariants as act
+use Rattle.am_group.specs.declared.event.Event.{Event}
+use Rattle.am_group.specs.Addressed.{is_for}
+use Rattle.am_group.specs.Journals.{letter_at}
 use Rattle.am_model.specs.Node.{Node, told, is_sequencer, has_room}
-use Rattle.am_model.specs.Emit.{Plan, finish}
+use Rattle.am_model.specs.Emit.{Plan, Step, finish}
 use Rattle.am_model.specs.Step.{hear, refused}
 use Rattle.am_model.specs.Joining.{admitted, asks_to_join, join_ask_row}
 use Rattle.am_model.specs.Hearing.{hears_member, hear_row}
 use Rattle.am_model.specs.Lengths.{packet_length}
 use Rattle.am_model.specs.Refresh.{refresh_at_end}
-use Rattle.am_model.specs.World.{hear_cut}
+use Rattle.am_model.specs.World.{World, is_stopped, unchanged, stepped, heard, hear_cut, acts_as, happens}
+use Rattle.am_model.specs.Claims.{heard_by}
 use Rattle.am_model.proofs.Greatest.{split, and_both}
+use Rattle.am_effects.specs.Events.{actor}
 use Rattle.am_repair.proofs.Reported.{end_same}
+use Rattle.am_repaired.proofs.Came.{other_member}
 
 -- as before, but that a joiner whose Join fits the sequencer's list begins at the base
 pub data Asked (m y : Node) (s : ℕ) : Type 0 where
   as_before : ((j : ℕ) → (j == m.core.who) ≡ false → y.reports j ≡ m.reports j) → Asked m y s
-  admitted_ : is_sequencer m ≡ true → fits (told m) (Join s) ≡ true → (y.reports s).taken ≡ m.core.base
+  admitted_ : (s == m.core.who) ≡ false → is_sequencer m ≡ true → fits (told m) (Join s) ≡ true → (y.reports s).taken ≡ m.core.base
       → ((j : ℕ) → (j == m.core.who) ≡ false → (j == s) ≡ false → y.reports j ≡ m.reports j) → Asked m y s
 
 record PlanAsked (m : Node) (s : ℕ) (p : Plan) : Type 0 where
@@ -41,17 +53,18 @@ same_plan m s p stays is = record {
   asked = as_before (λ j other. ap (λ (n : Node). n.reports j) is);
 }
 
-ended : (m x : Node) (s : ℕ) → x.core.who ≡ m.core.who → (s == m.core.who) ≡ false → Asked m x s → Asked m (refresh_at_end x) s
-ended m x s who not_own (as_before h) = as_before (λ j other. end_same x j (ap (λ k. j == k) who ∙ other) ∙ h j other)
-ended m x s who not_own (admitted_ leads fit base h) = admitted_ leads fit (ap (λ (r : Report). r.taken) (end_same x s (ap (λ k. s == k) who ∙ not_own)) ∙ base)
+ended : (m x : Node) (s : ℕ) → x.core.who ≡ m.core.who → Asked m x s → Asked m (refresh_at_end x) s
+ended m x s who (as_before h) = as_before (λ j other. end_same x j (ap (λ k. j == k) who ∙ other) ∙ h j other)
+ended m x s who (admitted_ not_own leads fit base h) = admitted_ not_own leads fit
+    (ap (λ (r : Report). r.taken) (end_same x s (ap (λ k. s == k) who ∙ not_own)) ∙ base)
     (λ j other apart. end_same x j (ap (λ k. j == k) who ∙ other) ∙ h j other apart)
 
-plan_ends : (m : Node) (s : ℕ) (p : Plan) → (s == m.core.who) ≡ false → PlanAsked m s p → Asked m (finish m p).node s
+plan_ends : (m : Node) (s : ℕ) (p : Plan) → PlanAsked m s p → Asked m (finish m p).node s
 unfolding finish
-plan_ends m s p not_own h = rw h.stays (ended m p.node s h.who not_own h.asked)
+plan_ends m s p h = rw h.stays (ended m p.node s h.who h.asked)
 
-row_asked : (m : Node) (s : ℕ) (q : Row) → is_sequencer m ≡ true → PlanAsked m s (asks_to_join m s q)
-row_asked m s q leads =
+row_asked : (m : Node) (s : ℕ) (q : Row) → (s == m.core.who) ≡ false → is_sequencer m ≡ true → PlanAsked m s (asks_to_join m s q)
+row_asked m s q not_own leads =
     plan_if m s (nat_lt (life_of s) q.life) _ _ (λ t. same_plan m s _ refl refl)
     (λ a. plan_if m s ((q.life == life_of s) && nat_lt 0 q.left) _ _ (λ t. same_plan m s _ refl refl)
     (λ b. plan_if m s (nat_lt q.life (life_of s) && (nat_lt 0 q.life && ((q.left == 0) || nat_lt m.core.acc q.left))) _ _ (λ t. same_plan m s _ refl refl)
@@ -59,7 +72,7 @@ row_asked m s q leads =
     (λ d. plan_if m s (fits (told m) (Join s)) _ _ (λ fit. record {
       stays = refl;
       who = refl;
-      asked = admitted_ leads fit (begins_at m s)
+      asked = admitted_ not_own leads fit (begins_at m s)
           (λ j other apart. rw apart refl);
     })
     (λ e. plan_if m s (nat_le q.joined (m.reports s).stored || nat_lt m.core.acc q.joined) _ _ (λ t. same_plan m s _ refl refl)
@@ -68,18 +81,58 @@ row_asked m s q leads =
     begins_at : (m : Node) (s : ℕ) → ((admitted m s).reports s).taken ≡ m.core.base
     begins_at m s = let t : (s == s) ≡ true = grind (arith, nat_tests) in rw t refl
 
--- whoever hears it; where it isn't the node's own
-pub asked : (m : Node) (s : ℕ) (v : Stamp) → (s == m.core.who) ≡ false → Asked m (hear m (packet.JoinAsk s v)).node s
+-- whoever hears it
+asked : (m : Node) (s : ℕ) (v : Stamp) → Asked m (hear m (packet.JoinAsk s v)).node s
 unfolding hear hear_row join_ask_row
-asked m s v not_own = plan_ends m s _ not_own (plan_if m s (hears_member m s && is_sequencer m) _ _
-    (λ t. row_asked m s (at_place (told m) s) (and_both (hears_member m s) (is_sequencer m) t).1)
+asked m s v = plan_ends m s _ (plan_if m s (hears_member m s && is_sequencer m) _ _
+    (λ t.
+    let both = and_both (hears_member m s) (is_sequencer m) t in
+    row_asked m s (at_place (told m) s) (other_member m s both.0) both.1)
     (λ t. same_plan m s _ refl refl))
 
 refused_asked : (m : Node) (s cause : ℕ) → Asked m (refused m cause).node s
 unfolding refused finish
 refused_asked m s cause = as_before (λ j other. end_same m j other)
 
-pub cut_asked : (m : Node) (keep s : ℕ) (v : Stamp) → (s == m.core.who) ≡ false → Asked m (hear_cut m keep (packet.JoinAsk s v)).node s
-cut_asked m keep s v not_own = split (nat_le (packet_length (packet.JoinAsk s v)) keep)
-    (λ a. rw a (asked m s v not_own))
+cut_asked : (m : Node) (keep s : ℕ) (v : Stamp) → Asked m (hear_cut m keep (packet.JoinAsk s v)).node s
+cut_asked m keep s v = split (nat_le (packet_length (packet.JoinAsk s v)) keep)
+    (λ a. rw a (asked m s v))
     (λ a. split (nat_lt keep 12) (λ b. rw (a, b) (refused_asked m s 1)) (λ b. rw (a, b) (refused_asked m s 5)))
+
+-- ---- the event
+
+abbrev AskedIn : World → ℕ → ℕ → World → Type 0
+AskedIn w name s u = Asked (w.nodes name) (u.nodes name) s
+
+asked_if : (w : World) (name s : ℕ) (b : Bool) (u v : World) → AskedIn w name s u → AskedIn w name s v → AskedIn w name s (if b then u else v)
+asked_if w name s true u v f g = f
+asked_if w name s false u v f g = g
+
+asked_same : (w : World) (e : Event) (name s : ℕ) (o : Outcome) → AskedIn w name s (unchanged w e o)
+unfolding unchanged
+asked_same w e name s o = as_before (λ j other. refl)
+
+asked_step : (w : World) (e : Event) (name s : ℕ) (step : Step) → Asked (w.nodes name) step.node s → AskedIn w name s (stepped w e name step)
+unfolding stepped
+asked_step w e name s step h = let t : (name == name) ≡ true = grind (arith, nat_tests) in rw t h
+
+asked_letter : (w : World) (e : Event) (name s : ℕ) (v : Stamp) (hearing : Packet → Step) (l : Letter)
+    → Asked (w.nodes name) (hearing (packet.JoinAsk s v)).node s → l.packet ≡ packet.JoinAsk s v → AskedIn w name s (heard w e name hearing (Some l))
+asked_letter w e name s v hearing l h is =
+    asked_if w name s (not (is_for l name)) _ _ (asked_same w e name s said.NotAddressed)
+    (asked_if w name s (is_stopped w name) _ _ (asked_same w e name s said.IsStopped)
+    (asked_step w e name s (hearing l.packet) (subst (λ p. Asked (w.nodes name) (hearing p).node s) (sym is) h)))
+
+-- who hears it, by an act that names its letter
+asked_act : (w : World) (e : Event) (name s : ℕ) (v : Stamp) (a : Act) (l : Letter) → letter_at w.letters (heard_by a) ≡ Some l
+    → l.packet ≡ packet.JoinAsk s v → AskedIn w name s (acts_as w e name a)
+asked_act w e name s v (act.Hear number) l at is = subst (λ o. AskedIn w name s (heard w e name (hear (w.nodes name)) o)) (sym at)
+    (asked_letter w e name s v (hear (w.nodes name)) l (asked (w.nodes name) s v) is)
+asked_act w e name s v (act.Cut number keep) l at is = subst (λ o. AskedIn w name s (heard w e name (hear_cut (w.nodes name) keep) o)) (sym at)
+    (asked_letter w e name s v (hear_cut (w.nodes name) keep) l (cut_asked (w.nodes name) keep s v) is)
+asked_act w e name s v _ l at is = absurd (cc)
+
+pub asked_event : (w : World) (e : Event) (s : ℕ) (v : Stamp) (l : Letter) → letter_at w.letters (heard_by e.act) ≡ Some l
+    → l.packet ≡ packet.JoinAsk s v → AskedIn w (actor w e) s (happens w e)
+unfolding happens
+asked_event w e s v l at is = asked_act w e (actor w e) s v e.act l at is

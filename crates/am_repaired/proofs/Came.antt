@@ -41,7 +41,7 @@ use Rattle.am_repair.proofs.Nodes.{acting, alike_refresh, alike_settle, view_ali
 other_asking : (m : Node) (s : ℕ) → hears_asking m s ≡ true → (s == m.core.who) ≡ false
 other_asking m s h = not_true (s == m.core.who) (and_both (not (s == m.core.who)) (is_member m.status || is_asking m.status) h).0
 
-other_member : (m : Node) (s : ℕ) → hears_member m s ≡ true → (s == m.core.who) ≡ false
+pub other_member : (m : Node) (s : ℕ) → hears_member m s ≡ true → (s == m.core.who) ≡ false
 other_member m s h = not_true (s == m.core.who) (and_both (not (s == m.core.who)) (is_member m.status) h).0
 
 by_sender : (v : Stamp) (s : ℕ) → (v.by == s) ≡ true → v.by ≡ s

@@ -6,6 +6,11 @@ pub mod Began
 pub mod Sends
 pub mod One
 pub mod Trims
+pub mod Mailed
+pub mod Leading
+pub mod Decided
+pub mod Others
+pub mod Kept
 pub mod OneList
 pub mod Left
 pub mod Upheld

@@ -10,13 +10,13 @@ use Rattle.am_model.specs.World.{World, is_stopped}
 use Rattle.am_model.proofs.Greatest.{and_both}
 use Rattle.am_effects.proofs.Statuses.{logged}
 use Rattle.am_stands.specs.Running.{Following}
-use Rattle.am_stands.proofs.Sent.{leading}
+use Rattle.am_stands.proofs.Sent.{Leading, leading}
 use Rattle.am_steps.proofs.Statuses.{member_here}
 
 -- it leads the group
-pub runs_leads : (rules : Rules) (w : World) (s : Group) (q : ℕ) → Following rules w s → Kept s → q < 256 → (w.nodes q).core.who ≡ q
-    → is_sequencer (w.nodes q) ≡ true → is_stopped w q ≡ false → groups.Leads q (s.node q)
-runs_leads rules w s q old k small who leads runs =
+pub runs_leading : (rules : Rules) (w : World) (s : Group) (q : ℕ) → Following rules w s → Kept s → q < 256 → (w.nodes q).core.who ≡ q
+    → is_sequencer (w.nodes q) ≡ true → is_stopped w q ≡ false → Leading q (w.nodes q) s
+runs_leading rules w s q old k small who leads runs =
     let m = w.nodes q in
     let a = old.stands.each q small in
     let member = (and_both (is_member m.status) _ (and_both (acts m) _ leads).0).0 in
@@ -24,7 +24,11 @@ runs_leads rules w s q old k small who leads runs =
       log = a.log_ ∙ logged m.status member;
       there = record { goes = a.stopped ∙ runs; stays = a.departed ∙ member_here m.status member };
     } in
-    (leading w q m s (record { kept = k; stands = a; up = up; who = who }) leads).leads
+    leading w q m s (record { kept = k; stands = a; up = up; who = who }) leads
+
+runs_leads : (rules : Rules) (w : World) (s : Group) (q : ℕ) → Following rules w s → Kept s → q < 256 → (w.nodes q).core.who ≡ q
+    → is_sequencer (w.nodes q) ≡ true → is_stopped w q ≡ false → groups.Leads q (s.node q)
+runs_leads rules w s q old k small who leads runs = (runs_leading rules w s q old k small who leads runs).leads
 
 pub one_sequencer : (rules : Rules) (w : World) (s : Group) (p q : ℕ) → Following rules w s → Kept s → p < 256 → q < 256
     → (w.nodes p).core.who ≡ p → (w.nodes q).core.who ≡ q → is_sequencer (w.nodes p) ≡ true → is_sequencer (w.nodes q) ≡ true

@@ -42,7 +42,7 @@ small_name rules events place may low =
     omega arith
 
 -- a life beyond the sixteenth is nobody's
-member_small : (rules : Rules) (events : List Event) (name : ℕ) → MayFound rules → is_member ((run rules events).nodes name).status ≡ true → name < 256
+pub member_small : (rules : Rules) (events : List Event) (name : ℕ) → MayFound rules → is_member ((run rules events).nodes name).status ≡ true → name < 256
 member_small rules events name may member = split (nat_lt name 256)
     (λ t. grind (arith, nat_tests))
     (λ f. absurd (

@@ -1,43 +1,57 @@
--- What a run that may be repaired comes to by a lossless schedule, where its sequencer trimmed no more than members have taken.
-use Rattle.std.proofs.Common.{◌≡◌, ℕ, ◌<◌, List, [], ◌∷◌, ◌++◌, true, refl, sym, subst}
+-- What a run that may be repaired comes to by a lossless schedule.
+use Rattle.std.proofs.Common.{◌≡◌, ℕ, ◌<◌, ◌≤◌, ◌==◌, true, false, List, subst, arith}
+use Rattle.std.proofs.lemmas.Bool.Decides.{nat_tests}
 use Rattle.am_base.specs.Founding.{Rules, MayFound}
 use Rattle.am_base.specs.Names.{has}
 use Rattle.am_group.specs.declared.event.Event.{Event}
-use Rattle.am_model.specs.Node.{top, members}
-use Rattle.am_model.specs.World.{World, start, current, happens, happen, run}
-use Rattle.am_model.specs.Settle.{settle_events}
-use Rattle.am_model.specs.Claims.{MayRepair, HasCaughtUp, Repairs}
+use Rattle.am_model.specs.Node.{Node, members, is_member}
+use Rattle.am_model.specs.World.{World, current, is_stopped, run}
+use Rattle.am_model.specs.Claims.{MayRepair, Repairs}
+use Rattle.am_model.proofs.Greatest.{split}
+use Rattle.am_laws.proofs.TakenRuns.{taken_holds}
+use Rattle.am_steps.proofs.Statuses.{member_here}
+use Rattle.am_steps.proofs.Steps.{steps_move}
+use Rattle.am_headline.proofs.Begun.{held}
 use Rattle.am_repair.proofs.Beginning.{repairs_where_lists_agree}
+use Rattle.am_repair.proofs.KnownRuns.{sequencers_trim_known}
+use Rattle.am_repair.proofs.Nodes.{acting, leading}
 use Rattle.am_repair.proofs.OneLists.{one_list_agrees}
-use Rattle.am_repaired.specs.Trimmed.{TrimsTaken, RepairableTrims, RepairableCounts, RepairsWhereTrimmed}
-use Rattle.am_repaired.proofs.OneList.{repairable_is_one_list}
+use Rattle.am_repaired.specs.Trimmed.{RepairableTrims, RepairableCounts}
+use Rattle.am_repaired.proofs.OneList.{lawful_events, small_name, member_small, repairable_is_one_list}
 use Rattle.am_repaired.proofs.Counted.{repairable_counts}
+use Rattle.am_repaired.proofs.Trims.{Trims, settled_trims}
+use Rattle.am_repaired.proofs.Kept.{trims_start, trims_keeps}
 
 pub counts_members : RepairableCounts
 counts_members rules events place may low repair = repairable_counts rules events place may low repair
 
-pub repairs_where_trimmed : RepairsWhereTrimmed
-repairs_where_trimmed rules events place may low repair trims =
+-- who is a member runs
+member_runs : (w : World) (place name : ℕ) → MayRepair w place → is_member (w.nodes name).status ≡ true → is_stopped w name ≡ false
+member_runs w place name repair member = split (is_stopped w name)
+    (λ t. absurd (let gone = repair.nobody_stopped name t in let here = member_here (w.nodes name).status member in cc))
+    (λ f. f)
+
+pub trims_taken : RepairableTrims
+trims_taken rules events place may low repair name member =
+    let w = run rules events in
+    let q = current w place in
+    let few = small_name rules events place may low in
+    let act = repair.all_act name member in
+    let is_one : is_member (w.nodes name).status ≡ true = (acting (w.nodes name) act.0).0 in
+    let small = member_small rules events name may is_one in
+    let leads = (acting (w.nodes q) (leading (w.nodes q) repair.leads).0).0 in
+    split (name == q)
+    (λ u. subst (λ k. (w.nodes q).core.base ≤ (w.nodes k).core.taken) (sym_name q name u) (taken_holds rules events q may few))
+    (λ f.
+    let h = held Trims rules (trims_keeps rules) steps_move may (λ t f_. trims_start rules t f_) events (lawful_events rules events place repair) in
+    settled_trims w q name (h.is.settles q few repair.leads (member_runs w place q repair leads)) small f act.0 act.1
+    (member_runs w place name repair is_one) (sequencers_trim_known rules events q may few repair.leads name small member))
+  where
+    sym_name : (q name : ℕ) → (name == q) ≡ true → q ≡ name
+    sym_name q name u = grind (arith, nat_tests)
+
+pub repairs : Repairs
+repairs rules events place may low repair =
     repairs_where_lists_agree rules events place may low repair
     (one_list_agrees rules events place may low repair (repairable_is_one_list rules events place may low repair)
-    (record { trims = trims; counted = repairable_counts rules events place may low repair }))
-
--- ---- the run with the events that settle it
-
-happen_then : (w : World) (xs ys : List Event) → happen w (xs ++ ys) ≡ happen (happen w xs) ys
-unfolding happen
-happen_then w [] ys = refl
-happen_then w (x ∷ xs) ys = happen_then (happens w x) xs ys
-
-pub settled_is_repaired : (rules : Rules) (events : List Event) (place : ℕ) → MayFound rules → place < 16 → MayRepair (run rules events) place
-    → TrimsTaken (run rules events) ((run rules events).nodes (current (run rules events) place))
-    → (name : ℕ) → has (members ((run rules events).nodes (current (run rules events) place))) name ≡ true
-    → HasCaughtUp ((run rules (events ++ settle_events rules (run rules events))).nodes name) (top ((run rules events).nodes (current (run rules events) place)))
-settled_is_repaired rules events place may low repair trims name member =
-    let m = (run rules events).nodes (current (run rules events) place) in
-    subst (λ (w : World). HasCaughtUp (w.nodes name) (top m)) (sym (happen_then (start rules) events (settle_events rules (run rules events))))
-    (repairs_where_trimmed rules events place may low repair trims name member)
-
--- and so the claim, if that is so of each run
-pub repairs : RepairableTrims → Repairs
-repairs trims rules events place may low repair = repairs_where_trimmed rules events place may low repair (trims rules events place may low repair)
+    (record { trims = trims_taken rules events place may low repair; counted = repairable_counts rules events place may low repair }))

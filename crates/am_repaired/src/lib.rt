@@ -1,9 +1,10 @@
 //! What a lossless schedule repairs, in every run (docs/REPAIR.md): what the way to the claim takes from the argument why a group has one
-//! list.
+//! list, and the claim.
 #![tactic(auto)]
 
+ghost use Rattle.am_model.specs.Claims.{Repairs};
 ghost use Rattle.am_repair.specs.Standing.{RepairableIsOneList};
-ghost use Rattle.am_repaired.specs.Trimmed.{RepairableCounts, RepairsWhereTrimmed};
+ghost use Rattle.am_repaired.specs.Trimmed.{RepairableCounts, RepairableTrims};
 
 /// Where a run may be repaired, the sequencer's whole list fits, each Member's begins it, and each Member is a member by it.
 pub fn repairable_runs_have_one_list()
@@ -16,7 +17,12 @@ pub fn repairable_runs_count_members()
     ensures { RepairableCounts }
 {}
 
-/// The claim, where the sequencer of a run that may be repaired trimmed no more than each member has taken.
-pub fn schedules_repair_where_trimmed()
-    ensures { RepairsWhereTrimmed }
+/// And it trimmed no more than each member of its list has taken.
+pub fn repairable_runs_trim_taken()
+    ensures { RepairableTrims }
+{}
+
+/// The claim: where a run may be repaired, a lossless schedule brings each member of the sequencer's list to where the sequencer stood.
+pub fn lossless_schedules_repair()
+    ensures { Repairs }
 {}
