@@ -1,7 +1,5 @@
 -- Who steps decides a view in it, and is its sequencer: what it trimmed as it decided is what its members have taken.
-use Rattle.std.proofs.Common.{◌≡◌, ⊎_elim, ℕ, ◌<◌, ◌≤◌, ◌==◌, max, true, false, List, [], ◌∷◌, ◌++◌, Some, slice_get, refl, sym, ap, ◌∙◌, subst, arith}
-use Rattle.std.proofs.lemmas.Bool.Decides.{nat_tests}
-use Rattle.am_base.specs.declared.image.Image.{Image}
+use Rattle.std.proofs.Common.{◌≡◌, ℕ, ◌<◌, ◌≤◌, ◌==◌, max, true, false, List, [], ◌∷◌, ◌++◌, Some, slice_get, refl, sym, ap, ◌∙◌, subst, arith}
 use Rattle.am_base.specs.declared.name.Stamp.{Stamp}
 use Rattle.am_base.specs.Founding.{Rules}
 use Rattle.am_base.specs.Stamps.{stamp_lt}
@@ -24,7 +22,7 @@ use Rattle.am_stands.proofs.Entries.{key_stamp}
 use Rattle.am_headline.proofs.Fold.{run_push}
 use Rattle.am_repair.proofs.ReportedRuns.{known_is_taken}
 use Rattle.am_repaired.proofs.Mailed.{says_low}
-use Rattle.am_repaired.proofs.Trims.{LetterLow, Knows, took, Settles, OneStep, Sent, before, now, equal, few, kept_s, laws_w, laws_v, node_v, others_v, who_n}
+use Rattle.am_repaired.proofs.Trims.{LetterLow, Knows, took, Settles, OneStep, Sent, before, now, equal, few, laws_w, laws_v, node_v, others_v, who_n}
 use Rattle.am_repaired.proofs.Trims.{letter_v, piece_decided}
 
 module _ (rules : Rules) (events : List Event) (e : Event) (c : Cause) (step : Step) (s t : Group) (x : OneStep rules events e c step s t)

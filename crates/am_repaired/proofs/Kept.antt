@@ -1,11 +1,10 @@
 -- In every run, with the group that follows it: what a sequencer knows to be taken was taken, but for what it began with.
-use Rattle.std.proofs.Common.{◌≡◌, ℕ, ◌<◌, ◌≤◌, ◌==◌, max, true, false, List, Some, slice_get, refl, sym, ap, ◌∙◌, subst, arith}
+use Rattle.std.proofs.Common.{◌≡◌, ℕ, ◌<◌, ◌==◌, true, false, List, Some, slice_get, refl, sym, ap, ◌∙◌, subst, arith}
 use Rattle.std.proofs.lemmas.Bool.Decides.{nat_tests}
 use Rattle.am_base.specs.declared.image.Image.{Image}
 use Rattle.am_base.specs.declared.name.Stamp.{Stamp}
-use Rattle.am_base.specs.Founding.{Rules, MayFound}
+use Rattle.am_base.specs.Founding.{Rules}
 use Rattle.am_base.specs.Names.{has}
-use Rattle.am_base.specs.Stamps.{stamp_lt}
 use Rattle.am_packet.specs.declared.packet.Packet.TheVariants as packet
 use Rattle.am_packet.specs.Boxes.{Letter}
 use Rattle.am_group.specs.declared.event.Event.{Event}
@@ -23,7 +22,6 @@ use Rattle.am_headline.proofs.Fold.{KeptBy, Quiet}
 use Rattle.am_repair.proofs.Nodes.{acting, leading}
 use Rattle.am_repaired.proofs.Came.{Came, before, own, told_so}
 use Rattle.am_repaired.proofs.Decided.{decided_settles}
-use Rattle.am_repaired.proofs.Fresh.{Welcomed}
 use Rattle.am_repaired.proofs.Leading.{leading_settles}
 use Rattle.am_repaired.proofs.Mailed.{says_welcome}
 use Rattle.am_repaired.proofs.One.{runs_leading}

@@ -5,7 +5,6 @@ use Rattle.am_base.specs.declared.name.Stamp.{Stamp}
 use Rattle.am_base.specs.Founding.{Rules}
 use Rattle.am_base.specs.Stamps.{stamp_lt}
 use Rattle.am_base.specs.Lists.{fits, top_of}
-use Rattle.am_packet.specs.declared.packet.Packet.{Packet}
 use Rattle.am_packet.specs.declared.packet.Packet.TheVariants as packet
 use Rattle.am_packet.specs.Boxes.{Letter}
 use Rattle.am_group.specs.declared.event.Event.{Event}
@@ -13,7 +12,7 @@ use Rattle.am_chain_moves.specs.Group.{Group}
 use Rattle.am_model.specs.Node.{Node, told, view, acts, is_sequencer}
 use Rattle.am_model.specs.Group.{has_log}
 use Rattle.am_model.specs.Emit.{Step}
-use Rattle.am_model.specs.World.{World, is_stopped, stepped, happens, run}
+use Rattle.am_model.specs.World.{World, is_stopped, stepped, run}
 use Rattle.am_model.proofs.Greatest.{split}
 use Rattle.am_effects.specs.Causes.{Cause, calls, hears, refuses}
 use Rattle.am_effects.specs.Events.{actor, WasSentTo, IsCause}

@@ -1,10 +1,7 @@
 -- While another name steps, a sequencer that runs still trimmed no more than its members have taken.
-use Rattle.std.proofs.Common.{◌≡◌, ◌⊎◌, ⊎_elim, ℕ, ◌<◌, ◌≤◌, ◌==◌, max, true, false, List, Some, slice_get, refl, sym, ap, ◌∙◌, subst, arith}
-use Rattle.std.proofs.lemmas.Bool.Decides.{nat_tests}
-use Rattle.am_base.specs.declared.image.Image.{Image}
+use Rattle.std.proofs.Common.{◌≡◌, ⊎_elim, ℕ, ◌<◌, ◌≤◌, ◌==◌, true, false, List, sym, ap, ◌∙◌, subst, arith}
 use Rattle.am_base.specs.declared.name.Stamp.{Stamp}
 use Rattle.am_base.specs.Founding.{Rules}
-use Rattle.am_packet.specs.declared.packet.Packet.{Packet}
 use Rattle.am_packet.specs.declared.packet.Packet.TheVariants as packet
 use Rattle.am_packet.specs.Boxes.{Letter}
 use Rattle.am_group.specs.declared.event.Event.{Event}
@@ -18,7 +15,7 @@ use Rattle.am_model.proofs.Greatest.{split, and_both}
 use Rattle.am_effects.specs.Causes.{Cause}
 use Rattle.am_effects.specs.Events.{actor, WasSentTo, IsCause}
 use Rattle.am_repair.proofs.Reported.{Rises}
-use Rattle.am_repaired.proofs.Began.{Began, Blank, begins, rises_along}
+use Rattle.am_repaired.proofs.Began.{Began, begins, rises_along}
 use Rattle.am_repaired.proofs.Came.{Tells, by_piece, by_result, by_welcome, Came, before as went_on, own, told_so}
 use Rattle.am_repaired.proofs.Fresh.{Welcomed}
 use Rattle.am_repaired.proofs.Mailed.{says_apart, says_welcome}

@@ -1,10 +1,7 @@
 -- What a run that may be repaired comes to by a lossless schedule.
-use Rattle.std.proofs.Common.{◌≡◌, ℕ, ◌<◌, ◌≤◌, ◌==◌, true, false, List, subst, arith}
+use Rattle.std.proofs.Common.{◌≡◌, ℕ, ◌≤◌, ◌==◌, true, false, subst, arith}
 use Rattle.std.proofs.lemmas.Bool.Decides.{nat_tests}
-use Rattle.am_base.specs.Founding.{Rules, MayFound}
-use Rattle.am_base.specs.Names.{has}
-use Rattle.am_group.specs.declared.event.Event.{Event}
-use Rattle.am_model.specs.Node.{Node, members, is_member}
+use Rattle.am_model.specs.Node.{is_member}
 use Rattle.am_model.specs.World.{World, current, is_stopped, run}
 use Rattle.am_model.specs.Claims.{MayRepair, Repairs}
 use Rattle.am_model.proofs.Greatest.{split}
