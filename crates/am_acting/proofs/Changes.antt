@@ -15,10 +15,13 @@ use Rattle.am_handlers.specs.Keeps.{NodeKeeps, IsDue}
 use Rattle.am_handlers.proofs.Keeping.{keeps_steady, MaySend}
 
 pub keeps_bodies : (m : Node) (bodies : List KeptBody) → NodeKeeps m → NodeKeeps (record m { bodies = bodies })
-keeps_bodies m bodies keeps = keeps_steady m (record m { bodies = bodies }) (record { who = refl; promise = refl; told = refl; top = refl; status = refl; ballot = refl; leaving = refl; sends = refl }) keeps keeps.own
+keeps_bodies m bodies keeps = keeps_steady m (record m { bodies = bodies })
+    (record { who = refl; promise = refl; told = refl; top = refl; status = refl; ballot = refl; leaving = refl; sends = refl }) keeps keeps.own
 
 pub keeps_taken : (m : Node) (number : ℕ) → m.core.taken ≤ number → NodeKeeps m → NodeKeeps (record m { core = record (m.core) { taken = number } })
-keeps_taken m number more keeps = keeps_steady m (record m { core = record (m.core) { taken = number } }) (record { who = refl; promise = refl; told = refl; top = refl; status = refl; ballot = refl; leaving = refl; sends = refl }) keeps (let old = keeps.own in omega arith)
+keeps_taken m number more keeps = keeps_steady m (record m { core = record (m.core) { taken = number } })
+    (record { who = refl; promise = refl; told = refl; top = refl; status = refl; ballot = refl; leaving = refl; sends = refl }) keeps (let old = keeps.own in
+    omega arith)
 
 log_stays : (s : Status) (old : Bool) → (has_log s ≡ false → old ≡ false) → old ≡ true → has_log s ≡ true
 log_stays Stranger old f t = absurd (let e = f refl in cc)
@@ -29,7 +32,8 @@ log_stays Departed old f t = refl
 no_member : (s : Status) (a b : Bool) → is_member s ≡ false → ((is_member s && a) && b) ≡ true → ⊥
 no_member s a b none is = let e = rw none at is in cc
 
-pub keeps_status : (m : Node) (s : Status) → is_member s ≡ false → (has_log s ≡ false → has_log m.status ≡ false) → NodeKeeps m → NodeKeeps (record m { status = s })
+pub keeps_status : (m : Node) (s : Status) → is_member s ≡ false → (has_log s ≡ false → has_log m.status ≡ false) → NodeKeeps m
+    → NodeKeeps (record m { status = s })
 keeps_status m s outside log keeps = record {
   own = keeps.own;
   leads = λ is. absurd (no_member s (stamp_eq m.core.promise (view m)) ((view m).by == m.core.who) outside is);
@@ -37,7 +41,16 @@ keeps_status m s outside log keeps = record {
   blank = λ none. keeps.blank (log none);
   ballot = λ b is.
       let o = keeps.ballot b is in
-      record { stamp = o.stamp; by = o.by; ahead = o.ahead; logged = λ open_. log_stays s (has_log m.status) log (o.logged open_); itself = o.itself; unvoted = o.unvoted; resilience = o.resilience };
+      record {
+        stamp = o.stamp;
+        by = o.by;
+        ahead = o.ahead;
+        logged = λ open_. log_stays s (has_log m.status) log (o.logged open_);
+        itself = o.itself;
+        unvoted =
+            o.unvoted;
+        resilience = o.resilience;
+      };
   settled = keeps.settled;
   due = keeps.due;
   unsent = λ none. keeps.unsent (log none);
@@ -65,7 +78,8 @@ member_log Asking is none = cc
 member_log Member is none = cc
 member_log Departed is none = cc
 
-pub may_submit : (m : Node) (sends : own.Sends) → NodeKeeps m → is_member m.status ≡ true → m.leaving ≡ false → own.next_request sends ≡ own.next_request m.sends → MaySend m sends
+pub may_submit : (m : Node) (sends : own.Sends) → NodeKeeps m → is_member m.status ≡ true → m.leaving ≡ false
+    → own.next_request sends ≡ own.next_request m.sends → MaySend m sends
 may_submit m sends keeps member stays next = record {
   settled = λ leaves. absurd (let e = sym stays ∙ leaves in cc);
   due = subst (λ n. IsDue (at_place (told m) m.core.who) (life_of m.core.who) n) (sym next) keeps.due;
@@ -87,7 +101,8 @@ collect_waits req sends none = split (own.is_settled req sends)
     (λ t. rw t (none_left (λ send. not (own.is_request req send)) sends.queue none))
     (λ f. rw f none)
 
-pub may_collect : (m : Node) (req : ℕ) (sends : own.Sends) → NodeKeeps m → sends ≡ own.collect req m.sends → own.next_request sends ≡ own.next_request m.sends → MaySend m sends
+pub may_collect : (m : Node) (req : ℕ) (sends : own.Sends) → NodeKeeps m → sends ≡ own.collect req m.sends → own.next_request sends ≡ own.next_request m.sends
+    → MaySend m sends
 may_collect m req sends keeps is next = record {
   settled = λ leaves. ap own.waiting is ∙ collect_waits req m.sends (keeps.settled leaves);
   due = subst (λ n. IsDue (at_place (told m) m.core.who) (life_of m.core.who) n) (sym next) keeps.due;

@@ -1,5 +1,6 @@
 -- What a node emits, by what its tests say.
-use Rattle.std.proofs.Common.{◌≡◌, ℕ, ◌+◌, ◌<◌, List, [], length, Bool, true, false, not, ◌&&◌, ◌==◌, nat_lt, nat_le, Option, Some, None, option_map, refl, sym, ◌∙◌, ap, arith, slice_index}
+use Rattle.std.proofs.Common.{◌≡◌, ℕ, ◌+◌, ◌<◌, List, [], length, Bool, true, false, not, ◌&&◌, ◌==◌, nat_lt, nat_le, Option, Some, None, option_map, refl, sym}
+use Rattle.std.proofs.Common.{◌∙◌, ap, arith, slice_index}
 use Rattle.std.proofs.lemmas.Bool.Decides.{nat_tests}
 use Rattle.std.proofs.Math.ListN.{get_or-map}
 use Rattle.am_base.specs.declared.image.Row.{Row}
@@ -33,7 +34,8 @@ not_false false h = absurd (cc)
 
 -- ---- a member hands its send in
 
-pub hand_short : (m : Node) (req : ℕ) (body : List ℕ) (answer : Outcome) (to : List ℕ) → nat_le (length body) m.core.rules.pb_up_to ≡ true → to ≡ only_name (view m).by
+pub hand_short : (m : Node) (req : ℕ) (body : List ℕ) (answer : Outcome) (to : List ℕ) → nat_le (length body) m.core.rules.pb_up_to ≡ true
+    → to ≡ only_name (view m).by
     → hand_in m (own_send req body) answer ≡ noting false m answer to (note.Request req body)
 hand_short m req body answer to test is = rw test (ap (λ set. noting false m answer set (note.Request req body)) (sym is))
 
@@ -57,7 +59,8 @@ pub record IsWaiting (w : Option OwnSend) (req : ℕ) (body : List ℕ) : Type 0
   pub request : send.req ≡ req
   pub text : send.body ≡ body
 
-pub waits_is : (w : Option OwnSend) (req : ℕ) (body : List ℕ) → option_map {U = ℕ × List ℕ} (λ send. (send.req, send.body)) w ≡ Some (req, body) → IsWaiting w req body
+pub waits_is : (w : Option OwnSend) (req : ℕ) (body : List ℕ) → option_map {U = ℕ × List ℕ} (λ send. (send.req, send.body)) w ≡ Some (req, body)
+    → IsWaiting w req body
 waits_is None req body is = absurd (cc)
 waits_is (Some send) req body is = record { send = send; is = refl; request = ap req_or_none is; text = ap body_or_none is }
 
@@ -70,21 +73,26 @@ waits_none (Some send) is = absurd (cc)
 pub emit_none : (m : Node) (answer : Outcome) → own.waiting_send m.sends ≡ None → emit m (waiting m) answer ≡ quiet m answer
 emit_none m answer is = ap (λ w. emit m w answer) (waits_none (waiting m) is)
 
-emit_some : (m : Node) (answer : Outcome) (req : ℕ) (body : List ℕ) → own.waiting_send m.sends ≡ Some (req, body) → emit m (waiting m) answer ≡ emit m (Some (own_send req body)) answer
+emit_some : (m : Node) (answer : Outcome) (req : ℕ) (body : List ℕ) → own.waiting_send m.sends ≡ Some (req, body)
+    → emit m (waiting m) answer ≡ emit m (Some (own_send req body)) answer
 emit_some m answer req body is =
     let w = waits_is (waiting m) req body is in
     ap (λ x. emit m x answer) w.is ∙ (λ k. emit m (Some (own_send (w.request k) (w.text k))) answer)
 
-pub emit_stays : (m : Node) (answer : Outcome) (req : ℕ) (body : List ℕ) → own.waiting_send m.sends ≡ Some (req, body) → (acts m && nat_lt (own_row m).last req) ≡ false → emit m (waiting m) answer ≡ quiet m answer
+pub emit_stays : (m : Node) (answer : Outcome) (req : ℕ) (body : List ℕ) → own.waiting_send m.sends ≡ Some (req, body)
+    → (acts m && nat_lt (own_row m).last req) ≡ false → emit m (waiting m) answer ≡ quiet m answer
 emit_stays m answer req body is test = emit_some m answer req body is ∙ rw test refl
 
-pub emit_hands : (m : Node) (answer : Outcome) (req : ℕ) (body : List ℕ) → own.waiting_send m.sends ≡ Some (req, body) → (acts m && nat_lt (own_row m).last req) ≡ true → is_sequencer m ≡ false → emit m (waiting m) answer ≡ hand_in m (own_send req body) answer
+pub emit_hands : (m : Node) (answer : Outcome) (req : ℕ) (body : List ℕ) → own.waiting_send m.sends ≡ Some (req, body)
+    → (acts m && nat_lt (own_row m).last req) ≡ true → is_sequencer m ≡ false → emit m (waiting m) answer ≡ hand_in m (own_send req body) answer
 emit_hands m answer req body is test leads = emit_some m answer req body is ∙ rw (test, leads) refl
 
-pub emit_full : (m : Node) (answer : Outcome) (req : ℕ) (body : List ℕ) → own.waiting_send m.sends ≡ Some (req, body) → (acts m && nat_lt (own_row m).last req) ≡ true → is_sequencer m ≡ true → has_room m ≡ false → emit m (waiting m) answer ≡ quiet m answer
+pub emit_full : (m : Node) (answer : Outcome) (req : ℕ) (body : List ℕ) → own.waiting_send m.sends ≡ Some (req, body)
+    → (acts m && nat_lt (own_row m).last req) ≡ true → is_sequencer m ≡ true → has_room m ≡ false → emit m (waiting m) answer ≡ quiet m answer
 emit_full m answer req body is test leads room = emit_some m answer req body is ∙ rw (test, leads, room) refl
 
-pub emit_numbers : (m mid : Node) (answer : Outcome) (req : ℕ) (body to : List ℕ) (told_it : Note) → own.waiting_send m.sends ≡ Some (req, body) → (acts m && nat_lt (own_row m).last req) ≡ true → is_sequencer m ≡ true → has_room m ≡ true
+pub emit_numbers : (m mid : Node) (answer : Outcome) (req : ℕ) (body to : List ℕ) (told_it : Note) → own.waiting_send m.sends ≡ Some (req, body)
+    → (acts m && nat_lt (own_row m).last req) ≡ true → is_sequencer m ≡ true → has_room m ≡ true
     → to ≡ others m → told_it ≡ note.Bcast (top m + 1) (Data m.core.who req body) → mid ≡ pushed m (Data m.core.who req body)
     → emit m (waiting m) answer ≡ noting true mid answer to told_it
 emit_numbers m mid answer req body to told_it is test leads room set tells node =
@@ -106,7 +114,8 @@ member_row image who is =
     let there : slice_index (members_of image) (place_of who) ≡ member_life (at_place image who) = get_or-map member_life image.rows (place_of who) blank_row in
     row_by_life (at_place image who) (life_of who) (omega arith) (ap (λ k. k == life_of who) (sym there) ∙ is)
 
-pub may_number : (m : Node) (req : ℕ) (body : List ℕ) → NodeKeeps m → is_sequencer m ≡ true → own.waiting_send m.sends ≡ Some (req, body) → (own_row m).last < req → fits (told m) (Data m.core.who req body) ≡ true
+pub may_number : (m : Node) (req : ℕ) (body : List ℕ) → NodeKeeps m → is_sequencer m ≡ true → own.waiting_send m.sends ≡ Some (req, body)
+    → (own_row m).last < req → fits (told m) (Data m.core.who req body) ≡ true
 unfolding fits
 may_number m req body keeps leads waits new =
     let member = keeps.leads leads in
@@ -120,7 +129,8 @@ may_number m req body keeps leads waits new =
     let next : (req == (own_row m).last + 1) ≡ true = grind (arith, nat_tests) in
     rw (member, next) refl
 
-pub keeps_number : (m : Node) (capacity req : ℕ) (body : List ℕ) → NodeKeeps m → IsKept m.core.log capacity → is_sequencer m ≡ true → fits (told m) (Data m.core.who req body) ≡ true → NodeKeeps (pushed m (Data m.core.who req body))
+pub keeps_number : (m : Node) (capacity req : ℕ) (body : List ℕ) → NodeKeeps m → IsKept m.core.log capacity → is_sequencer m ≡ true
+    → fits (told m) (Data m.core.who req body) ≡ true → NodeKeeps (pushed m (Data m.core.who req body))
 keeps_number m capacity req body keeps kept leads fit =
     keeps_pushed m (Data m.core.who req body) refl fit capacity kept (leading_log m leads)
     (λ is. ap (λ set. has set m.core.who) (members_pushed m.core.log m.core.who req body) ∙ keeps.leads is)

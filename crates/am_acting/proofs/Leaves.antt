@@ -1,5 +1,6 @@
 -- The last member departs.
-use Rattle.std.proofs.Common.{◌≡◌, inr, ℕ, zero, suc, ◌+◌, ◌-◌, ◌<◌, List, [], ◌∷◌, ◌++◌, length, Bool, true, false, ◌&&◌, ◌||◌, ◌==◌, nat_lt, nat_le, if◌then◌else◌, Some, None, find, length-append, refl, sym, ◌∙◌, ap, arith, slice_index}
+use Rattle.std.proofs.Common.{◌≡◌, inr, ℕ, zero, suc, ◌+◌, ◌-◌, ◌<◌, List, [], ◌∷◌, ◌++◌, length, Bool, true, false, ◌&&◌, ◌||◌, ◌==◌, nat_lt, nat_le}
+use Rattle.std.proofs.Common.{if◌then◌else◌, Some, None, find, length-append, refl, sym, ◌∙◌, ap, arith, slice_index}
 use Rattle.std.specs.Prelude.{slice_get, count_by}
 use Rattle.std.proofs.lemmas.Bool.Decides.{nat_tests}
 use Rattle.std.proofs.lemmas.List.{map-set}
@@ -39,13 +40,15 @@ use Rattle.am_acting.proofs.Emits.{member_row}
 
 -- ---- the members after a Leave
 
-pub members_left : (image : Image) (number name : ℕ) → length image.rows ≡ 16 → 0 < number → has (members_of image) name ≡ true → members_of (after image number (Leave name)) ≡ without_name (members_of image) name
+pub members_left : (image : Image) (number name : ℕ) → length image.rows ≡ 16 → 0 < number → has (members_of image) name ≡ true
+    → members_of (after image number (Leave name)) ≡ without_name (members_of image) name
 unfolding after
 members_left image number name long up is =
     let row = member_row image name is in
     let life = row.same in
     let test : ((at_place image name).life == life_of name) ≡ true = grind (arith, nat_tests) in
-    rw test (map-set member_life image.rows (place_of name) (record (at_place image name) { left = number }) ∙ sym (leaves_member image name (record (at_place image name) { left = number }) long life life up))
+    rw test (map-set member_life image.rows (place_of name) (record (at_place image name) { left = number })
+    ∙ sym (leaves_member image name (record (at_place image name) { left = number }) long life life up))
 
 pub left_members : (m : Node) (capacity : ℕ) → IsKept m.core.log capacity → has (members m) m.core.who ≡ true → members (pushed m (Leave m.core.who)) ≡ others m
 left_members m capacity kept is =
@@ -70,7 +73,8 @@ last_entry log e =
     let at : top_of (with_entry log e) ≡ suc (log.start + length log.entries) = omega arith in
     ap (entry_at (with_entry log e)) at ∙ entry_after log e (length log.entries) refl
 
-pub may_lead_left : (m : Node) (capacity : ℕ) → IsKept m.core.log capacity → has (members m) m.core.who ≡ true → size (others m) ≡ 0 → MayLead (pushed m (Leave m.core.who)).core
+pub may_lead_left : (m : Node) (capacity : ℕ) → IsKept m.core.log capacity → has (members m) m.core.who ≡ true → size (others m) ≡ 0
+    → MayLead (pushed m (Leave m.core.who)).core
 may_lead_left m capacity kept is alone = inr (last_entry m.core.log (Leave m.core.who), ap size (left_members m capacity kept is) ∙ alone)
 
 -- ---- leading
@@ -105,7 +109,8 @@ unfolding refresh_at_end
 at_end_leads m none leads = ap settle (refresh_leads m leads) ∙ settle_none (lead m) (lead_waits m none)
 
 -- the end of a step of who has left is that of a leading node that has departed
-pub depart_end : (m : Node) → waiting m ≡ None → is_sequencer m ≡ true → departed (refresh_at_end (pushed m (Leave m.core.who))) ≡ lead (pushed (departed m) (Leave m.core.who))
+pub depart_end : (m : Node) → waiting m ≡ None → is_sequencer m ≡ true
+    → departed (refresh_at_end (pushed m (Leave m.core.who))) ≡ lead (pushed (departed m) (Leave m.core.who))
 depart_end m none leads =
     let gone = pushed m (Leave m.core.who) in
     ap departed (at_end_leads gone none (leads_pushed m (Leave m.core.who) refl ∙ leads)) ∙ lead_departed gone
@@ -119,21 +124,26 @@ leave_fits m is = is
 no_leader : (a b : Bool) → ((false && a) && b) ≡ true → ⊥
 no_leader a b is = cc
 
-pub keeps_left : (m : Node) (capacity : ℕ) → IsKept m.core.log capacity → has (members m) m.core.who ≡ true → NodeKeeps (departed m) → NodeKeeps (pushed (departed m) (Leave m.core.who))
+pub keeps_left : (m : Node) (capacity : ℕ) → IsKept m.core.log capacity → has (members m) m.core.who ≡ true → NodeKeeps (departed m)
+    → NodeKeeps (pushed (departed m) (Leave m.core.who))
 keeps_left m capacity kept is keeps =
-    keeps_pushed (departed m) (Leave m.core.who) refl (leave_fits m is) capacity kept refl (λ leads. absurd (no_leader (stamp_eq m.core.promise (view m)) ((view m).by == m.core.who) leads)) keeps
+    keeps_pushed (departed m) (Leave m.core.who) refl (leave_fits m is) capacity kept refl
+    (λ leads. absurd (no_leader (stamp_eq m.core.promise (view m)) ((view m).by == m.core.who) leads)) keeps
 
 -- ---- the rows
 
-pub go_asks : (m : Node) (answer : Outcome) (to : List ℕ) → is_sequencer m ≡ false → to ≡ others m → go (quiet m answer) ≡ noting false m answer to note.LeaveAsk
+pub go_asks : (m : Node) (answer : Outcome) (to : List ℕ) → is_sequencer m ≡ false → to ≡ others m
+    → go (quiet m answer) ≡ noting false m answer to note.LeaveAsk
 go_asks m answer to leads is = rw leads (ap (λ set. noting false m answer set note.LeaveAsk) (sym is))
 
-pub go_hands : (m : Node) (answer : Outcome) (to : List ℕ) → is_sequencer m ≡ true → 0 < size (others m) → to ≡ only_name (lowest_or_first (others m)) → go (quiet m answer) ≡ noting false m answer to note.HandOver
+pub go_hands : (m : Node) (answer : Outcome) (to : List ℕ) → is_sequencer m ≡ true → 0 < size (others m) → to ≡ only_name (lowest_or_first (others m))
+    → go (quiet m answer) ≡ noting false m answer to note.HandOver
 go_hands m answer to leads some is =
     let test : nat_lt 0 (size (others m)) ≡ true = grind (arith, nat_tests) in
     rw (leads, test) (ap (λ set. noting false m answer set note.HandOver) (sym is))
 
-pub go_held : (m : Node) (answer o : Outcome) → is_sequencer m ≡ true → size (others m) ≡ 0 → has_room m ≡ false → o ≡ said.Held m.core.base (top m) → go (quiet m answer) ≡ quiet m o
+pub go_held : (m : Node) (answer o : Outcome) → is_sequencer m ≡ true → size (others m) ≡ 0 → has_room m ≡ false → o ≡ said.Held m.core.base (top m)
+    → go (quiet m answer) ≡ quiet m o
 go_held m answer o leads none room is =
     let test : nat_lt 0 (size (others m)) ≡ false = grind (arith, nat_tests) in
     rw (leads, test, room) (ap (quiet m) (sym is))
@@ -152,7 +162,8 @@ go_departs m answer leads none room =
     let test : nat_lt 0 (size (others m)) ≡ false = grind (arith, nat_tests) in
     rw (leads, test, room) refl
 
-pub departs_done : (before : ℕ) (m new : Node) (answer : Outcome) (box : List Letter) → box ≡ [] → IsEndOf (departed (refresh_at_end (pushed m (Leave m.core.who)))) new → Done before (leaving_last m answer) said.Departed box new
+pub departs_done : (before : ℕ) (m new : Node) (answer : Outcome) (box : List Letter) → box ≡ []
+    → IsEndOf (departed (refresh_at_end (pushed m (Leave m.core.who)))) new → Done before (leaving_last m answer) said.Departed box new
 unfolding finish
 departs_done before m new answer box empty end = λ first acc. record {
   node = end;
@@ -161,15 +172,19 @@ departs_done before m new answer box empty end = λ first acc. record {
 }
   where
     told : (first : Node) → with_accept first (leaving_last m answer) (refresh_at_end (pushed m (Leave m.core.who))) [] ≡ []
-    told first = rw (and_none (is_sequencer (refresh_at_end (pushed m (Leave m.core.who)))) (nat_lt first.core.acc (refresh_at_end (pushed m (Leave m.core.who))).core.acc)) refl
+    told first = rw (and_none (is_sequencer (refresh_at_end (pushed m (Leave m.core.who))))
+        (nat_lt first.core.acc (refresh_at_end (pushed m (Leave m.core.who))).core.acc)) refl
 
 pub leave_leaving : (m : Node) → m.leaving ≡ true → leave_now m ≡ quiet m said.Leaving
 leave_leaving m is = rw is refl
 
-pub leave_busy : (m : Node) (count : ℕ) → m.leaving ≡ false → (nat_lt 0 (unsettled m) || is_unfinished m.ballot) ≡ true → count ≡ unsettled m → leave_now m ≡ quiet m (said.Busy count)
-leave_busy m count is busy counts = λ k. if is k then quiet m said.Leaving else if busy k then quiet m (said.Busy (sym counts k)) else go (quiet (record m { leaving = true }) said.Asked)
+pub leave_busy : (m : Node) (count : ℕ) → m.leaving ≡ false → (nat_lt 0 (unsettled m) || is_unfinished m.ballot) ≡ true → count ≡ unsettled m
+    → leave_now m ≡ quiet m (said.Busy count)
+leave_busy m count is busy counts = λ k. if is k then quiet m said.Leaving else if busy k then quiet m (said.Busy (sym counts k)) else go
+    (quiet (record m { leaving = true }) said.Asked)
 
-pub leave_goes : (m : Node) → m.leaving ≡ false → (nat_lt 0 (unsettled m) || is_unfinished m.ballot) ≡ false → leave_now m ≡ go (quiet (record m { leaving = true }) said.Asked)
+pub leave_goes : (m : Node) → m.leaving ≡ false → (nat_lt 0 (unsettled m) || is_unfinished m.ballot) ≡ false
+    → leave_now m ≡ go (quiet (record m { leaving = true }) said.Asked)
 leave_goes m is idle = rw (is, idle) refl
 
 pub leave_is : (m : Node) (s : Status) → m.status ≡ s → leave_row m ≡ leave_by m s
@@ -180,10 +195,13 @@ leave_is m s is = ap (leave_by m) is
 pub none_waits : (q : List OwnSend) → count_by own.is_unsettled q ≡ 0 → find own.is_unsettled q ≡ None
 none_waits [] none = refl
 none_waits (s ∷ ss) none =
-    let more : count_by own.is_unsettled (s ∷ ss) ≡ (if own.is_unsettled s then 1 else 0) + count_by own.is_unsettled ss = sum_by-cons (λ (y : OwnSend). if own.is_unsettled y then 1 else 0) s ss in
+    let more : count_by own.is_unsettled (s ∷ ss) ≡ (if own.is_unsettled s then 1 else 0) + count_by own.is_unsettled ss =
+    sum_by-cons (λ (y : OwnSend). if own.is_unsettled y then 1 else 0) s ss in
     split (own.is_unsettled s)
-    (λ t. let one : count_by own.is_unsettled (s ∷ ss) ≡ 1 + count_by own.is_unsettled ss = more ∙ ap (λ (b : Bool). (if b then 1 else 0) + count_by own.is_unsettled ss) t in absurd (omega arith))
-    (λ f. let rest : count_by own.is_unsettled (s ∷ ss) ≡ 0 + count_by own.is_unsettled ss = more ∙ ap (λ (b : Bool). (if b then 1 else 0) + count_by own.is_unsettled ss) f in rw f (none_waits ss (omega arith)))
+    (λ t. let one : count_by own.is_unsettled (s ∷ ss) ≡ 1 + count_by own.is_unsettled ss = more
+    ∙ ap (λ (b : Bool). (if b then 1 else 0) + count_by own.is_unsettled ss) t in absurd (omega arith))
+    (λ f. let rest : count_by own.is_unsettled (s ∷ ss) ≡ 0 + count_by own.is_unsettled ss = more
+    ∙ ap (λ (b : Bool). (if b then 1 else 0) + count_by own.is_unsettled ss) f in rw f (none_waits ss (omega arith)))
 
 pub idle_none : (m : Node) → (nat_lt 0 (unsettled m) || is_unfinished m.ballot) ≡ false → waiting m ≡ None
 idle_none m idle = none_waits m.sends.queue (none_left (unsettled m) (is_unfinished m.ballot) idle)
@@ -200,7 +218,8 @@ none_at (zero ∷ lives) (suc i) none =
     let more : size (zero ∷ lives) ≡ 0 + size lives = sum_by-cons (λ (life : ℕ). if nat_lt 0 life then 1 else 0) zero lives in
     none_at lives i (omega arith)
 none_at (suc b ∷ lives) i none =
-    let more : size (suc b ∷ lives) ≡ (if nat_lt 0 (suc b) then 1 else 0) + size lives = sum_by-cons (λ (life : ℕ). if nat_lt 0 life then 1 else 0) (suc b) lives in
+    let more : size (suc b ∷ lives) ≡ (if nat_lt 0 (suc b) then 1 else 0) + size lives =
+    sum_by-cons (λ (life : ℕ). if nat_lt 0 life then 1 else 0) (suc b) lives in
     let some : nat_lt 0 (suc b) ≡ true = grind (arith, nat_tests) in
     let one : size (suc b ∷ lives) ≡ 1 + size lives = more ∙ ap (λ t. (if t then 1 else 0) + size lives) some in
     absurd (omega arith)
@@ -214,7 +233,8 @@ without_none set who none =
 steady_others : (m n : Node) → IsSteady m n → others n ≡ others m
 steady_others m n s = λ k. without_name (members_of (s.told k)) (s.who k)
 
-pub left_alone : (m : Node) (capacity : ℕ) → IsKept m.core.log capacity → has (members m) m.core.who ≡ true → waiting m ≡ None → is_sequencer m ≡ true → size (others m) ≡ 0 → size (others (refresh_at_end (pushed m (Leave m.core.who)))) ≡ 0
+pub left_alone : (m : Node) (capacity : ℕ) → IsKept m.core.log capacity → has (members m) m.core.who ≡ true → waiting m ≡ None → is_sequencer m ≡ true
+    → size (others m) ≡ 0 → size (others (refresh_at_end (pushed m (Leave m.core.who)))) ≡ 0
 left_alone m capacity kept is none leads alone =
     let gone = pushed m (Leave m.core.who) in
     let still : is_sequencer gone ≡ true = leads_pushed m (Leave m.core.who) refl ∙ leads in

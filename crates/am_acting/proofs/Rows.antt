@@ -1,5 +1,6 @@
 -- Rows of calls, by what their tests say.
-use Rattle.std.proofs.Common.{◌≡◌, ℕ, ◌+◌, ◌<◌, ◌≤◌, List, length, Bool, true, false, ◌||◌, ◌==◌, nat_lt, nat_le, if◌then◌else◌, Option, Some, None, is_some, refl, sym, ◌∙◌, ap, arith}
+use Rattle.std.proofs.Common.{◌≡◌, ℕ, ◌+◌, ◌<◌, ◌≤◌, List, length, Bool, true, false, ◌||◌, ◌==◌, nat_lt, nat_le, if◌then◌else◌, Option, Some, None, is_some}
+use Rattle.std.proofs.Common.{refl, sym, ◌∙◌, ap, arith}
 use Rattle.std.specs.List.{list_any}
 use Rattle.std.proofs.lemmas.Bool.Decides.{nat_tests}
 use Rattle.am_base.specs.declared.entry.Entry.{Entry}
@@ -33,7 +34,8 @@ pub state_is : (m : Node) (s : Status) → m.status ≡ s → state_row m ≡ st
 unfolding state_row
 state_is m s is = ap (state_by m) is
 
-pub state_member : (m : Node) (leaving : Bool) → m.status ≡ status.Member → m.leaving ≡ leaving → state_row m ≡ (if leaving then quiet m said.Leaving else quiet m (said.Joined m.core.start))
+pub state_member : (m : Node) (leaving : Bool) → m.status ≡ status.Member → m.leaving ≡ leaving
+    → state_row m ≡ (if leaving then quiet m said.Leaving else quiet m (said.Joined m.core.start))
 state_member m leaving is leaves = state_is m status.Member is ∙ ap (λ b. if b then quiet m said.Leaving else quiet m (said.Joined m.core.start)) leaves
 
 -- ---- hearing
@@ -62,11 +64,13 @@ hold_idle m base high req is = by_send (waiting m) is
     by_send None is = refl
     by_send (Some s) is = rw is refl
 
-pub spread_known : (m : Node) (s req : ℕ) (body : List ℕ) → (nat_le req (row_at m s).last || list_any (is_of s req) m.bodies) ≡ true → spread_row m s req body ≡ quiet m said.Known
+pub spread_known : (m : Node) (s req : ℕ) (body : List ℕ) → (nat_le req (row_at m s).last || list_any (is_of s req) m.bodies) ≡ true
+    → spread_row m s req body ≡ quiet m said.Known
 unfolding spread_row
 spread_known m s req body is = rw is refl
 
-pub spread_kept : (m : Node) (s req : ℕ) (body : List ℕ) → (nat_le req (row_at m s).last || list_any (is_of s req) m.bodies) ≡ false → spread_row m s req body ≡ quiet (record m { bodies = keep_body s req body m.bodies }) said.Kept
+pub spread_kept : (m : Node) (s req : ℕ) (body : List ℕ) → (nat_le req (row_at m s).last || list_any (is_of s req) m.bodies) ≡ false
+    → spread_row m s req body ≡ quiet (record m { bodies = keep_body s req body m.bodies }) said.Kept
 unfolding spread_row
 spread_kept m s req body is = rw is refl
 
@@ -85,7 +89,8 @@ take_empty m is all =
     let test : (m.core.taken == m.core.acc) ≡ true = grind (arith, nat_tests) in
     rw (is, test) refl
 
-pub take_given : (m : Node) (number : ℕ) (e : Entry) → is_member m.status ≡ true → number ≤ m.core.acc → number ≡ m.core.taken + 1 → entry_at m.core.log (m.core.taken + 1) ≡ Some e
+pub take_given : (m : Node) (number : ℕ) (e : Entry) → is_member m.status ≡ true → number ≤ m.core.acc → number ≡ m.core.taken + 1
+    → entry_at m.core.log (m.core.taken + 1) ≡ Some e
     → take_row m ≡ quiet (record m { core = record (m.core) { taken = number } }) (said.Took number e)
 unfolding take_row
 take_given m number e is low next there =
@@ -114,13 +119,16 @@ send_queues m body is stays few =
     let test : nat_le 4 (length m.sends.queue) ≡ false = grind (arith, nat_tests) in
     rw (is, stays, test) refl
 
-pub send_waits : (m : Node) (body : List ℕ) (req : ℕ) → is_member m.status ≡ true → m.leaving ≡ false → length m.sends.queue < 4 → is_some (waiting m) ≡ true → req ≡ m.sends.last + 1
+pub send_waits : (m : Node) (body : List ℕ) (req : ℕ) → is_member m.status ≡ true → m.leaving ≡ false → length m.sends.queue < 4 → is_some (waiting m) ≡ true
+    → req ≡ m.sends.last + 1
     → send_row m body ≡ quiet (record m { sends = own.submit body m.sends }) (said.Queued req)
 send_waits m body req is stays few waits next = send_queues m body is stays few ∙ rw waits (ap (λ k. quiet (queued m body) (said.Queued k)) (sym next))
 
-pub send_emits : (m : Node) (body : List ℕ) (req : ℕ) → is_member m.status ≡ true → m.leaving ≡ false → length m.sends.queue < 4 → is_some (waiting m) ≡ false → req ≡ m.sends.last + 1
+pub send_emits : (m : Node) (body : List ℕ) (req : ℕ) → is_member m.status ≡ true → m.leaving ≡ false → length m.sends.queue < 4 → is_some (waiting m) ≡ false
+    → req ≡ m.sends.last + 1
     → send_row m body ≡ emit (record m { sends = own.submit body m.sends }) (waiting (record m { sends = own.submit body m.sends })) (said.Queued req)
-send_emits m body req is stays few waits next = send_queues m body is stays few ∙ rw waits (ap (λ k. emit (queued m body) (waiting (queued m body)) (said.Queued k)) (sym next))
+send_emits m body req is stays few waits next = send_queues m body is stays few
+    ∙ rw waits (ap (λ k. emit (queued m body) (waiting (queued m body)) (said.Queued k)) (sym next))
 
 pub done_is : (m : Node) (req : ℕ) → done_row m req ≡ quiet (record m { sends = own.collect req m.sends }) (own.collect_outcome req m.sends)
 unfolding done_row

@@ -1,5 +1,6 @@
 -- The rows of the tick, by what their tests say.
-use Rattle.std.proofs.Common.{◌≡◌, ℕ, ◌+◌, ◌<◌, List, [], Bool, true, false, not, ◌&&◌, ◌==◌, nat_lt, if◌then◌else◌, Option, Some, None, refl, sym, ◌∙◌, ap, arith}
+use Rattle.std.proofs.Common.{◌≡◌, ℕ, ◌+◌, ◌<◌, List, [], Bool, true, false, not, ◌&&◌, ◌==◌, nat_lt, if◌then◌else◌, Option, Some, None, refl, sym, ◌∙◌, ap}
+use Rattle.std.proofs.Common.{arith}
 use Rattle.std.proofs.lemmas.Bool.Decides.{nat_tests}
 use Rattle.am_base.specs.declared.entry.Entry.TheVariants.{Data, Leave}
 use Rattle.am_base.specs.declared.outcome.Outcome.{Outcome}
@@ -55,19 +56,24 @@ again_invites m a is = ap (λ b. noting false m said.Ticked a.to (if b then note
 pub promised_own : (m : Node) → (m.core.promise.by == m.core.who) ≡ true → tick_promised m ≡ quiet m said.Ticked
 promised_own m test = rw test refl
 
-pub promised_other : (m : Node) (to : List ℕ) → (m.core.promise.by == m.core.who) ≡ false → to ≡ only_name m.core.promise.by → tick_promised m ≡ noting false m said.Ticked to note.Fetch
+pub promised_other : (m : Node) (to : List ℕ) → (m.core.promise.by == m.core.who) ≡ false → to ≡ only_name m.core.promise.by
+    → tick_promised m ≡ noting false m said.Ticked to note.Fetch
 promised_other m to test is = rw test (ap (λ set. noting false m said.Ticked set note.Fetch) (sym is))
 
 pub member_leaves : (m : Node) → m.leaving ≡ true → tick_member m ≡ go (quiet m said.Ticked)
 member_leaves m is = rw is refl
 
 pub member_emits : (m : Node) → m.leaving ≡ false → would_emit m (waiting m) ≡ true → tick_member m ≡ emit m (waiting m) said.Ticked
-member_emits m is test = λ k. if is k then go (quiet m said.Ticked) else if test k then emit m (waiting m) said.Ticked else noting false m said.Ticked (only_name (view m).by) note.Ack
+member_emits m is test = λ k. if is k then go (quiet m said.Ticked) else if test k then emit m (waiting m) said.Ticked else noting false m said.Ticked
+    (only_name (view m).by) note.Ack
 
-pub member_reports : (m : Node) (to : List ℕ) → m.leaving ≡ false → would_emit m (waiting m) ≡ false → to ≡ only_name (view m).by → tick_member m ≡ noting false m said.Ticked to note.Ack
-member_reports m to is test set = λ k. if is k then go (quiet m said.Ticked) else if test k then emit m (waiting m) said.Ticked else noting false m said.Ticked (sym set k) note.Ack
+pub member_reports : (m : Node) (to : List ℕ) → m.leaving ≡ false → would_emit m (waiting m) ≡ false → to ≡ only_name (view m).by
+    → tick_member m ≡ noting false m said.Ticked to note.Ack
+member_reports m to is test set = λ k. if is k then go (quiet m said.Ticked) else if test k then emit m (waiting m) said.Ticked else noting false m said.Ticked
+    (sym set k) note.Ack
 
-pub emits_some : (m : Node) (req : ℕ) (body : List ℕ) → own.waiting_send m.sends ≡ Some (req, body) → would_emit m (waiting m) ≡ (acts m && nat_lt (own_row m).last req)
+pub emits_some : (m : Node) (req : ℕ) (body : List ℕ) → own.waiting_send m.sends ≡ Some (req, body)
+    → would_emit m (waiting m) ≡ (acts m && nat_lt (own_row m).last req)
 emits_some m req body is =
     let w = waits_is (waiting m) req body is in
     ap (would_emit m) w.is ∙ ap (λ k. acts m && nat_lt (own_row m).last k) w.request
@@ -91,32 +97,38 @@ put_off_some m req body is =
     let w = waits_is (waiting m) req body is in
     ap (put_off m) w.is ∙ (λ k. put_off m (Some (own_send (w.request k) (w.text k))))
 
-pub leads_numbered : (m : Node) (req : ℕ) (body : List ℕ) → m.leaving ≡ false → own.waiting_send m.sends ≡ Some (req, body) → (acts m && nat_lt (own_row m).last req) ≡ false → tick_sequencer m ≡ polled (quiet m said.Ticked)
+pub leads_numbered : (m : Node) (req : ℕ) (body : List ℕ) → m.leaving ≡ false → own.waiting_send m.sends ≡ Some (req, body)
+    → (acts m && nat_lt (own_row m).last req) ≡ false → tick_sequencer m ≡ polled (quiet m said.Ticked)
 leads_numbered m req body is waits test =
     let none : put_off m (waiting m) ≡ said.Ticked = put_off_some m req body waits ∙ rw test refl in
     leads_stays m is ∙ ap (λ o. polled (emit m (waiting m) o)) none ∙ ap polled (emit_stays m said.Ticked req body waits test)
 
-pub leads_full : (m : Node) (req : ℕ) (body : List ℕ) (answer : Outcome) → m.leaving ≡ false → own.waiting_send m.sends ≡ Some (req, body) → (acts m && nat_lt (own_row m).last req) ≡ true → is_sequencer m ≡ true → has_room m ≡ false
+pub leads_full : (m : Node) (req : ℕ) (body : List ℕ) (answer : Outcome) → m.leaving ≡ false → own.waiting_send m.sends ≡ Some (req, body)
+    → (acts m && nat_lt (own_row m).last req) ≡ true → is_sequencer m ≡ true → has_room m ≡ false
     → answer ≡ said.PutOff req m.core.base (top m) → tick_sequencer m ≡ polled (quiet m answer)
 leads_full m req body answer is waits test leads room says =
     let off : put_off m (waiting m) ≡ answer = put_off_some m req body waits ∙ rw (test, room) (sym says) in
     leads_stays m is ∙ ap (λ o. polled (emit m (waiting m) o)) off ∙ ap polled (emit_full m answer req body waits test leads room)
 
-pub leads_numbers : (m mid : Node) (req : ℕ) (body to : List ℕ) (told_it : Note) → m.leaving ≡ false → own.waiting_send m.sends ≡ Some (req, body) → (acts m && nat_lt (own_row m).last req) ≡ true → is_sequencer m ≡ true → has_room m ≡ true
+pub leads_numbers : (m mid : Node) (req : ℕ) (body to : List ℕ) (told_it : Note) → m.leaving ≡ false → own.waiting_send m.sends ≡ Some (req, body)
+    → (acts m && nat_lt (own_row m).last req) ≡ true → is_sequencer m ≡ true → has_room m ≡ true
     → to ≡ others m → told_it ≡ note.Bcast (top m + 1) (Data m.core.who req body) → mid ≡ pushed m (Data m.core.who req body)
     → tick_sequencer m ≡ polled (noting true mid said.Ticked to told_it)
 leads_numbers m mid req body to told_it is waits test leads room set tells node =
     let off : put_off m (waiting m) ≡ said.Ticked = put_off_some m req body waits ∙ rw (test, room) refl in
-    leads_stays m is ∙ ap (λ o. polled (emit m (waiting m) o)) off ∙ ap polled (emit_numbers m mid said.Ticked req body to told_it waits test leads room set tells node)
+    leads_stays m is ∙ ap (λ o. polled (emit m (waiting m) o)) off
+    ∙ ap polled (emit_numbers m mid said.Ticked req body to told_it waits test leads room set tells node)
 
 -- ---- the sequencer goes on leaving
 
-pub polls_hands : (m : Node) (to : List ℕ) → is_sequencer m ≡ true → 0 < size (others m) → to ≡ only_name (lowest_or_first (others m)) → go (polled (quiet m said.Ticked)) ≡ handing m to
+pub polls_hands : (m : Node) (to : List ℕ) → is_sequencer m ≡ true → 0 < size (others m) → to ≡ only_name (lowest_or_first (others m))
+    → go (polled (quiet m said.Ticked)) ≡ handing m to
 polls_hands m to leads some is =
     let test : nat_lt 0 (size (others m)) ≡ true = grind (arith, nat_tests) in
     rw (leads, test) (ap (handing m) (sym is))
 
-pub polls_held : (m : Node) (o : Outcome) → is_sequencer m ≡ true → size (others m) ≡ 0 → has_room m ≡ false → o ≡ said.Held m.core.base (top m) → go (polled (quiet m said.Ticked)) ≡ polled (quiet m o)
+pub polls_held : (m : Node) (o : Outcome) → is_sequencer m ≡ true → size (others m) ≡ 0 → has_room m ≡ false → o ≡ said.Held m.core.base (top m)
+    → go (polled (quiet m said.Ticked)) ≡ polled (quiet m o)
 polls_held m o leads none room is =
     let test : nat_lt 0 (size (others m)) ≡ false = grind (arith, nat_tests) in
     rw (leads, test, room) (ap (λ x. polled (quiet m x)) (sym is))
@@ -131,7 +143,8 @@ polls_departs m leads none room =
 
 -- ---- letters, one after the other
 
-pub tells_then : (f : Node → List Letter) (g : List Letter → Node → List Letter) (m : Node) (x y : List Letter) → Tells f m x → Tells (g x) m y → Tells (λ n. g (f n) n) m y
+pub tells_then : (f : Node → List Letter) (g : List Letter → Node → List Letter) (m : Node) (x y : List Letter) → Tells f m x → Tells (g x) m y
+    → Tells (λ n. g (f n) n) m y
 tells_then f g m x y first next = λ n e. next n e ∙ ap (λ ls. g ls n) (first n e)
 
 pub box_tells : (m : Node) (box : List Letter) → box ≡ [] → Tells (λ n. []) m box
@@ -140,31 +153,40 @@ box_tells m box empty = λ n e. empty
 abbrev pub and_note : List ℕ → Note → List Letter → Node → List Letter
 and_note to note letters n = with_letter to (packet_of note n) letters
 
-pub polled_done : (before : ℕ) (m new : Node) (answer : Outcome) (box sent letters : List Letter) → box ≡ [] → m.core.base ≡ m.core.log.start → Changes refresh_at_end m new
+pub polled_done : (before : ℕ) (m new : Node) (answer : Outcome) (box sent letters : List Letter) → box ≡ [] → m.core.base ≡ m.core.log.start
+    → Changes refresh_at_end m new
     → Tells (and_view box) new sent → Tells (with_told before true false sent) new letters → Done before (polled (quiet m answer)) answer letters new
 polled_done before m new answer box sent letters empty kept end views told_it =
     done before (polled (quiet m answer)) m new answer sent letters refl (end_self m kept) end (λ n e. refl)
     (tells_then (λ n. []) and_view new box sent (box_tells new box empty) views) told_it
 
-pub numbered_done : (before : ℕ) (m new : Node) (to : List ℕ) (note : Note) (box first sent letters : List Letter) → box ≡ [] → m.core.base ≡ m.core.log.start → Changes refresh_at_end m new
-    → Tells (λ n. with_letter to (packet_of note n) box) new first → Tells (and_view first) new sent → Tells (with_told before true true sent) new letters → Done before (polled (noting true m said.Ticked to note)) said.Ticked letters new
+pub numbered_done : (before : ℕ) (m new : Node) (to : List ℕ) (note : Note) (box first sent letters : List Letter) → box ≡ [] → m.core.base ≡ m.core.log.start
+    → Changes refresh_at_end m new
+    → Tells (λ n. with_letter to (packet_of note n) box) new first → Tells (and_view first) new sent → Tells (with_told before true true sent) new letters
+    → Done before (polled (noting true m said.Ticked to note)) said.Ticked letters new
 numbered_done before m new to note box first sent letters empty kept end puts views told_it =
     done before (polled (noting true m said.Ticked to note)) m new said.Ticked sent letters refl (end_self m kept) end (λ n e. refl)
-    (tells_then (and_note to note []) and_view new first sent (tells_then (λ n. []) (and_note to note) new box first (box_tells new box empty) puts) views) told_it
+    (tells_then (and_note to note []) and_view new first sent (tells_then (λ n. []) (and_note to note) new box first (box_tells new box empty) puts) views)
+    told_it
 
-pub handed_done : (before : ℕ) (m new : Node) (to : List ℕ) (box first sent letters : List Letter) → box ≡ [] → m.core.base ≡ m.core.log.start → Changes refresh_at_end m new
-    → Tells (and_view box) new first → Tells (λ n. with_letter to (packet_of note.HandOver n) first) new sent → Tells (with_told before true false sent) new letters → Done before (handing m to) said.Ticked letters new
+pub handed_done : (before : ℕ) (m new : Node) (to : List ℕ) (box first sent letters : List Letter) → box ≡ [] → m.core.base ≡ m.core.log.start
+    → Changes refresh_at_end m new
+    → Tells (and_view box) new first → Tells (λ n. with_letter to (packet_of note.HandOver n) first) new sent
+    → Tells (with_told before true false sent) new letters → Done before (handing m to) said.Ticked letters new
 handed_done before m new to box first sent letters empty kept end views puts told_it =
     done before (handing m to) m new said.Ticked sent letters refl (end_self m kept) end (λ n e. refl)
-    (tells_then (and_view []) (and_note to note.HandOver) new first sent (tells_then (λ n. []) and_view new box first (box_tells new box empty) views) puts) told_it
+    (tells_then (and_view []) (and_note to note.HandOver) new first sent (tells_then (λ n. []) and_view new box first (box_tells new box empty) views) puts)
+    told_it
 
 -- ---- the last member departs
 
-no_letter : (a : Bool) (to : List ℕ) (p : Node → List Letter → List Letter) (n : Node) (ls : List Letter) → p n ls ≡ ls → (if a && true then p n ls else ls) ≡ ls
+no_letter : (a : Bool) (to : List ℕ) (p : Node → List Letter → List Letter) (n : Node) (ls : List Letter) → p n ls ≡ ls
+    → (if a && true then p n ls else ls) ≡ ls
 no_letter true to p n ls is = is
 no_letter false to p n ls is = refl
 
-pub departs_polling : (before : ℕ) (m new : Node) (box letters : List Letter) → box ≡ [] → size (others (refresh_at_end (pushed m (Leave m.core.who)))) ≡ 0 → IsEndOf (departed (refresh_at_end (pushed m (Leave m.core.who)))) new
+pub departs_polling : (before : ℕ) (m new : Node) (box letters : List Letter) → box ≡ [] → size (others (refresh_at_end (pushed m (Leave m.core.who)))) ≡ 0
+    → IsEndOf (departed (refresh_at_end (pushed m (Leave m.core.who)))) new
     → Tells (and_view box) new letters → Done before (polling_last m) said.Departed letters new
 unfolding finish
 departs_polling before m new box letters empty alone end views = λ first acc. record {

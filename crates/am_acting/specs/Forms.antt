@@ -31,7 +31,8 @@ waits_for (Some send) req = send.req == req
 
 -- the letters with the last View, for those that haven't stored it
 abbrev pub and_view : List Letter → Node → List Letter
-and_view letters n = with_letter (behind_view n) (result_of n (told n).view_number (viewed_by (entry_at n.core.log (told n).view_number)) (told n).resilience) letters
+and_view letters n = with_letter (behind_view n) (result_of n (told n).view_number (viewed_by (entry_at n.core.log (told n).view_number)) (told n).resilience)
+    letters
 
 -- a plan that polls, and tells the last View again
 abbrev pub polled : Plan → Plan

@@ -55,14 +55,16 @@ pub fn begin_leaving(parts: &mut Parts)
 pub fn set_taken(parts: &mut Parts, number: u32)
     requires next { number ≡ parts.old.core.taken + 1 }
     requires accepted { number ≤ parts.old.core.acc }
-    ensures { node_of parts.new ≡ record (node_of parts.old) { core = record parts.old.core { taken = number } } }
+    ensures { node_of parts.new ≡ record (node_of parts.old)
+        { core = record parts.old.core { taken = number } } }
 {
     parts.core.taken = number;
 }
 
 /// Keeps a body, unless one of the same send is there.
 pub fn keep_body(parts: &mut Parts, from: Name, req: u32, body: &Body)
-    ensures { node_of parts.new ≡ record (node_of parts.old) { bodies = keep_body from req body.now parts.old.pool } }
+    ensures { node_of parts.new ≡ record (node_of parts.old)
+        { bodies = keep_body from req body.now parts.old.pool } }
 {
     parts.pool.keep(from, req, body);
 }
@@ -74,7 +76,8 @@ pub fn submit(parts: &mut Parts, body: Body) -> Result<u32, Busy>
     requires stays { parts.old.leaving ≡ false }
     ensures variant { IsOk result ↔ (length parts.old.sender.queue < 4) }
     ensures number { IfOk result (λ req. req ≡ parts.old.sender.last + 1) }
-    ensures ok { OnOk result (node_of parts.new ≡ record (node_of parts.old) { sends = submit body parts.old.sender }) }
+    ensures ok { OnOk result (node_of parts.new
+        ≡ record (node_of parts.old) { sends = submit body parts.old.sender }) }
     ensures busy { IfErr result (λ busy. busy.queued ≡ 4) }
     ensures err { OnErr result (node_of parts.new ≡ node_of parts.old) }
 {
@@ -84,7 +87,8 @@ pub fn submit(parts: &mut Parts, body: Body) -> Result<u32, Busy>
 /// Answers what came of a send, and removes it where it is settled.
 pub fn collect(parts: &mut Parts, req: u32) -> Outcome
     ensures answer { result ≡ collect_outcome req parts.old.sender }
-    ensures rest { node_of parts.new ≡ record (node_of parts.old) { sends = collect req parts.old.sender } }
+    ensures rest { node_of parts.new ≡ record (node_of parts.old)
+        { sends = collect req parts.old.sender } }
 {
     parts.sender.collect(req)
 }

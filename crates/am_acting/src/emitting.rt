@@ -36,7 +36,8 @@ pub struct WaitingSend {
 
 /// The send that waits; None exactly where there is none.
 pub fn next_send(parts: &Parts) -> Option<WaitingSend>
-    ensures value { option_map (λ send. (send.req, send.body)) result ≡ waiting_send parts.now.sender }
+    ensures value { option_map (λ send. (send.req, send.body)) result
+        ≡ waiting_send parts.now.sender }
     ensures within { IfSome result (λ send. IsNumber send.req) }
 {
     let (req, body) = parts.sender.waiting()?;
@@ -63,7 +64,8 @@ pub fn would_emit(parts: &Parts, req: u32) -> bool
 /// Whether another entry may be numbered.
 pub fn has_room(parts: &Parts) -> bool
     ensures value { result ≡ has_room (node_of parts.now) }
-    ensures room { IsTrue result → length parts.now.core.log.entries < parts.now.core.rules.window + 15 }
+    ensures room { IsTrue result → length parts.now.core.log.entries < parts.now.core.rules.window
+        + 15 }
 {
     parts.core.log.top() + 1 - parts.core.log.base() <= u32::from(parts.core.rules.window())
 }
@@ -116,7 +118,8 @@ fn hand_in(
 ) -> Outcome
     requires empty { out.old ≡ [] }
     requires req { IsNumber send.req }
-    ensures { Done before (hand_in (node_of parts.old) (own_send send.req send.body) answer) result out.new (node_of parts.new) }
+    ensures { Done before (hand_in (node_of parts.old) (own_send send.req send.body) answer) result
+        out.new (node_of parts.new) }
 {
     let WaitingSend { req, body } = send;
     if is_short(parts, &body) {
@@ -151,8 +154,10 @@ pub fn number_send(parts: &mut Parts, send: WaitingSend) -> Note
     requires room { length parts.old.core.log.entries < parts.old.core.rules.window + 15 }
     requires req { IsNumber send.req }
     requires number { top_of parts.old.core.log < most_number }
-    ensures node { node_of parts.new ≡ pushed (node_of parts.old) (Data parts.old.core.who send.req send.body) }
-    ensures note { result ≡ note.Bcast (top (node_of parts.old) + 1) (Data parts.old.core.who send.req send.body) }
+    ensures node { node_of parts.new ≡ pushed (node_of parts.old)
+        (Data parts.old.core.who send.req send.body) }
+    ensures note { result ≡ note.Bcast (top (node_of parts.old) + 1)
+        (Data parts.old.core.who send.req send.body) }
     ensures within { IsNoteWithin result }
 {
     let WaitingSend { req, body } = send;
@@ -172,7 +177,8 @@ pub fn number_send(parts: &mut Parts, send: WaitingSend) -> Note
 pub fn emit(parts: &mut Parts, before: u32, answer: Outcome, out: &mut OutBox) -> Outcome
     requires empty { out.old ≡ [] }
     requires number { top_of parts.old.core.log < most_number }
-    ensures { Done before (emit (node_of parts.old) (waiting (node_of parts.old)) answer) result out.new (node_of parts.new) }
+    ensures { Done before (emit (node_of parts.old) (waiting (node_of parts.old)) answer) result
+        out.new (node_of parts.new) }
 {
     let Some(send) = next_send(parts) else {
         return finish_quietly(parts, before, answer, out);

@@ -17,7 +17,8 @@ use am_letter::out_box::OutBox;
 pub fn tell(parts: &Parts, to: Names, note: &Note, out: &mut OutBox)
     requires room { length out.old < 24 }
     requires within { IsNoteWithin note.now }
-    ensures letters { Tells (λ n. with_letter to (packet_of note.now n) out.old) (node_of parts.now) out.new }
+    ensures letters { Tells (λ n. with_letter to (packet_of note.now n) out.old)
+        (node_of parts.now) out.new }
     ensures few { length out.new ≤ length out.old + 1 }
 {
     out.put(to, &packet(note, &parts.core));
@@ -35,7 +36,8 @@ pub fn finish_noting(
 ) -> Outcome
     requires empty { out.old ≡ [] }
     requires within { IsNoteWithin note.now }
-    ensures { Done before (noting numbers (node_of parts.old) answer to note.now) result out.new (node_of parts.new) }
+    ensures { Done before (noting numbers (node_of parts.old) answer to note.now) result out.new
+        (node_of parts.new) }
 {
     let _before = parts.accepted();
     parts.end();

@@ -21,7 +21,8 @@ use am_model::status::Status;
 
 /// Whether a send is numbered, or its body is kept.
 fn is_known(parts: &Parts, from: Name, req: u32) -> bool
-    ensures { result ≡ (nat_le req (row_at (node_of parts.now) from).last || list_any (is_of from req) parts.now.pool) }
+    ensures { result ≡ (nat_le req (row_at (node_of parts.now) from).last
+        || list_any (is_of from req) parts.now.pool) }
 {
     req <= parts.core.log.row(from).last || parts.pool.holds(from, req)
 }
@@ -30,7 +31,8 @@ fn is_known(parts: &Parts, from: Name, req: u32) -> bool
 /// or its body is kept already; else Kept.
 pub fn on_spread(parts: &mut Parts, from: Name, req: u32, body: &Body, out: &mut OutBox) -> Outcome
     requires { out.old ≡ [] }
-    ensures { Does (λ m. spread_row m from req body.now) (node_of parts.old) result out.new (node_of parts.new) }
+    ensures { Does (λ m. spread_row m from req body.now) (node_of parts.old) result out.new
+        (node_of parts.new) }
 {
     let before = parts.accepted();
     if is_known(parts, from, req) {
@@ -53,7 +55,8 @@ fn waits_for(parts: &Parts, req: u32) -> bool
 /// The sequencer has no room for a send: PutOff where that is the waiting send, else Known.
 pub fn on_hold(parts: &mut Parts, base: u32, top: u32, req: u32, out: &mut OutBox) -> Outcome
     requires { out.old ≡ [] }
-    ensures { Does (λ m. hold_row m base top req) (node_of parts.old) result out.new (node_of parts.new) }
+    ensures { Does (λ m. hold_row m base top req) (node_of parts.old) result out.new
+        (node_of parts.new) }
 {
     let before = parts.accepted();
     if waits_for(parts, req) {

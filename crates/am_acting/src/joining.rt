@@ -45,7 +45,8 @@ fn start(parts: &Parts) -> u32
 /// Asks everybody else to be let in.
 pub fn ask_to_join(parts: &mut Parts, before: u32, answer: Outcome, out: &mut OutBox) -> Outcome
     requires { out.old ≡ [] }
-    ensures { Done before (ask_to_join (node_of parts.old) answer) result out.new (node_of parts.new) }
+    ensures { Done before (ask_to_join (node_of parts.old) answer) result out.new
+        (node_of parts.new) }
 {
     let to = everywhere_else(parts);
     finish_noting(parts, before, false, answer, to, &Note::JoinAsk, out)

@@ -49,7 +49,8 @@ fn unsettled(parts: &Parts) -> u32
 
 /// Whether a send isn't settled, or a ballot isn't over.
 fn is_busy(parts: &Parts) -> bool
-    ensures { result ≡ (nat_lt 0 (unsettled (node_of parts.now)) || is_unfinished (node_of parts.now).ballot) }
+    ensures { result ≡ (nat_lt 0 (unsettled (node_of parts.now))
+        || is_unfinished (node_of parts.now).ballot) }
 {
     0 < unsettled(parts) || is_unfinished(parts)
 }
@@ -91,8 +92,11 @@ pub fn depart(parts: &mut Parts)
     requires idle { waiting (node_of parts.old) ≡ None }
     requires room { length parts.old.core.log.entries < parts.old.core.rules.window + 15 }
     requires number { top_of parts.old.core.log < most_number }
-    ensures end { IsEndOf (record (refresh_at_end (pushed (node_of parts.old) (Leave parts.old.core.who))) { status = status.Departed }) (node_of parts.new) }
-    ensures alone { size (others (refresh_at_end (pushed (node_of parts.old) (Leave parts.old.core.who)))) ≡ 0 }
+    ensures end { IsEndOf (record (refresh_at_end
+        (pushed (node_of parts.old) (Leave parts.old.core.who))) { status = status.Departed })
+        (node_of parts.new) }
+    ensures alone { size (others (refresh_at_end
+        (pushed (node_of parts.old) (Leave parts.old.core.who)))) ≡ 0 }
 {
     set_status(parts, Status::Departed);
     let _before = parts.accepted();
@@ -107,7 +111,8 @@ pub fn go_on_leaving(parts: &mut Parts, before: u32, answer: Outcome, out: &mut 
     requires empty { out.old ≡ [] }
     requires idle { waiting (node_of parts.old) ≡ None }
     requires number { top_of parts.old.core.log < most_number }
-    ensures { Done before (go (quiet (node_of parts.old) answer)) result out.new (node_of parts.new) }
+    ensures { Done before (go (quiet (node_of parts.old) answer)) result out.new
+        (node_of parts.new) }
 {
     let others = others(parts);
     if !parts.is_sequencer() {

@@ -19,7 +19,8 @@ fn next(parts: &Parts, mut spare: Boxed<Entry>) -> Option<(u32, Boxed<Entry>)>
     ensures none { IsNone result ↔ (parts.now.core.taken ≡ parts.now.core.acc) }
     ensures number { IfSome result (λ given. given.0 ≡ parts.now.core.taken + 1) }
     ensures accepted { IfSome result (λ given. given.0 ≤ parts.now.core.acc) }
-    ensures entry { IfSome result (λ given. entry_at parts.now.core.log (parts.now.core.taken + 1) ≡ Some given.1) }
+    ensures entry { IfSome result (λ given. entry_at parts.now.core.log (parts.now.core.taken + 1)
+        ≡ Some given.1) }
 {
     if parts.core.taken == parts.core.acc {
         return None;

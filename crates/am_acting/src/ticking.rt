@@ -155,7 +155,8 @@ fn tick_member(parts: &mut Parts, before: u32, out: &mut OutBox) -> Outcome
 /// The end of a step that polls the members, and tells the last View again to those that haven't stored it.
 fn finish_polling(parts: &mut Parts, before: u32, answer: Outcome, out: &mut OutBox) -> Outcome
     requires { out.old ≡ [] }
-    ensures { Done before (polled (quiet (node_of parts.old) answer)) result out.new (node_of parts.new) }
+    ensures { Done before (polled (quiet (node_of parts.old) answer)) result out.new
+        (node_of parts.new) }
 {
     let _before = parts.accepted();
     parts.end();
@@ -174,7 +175,8 @@ fn finish_numbering(
 ) -> Outcome
     requires empty { out.old ≡ [] }
     requires within { IsNoteWithin note.now }
-    ensures { Done before (polled (noting true (node_of parts.old) said.Ticked to note.now)) result out.new (node_of parts.new) }
+    ensures { Done before (polled (noting true (node_of parts.old) said.Ticked to note.now)) result
+        out.new (node_of parts.new) }
 {
     let _before = parts.accepted();
     parts.end();
@@ -203,7 +205,8 @@ fn poll_leaving(parts: &mut Parts, before: u32, out: &mut OutBox) -> Outcome
     requires leads { is_sequencer (node_of parts.old) ≡ true }
     requires idle { waiting (node_of parts.old) ≡ None }
     requires number { top_of parts.old.core.log < most_number }
-    ensures { Done before (go (polled (quiet (node_of parts.old) said.Ticked))) result out.new (node_of parts.new) }
+    ensures { Done before (go (polled (quiet (node_of parts.old) said.Ticked))) result out.new
+        (node_of parts.new) }
 {
     let others = others(parts);
     if 0 < others.len() {
@@ -274,7 +277,8 @@ fn tick_acting(parts: &mut Parts, before: u32, out: &mut OutBox) -> Outcome
 fn tick_with(parts: &mut Parts, before: u32, out: &mut OutBox) -> Outcome
     requires empty { out.old ≡ [] }
     requires number { top_of parts.old.core.log < most_number }
-    ensures { Done before (tick_with (node_of parts.old) (node_of parts.old).ballot) result out.new (node_of parts.new) }
+    ensures { Done before (tick_with (node_of parts.old) (node_of parts.old).ballot) result out.new
+        (node_of parts.new) }
 {
     let Some(again) = unfinished(parts) else {
         return tick_acting(parts, before, out);

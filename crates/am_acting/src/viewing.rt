@@ -23,7 +23,8 @@ use am_letter::out_box::OutBox;
 /// A life of a place that has reported less than a number as stored, else 0.
 fn behind_life(parts: &Parts, number: u32, place: u8, life: u8) -> u8
     requires { (place < 16) × (life ≤ 16) }
-    ensures value { result ≡ name_where (λ name. nat_lt (reports_of parts.now.fronts name).stored number) place life }
+    ensures value { result ≡ name_where (λ name. nat_lt
+        (reports_of parts.now.fronts name).stored number) place life }
     ensures fits { result ≤ 16 }
 {
     match Name::of(place, life) {
@@ -39,7 +40,8 @@ fn behind_life(parts: &Parts, number: u32, place: u8, life: u8) -> u8
 
 /// The other members that have reported less than a number as stored.
 fn behind(parts: &Parts, number: u32) -> Names
-    ensures { result ≡ those (λ name. nat_lt (reports_of parts.now.fronts name).stored number) (others (node_of parts.now)) }
+    ensures { result ≡ those (λ name. nat_lt (reports_of parts.now.fronts name).stored number)
+        (others (node_of parts.now)) }
 {
     let lives = others(parts).each_life();
     let mut behind = [0; 16];

@@ -1,5 +1,6 @@
 -- Votes by the names' bytes, and the best of them.
-use Rattle.std.proofs.Common.{◌≡◌, ℕ, zero, suc, ◌+◌, ◌-◌, ◌*◌, ◌/◌, ◌%◌, ◌<◌, ◌≤◌, List, ◌∷◌, map, replicate, length, refl, sym, ◌∙◌, ap, subst, Bool, true, ◌==◌, Option, Some, slice_index, slice_index_or, ⊎_elim, arith}
+use Rattle.std.proofs.Common.{◌≡◌, ℕ, zero, suc, ◌+◌, ◌-◌, ◌*◌, ◌/◌, ◌%◌, ◌<◌, ◌≤◌, List, ◌∷◌, map, replicate, length, refl, sym, ◌∙◌, ap, subst, Bool, true}
+use Rattle.std.proofs.Common.{◌==◌, Option, Some, slice_index, slice_index_or, ⊎_elim, arith}
 use Rattle.std.specs.Option.{IfSome}
 use Rattle.std.specs.List.{range_with_len}
 use Rattle.std.proofs.lemmas.List.{get_or-replicate, get_or_past, length-replicate}
@@ -25,12 +26,14 @@ all_same n x = λ i name. (each name) i
         (cases_lt name n)
 
 -- the names of a set that pass a test, by each place
-pub those_all : (test : ℕ → Bool) (set xs : List ℕ) → length xs ≡ 16 → ((k : ℕ) → k < 16 → slice_index xs k ≡ name_where test k (slice_index set k)) → xs ≡ those test set
+pub those_all : (test : ℕ → Bool) (set xs : List ℕ) → length xs ≡ 16 → ((k : ℕ) → k < 16 → slice_index xs k ≡ name_where test k (slice_index set k))
+    → xs ≡ those test set
 unfolding those
 those_all test set xs long each = by_place_all (λ place. name_where test place (slice_index set place)) xs 0 long each
 
 -- the coordinator's own is at least the least of those with it
-pub least_own : (who taken : ℕ) (b : Ballot) (set : List ℕ) (o : Option ℕ) → IsSet set → o ≡ least_of (taken_by who taken b) (names_of set) → has set who ≡ true → IfSome o (λ least. least ≤ taken)
+pub least_own : (who taken : ℕ) (b : Ballot) (set : List ℕ) (o : Option ℕ) → IsSet set → o ≡ least_of (taken_by who taken b) (names_of set) → has set who ≡ true
+    → IfSome o (λ least. least ≤ taken)
 least_own who taken b set o is e h =
     let long = is.places in
     let place : place_of who < 16 = omega arith in
@@ -49,12 +52,15 @@ least_own who taken b set o is e h =
 abbrev pub named : ℕ → ℕ
 named rank = rank / 16 + 16 * (rank % 16)
 
-ranks_go : (rank n : ℕ) → n ≡ 256 - rank → rank < 256 → map named (range_with_len rank n) ≡ named rank ∷ map named (range_with_len (rank + 1) (256 - (rank + 1)))
+ranks_go : (rank n : ℕ) → n ≡ 256 - rank → rank < 256 → map named (range_with_len rank n)
+    ≡ named rank ∷ map named (range_with_len (rank + 1) (256 - (rank + 1)))
 ranks_go rank zero is h = absurd (omega arith)
 ranks_go rank (suc n) is h = let e : n ≡ 256 - (rank + 1) = omega arith in ap (λ k. named rank ∷ map named (range_with_len (rank + 1) k)) e
 
 -- what is best up to a rank, with the rest
-pub best_more : (votes : ℕ → Option Vote) (best : Shown) (rank : ℕ) → rank < 256 → best_from votes best (map named (range_with_len rank (256 - rank))) ≡ best_from votes (better_of best (named rank) (votes (named rank))) (map named (range_with_len (rank + 1) (256 - (rank + 1))))
+pub best_more : (votes : ℕ → Option Vote) (best : Shown) (rank : ℕ) → rank < 256
+    → best_from votes best (map named (range_with_len rank (256 - rank)))
+    ≡ best_from votes (better_of best (named rank) (votes (named rank))) (map named (range_with_len (rank + 1) (256 - (rank + 1))))
 unfolding best_from
 best_more votes best rank h = ap (best_from votes best) (ranks_go rank (256 - rank) refl h)
 

@@ -287,7 +287,8 @@ impl Ballot {
     /// A life of a place that is waited for, else 0.
     fn waited_life(&self, coordinator: Name, place: u8, life: u8) -> u8
         requires { (place < 16) × (life ≤ 16) }
-        ensures value { result ≡ name_where (is_waited_for coordinator (ballot_of self.now)) place life }
+        ensures value { result ≡ name_where (is_waited_for coordinator (ballot_of self.now)) place
+            life }
         ensures fits { result ≤ 16 }
     {
         match Name::of(place, life) {
@@ -320,7 +321,8 @@ impl Ballot {
     /// A life of a place that isn't given up, else 0.
     fn left_life(&self, place: u8, life: u8) -> u8
         requires { (place < 16) × (life ≤ 16) }
-        ensures value { result ≡ name_where (λ name. not ((ballot_of self.now).given_up name)) place life }
+        ensures value { result ≡ name_where (λ name. not ((ballot_of self.now).given_up name)) place
+            life }
         ensures fits { result ≤ 16 }
     {
         match Name::of(place, life) {
@@ -349,7 +351,8 @@ impl Ballot {
     /// A life of a place that hasn't voted, else 0.
     fn silent_life(&self, coordinator: Name, place: u8, life: u8) -> u8
         requires { (place < 16) × (life ≤ 16) }
-        ensures value { result ≡ name_where (λ name. not (has_voted coordinator (ballot_of self.now) name)) place life }
+        ensures value { result ≡ name_where (λ name. not
+            (has_voted coordinator (ballot_of self.now) name)) place life }
         ensures fits { result ≤ 16 }
     {
         match Name::of(place, life) {
@@ -365,7 +368,8 @@ impl Ballot {
 
     /// The names of a set that another doesn't have, and that haven't voted.
     pub fn newly_needed(&self, coordinator: Name, needed: Names, before: Names) -> Names
-        ensures { result ≡ those (λ name. not (has_voted coordinator (ballot_of self.now) name)) (minus needed before) }
+        ensures { result ≡ those (λ name. not (has_voted coordinator (ballot_of self.now) name))
+            (minus needed before) }
     {
         let lives = needed.minus(before).each_life();
         let mut silent = [0; 16];
@@ -394,7 +398,8 @@ impl Ballot {
 
     fn taken_at(&self, coordinator: Name, taken: u32, place: u8, life: u8) -> Option<u32>
         requires { (place < 16) × (life ≤ 16) }
-        ensures { result ≡ (if nat_lt 0 life then Some (taken_by coordinator taken (ballot_of self.now) (name_at place life)) else None) }
+        ensures { result ≡ (if nat_lt 0 life then Some
+            (taken_by coordinator taken (ballot_of self.now) (name_at place life)) else None) }
     {
         match Name::of(place, life) {
             None => None,
@@ -405,7 +410,8 @@ impl Ballot {
     #[tactic(auto, using(am_fronts::proofs::ReportLaws::least_laws))]
     /// The least that the names of a set have taken, the coordinator this much; None exactly where the set is empty.
     pub fn least_taken(&self, coordinator: Name, taken: u32, names: Names) -> Option<u32>
-        ensures value { result ≡ least_of (taken_by coordinator taken (ballot_of self.now)) (names_of names) }
+        ensures value { result ≡ least_of (taken_by coordinator taken (ballot_of self.now))
+            (names_of names) }
         ensures own { has names coordinator ≡ true → IfSome result (λ least. least ≤ taken) }
     {
         let lives = names.each_life();

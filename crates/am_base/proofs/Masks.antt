@@ -1,5 +1,6 @@
 -- Sets of names as a mask of places and their lives.
-use Rattle.std.proofs.Common.{◌≡◌, ℕ, zero, suc, ◌+◌, ◌-◌, ◌*◌, ◌/◌, ◌%◌, ◌^◌, ◌<◌, ◌≤◌, List, [], ◌∷◌, ◌++◌, length, take, drop, set, get_or, Bool, true, false, inl, inr, refl, sym, ap, ◌∙◌, append_assoc, arith}
+use Rattle.std.proofs.Common.{◌≡◌, ℕ, zero, suc, ◌+◌, ◌-◌, ◌*◌, ◌/◌, ◌%◌, ◌^◌, ◌<◌, ◌≤◌, List, [], ◌∷◌, ◌++◌, length, take, drop, set, get_or, Bool, true}
+use Rattle.std.proofs.Common.{false, inl, inr, refl, sym, ap, ◌∙◌, append_assoc, arith}
 use Rattle.std.proofs.lemmas.Bool.{and_parts, cases_lt}
 use Rattle.std.proofs.lemmas.Bool.Decides.{nat_tests}
 use Rattle.std.proofs.lemmas.List.{take_more_set, take_all, drop_all, drop_more, append-nil, get_or_past}
@@ -31,7 +32,8 @@ pub fills : (xs : List ℕ) (i mask lives : ℕ) → length xs ≡ 16 → i < 16
 unfolding places_of
 fills xs i mask lives long h =
     let k : 16 - i ≡ suc (16 - (i + 1)) = omega arith in
-    rw (k, take_more_set xs i (life_in mask lives) (omega arith)) (append_assoc (take i xs) (life_in mask lives ∷ []) (places_of (16 - (i + 1)) (mask / 2) (lives / 16)))
+    rw (k, take_more_set xs i (life_in mask lives) (omega arith))
+    (append_assoc (take i xs) (life_in mask lives ∷ []) (places_of (16 - (i + 1)) (mask / 2) (lives / 16)))
 
 mask_step : (mask life : ℕ) → (if (if mask % 2 == 0 then 0 else life + 1) == 0 then 0 else 1) + 2 * (mask / 2) ≡ mask
 mask_step mask life = grind arith
@@ -44,7 +46,8 @@ mask-places_of (suc n) mask lives h =
     let less : mask / 2 < 2 ^ n = omega (arith, pow-suc 2 n) in
     rw (mask-places_of n (mask / 2) (lives / 16) less) (mask_step mask (lives % 16))
 
-lives_step : (mask lives : ℕ) → (if mask % 2 == 0 then lives % 16 == 0 else true) ≡ true → (if mask % 2 == 0 then 0 else lives % 16 + 1) - 1 + 16 * (lives / 16) ≡ lives
+lives_step : (mask lives : ℕ) → (if mask % 2 == 0 then lives % 16 == 0 else true) ≡ true
+    → (if mask % 2 == 0 then 0 else lives % 16 + 1) - 1 + 16 * (lives / 16) ≡ lives
 lives_step mask lives h = grind (arith, nat_tests)
 
 -- the lives are those of the parts' set, where there is one
@@ -66,7 +69,8 @@ mask_half life mask = grind (arith, nat_tests)
 lives_rest : (life lives : ℕ) → life ≤ 16 → (life - 1 + 16 * lives) / 16 ≡ lives
 lives_rest life lives h = omega arith
 
-masked_step : (life mask lives : ℕ) → life ≤ 16 → (if ((if life == 0 then 0 else 1) + 2 * mask) % 2 == 0 then (life - 1 + 16 * lives) % 16 == 0 else true) ≡ true
+masked_step : (life mask lives : ℕ) → life ≤ 16 → (if ((if life == 0 then 0 else 1) + 2 * mask) % 2 == 0 then (life - 1 + 16 * lives) % 16 == 0 else true)
+    ≡ true
 masked_step life mask lives h = grind (arith, nat_tests)
 
 -- a set is the set of its mask and lives
@@ -76,14 +80,23 @@ places_of-set zero [] long fits = refl
 places_of-set zero (x ∷ xs) long fits = absurd (omega (arith, long))
 places_of-set (suc n) [] long fits = absurd (omega (arith, long))
 places_of-set (suc n) (x ∷ xs) long fits =
-    rw (back_step x (mask_of xs) (lives_of xs) (fits 0), mask_half x (mask_of xs), lives_rest x (lives_of xs) (fits 0), places_of-set n xs (omega (arith, long)) (λ k. fits (suc k))) refl
+    rw (
+      back_step x (mask_of xs) (lives_of xs) (fits 0),
+      mask_half x (mask_of xs),
+      lives_rest x (lives_of xs) (fits 0),
+      places_of-set n xs (omega (arith, long)) (λ k. fits (suc k)),
+    ) refl
 
 pub is_masked-set : (n : ℕ) (xs : List ℕ) → length xs ≡ n → ((k : ℕ) → get_or xs k 0 ≤ 16) → is_masked n (mask_of xs) (lives_of xs) ≡ true
 unfolding is_masked mask_of lives_of
 is_masked-set zero xs long fits = refl
 is_masked-set (suc n) [] long fits = absurd (omega (arith, long))
 is_masked-set (suc n) (x ∷ xs) long fits =
-    rw (masked_step x (mask_of xs) (lives_of xs) (fits 0), mask_half x (mask_of xs), lives_rest x (lives_of xs) (fits 0)) (is_masked-set n xs (omega (arith, long)) (λ k. fits (suc k)))
+    rw (
+      masked_step x (mask_of xs) (lives_of xs) (fits 0),
+      mask_half x (mask_of xs),
+      lives_rest x (lives_of xs) (fits 0),
+    ) (is_masked-set n xs (omega (arith, long)) (λ k. fits (suc k)))
 
 -- ---- the steps of the loops
 
@@ -95,11 +108,13 @@ earlier xs i pos le =
     drop_more xs (i - 1) 0 lt ∙ ap (λ j. get_or xs (i - 1) 0 ∷ drop j xs) k
 
 -- the rest of a set's mask, with one place more
-pub mask_more : (xs : List ℕ) (i mask : ℕ) → 0 < i → i ≤ length xs → mask ≡ mask_of (drop i xs) → (if get_or xs (i - 1) 0 == 0 then 0 else 1) + 2 * mask ≡ mask_of (drop (i - 1) xs)
+pub mask_more : (xs : List ℕ) (i mask : ℕ) → 0 < i → i ≤ length xs → mask ≡ mask_of (drop i xs)
+    → (if get_or xs (i - 1) 0 == 0 then 0 else 1) + 2 * mask ≡ mask_of (drop (i - 1) xs)
 unfolding mask_of
 mask_more xs i mask pos le e = rw (e, earlier xs i pos le) refl
 
-pub lives_more : (xs : List ℕ) (i lives : ℕ) → 0 < i → i ≤ length xs → lives ≡ lives_of (drop i xs) → (get_or xs (i - 1) 0 - 1) + 16 * lives ≡ lives_of (drop (i - 1) xs)
+pub lives_more : (xs : List ℕ) (i lives : ℕ) → 0 < i → i ≤ length xs → lives ≡ lives_of (drop i xs)
+    → (get_or xs (i - 1) 0 - 1) + 16 * lives ≡ lives_of (drop (i - 1) xs)
 unfolding lives_of
 lives_more xs i lives pos le e = rw (e, earlier xs i pos le) refl
 
@@ -144,7 +159,8 @@ unmasked i mask lives all h none some e =
     sym one ∙ e
 
 -- a place that is as it should be
-pub masked : (i mask lives : ℕ) (all : Bool) → i < 16 → (life_in mask lives ≡ 0 → lives % 16 ≡ 0) → is_masked (16 - i) mask lives ≡ all → is_masked (16 - (i + 1)) (mask / 2) (lives / 16) ≡ all
+pub masked : (i mask lives : ℕ) (all : Bool) → i < 16 → (life_in mask lives ≡ 0 → lives % 16 ≡ 0) → is_masked (16 - i) mask lives ≡ all
+    → is_masked (16 - (i + 1)) (mask / 2) (lives / 16) ≡ all
 unfolding is_masked
 masked i mask lives all h ok e =
     let first : (if mask % 2 == 0 then lives % 16 == 0 else true) ≡ true = grind (arith, nat_tests) in
@@ -179,7 +195,8 @@ mask_of-lt (x ∷ xs) = digit_more 2 (length xs) (suc (length xs)) (if x == 0 th
 lives_of-lt-each : (xs : List ℕ) → ((k : ℕ) → get_or xs k 0 ≤ 16) → lives_of xs < 16 ^ length xs
 unfolding lives_of
 lives_of-lt-each [] each = omega arith
-lives_of-lt-each (x ∷ xs) each = digit_more 16 (length xs) (suc (length xs)) (x - 1) (lives_of xs) refl (omega (arith, each 0)) (lives_of-lt-each xs (λ k. each (suc k)))
+lives_of-lt-each (x ∷ xs) each = digit_more 16 (length xs) (suc (length xs)) (x - 1) (lives_of xs) refl (omega (arith, each 0))
+    (lives_of-lt-each xs (λ k. each (suc k)))
 
 pub lives_of-lt : (xs : List ℕ) → IsSet xs → lives_of xs < 16 ^ length xs
 lives_of-lt xs set = lives_of-lt-each xs (any_life xs set)

@@ -1,5 +1,6 @@
 -- The list of a group, and what it tells: its members, its last view, and a row for each place.
-use Rattle.std.specs.Prelude.{◌≡◌, ℕ, zero, suc, ◌+◌, ◌-◌, List, [], ◌∷◌, ◌++◌, length, take, map, replicate, Option, None, Bool, true, not, ◌==◌, ◌&&◌, ◌||◌, nat_lt, nat_le, if◌then◌else◌, slice_get, slice_set, slice_index, slice_index_or}
+use Rattle.std.specs.Prelude.{◌≡◌, ℕ, zero, suc, ◌+◌, ◌-◌, List, [], ◌∷◌, ◌++◌, length, take, map, replicate, Option, None, Bool, true, not, ◌==◌, ◌&&◌, ◌||◌}
+use Rattle.std.specs.Prelude.{nat_lt, nat_le, if◌then◌else◌, slice_get, slice_set, slice_index, slice_index_or}
 use Rattle.std.specs.List.{list_all}
 use Rattle.am_base.specs.declared.image.Row.{Row}
 use Rattle.am_base.specs.declared.image.Image.{Image}
@@ -50,9 +51,11 @@ viewed first number life r =
 
 -- what a list tells after one entry more, which has this number
 unfoldable pub after : Image → ℕ → Entry → Image
-after image number (Data from req body) = if (at_place image from).life == life_of from then with_row image from (record (at_place image from) { last = req }) else image
+after image number (Data from req body) = if (at_place image from).life
+    == life_of from then with_row image from (record (at_place image from) { last = req }) else image
 after image number (Join name) = with_row image name (record { life = life_of name; joined = number; left = 0; last = 0 })
-after image number (Leave name) = if (at_place image name).life == life_of name then with_row image name (record (at_place image name) { left = number }) else image
+after image number (Leave name) = if (at_place image name).life
+    == life_of name then with_row image name (record (at_place image name) { left = number }) else image
 after image number (View stamp members resilience) = record {
   view = stamp;
   view_number = number;
@@ -66,7 +69,8 @@ unfoldable pub fits : Image → Entry → Bool
 fits image (Data from req body) = has (members_of image) from && (req == (row_of image from).last + 1)
 fits image (Join name) = ((at_place image name).joined == 0) || (nat_lt 0 (at_place image name).left && nat_lt (at_place image name).life (life_of name))
 fits image (Leave name) = has (members_of image) name
-fits image (View stamp members resilience) = stamp_lt image.view stamp && ((is_blank image || is_within members (members_of image)) && (has members stamp.by && nat_le image.resilience resilience))
+fits image (View stamp members resilience) = stamp_lt image.view stamp
+    && ((is_blank image || is_within members (members_of image)) && (has members stamp.by && nat_le image.resilience resilience))
 
 -- what a list tells after all these entries, the first of which has this number
 unfoldable pub fold : Image → ℕ → List Entry → Image

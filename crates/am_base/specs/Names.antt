@@ -1,6 +1,7 @@
 -- Names and sets of names. A name is the number of its byte: its place, and sixteen times its life less one.
 -- A set of names has at most one life of each place: it is the list of the sixteen lives, 0 where a place isn't there.
-use Rattle.std.specs.Prelude.{◌≡◌, ℕ, zero, suc, ◌+◌, ◌-◌, ◌*◌, ◌/◌, ◌%◌, ◌≤◌, max, List, [], ◌∷◌, length, map, Bool, true, if◌then◌else◌, ◌==◌, ◌||◌, ◌&&◌, nat_lt, Option, Some, None, slice_index, slice_set, count_by, EachIndex, replicate}
+use Rattle.std.specs.Prelude.{◌≡◌, ℕ, zero, suc, ◌+◌, ◌-◌, ◌*◌, ◌/◌, ◌%◌, ◌≤◌, max, List, [], ◌∷◌, length, map, Bool, true, if◌then◌else◌, ◌==◌, ◌||◌, ◌&&◌}
+use Rattle.std.specs.Prelude.{nat_lt, Option, Some, None, slice_index, slice_set, count_by, EachIndex, replicate}
 use Rattle.std.specs.List.{range_with_len, list_all}
 use Rattle.std.specs.Ordering.{nat_cmp, on, then_cmp}
 use Rattle.std.specs.declared.cmp.Ordering.{Ordering}

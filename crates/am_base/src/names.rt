@@ -110,7 +110,8 @@ impl Names {
     pub fn of_parts(mask: u16, lives: u64) -> Option<Names>
         ensures variant { IsSome result ↔ IsTrue (are_parts mask lives) }
         ensures value { IfSome result (λ set. set ≡ of_parts mask lives) }
-        ensures only { (set : List ℕ) → IsSet set → mask ≡ mask_of set → lives ≡ lives_of set → result ≡ Some set }
+        ensures only { (set : List ℕ) → IsSet set → mask ≡ mask_of set → lives ≡ lives_of set
+            → result ≡ Some set }
         ensures parts { IfSome result (λ set. (mask_of set ≡ mask) × (lives_of set ≡ lives)) }
     {
         if !are_parts(mask, lives) {

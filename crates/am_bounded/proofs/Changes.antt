@@ -1,5 +1,6 @@
 -- What each change keeps. A coordinator that isn't given up is itself a member of the view that it decides.
-use Rattle.std.proofs.Common.{◌≡◌, ℕ, zero, suc, ◌+◌, ◌-◌, ◌<◌, ◌≤◌, max, Bool, true, false, not, ◌==◌, nat_lt, if◌then◌else◌, List, [], ◌∷◌, length, slice_index, unwrap_or, refl, sym, ap, subst, ◌∙◌, arith}
+use Rattle.std.proofs.Common.{◌≡◌, ℕ, zero, suc, ◌+◌, ◌-◌, ◌<◌, ◌≤◌, max, Bool, true, false, not, ◌==◌, nat_lt, if◌then◌else◌, List, [], ◌∷◌, length}
+use Rattle.std.proofs.Common.{slice_index, unwrap_or, refl, sym, ap, subst, ◌∙◌, arith}
 use Rattle.std.proofs.lemmas.Bool.Decides.{nat_tests}
 use Rattle.am_base.specs.declared.entry.Entry.{Entry}
 use Rattle.am_base.specs.declared.entry.Entry.TheVariants.{Leave, View}
@@ -12,8 +13,10 @@ use Rattle.am_fronts.proofs.ReportLaws.{count_cons}
 use Rattle.am_model.specs.Node.{Node, Ballot, top, told, name_where, those, pushed, trimmed}
 use Rattle.am_model.specs.Ballots.{Verdict, need_of, left_in, taken_by, trimmed_for}
 use Rattle.am_effects.specs.Causes.{Cause}
-use Rattle.am_effects.specs.Looks.{Looks, finds_itself_out, waits, fetches_from_best, finds_too_few, finds_no_room, decides, HasOpen, Balloting, with_more, without_one, as_it_is}
-use Rattle.am_effects.specs.Changes.{MayStore, Change, refreshes, settles, takes_report, admits, numbers, keeps_body, notes, stores, begins_list, departs, promises, opens, looks, fetches, stores_view, queues, collects, takes, asks_to_join, asks_to_leave, closes}
+use Rattle.am_effects.specs.Looks.{Looks, finds_itself_out, waits, fetches_from_best, finds_too_few, finds_no_room, decides, HasOpen, Balloting, with_more}
+use Rattle.am_effects.specs.Looks.{without_one, as_it_is}
+use Rattle.am_effects.specs.Changes.{MayStore, Change, refreshes, settles, takes_report, admits, numbers, keeps_body, notes, stores, begins_list, departs}
+use Rattle.am_effects.specs.Changes.{promises, opens, looks, fetches, stores_view, queues, collects, takes, asks_to_join, asks_to_leave, closes}
 use Rattle.am_bounded.proofs.Kept.{HasItself, Keeps, kept_next, kept_pushed, kept_trimmed, kept_promised, kept_refresh, kept_settle, kept_at_end}
 
 -- ---- a set with a name in it isn't empty
@@ -93,10 +96,13 @@ kept_stored rules m base number e may h =
     let low : number - m.core.base ≤ m.core.rules.window + 15 = grind (arith, nat_tests) in
     kept_next rules m e h (omega arith)
 
-kept_fetched : (rules : Rules) (m : Node) (base number : ℕ) (e : Entry) → MayStore m (max m.core.base base) base number e → Keeps rules m → Keeps rules (pushed (trimmed m base) e)
-kept_fetched rules m base number e may h = kept_stored rules (trimmed m base) base number e (record { next = may.next; taken = may.taken; stays = may.stays; fits = may.fits; within = may.within }) (kept_trimmed rules m base h)
+kept_fetched : (rules : Rules) (m : Node) (base number : ℕ) (e : Entry) → MayStore m (max m.core.base base) base number e → Keeps rules m
+    → Keeps rules (pushed (trimmed m base) e)
+kept_fetched rules m base number e may h = kept_stored rules (trimmed m base) base number e
+    (record { next = may.next; taken = may.taken; stays = may.stays; fits = may.fits; within = may.within }) (kept_trimmed rules m base h)
 
-same_bounds : (rules : Rules) (m n : Node) → n.core.rules ≡ m.core.rules → n.core.who ≡ m.core.who → n.core.base ≡ m.core.base → top n ≡ top m → n.ballot ≡ m.ballot → Keeps rules m → Keeps rules n
+same_bounds : (rules : Rules) (m n : Node) → n.core.rules ≡ m.core.rules → n.core.who ≡ m.core.who → n.core.base ≡ m.core.base → top n ≡ top m
+    → n.ballot ≡ m.ballot → Keeps rules m → Keeps rules n
 same_bounds rules m n a b c d e h = record {
   founding = a ∙ h.founding;
   few = let f = h.few in omega arith;
@@ -113,14 +119,16 @@ kept_change rules m n (admits s v is leads fit) h = h
 kept_change rules m n (numbers e leads room why) h = kept_pushed rules m e room h
 kept_change rules m n (keeps_body s v report req body is heard) h = h
 kept_change rules m n (notes s v base acc by heard) h = kept_trimmed rules m _ h
-kept_change rules m n (stores s v base acc number e by heard plain may) h = same_bounds rules (pushed m e) n refl refl refl refl refl (kept_stored rules m base number e may h)
+kept_change rules m n (stores s v base acc number e by heard plain may) h =
+    same_bounds rules (pushed m e) n refl refl refl refl refl (kept_stored rules m base number e may h)
 kept_change rules m n (begins_list s v base join image is o may) h = record { founding = h.founding; few = omega arith; itself = h.itself }
 kept_change rules m n (departs s v number is heard leaves) h = h
 kept_change rules m n (promises v low why) h = kept_promised rules m v h
 kept_change rules m n (opens least resilience by may) h = record { founding = h.founding; few = h.few; itself = refl }
 kept_change rules m n (looks b verdict over why look is) h = kept_look rules m b verdict look (itself _ m b why h.itself) h
 kept_change rules m n (fetches s v base number e is heard promise below from may) h = kept_fetched rules m base number e may h
-kept_change rules m n (stores_view s v base number names resilience is heard own other promise below may) h = kept_fetched rules m base number (View v names resilience) may h
+kept_change rules m n (stores_view s v base number names resilience is heard own other promise below may) h =
+    kept_fetched rules m base number (View v names resilience) may h
 kept_change rules m n (queues body is o member stays few) h = h
 kept_change rules m n (collects req is) h = h
 kept_change rules m n (takes e is o member some there) h = h

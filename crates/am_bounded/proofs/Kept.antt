@@ -39,7 +39,8 @@ kept_pushed rules m e room h =
     let low : top m + 1 - m.core.base ≤ m.core.rules.window = grind (arith, nat_tests) in
     kept_next rules m e h (omega arith)
 
-pub kept_within : (rules : Rules) (m : Node) (number : ℕ) (e : Entry) → top m + 1 ≤ number → is_within_bound m m.core.base number ≡ true → Keeps rules m → Keeps rules (pushed m e)
+pub kept_within : (rules : Rules) (m : Node) (number : ℕ) (e : Entry) → top m + 1 ≤ number → is_within_bound m m.core.base number ≡ true → Keeps rules m
+    → Keeps rules (pushed m e)
 kept_within rules m number e next within h =
     let same = ap (λ (r : Rules). r.window) h.founding in
     let low : number - m.core.base ≤ m.core.rules.window + 15 = grind (arith, nat_tests) in
@@ -60,7 +61,8 @@ kept_promised rules m stamp h = record { founding = h.founding; few = h.few; its
 
 -- ---- the refresh
 
-kept_after : (rules own : Rules) (who base high : ℕ) (ballot : Option Ballot) (least : Option ℕ) → IsKept rules own who base high ballot → IsKept rules own who (base_after least base) high ballot
+kept_after : (rules own : Rules) (who base high : ℕ) (ballot : Option Ballot) (least : Option ℕ) → IsKept rules own who base high ballot
+    → IsKept rules own who (base_after least base) high ballot
 kept_after rules own who base high ballot None h = h
 kept_after rules own who base high ballot (Some to) h = let f = h.few in record { founding = h.founding; few = omega arith; itself = h.itself }
 

@@ -14,7 +14,8 @@ use Rattle.am_bounded.proofs.Changes.{kept_change}
 record AllKept (rules : Rules) (w : World) : Type 0 where
   each : (name : ℕ) → Keeps rules (w.nodes name)
 
-set_kept : (rules : Rules) (nodes : ℕ → Node) (name : ℕ) (n : Node) → ((other : ℕ) → Keeps rules (nodes other)) → Keeps rules n → (other : ℕ) → Keeps rules (set_at nodes name n other)
+set_kept : (rules : Rules) (nodes : ℕ → Node) (name : ℕ) (n : Node) → ((other : ℕ) → Keeps rules (nodes other)) → Keeps rules n → (other : ℕ)
+    → Keeps rules (set_at nodes name n other)
 set_kept rules nodes name n h k other = one (other == name)
   where
     one : (b : Bool) → Keeps rules (if b then n else nodes other)

@@ -1,11 +1,13 @@
 -- A decision keeps what is kept.
-use Rattle.std.proofs.Common.{◌≡◌, ◌≢◌, ◌⊎◌, ⊎_elim, inl, inr, ℕ, ◌+◌, ◌<◌, ◌≤◌, min, Bool, true, false, List, [], ◌∷◌, ◌++◌, length, take, Some, refl, sym, ap, ◌∙◌, subst, arith}
+use Rattle.std.proofs.Common.{◌≡◌, ◌≢◌, ◌⊎◌, ⊎_elim, inl, inr, ℕ, ◌+◌, ◌<◌, ◌≤◌, min, Bool, true, false, List, [], ◌∷◌, ◌++◌, length, take, Some, refl, sym, ap}
+use Rattle.std.proofs.Common.{◌∙◌, subst, arith}
 use Rattle.std.proofs.lemmas.List.{take-append-le}
 use Rattle.am_base.specs.declared.entry.Entry.{Entry}
 use Rattle.am_base.specs.declared.entry.Entry.TheVariants.{View}
 use Rattle.am_base.specs.Names.{has}
 use Rattle.am_chain_lists.specs.Whole.{Begins, IsGood, mem, view_of, key}
-use Rattle.am_chain_lists.proofs.Prefixes.{begins_refl, begins_more, begins_trans, begins_length, begins_both, length_push, below_begins, below_of, begins_pushed, begins_take}
+use Rattle.am_chain_lists.proofs.Prefixes.{begins_refl, begins_more, begins_trans, begins_length, begins_both, length_push, below_begins, below_of}
+use Rattle.am_chain_lists.proofs.Prefixes.{begins_pushed, begins_take}
 use Rattle.am_chain_lists.proofs.Members.{mem_between, mem_viewed, viewed_mem, good_begins, good_push, Ends, ends_of}
 use Rattle.am_chain_lists.proofs.Order.{view_viewed, view_fits, key_by, resilience_viewed}
 use Rattle.am_chain_moves.specs.Group.{put, how_many, Node, Chosen, opening, Views, Group, chain_of, current_of, IsThere, IsUp}
@@ -92,7 +94,8 @@ module _ (s : Group) (k : Kept s) (lawful : IsLawful s) (c : ℕ) (members : Lis
   views_decided : ViewsOk views
   views_decided = record {
     now = put_same s.views.decided w true;
-    order = λ x h. ⊎_elim (λ (z : x ≡ w). omega arith) (λ (z : s.views.decided x ≡ true). let o = k.views.order x z in let a = above in omega arith) (decided_cases x h);
+    order = λ x h. ⊎_elim (λ (z : x ≡ w). omega arith) (λ (z : s.views.decided x ≡ true). let o = k.views.order x z in let a = above in
+        omega arith) (decided_cases x h);
     stamps = λ x h. ⊎_elim
         (λ (z : x ≡ w). ap (λ y. key (put s.views.chosen w choice y).stamp) z ∙ ap (λ (ch : Chosen). key ch.stamp) chosen_is ∙ sym z)
         (λ (z : s.views.decided x ≡ true). ap (λ (ch : Chosen). key ch.stamp) (chosen_old x z) ∙ k.views.stamps x z)
@@ -100,7 +103,8 @@ module _ (s : Group) (k : Kept s) (lawful : IsLawful s) (c : ℕ) (members : Lis
     good = subst IsGood (sym chain_is) good;
     view = ap view_of chain_is ∙ view_viewed list (s.node c).promise members resilience;
     opens = subst (λ ch. Begins (opening ch) (chain_of views)) (sym chosen_is) (subst (Begins (opening choice)) (sym chain_is) (begins_refl (opening choice)));
-    complete = λ x h. subst (λ ch. Begins (opening ch) (chain_of views)) (sym (chosen_old x (k.views.marked x h))) (on_new (complete_in s k lawful c members resilience d x h));
+    complete = λ x h. subst (λ ch. Begins (opening ch) (chain_of views)) (sym (chosen_old x (k.views.marked x h)))
+        (on_new (complete_in s k lawful c members resilience d x h));
     marked = λ x h. decided_old x (k.views.marked x h);
     some = k.views.some;
   }
@@ -123,7 +127,8 @@ module _ (s : Group) (k : Kept s) (lawful : IsLawful s) (c : ℕ) (members : Lis
       (λ f. ⊎_elim
       (λ (l : length (s.node j).list ≤ length list). begins_both on chain l)
       (λ (l : length list < length (s.node j).list).
-      let z = ok.own u (take (s.node j).start s.group) list (below_of (begins_both chain on (omega arith)) l) (join_in j u.log) (ok.joined u.log).member in absurd (cc))
+      let z = ok.own u (take (s.node j).start s.group) list (below_of (begins_both chain on (omega arith)) l) (join_in j u.log) (ok.joined u.log).member in
+      absurd (cc))
       (two (length (s.node j).list) (length list)))
 
   -- a ballot of another that is up is above the new view
@@ -133,7 +138,8 @@ module _ (s : Group) (k : Kept s) (lawful : IsLawful s) (c : ℕ) (members : Lis
       let mine = ballot_ok s k lawful c members resilience d in
       let on = (k.each j).stays u.there o.staying (s.node j).list ((k.each j).list u) o.member in
       let p = needed_promised s k lawful c members resilience d j (stays_in j u on) u.there in
-      let apart : key (s.node j).promise ≢ w = λ same. other (sym o.by ∙ key_by (s.node j).promise (s.node c).promise (k.each j).small (k.each c).small same ∙ mine.by) in
+      let apart : key (s.node j).promise ≢ w = λ same. other (sym o.by ∙ key_by (s.node j).promise (s.node c).promise (k.each j).small (k.each c).small same
+      ∙ mine.by) in
       omega arith
 
   -- a name that is late now
@@ -141,7 +147,8 @@ module _ (s : Group) (k : Kept s) (lawful : IsLawful s) (c : ℕ) (members : Lis
   late_now j u l =
       let ok = k.each j in
       let joined = ok.joined u.log in
-      let out : mem list j ≡ false = by_cases (mem list j) (λ t. let p = needed_promised s k lawful c members resilience d j t u.there in absurd (omega arith)) (λ f. f) in
+      let out : mem list j ≡ false = by_cases (mem list j) (λ t. let p = needed_promised s k lawful c members resilience d j t u.there in
+      absurd (omega arith)) (λ f. f) in
       let e = ends_of j (join_in j u.log) joined.member out in
       let b = e.before ++ e.last ∷ [] in
       let on = begins_trans e.within chain in
@@ -164,7 +171,8 @@ module _ (s : Group) (k : Kept s) (lawful : IsLawful s) (c : ℕ) (members : Lis
             (decided_cases x h);
       }
     where
-      old_line : (j : ℕ) (u : IsUp (s.node j)) (e : Ends (take (s.node j).start s.group) list j) (x : ℕ) → s.views.decided x ≡ true → key (s.node j).promise ≤ x → Begins (e.before ++ e.last ∷ []) (chain_of s.views) → Begins (e.before ++ e.last ∷ []) (s.views.line x)
+      old_line : (j : ℕ) (u : IsUp (s.node j)) (e : Ends (take (s.node j).start s.group) list j) (x : ℕ) → s.views.decided x ≡ true → key (s.node j).promise ≤ x
+          → Begins (e.before ++ e.last ∷ []) (chain_of s.views) → Begins (e.before ++ e.last ∷ []) (s.views.line x)
       old_line j u e x h p on = ⊎_elim
           (λ (z : key s.views.current ≤ key (s.node j).promise).
           let o = k.views.order x h in
@@ -180,7 +188,8 @@ module _ (s : Group) (k : Kept s) (lawful : IsLawful s) (c : ℕ) (members : Lis
           (λ (y : length (e.before ++ e.last ∷ []) ≤ length (o.before ++ o.last ∷ [])). begins_trans (begins_both on then y) at_x)
           (λ (y : length (o.before ++ o.last ∷ []) < length (e.before ++ e.last ∷ [])).
           let up_to = begins_trans (begins_more e.before (e.last ∷ [])) on in
-          let still = mem_between {b = o.before ++ o.last ∷ []} j (good_begins up_to k.views.good) (begins_more o.before (o.last ∷ [])) (begins_both then up_to (omega arith)) o.member e.member in
+          let still = mem_between {b = o.before ++ o.last ∷ []} j (good_begins up_to k.views.good) (begins_more o.before (o.last ∷ []))
+          (begins_both then up_to (omega arith)) o.member e.member in
           let ended = o.ended in absurd (cc))
           (two (length (e.before ++ e.last ∷ [])) (length (o.before ++ o.last ∷ []))))
           (two (key s.views.current) (key (s.node j).promise))
@@ -208,7 +217,14 @@ module _ (s : Group) (k : Kept s) (lawful : IsLawful s) (c : ℕ) (members : Lis
         joined = ok.joined;
         own = ok.own;
         late = λ u l. late_now j u l;
-        ballot = λ u b. let o = ok.ballot u b in record { small = o.small; above = ballot_above j other u b; by = o.by; staying = o.staying; member = o.member };
+        ballot = λ u b. let o = ok.ballot u b in record {
+          small = o.small;
+          above = ballot_above j other u b;
+          by = o.by;
+          staying = o.staying;
+          member =
+              o.member;
+        };
         complete = λ x h t m.
             let same = chosen_old x (k.views.marked x h) in
             subst (λ ch. Begins (opening ch) (s.node j).list) (sym same) (ok.complete x h t (subst (λ (ch : Chosen). has ch.members j ≡ true) same m));
@@ -237,7 +253,13 @@ module _ (s : Group) (k : Kept s) (lawful : IsLawful s) (c : ℕ) (members : Lis
         small = ok.small;
         list = λ u. whole;
         blank = λ h. absurd (cc);
-        fronts = record { told = ok.fronts.told; acc = ok.fronts.acc; within = omega arith; delivered = subst (λ x. Begins x s.group) (sym same) ok.fronts.delivered };
+        fronts = record {
+          told = ok.fronts.told;
+          acc = ok.fronts.acc;
+          within = omega arith;
+          delivered =
+              subst (λ x. Begins x s.group) (sym same) ok.fronts.delivered;
+        };
         leads = λ l. record { chain = sym chain_is; member = now };
         promised = λ t m. omega arith;
         stays = λ t l a h m. now;
@@ -245,27 +267,44 @@ module _ (s : Group) (k : Kept s) (lawful : IsLawful s) (c : ℕ) (members : Lis
         own = λ u a e below h m. mem_between c good h (below_begins below) m own_now;
         late = λ u l. absurd (omega arith);
         ballot = λ u b. absurd (cc);
-        complete = λ x h t m. subst (λ ch. Begins (opening ch) (opening choice)) (sym (chosen_old x (k.views.marked x h))) (begins_trans (complete_in s k lawful c members resilience d x h) more);
-        heard = λ x h l. ⊎_elim (λ (z : x ≡ w). absurd (omega arith)) (λ (z : s.views.decided x ≡ true). let o = k.views.order x z in let a = above in absurd (omega arith)) (decided_cases x h);
+        complete = λ x h t m. subst (λ ch. Begins (opening ch) (opening choice)) (sym (chosen_old x (k.views.marked x h)))
+            (begins_trans (complete_in s k lawful c members resilience d x h) more);
+        heard = λ x h l. ⊎_elim (λ (z : x ≡ w). absurd (omega arith)) (λ (z : s.views.decided x ≡ true). let o = k.views.order x z in let a = above in
+            absurd (omega arith)) (decided_cases x h);
       }
 
   later : Later (s.node c) node
-  later = record { list = more; log = λ h. h; start = λ h. refl; there = λ t. record { goes = t.goes; stays = t.stays }; staying = λ h. h; promise = omega arith }
+  later = record {
+    list = more;
+    log = λ h. h;
+    start = λ h. refl;
+    there = λ t. record { goes = t.goes; stays = t.stays };
+    staying = λ h. h;
+    promise =
+        omega arith;
+  }
 
   up : (j : ℕ) → Later (s.node j) (put s.node c node j)
   up = later_all s.node c node later
 
-  enough_new : (x : ℕ) → views.decided x ≡ true → (holders : ℕ → Bool) → ((h : ℕ) → holders h ≡ true → has (views.chosen x).members h ≡ true) → ((h : ℕ) → holders h ≡ true → Begins (opening (views.chosen x)) (put s.node c node h).list) → min ((views.chosen x).resilience + 1) (how_many (has (views.chosen x).members)) ≤ how_many holders → Begins (opening (views.chosen x)) (chain_of views)
+  enough_new : (x : ℕ) → views.decided x ≡ true → (holders : ℕ → Bool) → ((h : ℕ) → holders h ≡ true → has (views.chosen x).members h ≡ true)
+      → ((h : ℕ) → holders h ≡ true → Begins (opening (views.chosen x)) (put s.node c node h).list)
+      → min ((views.chosen x).resilience + 1) (how_many (has (views.chosen x).members)) ≤ how_many holders → Begins (opening (views.chosen x)) (chain_of views)
   enough_new x h holders counts stored much = ⊎_elim
-      (λ (z : x ≡ w). subst (λ ch. Begins (opening ch) (chain_of views)) (sym (ap (put s.views.chosen w choice) z ∙ chosen_is)) (subst (Begins (opening choice)) (sym chain_is) (begins_refl (opening choice))))
+      (λ (z : x ≡ w). subst (λ ch. Begins (opening ch) (chain_of views)) (sym (ap (put s.views.chosen w choice) z ∙ chosen_is))
+      (subst (Begins (opening choice)) (sym chain_is) (begins_refl (opening choice))))
       (λ (z : s.views.decided x ≡ true).
       let same = chosen_old x z in
       subst (λ ch. Begins (opening ch) (chain_of views)) (sym same)
-      (old x z holders (λ i t. subst (λ (ch : Chosen). has ch.members i ≡ true) same (counts i t)) (λ i t. subst (λ ch. Begins (opening ch) (put s.node c node i).list) same (stored i t))
+      (old x z holders (λ i t. subst (λ (ch : Chosen). has ch.members i ≡ true) same (counts i t))
+      (λ i t. subst (λ ch. Begins (opening ch) (put s.node c node i).list) same (stored i t))
       (subst (λ (ch : Chosen). min (ch.resilience + 1) (how_many (has ch.members)) ≤ how_many holders) same much)))
       (decided_cases x h)
     where
-      old : (x : ℕ) → s.views.decided x ≡ true → (holders : ℕ → Bool) → ((h : ℕ) → holders h ≡ true → has (s.views.chosen x).members h ≡ true) → ((h : ℕ) → holders h ≡ true → Begins (opening (s.views.chosen x)) (put s.node c node h).list) → min ((s.views.chosen x).resilience + 1) (how_many (has (s.views.chosen x).members)) ≤ how_many holders → Begins (opening (s.views.chosen x)) (chain_of views)
+      old : (x : ℕ) → s.views.decided x ≡ true → (holders : ℕ → Bool) → ((h : ℕ) → holders h ≡ true → has (s.views.chosen x).members h ≡ true)
+          → ((h : ℕ) → holders h ≡ true → Begins (opening (s.views.chosen x)) (put s.node c node h).list)
+          → min ((s.views.chosen x).resilience + 1) (how_many (has (s.views.chosen x).members)) ≤ how_many holders
+          → Begins (opening (s.views.chosen x)) (chain_of views)
       old x z holders counts stored much = by_cases (holders c)
           (λ t. subst (Begins (opening (s.views.chosen x))) (ap (λ (m : Node). m.list) (put_same s.node c node) ∙ sym chain_is) (stored c t))
           (λ f.
@@ -279,7 +318,8 @@ module _ (s : Group) (k : Kept s) (lawful : IsLawful s) (c : ℕ) (members : Lis
           let there = resilience_viewed ch.before ch.stamp ch.members ch.resilience in
           ⊎_elim
           (λ (l : length (opening ch) ≤ length list). on_new (begins_both on chain l))
-          (λ (l : length list < length (opening ch)). absurd (too_few s k lawful c members resilience d (opening ch) (opening ch) on (begins_both chain on (omega arith)) (begins_refl (opening ch)) l
+          (λ (l : length list < length (opening ch)). absurd
+          (too_few s k lawful c members resilience d (opening ch) (opening ch) on (begins_both chain on (omega arith)) (begins_refl (opening ch)) l
           (has ch.members) holders counts
           (λ h m. viewed_mem ch.before ch.stamp ch.members ch.resilience h fine m)
           (λ h m. mem_viewed ch.before ch.stamp ch.members ch.resilience h m)
@@ -299,9 +339,11 @@ module _ (s : Group) (k : Kept s) (lawful : IsLawful s) (c : ℕ) (members : Lis
     shown = λ x name l h. shown_later s.node (put s.node c node) x name l up (k.shown x name l h);
     still = put_at (λ v m. (l : List Entry) → s.shown (key m.promise) v ≡ Some l → views.decided (key m.promise) ≡ false → m.list ≡ l) s.node c node
         (λ l h none. let z = put_same s.views.decided w true in absurd (cc))
-        (λ v _ l h none. k.still v l h (by_cases (s.views.decided (key (s.node v).promise)) (λ t. let z = decided_old (key (s.node v).promise) t in absurd (cc)) (λ f. f)));
+        (λ v _ l h none. k.still v l h (by_cases (s.views.decided (key (s.node v).promise)) (λ t. let z = decided_old (key (s.node v).promise) t in
+        absurd (cc)) (λ f. f)));
     short = λ i v l. put_at
-        (λ i m. IsUp m → m.ballot ≡ true → s.shown (key m.promise) v ≡ Some l → IsUp (put s.node c node v) → (length (put s.node c node v).list ≤ length l) ⊎ (length (put s.node c node v).list ≤ length m.list))
+        (λ i m. IsUp m → m.ballot ≡ true → s.shown (key m.promise) v ≡ Some l → IsUp (put s.node c node v)
+        → (length (put s.node c node v).list ≤ length l) ⊎ (length (put s.node c node v).list ≤ length m.list))
         s.node c node (λ u b. absurd (cc))
         (λ i other u b h. put_at
         (λ v m. s.shown (key (s.node i).promise) v ≡ Some l → IsUp m → (length m.list ≤ length l) ⊎ (length m.list ≤ length (s.node i).list))
@@ -309,7 +351,8 @@ module _ (s : Group) (k : Kept s) (lawful : IsLawful s) (c : ℕ) (members : Lis
         (λ h q. let p = (k.shown (key (s.node i).promise) c l h).promised in let a = ballot_above i other u b in absurd (omega arith))
         (λ v differ h q. k.short i v l u b h q) v h) i;
     served = λ i v l. put_at
-        (λ i m. IsUp m → m.ballot ≡ true → s.served (key m.promise) v ≡ true → s.shown (key m.promise) v ≡ Some l → ServedOk (put s.node c node) views (key m.promise) l)
+        (λ i m. IsUp m → m.ballot ≡ true → s.served (key m.promise) v ≡ true → s.shown (key m.promise) v ≡ Some l
+        → ServedOk (put s.node c node) views (key m.promise) l)
         s.node c node (λ u b. absurd (cc))
         (λ i other u b a h.
         let o = k.served i v l u b a h in
@@ -327,7 +370,8 @@ module _ (s : Group) (k : Kept s) (lawful : IsLawful s) (c : ℕ) (members : Lis
     enough = enough_new;
   }
     where
-      served_low : (i : ℕ) → i ≢ c → IsUp (s.node i) → (s.node i).ballot ≡ true → (l : List Entry) → Begins l (chain_of s.views) → ((j : ℕ) → IsThere (s.node j) → mem l j ≡ true → key (s.node i).promise ≤ key (s.node j).promise) → Begins l list
+      served_low : (i : ℕ) → i ≢ c → IsUp (s.node i) → (s.node i).ballot ≡ true → (l : List Entry) → Begins l (chain_of s.views)
+          → ((j : ℕ) → IsThere (s.node j) → mem l j ≡ true → key (s.node i).promise ≤ key (s.node j).promise) → Begins l list
       served_low i other u b l on promised = ⊎_elim
           (λ (x : length l ≤ length list). begins_both on chain x)
           (λ (x : length list < length l).

@@ -1,12 +1,14 @@
 -- A coordinator that decides has all that was accepted.
-use Rattle.std.proofs.Common.{◌≡◌, ◌⊎◌, ⊎_elim, ℕ, zero, suc, ◌+◌, ◌-◌, ◌<◌, ◌≤◌, ◌&&◌, ◌||◌, not, nat_lt, min, Bool, true, false, List, [], ◌∷◌, ◌++◌, length, take, Option, Some, None, slice_get, refl, sym, ap, ◌∙◌, subst, arith}
+use Rattle.std.proofs.Common.{◌≡◌, ◌⊎◌, ⊎_elim, ℕ, zero, suc, ◌+◌, ◌-◌, ◌<◌, ◌≤◌, ◌&&◌, ◌||◌, not, nat_lt, min, Bool, true, false, List, [], ◌∷◌, ◌++◌, length}
+use Rattle.std.proofs.Common.{take, Option, Some, None, slice_get, refl, sym, ap, ◌∙◌, subst, arith}
 use Rattle.std.proofs.lemmas.Bool.Decides.{nat_tests}
 use Rattle.std.proofs.lemmas.Option.{slice_get_within}
 use Rattle.am_base.specs.declared.entry.Entry.{Entry}
 use Rattle.am_base.specs.declared.entry.Entry.TheVariants.{Data, Join, Leave, View}
 use Rattle.am_base.specs.Names.{has}
 use Rattle.am_chain_lists.specs.Whole.{Begins, IsGood, mem, view_of, key, resilience_of}
-use Rattle.am_chain_lists.proofs.Prefixes.{begins_refl, begins_nil, begins_more, begins_trans, begins_length, begins_both, begins_same, begins_push, length_push, begins_take, length_take, take_begins}
+use Rattle.am_chain_lists.proofs.Prefixes.{begins_refl, begins_nil, begins_more, begins_trans, begins_length, begins_both, begins_same, begins_push}
+use Rattle.am_chain_lists.proofs.Prefixes.{length_push, begins_take, length_take, take_begins}
 use Rattle.am_chain_lists.proofs.Members.{mem_between, mem_nil, mem_viewed, viewed_mem, good_begins, leaver_in, leaver_out}
 use Rattle.am_chain_lists.proofs.Order.{view_up, resilience_up, resilience_viewed}
 use Rattle.am_chain_moves.specs.Group.{how_many, counted, opening, Group, chain_of, IsThere, IsUp, NoBetter}
@@ -23,7 +25,8 @@ pub greatest_of : (p : ℕ → Bool) (bound x : ℕ) → p x ≡ true → ((y : 
 greatest_of p zero x h all = let z = all x h in (x, h, λ y k. let w = all y k in omega arith)
 greatest_of p (suc bound) x h all = by_cases (p (suc bound))
     (λ t. (suc bound, t, all))
-    (λ f. greatest_of p bound x h (λ y k. ⊎_elim (λ (l : y ≤ bound). l) (λ (l : bound < y). let w = all y k in let e : y ≡ suc bound = omega arith in let z : p (suc bound) ≡ true = subst (λ m. p m ≡ true) e k in absurd (cc)) (two y bound)))
+    (λ f. greatest_of p bound x h (λ y k. ⊎_elim (λ (l : y ≤ bound). l) (λ (l : bound < y). let w = all y k in let e : y ≡ suc bound = omega arith in
+    let z : p (suc bound) ≡ true = subst (λ m. p m ≡ true) e k in absurd (cc)) (two y bound)))
 
 -- Where the members stand whose storage of an entry counts.
 pub record CountedAt (list : List Entry) (n : ℕ) : Type 0 where
@@ -53,9 +56,31 @@ counted_go list n None good low high h = absurd (none_past list (n - 1) (omega a
     none_past [] k w h = let z : ⊥ = omega arith in z
     none_past (e ∷ l) zero w h = cc
     none_past (e ∷ l) (suc k) w h = none_past l k (omega arith) h
-counted_go list n (Some (Data from req body)) good low high h = record { at = take (n - 1) list; above = begins_refl (take (n - 1) list); below = before_entry list n (Data from req body) low h; members = λ x y. rw h at y; back = λ x y. rw h y }
-counted_go list n (Some (Join name)) good low high h = record { at = take (n - 1) list; above = begins_refl (take (n - 1) list); below = before_entry list n (Join name) low h; members = λ x y. rw h at y; back = λ x y. rw h y }
-counted_go list n (Some (Leave name)) good low high h = record { at = take (n - 1) list; above = begins_refl (take (n - 1) list); below = before_entry list n (Leave name) low h; members = λ x y. rw h at y; back = λ x y. rw h y }
+counted_go list n (Some (Data from req body)) good low high h =
+    record {
+      at = take (n - 1) list;
+      above = begins_refl (take (n - 1) list);
+      below = before_entry list n (Data from req body) low h;
+      members =
+          λ x y. rw h at y;
+      back = λ x y. rw h y;
+    }
+counted_go list n (Some (Join name)) good low high h = record {
+  at = take (n - 1) list;
+  above = begins_refl (take (n - 1) list);
+  below =
+      before_entry list n (Join name) low h;
+  members = λ x y. rw h at y;
+  back = λ x y. rw h y;
+}
+counted_go list n (Some (Leave name)) good low high h = record {
+  at = take (n - 1) list;
+  above = begins_refl (take (n - 1) list);
+  below =
+      before_entry list n (Leave name) low h;
+  members = λ x y. rw h at y;
+  back = λ x y. rw h y;
+}
 counted_go list n (Some (View stamp members resilience)) good low high h =
     let step = take_step list n (View stamp members resilience) low h in
     let fine = subst IsGood step (good_begins (begins_take n list) good) in
@@ -63,7 +88,8 @@ counted_go list n (Some (View stamp members resilience)) good low high h =
       at = take n list;
       above = before_entry list n (View stamp members resilience) low h;
       below = begins_refl (take n list);
-      members = λ x y. let z : has members x ≡ true = rw h at y in subst (λ l. mem l x ≡ true) (sym step) (viewed_mem (take (n - 1) list) stamp members resilience x fine z);
+      members = λ x y. let z : has members x ≡ true = rw h at y in
+          subst (λ l. mem l x ≡ true) (sym step) (viewed_mem (take (n - 1) list) stamp members resilience x fine z);
       back = λ x y. rw h (mem_viewed (take (n - 1) list) stamp members resilience x (subst (λ l. mem l x ≡ true) step y));
     }
 
@@ -147,8 +173,10 @@ module _ (s : Group) (k : Kept s) (lawful : IsLawful s) (c : ℕ) (members : Lis
 
   -- Who holds more of the chain than the coordinator are too few: if none of them is up, they are stopped undeparted, and
   -- count for the greatest complete view.
-  module _ (p at : List Entry) (chain : Begins p (chain_of s.views)) (above : Begins (s.node c).list at) (below : Begins at p) (longer : length (s.node c).list < length p)
-      (count_in holders : ℕ → Bool) (in_count : (h : ℕ) → holders h ≡ true → count_in h ≡ true) (members_at : (h : ℕ) → count_in h ≡ true → mem at h ≡ true) (at_members : (h : ℕ) → mem at h ≡ true → count_in h ≡ true)
+  module _ (p at : List Entry) (chain : Begins p (chain_of s.views)) (above : Begins (s.node c).list at) (below : Begins at p)
+      (longer : length (s.node c).list < length p)
+      (count_in holders : ℕ → Bool) (in_count : (h : ℕ) → holders h ≡ true → count_in h ≡ true) (members_at : (h : ℕ) → count_in h ≡ true
+      → mem at h ≡ true) (at_members : (h : ℕ) → mem at h ≡ true → count_in h ≡ true)
       (logs : (h : ℕ) → holders h ≡ true → (s.node h).has_log ≡ true) (stored : (h : ℕ) → holders h ≡ true → Begins p (s.node h).list)
       (low : (h : ℕ) → holders h ≡ true → IsUp (s.node h) → length (s.node h).list ≤ length (s.node c).list)
       (enough : min (resilience_of p + 1) (how_many count_in) ≤ how_many holders) where
@@ -160,7 +188,8 @@ module _ (s : Group) (k : Kept s) (lawful : IsLawful s) (c : ℕ) (members : Lis
         let o = k.departed h gone in
         let inside = departed_in h gone in
         let good = good_begins (begins_trans inside list_chain) k.views.good in
-        leaver_out o.before h good (mem_between h (good_begins (begins_trans below chain) k.views.good) (begins_more o.before (Leave h ∷ [])) (begins_trans inside above) (leaver_in o.before h good) (members_at h (in_count h t)))
+        leaver_out o.before h good (mem_between h (good_begins (begins_trans below chain) k.views.good) (begins_more o.before (Leave h ∷ []))
+        (begins_trans inside above) (leaver_in o.before h good) (members_at h (in_count h t)))
 
     is_stopped : (h : ℕ) → holders h ≡ true → ((s.node h).stopped ≡ true) × ((s.node h).departed ≡ false)
     is_stopped h t = by_cases (s.node h).departed
@@ -173,7 +202,9 @@ module _ (s : Group) (k : Kept s) (lawful : IsLawful s) (c : ℕ) (members : Lis
     counts g is h t = either (has (s.views.chosen g).members h) (s.node h).has_log (nat_lt (length (opening (s.views.chosen g))) (s.node h).start)
         (λ f. (logs h t, late g is h t f (two (s.node h).start (length (opening (s.views.chosen g))))))
       where
-        late : (g : ℕ) → s.views.complete g ≡ true → (h : ℕ) → holders h ≡ true → has (s.views.chosen g).members h ≡ false → ((s.node h).start ≤ length (opening (s.views.chosen g))) ⊎ (length (opening (s.views.chosen g)) < (s.node h).start) → nat_lt (length (opening (s.views.chosen g))) (s.node h).start ≡ true
+        late : (g : ℕ) → s.views.complete g ≡ true → (h : ℕ) → holders h ≡ true → has (s.views.chosen g).members h ≡ false
+            → ((s.node h).start ≤ length (opening (s.views.chosen g))) ⊎ (length (opening (s.views.chosen g)) < (s.node h).start)
+            → nat_lt (length (opening (s.views.chosen g))) (s.node h).start ≡ true
         late g is h t f w = ⊎_elim
             (λ (x : (s.node h).start ≤ length (opening (s.views.chosen g))).
             let ch = s.views.chosen g in
@@ -192,7 +223,8 @@ module _ (s : Group) (k : Kept s) (lawful : IsLawful s) (c : ℕ) (members : Lis
         let g = greatest_of s.views.complete (key s.views.current) k.views.some.0 k.views.some.1 (λ y h. k.views.order y (k.views.marked y h)) in
         let ch = s.views.chosen g.0 in
         let law = lawful g.0 g.1 g.2 in
-        let few = count_within holders (λ name. counts_for s g.0 name && ((s.node name).stopped && not (s.node name).departed)) 256 (λ h t. let q = is_stopped h t in and_true (counts_for s g.0 h) (s.node h).stopped (s.node h).departed (counts g.0 g.1 h t) q.0 q.1) in
+        let few = count_within holders (λ name. counts_for s g.0 name && ((s.node name).stopped && not (s.node name).departed)) 256 (λ h t. let q =
+        is_stopped h t in and_true (counts_for s g.0 h) (s.node h).stopped (s.node h).departed (counts g.0 g.1 h t) q.0 q.1) in
         let c_in = at_members c (member_above at (begins_trans below chain) (begins_length above)) in
         let c_out : holders c ≡ false = by_cases (holders c) (λ t. absurd (not_up c t d.up)) (λ f. f) in
         let fewer = count_below holders count_in 256 c in_count d.small c_out c_in in
@@ -225,11 +257,13 @@ module _ (s : Group) (k : Kept s) (lawful : IsLawful s) (c : ℕ) (members : Lis
           let up_to = begins_both list_chain (begins_trans (begins_take (n - 1) s.group) k.group) (omega arith) in
           let above = begins_trans up_to at.above in
           let good_at : IsGood at.at = good_begins (begins_trans at.below whole) good in
-          too_few (take n s.group) at.at (begins_trans whole k.group) above at.below (omega arith) (has (counted s.group n)) w.holders w.counts at.members at.back w.logs w.stored
+          too_few (take n s.group) at.at (begins_trans whole k.group) above at.below (omega arith)
+          (has (counted s.group n)) w.holders w.counts at.members at.back w.logs w.stored
           (λ h t u.
           let j = (k.each h).joined (w.logs h t) in
           let early = w.joined h t in
           let start = length_take (s.node h).start s.group j.accepted in
           let part = begins_both (begins_trans (begins_take (s.node h).start s.group) k.group) list_chain (omega arith) in
-          needed_low h (mem_between {a = take (s.node h).start s.group} {b = (s.node c).list} {c = at.at} h good_at part above j.member (at.members h (w.counts h t))) u)
+          needed_low h (mem_between {a = take (s.node h).start s.group} {b = (s.node c).list} {c =
+          at.at} h good_at part above j.member (at.members h (w.counts h t))) u)
           w.enough

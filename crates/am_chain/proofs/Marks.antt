@@ -19,7 +19,8 @@ view_nil : key (view_of []) ≡ 0
 unfolding fold view_of key
 view_nil = refl
 
-module _ (s : Group) (k : Kept s) (complete : ℕ → Bool) (stay : (x : ℕ) → s.views.complete x ≡ true → complete x ≡ true) (marks : (x : ℕ) → complete x ≡ true → (s.views.complete x ≡ true) ⊎ Completes s x) where
+module _ (s : Group) (k : Kept s) (complete : ℕ → Bool) (stay : (x : ℕ) → s.views.complete x ≡ true → complete x ≡ true) (marks : (x : ℕ) → complete x ≡ true
+    → (s.views.complete x ≡ true) ⊎ Completes s x) where
   abbrev views : Views
   views = record s.views { complete = complete }
 
@@ -28,7 +29,8 @@ module _ (s : Group) (k : Kept s) (complete : ℕ → Bool) (stay : (x : ℕ) �
   stands x h = k.enough x h.decided h.holders h.counts h.stored h.enough
 
   -- and each of its members that is there has stored it
-  stored : (x : ℕ) → Completes s x → (j : ℕ) → IsThere (s.node j) → has (s.views.chosen x).members j ≡ true → Begins (opening (s.views.chosen x)) (s.node j).list
+  stored : (x : ℕ) → Completes s x → (j : ℕ) → IsThere (s.node j) → has (s.views.chosen x).members j ≡ true
+      → Begins (opening (s.views.chosen x)) (s.node j).list
   stored x h j t m =
       let ch = s.views.chosen x in
       let on = stands x h in

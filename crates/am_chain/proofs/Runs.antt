@@ -5,7 +5,8 @@ use Rattle.am_base.specs.declared.entry.Entry.TheVariants.{Leave}
 use Rattle.am_chain_lists.specs.Whole.{Begins}
 use Rattle.am_chain_lists.proofs.Prefixes.{begins_refl, begins_trans, begins_take, begins_both, length_take}
 use Rattle.am_chain_moves.specs.Group.{count, Node, opening, Group, chain_of, MayAccept, put}
-use Rattle.am_chain_moves.specs.Moves.{Move, numbers, stores, accepts, learns, begins, raises, shows, serves, fetches, decides, gives_over, welcomes, asks, departs, closes, stops, longer}
+use Rattle.am_chain_moves.specs.Moves.{Move, numbers, stores, accepts, learns, begins, raises, shows, serves, fetches, decides, gives_over, welcomes, asks}
+use Rattle.am_chain_moves.specs.Moves.{departs, closes, stops, longer}
 use Rattle.am_chain_moves.specs.Runs.{Step, IsLawful, start, Run, founded, more, Onward, here, onward, counts_for}
 use Rattle.am_chain_moves.specs.Kept.{Kept}
 use Rattle.am_chain.specs.Claims.{RunsKeep, ChoicesKeep, CompleteViewsStand}
@@ -23,7 +24,8 @@ record Grows (s t : Group) : Type 0 where
   chosen : (x : ℕ) → s.views.decided x ≡ true → t.views.chosen x ≡ s.views.chosen x
   complete : (x : ℕ) → s.views.complete x ≡ true → t.views.complete x ≡ true
 
-accept_grows : (node : ℕ → Node) (group list chain : List Entry) (to : ℕ) → Begins group chain → Begins list chain → MayAccept node list (length group) to → Begins group (take to list)
+accept_grows : (node : ℕ → Node) (group list chain : List Entry) (to : ℕ) → Begins group chain → Begins list chain → MayAccept node list (length group) to
+    → Begins group (take to list)
 accept_grows node group list chain to g l may =
     let long = length_take to list may.within in
     let r = may.rises in
@@ -60,7 +62,8 @@ grows_on k law (closes {s = s} i n a b c d) =
     let whole = begins_more (s.node i).list (Leave i ∷ []) in
     let up : Begins s.group ((s.node i).list ++ Leave i ∷ []) = begins_trans (subst (Begins s.group) (sym o.chain) k.group) whole in
     record {
-      group = accept_grows (put s.node i (longer (s.node i) (Leave i))) s.group ((s.node i).list ++ Leave i ∷ []) ((s.node i).list ++ Leave i ∷ []) n up (begins_refl ((s.node i).list ++ Leave i ∷ [])) d;
+      group = accept_grows (put s.node i (longer (s.node i) (Leave i))) s.group ((s.node i).list ++ Leave i ∷ []) ((s.node i).list ++ Leave i ∷ []) n up
+          (begins_refl ((s.node i).list ++ Leave i ∷ [])) d;
       decided = λ x h. h;
       chosen = λ x h. refl;
       complete = λ x h. h;
@@ -105,7 +108,8 @@ and_false false b = refl
 
 start_lawful : (founders : List ℕ) (first resilience : ℕ) → IsLawful (start founders first resilience)
 start_lawful founders first resilience view h g =
-    let z = none_pass (λ name. counts_for (start founders first resilience) view name && (false && not false)) 256 (λ j. and_false (counts_for (start founders first resilience) view j) (not false)) in
+    let z = none_pass (λ name. counts_for (start founders first resilience) view name && (false && not false)) 256
+    (λ j. and_false (counts_for (start founders first resilience) view j) (not false)) in
     rw z (omega arith)
 
 pub record KeptLawful (s : Group) : Type 0 where
@@ -113,14 +117,20 @@ pub record KeptLawful (s : Group) : Type 0 where
   pub lawful : IsLawful s
 
 pub run_keeps : (founders : List ℕ) (first resilience : ℕ) (s : Group) → Run founders first resilience s → KeptLawful s
-run_keeps founders first resilience s (founded may) = record { kept = start_kept founders first resilience may; lawful = start_lawful founders first resilience }
-run_keeps founders first resilience t (more {s = s} run step law) = let o = run_keeps founders first resilience s run in record { kept = step_keeps s t o.kept o.lawful step; lawful = law }
+run_keeps founders first resilience s (founded may) = record {
+  kept = start_kept founders first resilience may;
+  lawful =
+      start_lawful founders first resilience;
+}
+run_keeps founders first resilience t (more {s = s} run step law) = let o = run_keeps founders first resilience s run in
+    record { kept = step_keeps s t o.kept o.lawful step; lawful = law }
 
 pub runs_keep : RunsKeep
 runs_keep founders first resilience s run = (run_keeps founders first resilience s run).kept
 
 pub choices_keep : ChoicesKeep
-choices_keep founders first resilience s run i members strong may = let o = run_keeps founders first resilience s run in group_low s o.kept o.lawful i members strong may
+choices_keep founders first resilience s run i members strong may = let o = run_keeps founders first resilience s run in
+    group_low s o.kept o.lawful i members strong may
 
 -- from a moment that is kept
 record Since (s t : Group) : Type 0 where
@@ -129,7 +139,12 @@ record Since (s t : Group) : Type 0 where
   grows : Grows s t
 
 since : {s t : Group} → Kept s → IsLawful s → Onward s t → Since s t
-since k law (here {s = s}) = record { kept = k; lawful = law; grows = record { group = begins_refl s.group; decided = λ x h. h; chosen = λ x h. refl; complete = λ x h. h } }
+since k law (here {s = s}) = record {
+  kept = k;
+  lawful = law;
+  grows =
+      record { group = begins_refl s.group; decided = λ x h. h; chosen = λ x h. refl; complete = λ x h. h };
+}
 since k law (onward {s = s} {t = t} {u = u} on step after) =
     let o = since k law on in
     let g = step_grows t u o.kept o.lawful step in
@@ -152,5 +167,6 @@ complete_views_stand founders first resilience s t run on =
     let n = since k o.lawful on in
     record {
       group = n.grows.group;
-      views = λ x h. subst (λ ch. Begins (opening ch) (chain_of t.views)) (n.grows.chosen x (k.views.marked x h)) (n.kept.views.complete x (n.grows.complete x h));
+      views = λ x h. subst (λ ch. Begins (opening ch) (chain_of t.views)) (n.grows.chosen x (k.views.marked x h))
+          (n.kept.views.complete x (n.grows.complete x h));
     }

@@ -12,7 +12,8 @@ RunsKeep = (founders : List ℕ) (first resilience : ℕ) (s : Group) → Run fo
 
 -- in a lawful run what a ballot may choose begins with all that was accepted
 abbrev pub ChoicesKeep : Type 0
-ChoicesKeep = (founders : List ℕ) (first resilience : ℕ) (s : Group) → Run founders first resilience s → (i : ℕ) (members : List ℕ) (strong : ℕ) → MayDecide s i members strong → Begins s.group (choice_of (s.node i) members strong).before
+ChoicesKeep = (founders : List ℕ) (first resilience : ℕ) (s : Group) → Run founders first resilience s → (i : ℕ) (members : List ℕ) (strong : ℕ)
+    → MayDecide s i members strong → Begins s.group (choice_of (s.node i) members strong).before
 
 -- what was accepted stays, and a complete view stands in each later line with all that it chose
 pub record Stands (s t : Group) : Type 0 where

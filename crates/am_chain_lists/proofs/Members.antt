@@ -1,5 +1,6 @@
 -- What a list tells, along its beginnings.
-use Rattle.std.proofs.Common.{◌≡◌, ⊎_elim, inl, ℕ, ◌+◌, ◌<◌, ◌==◌, ◌&&◌, nat_lt, true, false, List, [], ◌∷◌, ◌++◌, length, slice_index, refl, sym, ap, ◌∙◌, subst, arith, append-nil}
+use Rattle.std.proofs.Common.{◌≡◌, ⊎_elim, inl, ℕ, ◌+◌, ◌<◌, ◌==◌, ◌&&◌, nat_lt, true, false, List, [], ◌∷◌, ◌++◌, length, slice_index, refl, sym, ap, ◌∙◌}
+use Rattle.std.proofs.Common.{subst, arith, append-nil}
 use Rattle.std.proofs.lemmas.Bool.Decides.{nat_tests}
 use Rattle.std.proofs.lemmas.List.{get_or-map}
 use Rattle.am_base.specs.declared.name.Stamp.{Stamp}
@@ -11,12 +12,14 @@ use Rattle.am_base.specs.Names.{has, place_of, life_of}
 use Rattle.am_base.specs.Lists.{blank_row, blank, after, fits, fold, AllFit, members_of, member_life}
 use Rattle.am_chain_lists.specs.Whole.{Begins, IsGood, AllSmall, SmallName, told, mem}
 use Rattle.am_chain_lists.proofs.Prefixes.{begins_refl, begins_more, begins_trans, push_next}
-use Rattle.am_chain_lists.proofs.Rows.{row_at, In, Past, Was, Spares, by_cases, mod16, long_after, was_after, past_after, not_both, blank_joined, in_after, in_viewed, viewed_member, out_after}
+use Rattle.am_chain_lists.proofs.Rows.{row_at, In, Past, Was, Spares, by_cases, mod16, long_after, was_after, past_after, not_both, blank_joined, in_after}
+use Rattle.am_chain_lists.proofs.Rows.{in_viewed, viewed_member, out_after}
 
 pub fold_append : (image : Image) (n : ℕ) (a b : List Entry) → fold image n (a ++ b) ≡ fold (fold image n a) (n + length a) b
 unfolding fold
 fold_append image n [] b = let z : n ≡ n + 0 = omega arith in ap (λ k. fold image k b) z
-fold_append image n (e ∷ a) b = let z : (n + 1) + length a ≡ n + length (e ∷ a) = omega arith in fold_append (after image n e) (n + 1) a b ∙ ap (λ k. fold (fold (after image n e) (n + 1) a) k b) z
+fold_append image n (e ∷ a) b = let z : (n + 1) + length a ≡ n + length (e ∷ a) = omega arith in
+    fold_append (after image n e) (n + 1) a b ∙ ap (λ k. fold (fold (after image n e) (n + 1) a) k b) z
 
 pub fit_front : (image : Image) (n : ℕ) (a b : List Entry) → AllFit image n (a ++ b) → AllFit image n a
 unfolding AllFit
@@ -26,12 +29,14 @@ fit_front image n (e ∷ a) b h = (h.0, fit_front (after image n e) (n + 1) a b 
 pub fit_back : (image : Image) (n : ℕ) (a b : List Entry) → AllFit image n (a ++ b) → AllFit (fold image n a) (n + length a) b
 unfolding AllFit fold
 fit_back image n [] b h = let z : n ≡ n + 0 = omega arith in subst (λ k. AllFit image k b) z h
-fit_back image n (e ∷ a) b h = let z : (n + 1) + length a ≡ n + length (e ∷ a) = omega arith in subst (λ k. AllFit (fold (after image n e) (n + 1) a) k b) z (fit_back (after image n e) (n + 1) a b h.1)
+fit_back image n (e ∷ a) b h = let z : (n + 1) + length a ≡ n + length (e ∷ a) = omega arith in
+    subst (λ k. AllFit (fold (after image n e) (n + 1) a) k b) z (fit_back (after image n e) (n + 1) a b h.1)
 
 fit_append : (image : Image) (n : ℕ) (a b : List Entry) → AllFit image n a → AllFit (fold image n a) (n + length a) b → AllFit image n (a ++ b)
 unfolding AllFit fold
 fit_append image n [] b h k = let z : n + 0 ≡ n = omega arith in subst (λ k. AllFit image k b) z k
-fit_append image n (e ∷ a) b h k = let z : n + length (e ∷ a) ≡ (n + 1) + length a = omega arith in (h.0, fit_append (after image n e) (n + 1) a b h.1 (subst (λ k. AllFit (fold (after image n e) (n + 1) a) k b) z k))
+fit_append image n (e ∷ a) b h k = let z : n + length (e ∷ a) ≡ (n + 1) + length a = omega arith in
+    (h.0, fit_append (after image n e) (n + 1) a b h.1 (subst (λ k. AllFit (fold (after image n e) (n + 1) a) k b) z k))
 
 small_front : (a b : List Entry) → AllSmall (a ++ b) → AllSmall a
 unfolding AllSmall
@@ -50,7 +55,11 @@ small_back (e ∷ a) b h = small_back a b h.1
 
 -- a beginning of a good list is good
 pub good_begins : {a b : List Entry} → Begins a b → IsGood b → IsGood a
-good_begins {a} {b} h g = record { fit = fit_front blank 1 a h.rest (subst (AllFit blank 1) (sym h.same) g.fit); small = small_front a h.rest (subst AllSmall (sym h.same) g.small) }
+good_begins {a} {b} h g = record {
+  fit = fit_front blank 1 a h.rest (subst (AllFit blank 1) (sym h.same) g.fit);
+  small =
+      small_front a h.rest (subst AllSmall (sym h.same) g.small);
+}
 
 pub good_nil : IsGood []
 unfolding AllFit AllSmall
@@ -82,15 +91,19 @@ long_fold image n (e ∷ es) h = long_fold (after image n e) (n + 1) es (long_af
 pub long_told : (a : List Entry) → length (told a).rows ≡ 16
 long_told a = long_fold blank 1 a refl
 
-was_fold : (image : Image) (n : ℕ) (es : List Entry) (place life : ℕ) → length image.rows ≡ 16 → place < 16 → 0 < n → AllFit image n es → Was (row_at image place) life → Was (row_at (fold image n es) place) life
+was_fold : (image : Image) (n : ℕ) (es : List Entry) (place life : ℕ) → length image.rows ≡ 16 → place < 16 → 0 < n → AllFit image n es
+    → Was (row_at image place) life → Was (row_at (fold image n es) place) life
 unfolding fold AllFit
 was_fold image n [] place life long low up f h = h
-was_fold image n (e ∷ es) place life long low up f h = was_fold (after image n e) (n + 1) es place life (long_after image n e long) low (omega arith) f.1 (was_after image n e place life long low up f.0 h)
+was_fold image n (e ∷ es) place life long low up f h = was_fold (after image n e) (n + 1) es place life (long_after image n e long) low (omega arith) f.1
+    (was_after image n e place life long low up f.0 h)
 
-past_fold : (image : Image) (n : ℕ) (es : List Entry) (place life : ℕ) → length image.rows ≡ 16 → place < 16 → 0 < n → AllFit image n es → Past (row_at image place) life → Past (row_at (fold image n es) place) life
+past_fold : (image : Image) (n : ℕ) (es : List Entry) (place life : ℕ) → length image.rows ≡ 16 → place < 16 → 0 < n → AllFit image n es
+    → Past (row_at image place) life → Past (row_at (fold image n es) place) life
 unfolding fold AllFit
 past_fold image n [] place life long low up f h = h
-past_fold image n (e ∷ es) place life long low up f h = past_fold (after image n e) (n + 1) es place life (long_after image n e long) low (omega arith) f.1 (past_after image n e place life long low up f.0 h)
+past_fold image n (e ∷ es) place life long low up f h = past_fold (after image n e) (n + 1) es place life (long_after image n e long) low (omega arith) f.1
+    (past_after image n e place life long low up f.0 h)
 
 member_in : (r : Row) (life : ℕ) → 0 < life → (member_life r == life) ≡ true → In r life
 member_in r life pos h = by_cases (nat_lt 0 r.joined && (r.left == 0))
@@ -112,26 +125,32 @@ mem_in a name h =
 
 pub in_mem : (a : List Entry) (name : ℕ) → In (row_at (told a) (place_of name)) (life_of name) → mem a name ≡ true
 unfolding mem
-in_mem a name h = subst (λ x. (x == life_of name) ≡ true) (sym (index_members (told a) (place_of name) (long_told a) (mod16 name))) (in_member (row_at (told a) (place_of name)) (life_of name) h)
+in_mem a name h = subst (λ x. (x == life_of name) ≡ true) (sym (index_members (told a) (place_of name) (long_told a) (mod16 name)))
+    (in_member (row_at (told a) (place_of name)) (life_of name) h)
 
 -- what a beginning's row becomes
-pub was_begins : {a b : List Entry} (name : ℕ) → IsGood b → Begins a b → Was (row_at (told a) (place_of name)) (life_of name) → Was (row_at (told b) (place_of name)) (life_of name)
+pub was_begins : {a b : List Entry} (name : ℕ) → IsGood b → Begins a b → Was (row_at (told a) (place_of name)) (life_of name)
+    → Was (row_at (told b) (place_of name)) (life_of name)
 was_begins {a} {b} name g h w =
     let f = fit_back blank 1 a h.rest (subst (AllFit blank 1) (sym h.same) g.fit) in
     let up : 0 < 1 + length a = omega arith in
-    subst (λ x. Was (row_at x (place_of name)) (life_of name)) (sym (fold_append blank 1 a h.rest) ∙ ap told h.same) (was_fold (told a) (1 + length a) h.rest (place_of name) (life_of name) (long_told a) (mod16 name) up f w)
+    subst (λ x. Was (row_at x (place_of name)) (life_of name)) (sym (fold_append blank 1 a h.rest)
+    ∙ ap told h.same) (was_fold (told a) (1 + length a) h.rest (place_of name) (life_of name) (long_told a) (mod16 name) up f w)
 
-pub past_begins : {a b : List Entry} (name : ℕ) → IsGood b → Begins a b → Past (row_at (told a) (place_of name)) (life_of name) → Past (row_at (told b) (place_of name)) (life_of name)
+pub past_begins : {a b : List Entry} (name : ℕ) → IsGood b → Begins a b → Past (row_at (told a) (place_of name)) (life_of name)
+    → Past (row_at (told b) (place_of name)) (life_of name)
 past_begins {a} {b} name g h w =
     let f = fit_back blank 1 a h.rest (subst (AllFit blank 1) (sym h.same) g.fit) in
     let up : 0 < 1 + length a = omega arith in
-    subst (λ x. Past (row_at x (place_of name)) (life_of name)) (sym (fold_append blank 1 a h.rest) ∙ ap told h.same) (past_fold (told a) (1 + length a) h.rest (place_of name) (life_of name) (long_told a) (mod16 name) up f w)
+    subst (λ x. Past (row_at x (place_of name)) (life_of name)) (sym (fold_append blank 1 a h.rest)
+    ∙ ap told h.same) (past_fold (told a) (1 + length a) h.rest (place_of name) (life_of name) (long_told a) (mod16 name) up f w)
 
 -- a member before and after is a member between
 pub mem_between : {a b c : List Entry} (name : ℕ) → IsGood c → Begins a b → Begins b c → mem a name ≡ true → mem c name ≡ true → mem b name ≡ true
 mem_between {a} {b} {c} name g h k ma mc = ⊎_elim
     (λ (x : In (row_at (told b) (place_of name)) (life_of name)). in_mem b name x)
-    (λ (x : Past (row_at (told b) (place_of name)) (life_of name)). absurd (not_both (row_at (told c) (place_of name)) (life_of name) (mem_in c name mc) (past_begins name g k x)))
+    (λ (x : Past (row_at (told b) (place_of name)) (life_of name)). absurd
+    (not_both (row_at (told c) (place_of name)) (life_of name) (mem_in c name mc) (past_begins name g k x)))
     (was_begins name (good_begins k g) h (inl (mem_in a name ma)))
 
 -- nobody is a member of the empty list
@@ -142,24 +161,30 @@ mem_nil name h = let j = (mem_in [] name h).joined in let z = blank_joined blank
 -- a member stays one by an entry that spares it
 pub mem_push : (a : List Entry) (e : Entry) (name : ℕ) → IsGood (a ++ e ∷ []) → Spares name e → mem a name ≡ true → mem (a ++ e ∷ []) name ≡ true
 mem_push a e name g s h =
-    in_mem (a ++ e ∷ []) name (subst (λ x. In (row_at x (place_of name)) (life_of name)) (sym (told_push a e)) (in_after (told a) (1 + length a) e name (long_told a) (last_fits a e g) s (mem_in a name h)))
+    in_mem (a ++ e ∷ []) name (subst (λ x. In (row_at x (place_of name)) (life_of name)) (sym (told_push a e))
+    (in_after (told a) (1 + length a) e name (long_told a) (last_fits a e g) s (mem_in a name h)))
 
 -- a View's members, after it
-pub mem_viewed : (a : List Entry) (stamp : Stamp) (members : List ℕ) (resilience name : ℕ) → mem (a ++ View stamp members resilience ∷ []) name ≡ true → has members name ≡ true
+pub mem_viewed : (a : List Entry) (stamp : Stamp) (members : List ℕ) (resilience name : ℕ) → mem (a ++ View stamp members resilience ∷ []) name ≡ true
+    → has members name ≡ true
 mem_viewed a stamp members resilience name h =
-    let i = subst (λ x. In (row_at x (place_of name)) (life_of name)) (told_push a (View stamp members resilience)) (mem_in (a ++ View stamp members resilience ∷ []) name h) in
+    let i = subst (λ x. In (row_at x (place_of name)) (life_of name)) (told_push a (View stamp members resilience))
+    (mem_in (a ++ View stamp members resilience ∷ []) name h) in
     let up : 0 < 1 + length a = omega arith in
     let pos : 0 < life_of name = omega arith in
     let e = in_viewed (told a) (1 + length a) stamp members resilience (place_of name) (life_of name) (mod16 name) up pos i in
     grind (arith, nat_tests)
 
 -- and its members are members after it
-pub viewed_mem : (a : List Entry) (stamp : Stamp) (members : List ℕ) (resilience name : ℕ) → IsGood (a ++ View stamp members resilience ∷ []) → has members name ≡ true → mem (a ++ View stamp members resilience ∷ []) name ≡ true
+pub viewed_mem : (a : List Entry) (stamp : Stamp) (members : List ℕ) (resilience name : ℕ) → IsGood (a ++ View stamp members resilience ∷ [])
+    → has members name ≡ true → mem (a ++ View stamp members resilience ∷ []) name ≡ true
 unfolding mem
 viewed_mem a stamp members resilience name g h =
     let up : 0 < 1 + length a = omega arith in
-    in_mem (a ++ View stamp members resilience ∷ []) name (subst (λ x. In (row_at x (place_of name)) (life_of name)) (sym (told_push a (View stamp members resilience)))
-    (viewed_member (told a) (1 + length a) stamp members resilience name (long_told a) up (last_fits a (View stamp members resilience) g) h (λ w. mem_in a name w)))
+    in_mem (a ++ View stamp members resilience ∷ []) name (subst (λ x. In (row_at x (place_of name)) (life_of name))
+    (sym (told_push a (View stamp members resilience)))
+    (viewed_member (told a) (1 + length a) stamp members resilience name (long_told a) up (last_fits a (View stamp members resilience) g) h
+    (λ w. mem_in a name w)))
 
 -- who leaves was a member, and is none after it
 pub leaver_in : (a : List Entry) (name : ℕ) → IsGood (a ++ Leave name ∷ []) → mem a name ≡ true

@@ -99,12 +99,14 @@ pub view_viewed : (a : List Entry) (stamp : Stamp) (members : List ℕ) (resilie
 unfolding view_of after
 view_viewed a stamp members resilience = ap (λ (i : Image). i.view) (told_push a (View stamp members resilience))
 
-pub resilience_viewed : (a : List Entry) (stamp : Stamp) (members : List ℕ) (resilience : ℕ) → resilience_of (a ++ View stamp members resilience ∷ []) ≡ resilience
+pub resilience_viewed : (a : List Entry) (stamp : Stamp) (members : List ℕ) (resilience : ℕ)
+    → resilience_of (a ++ View stamp members resilience ∷ []) ≡ resilience
 unfolding resilience_of after
 resilience_viewed a stamp members resilience = ap (λ (i : Image). i.resilience) (told_push a (View stamp members resilience))
 
 -- and above the views before it
-pub view_below : (a : List Entry) (stamp : Stamp) (members : List ℕ) (resilience : ℕ) → IsGood (a ++ View stamp members resilience ∷ []) → key (view_of a) < key stamp
+pub view_below : (a : List Entry) (stamp : Stamp) (members : List ℕ) (resilience : ℕ) → IsGood (a ++ View stamp members resilience ∷ [])
+    → key (view_of a) < key stamp
 unfolding fits view_of
 view_below a stamp members resilience g =
     let f = last_fits a (View stamp members resilience) g in
@@ -112,7 +114,8 @@ view_below a stamp members resilience g =
     key_lt (told a).view stamp (small_before a g) (last_small a (View stamp members resilience) g) lt
   where
     small_before : (a : List Entry) → IsGood (a ++ View stamp members resilience ∷ []) → (told a).view.by < 256
-    small_before a g = let h : Begins a (a ++ View stamp members resilience ∷ []) = record { rest = View stamp members resilience ∷ []; same = refl } in let ga = good_begins h g in let low : 0 < 256 = omega arith in (rises_fold blank 1 a low ga.fit ga.small).small
+    small_before a g = let h : Begins a (a ++ View stamp members resilience ∷ []) = record { rest = View stamp members resilience ∷ []; same = refl } in
+        let ga = good_begins h g in let low : 0 < 256 = omega arith in (rises_fold blank 1 a low ga.fit ga.small).small
 
 view_same : (image : Image) (n : ℕ) (e : Entry) → NotView e → (after image n e).view ≡ image.view
 unfolding after
@@ -127,7 +130,9 @@ unfolding view_of
 view_push a e h = ap (λ (i : Image). i.view) (told_push a e) ∙ view_same (told a) (1 + length a) e h
 
 -- a View of some of the members, by one of them, with a greater stamp and no less resilience fits
-pub view_fits : (a : List Entry) (stamp : Stamp) (members : List ℕ) (resilience : ℕ) → IsGood a → stamp.by < 256 → key (view_of a) < key stamp → is_within members (members_of (told a)) ≡ true → has members stamp.by ≡ true → resilience_of a ≤ resilience → fits (told a) (View stamp members resilience) ≡ true
+pub view_fits : (a : List Entry) (stamp : Stamp) (members : List ℕ) (resilience : ℕ) → IsGood a → stamp.by < 256 → key (view_of a) < key stamp
+    → is_within members (members_of (told a)) ≡ true → has members stamp.by ≡ true → resilience_of a ≤ resilience
+    → fits (told a) (View stamp members resilience) ≡ true
 unfolding fits view_of resilience_of
 view_fits a stamp members resilience g s up w h r =
     let low : 0 < 256 = omega arith in

@@ -1,5 +1,6 @@
 -- One place's row, along a list.
-use Rattle.std.proofs.Common.{◌≡◌, ◌≢◌, ◌⊎◌, ⊎_elim, inl, inr, ℕ, zero, suc, ◌+◌, ◌%◌, ◌<◌, ◌≤◌, ◌==◌, ◌&&◌, ◌||◌, nat_lt, nat_le, Bool, true, false, not, List, [], ◌∷◌, length, get_or, slice_index, refl, sym, ◌∙◌, subst, arith, get_or-set_same, get_or-set_other}
+use Rattle.std.proofs.Common.{◌≡◌, ◌≢◌, ◌⊎◌, ⊎_elim, inl, inr, ℕ, zero, suc, ◌+◌, ◌%◌, ◌<◌, ◌≤◌, ◌==◌, ◌&&◌, ◌||◌, nat_lt, nat_le, Bool, true, false, not, List}
+use Rattle.std.proofs.Common.{[], ◌∷◌, length, get_or, slice_index, refl, sym, ◌∙◌, subst, arith, get_or-set_same, get_or-set_other}
 use Rattle.std.proofs.lemmas.Bool.Decides.{nat_tests}
 use Rattle.std.proofs.Math.ListN as listn
 use Rattle.std.specs.List.{list_all, range_with_len}
@@ -51,7 +52,8 @@ pub record ViewFits (image : Image) (stamp : Stamp) (members : List ℕ) (resili
   pub by : has members stamp.by ≡ true
   pub strong : image.resilience ≤ resilience
 
-pub view_parts : (image : Image) (stamp : Stamp) (members : List ℕ) (resilience : ℕ) → fits image (View stamp members resilience) ≡ true → ViewFits image stamp members resilience
+pub view_parts : (image : Image) (stamp : Stamp) (members : List ℕ) (resilience : ℕ) → fits image (View stamp members resilience) ≡ true
+    → ViewFits image stamp members resilience
 unfolding fits
 view_parts image stamp members resilience f =
     let a = stamp_lt image.view stamp in
@@ -73,7 +75,9 @@ pub mod16 : (n : ℕ) → n % 16 < 16
 mod16 n = omega arith
 
 -- after a change of a name's row
-pub row_set : (image : Image) (name place : ℕ) (r : Row) → length image.rows ≡ 16 → ((place ≡ place_of name) × (row_at (with_row image name r) place ≡ r)) ⊎ ((place ≢ place_of name) × (row_at (with_row image name r) place ≡ row_at image place))
+pub row_set : (image : Image) (name place : ℕ) (r : Row) → length image.rows ≡ 16
+    → ((place ≡ place_of name) × (row_at (with_row image name r) place ≡ r))
+    ⊎ ((place ≢ place_of name) × (row_at (with_row image name r) place ≡ row_at image place))
 row_set image name place r long = by_cases (place == place_of name)
     (λ t. let e : place ≡ place_of name = grind (arith, nat_tests) in
     let b = mod16 name in
@@ -111,7 +115,11 @@ in_left : (r : Row) (n life : ℕ) → 0 < n → In r life → Past (record r { 
 in_left r n life up h = record { joined = h.joined; gone = inr (h.is, up) }
 
 past_left : (r : Row) (n life : ℕ) → 0 < n → Past r life → Past (record r { left = n }) life
-past_left r n life up h = record { joined = h.joined; gone = ⊎_elim (λ (x : life < r.life). inl x) (λ (x : (r.life ≡ life) × (0 < r.left)). inr (x.0, up)) h.gone }
+past_left r n life up h = record {
+  joined = h.joined;
+  gone =
+      ⊎_elim (λ (x : life < r.life). inl x) (λ (x : (r.life ≡ life) × (0 < r.left)). inr (x.0, up)) h.gone;
+}
 
 -- a name's Join fits no member's place, and a past one's only with a greater life
 join_fits : (image : Image) (name life : ℕ) → fits image (Join name) ≡ true → Was (at_place image name) life → life < life_of name
@@ -148,28 +156,39 @@ past_viewed r n life given up h = by_cases (nat_lt 0 (member_life r) && not (mem
     (λ t. rw t (past_left r n life up h))
     (λ f. rw f h)
 
-pub row_view : (image : Image) (n : ℕ) (stamp : Stamp) (members : List ℕ) (resilience place : ℕ) → place < 16 → row_at (after image n (View stamp members resilience)) place ≡ viewed (is_blank image) n (slice_index members place) (row_at image place)
+pub row_view : (image : Image) (n : ℕ) (stamp : Stamp) (members : List ℕ) (resilience place : ℕ) → place < 16
+    → row_at (after image n (View stamp members resilience)) place ≡ viewed (is_blank image) n (slice_index members place) (row_at image place)
 unfolding after
-row_view image n stamp members resilience place h = get_or-by_place (λ p. viewed (is_blank image) n (slice_index members p) (get_or image.rows p blank_row)) place blank_row h
+row_view image n stamp members resilience place h = get_or-by_place
+    (λ p. viewed (is_blank image) n (slice_index members p) (get_or image.rows p blank_row)) place blank_row h
 
-pub was_after : (image : Image) (n : ℕ) (e : Entry) (place life : ℕ) → length image.rows ≡ 16 → place < 16 → 0 < n → fits image e ≡ true → Was (row_at image place) life → Was (row_at (after image n e) place) life
+pub was_after : (image : Image) (n : ℕ) (e : Entry) (place life : ℕ) → length image.rows ≡ 16 → place < 16 → 0 < n → fits image e ≡ true
+    → Was (row_at image place) life → Was (row_at (after image n e) place) life
 unfolding after
 was_after image n (Data from req body) place life long low up f h = by_cases ((at_place image from).life == life_of from)
     (λ t. rw t (⊎_elim
-    (λ (x : (place ≡ place_of from) × (row_at (with_row image from (record (at_place image from) { last = req })) place ≡ record (at_place image from) { last = req })).
-    rw x.1 (let w = subst (λ p. Was (row_at image p) life) x.0 h in ⊎_elim (λ (y : In (at_place image from) life). inl (in_data (at_place image from) req life y)) (λ (y : Past (at_place image from) life). inr (past_data (at_place image from) req life y)) w))
+    (λ (x : (place ≡ place_of from) × (row_at (with_row image from (record (at_place image from) { last = req })) place
+    ≡ record (at_place image from) { last = req })).
+    rw x.1 (let w = subst (λ p. Was (row_at image p) life) x.0 h in
+    ⊎_elim (λ (y : In (at_place image from) life). inl (in_data (at_place image from) req life y))
+    (λ (y : Past (at_place image from) life). inr (past_data (at_place image from) req life y)) w))
     (λ (x : (place ≢ place_of from) × (row_at (with_row image from (record (at_place image from) { last = req })) place ≡ row_at image place)). rw x.1 h)
     (row_set image from place (record (at_place image from) { last = req }) long)))
     (λ f. rw f h)
 was_after image n (Join name) place life long low up f h = ⊎_elim
-    (λ (x : (place ≡ place_of name) × (row_at (with_row image name (record { life = life_of name; joined = n; left = 0; last = 0 })) place ≡ record { life = life_of name; joined = n; left = 0; last = 0 })).
+    (λ (x : (place ≡ place_of name) × (row_at (with_row image name (record { life = life_of name; joined = n; left = 0; last = 0 })) place
+    ≡ record { life = life_of name; joined = n; left = 0; last = 0 })).
     rw x.1 (inr (record { joined = up; gone = inl (join_fits image name life f (subst (λ p. Was (row_at image p) life) x.0 h)) })))
-    (λ (x : (place ≢ place_of name) × (row_at (with_row image name (record { life = life_of name; joined = n; left = 0; last = 0 })) place ≡ row_at image place)). rw x.1 h)
+    (λ (x : (place ≢ place_of name) × (row_at (with_row image name (record { life = life_of name; joined = n; left = 0; last = 0 })) place
+    ≡ row_at image place)). rw x.1 h)
     (row_set image name place (record { life = life_of name; joined = n; left = 0; last = 0 }) long)
 was_after image n (Leave name) place life long low up f h = by_cases ((at_place image name).life == life_of name)
     (λ t. rw t (⊎_elim
-    (λ (x : (place ≡ place_of name) × (row_at (with_row image name (record (at_place image name) { left = n })) place ≡ record (at_place image name) { left = n })).
-    rw x.1 (inr (let w = subst (λ p. Was (row_at image p) life) x.0 h in ⊎_elim (λ (y : In (at_place image name) life). in_left (at_place image name) n life up y) (λ (y : Past (at_place image name) life). past_left (at_place image name) n life up y) w)))
+    (λ (x : (place ≡ place_of name) × (row_at (with_row image name (record (at_place image name) { left = n })) place
+    ≡ record (at_place image name) { left = n })).
+    rw x.1 (inr (let w = subst (λ p. Was (row_at image p) life) x.0 h in
+    ⊎_elim (λ (y : In (at_place image name) life). in_left (at_place image name) n life up y)
+    (λ (y : Past (at_place image name) life). past_left (at_place image name) n life up y) w)))
     (λ (x : (place ≢ place_of name) × (row_at (with_row image name (record (at_place image name) { left = n })) place ≡ row_at image place)). rw x.1 h)
     (row_set image name place (record (at_place image name) { left = n }) long)))
     (λ f. rw f h)
@@ -178,32 +197,41 @@ was_after image n (View stamp members resilience) place life long low up f h =
     rw (row_view image n stamp members resilience place low, not_blank image place j) (was_viewed (row_at image place) n life (slice_index members place) up h)
 
 -- a past one stays past
-pub past_after : (image : Image) (n : ℕ) (e : Entry) (place life : ℕ) → length image.rows ≡ 16 → place < 16 → 0 < n → fits image e ≡ true → Past (row_at image place) life → Past (row_at (after image n e) place) life
+pub past_after : (image : Image) (n : ℕ) (e : Entry) (place life : ℕ) → length image.rows ≡ 16 → place < 16 → 0 < n → fits image e ≡ true
+    → Past (row_at image place) life → Past (row_at (after image n e) place) life
 unfolding after
 past_after image n (Data from req body) place life long low up f h = by_cases ((at_place image from).life == life_of from)
     (λ t. rw t (⊎_elim
-    (λ (x : (place ≡ place_of from) × (row_at (with_row image from (record (at_place image from) { last = req })) place ≡ record (at_place image from) { last = req })).
+    (λ (x : (place ≡ place_of from) × (row_at (with_row image from (record (at_place image from) { last = req })) place
+    ≡ record (at_place image from) { last = req })).
     rw x.1 (past_data (at_place image from) req life (subst (λ p. Past (row_at image p) life) x.0 h)))
     (λ (x : (place ≢ place_of from) × (row_at (with_row image from (record (at_place image from) { last = req })) place ≡ row_at image place)). rw x.1 h)
     (row_set image from place (record (at_place image from) { last = req }) long)))
     (λ f. rw f h)
 past_after image n (Join name) place life long low up f h = ⊎_elim
-    (λ (x : (place ≡ place_of name) × (row_at (with_row image name (record { life = life_of name; joined = n; left = 0; last = 0 })) place ≡ record { life = life_of name; joined = n; left = 0; last = 0 })).
+    (λ (x : (place ≡ place_of name) × (row_at (with_row image name (record { life = life_of name; joined = n; left = 0; last = 0 })) place
+    ≡ record { life = life_of name; joined = n; left = 0; last = 0 })).
     rw x.1 (record { joined = up; gone = inl (join_fits image name life f (inr (subst (λ p. Past (row_at image p) life) x.0 h))) }))
-    (λ (x : (place ≢ place_of name) × (row_at (with_row image name (record { life = life_of name; joined = n; left = 0; last = 0 })) place ≡ row_at image place)). rw x.1 h)
+    (λ (x : (place ≢ place_of name) × (row_at (with_row image name (record { life = life_of name; joined = n; left = 0; last = 0 })) place
+    ≡ row_at image place)). rw x.1 h)
     (row_set image name place (record { life = life_of name; joined = n; left = 0; last = 0 }) long)
 past_after image n (Leave name) place life long low up f h = by_cases ((at_place image name).life == life_of name)
     (λ t. rw t (⊎_elim
-    (λ (x : (place ≡ place_of name) × (row_at (with_row image name (record (at_place image name) { left = n })) place ≡ record (at_place image name) { left = n })).
+    (λ (x : (place ≡ place_of name) × (row_at (with_row image name (record (at_place image name) { left = n })) place
+    ≡ record (at_place image name) { left = n })).
     rw x.1 (past_left (at_place image name) n life up (subst (λ p. Past (row_at image p) life) x.0 h)))
     (λ (x : (place ≢ place_of name) × (row_at (with_row image name (record (at_place image name) { left = n })) place ≡ row_at image place)). rw x.1 h)
     (row_set image name place (record (at_place image name) { left = n }) long)))
     (λ f. rw f h)
 past_after image n (View stamp members resilience) place life long low up f h =
-    rw (row_view image n stamp members resilience place low, not_blank image place h.joined) (past_viewed (row_at image place) n life (slice_index members place) up h)
+    rw (
+      row_view image n stamp members resilience place low,
+      not_blank image place h.joined,
+    ) (past_viewed (row_at image place) n life (slice_index members place) up h)
 
 pub not_both : (r : Row) (life : ℕ) → In r life → Past r life → ⊥
-not_both r life h k = let a = h.left in let b = h.is in ⊎_elim (λ (x : life < r.life). let z : ⊥ = omega arith in z) (λ (x : (r.life ≡ life) × (0 < r.left)). let c = x.1 in let z : ⊥ = omega arith in z) k.gone
+not_both r life h k = let a = h.left in let b = h.is in ⊎_elim (λ (x : life < r.life). let z : ⊥ = omega arith in
+    z) (λ (x : (r.life ≡ life) × (0 < r.left)). let c = x.1 in let z : ⊥ = omega arith in z) k.gone
 
 -- an entry that isn't its Leave, nor a View, keeps a member
 abbrev pub Spares : ℕ → Entry → Type 0
@@ -219,27 +247,34 @@ join_free : (image : Image) (who life : ℕ) → fits image (Join who) ≡ true 
 unfolding fits
 join_free image who life f x = let j = x.joined in let l = x.left in let z : ⊥ = grind (arith, nat_tests) in z
 
-pub in_after : (image : Image) (n : ℕ) (e : Entry) (name : ℕ) → length image.rows ≡ 16 → fits image e ≡ true → Spares name e → In (row_at image (place_of name)) (life_of name) → In (row_at (after image n e) (place_of name)) (life_of name)
+pub in_after : (image : Image) (n : ℕ) (e : Entry) (name : ℕ) → length image.rows ≡ 16 → fits image e ≡ true → Spares name e
+    → In (row_at image (place_of name)) (life_of name) → In (row_at (after image n e) (place_of name)) (life_of name)
 unfolding after
 in_after image n (Data from req body) name long f s h = by_cases ((at_place image from).life == life_of from)
     (λ t. rw t (⊎_elim
-    (λ (x : (place_of name ≡ place_of from) × (row_at (with_row image from (record (at_place image from) { last = req })) (place_of name) ≡ record (at_place image from) { last = req })).
+    (λ (x : (place_of name ≡ place_of from) × (row_at (with_row image from (record (at_place image from) { last = req })) (place_of name)
+    ≡ record (at_place image from) { last = req })).
     rw x.1 (in_data (at_place image from) req (life_of name) (subst (λ p. In (row_at image p) (life_of name)) x.0 h)))
-    (λ (x : (place_of name ≢ place_of from) × (row_at (with_row image from (record (at_place image from) { last = req })) (place_of name) ≡ row_at image (place_of name))). rw x.1 h)
+    (λ (x : (place_of name ≢ place_of from) × (row_at (with_row image from (record (at_place image from) { last = req })) (place_of name)
+    ≡ row_at image (place_of name))). rw x.1 h)
     (row_set image from (place_of name) (record (at_place image from) { last = req }) long)))
     (λ f. rw f h)
 in_after image n (Join who) name long f s h = ⊎_elim
-    (λ (x : (place_of name ≡ place_of who) × (row_at (with_row image who (record { life = life_of who; joined = n; left = 0; last = 0 })) (place_of name) ≡ record { life = life_of who; joined = n; left = 0; last = 0 })).
+    (λ (x : (place_of name ≡ place_of who) × (row_at (with_row image who (record { life = life_of who; joined = n; left = 0; last = 0 })) (place_of name)
+    ≡ record { life = life_of who; joined = n; left = 0; last = 0 })).
     let w : In (at_place image who) (life_of name) = subst (λ p. In (row_at image p) (life_of name)) x.0 h in absurd (join_free image who (life_of name) f w))
-    (λ (x : (place_of name ≢ place_of who) × (row_at (with_row image who (record { life = life_of who; joined = n; left = 0; last = 0 })) (place_of name) ≡ row_at image (place_of name))). rw x.1 h)
+    (λ (x : (place_of name ≢ place_of who) × (row_at (with_row image who (record { life = life_of who; joined = n; left = 0; last = 0 })) (place_of name)
+    ≡ row_at image (place_of name))). rw x.1 h)
     (row_set image who (place_of name) (record { life = life_of who; joined = n; left = 0; last = 0 }) long)
 in_after image n (Leave who) name long f s h = by_cases ((at_place image who).life == life_of who)
     (λ t. rw t (⊎_elim
-    (λ (x : (place_of name ≡ place_of who) × (row_at (with_row image who (record (at_place image who) { left = n })) (place_of name) ≡ record (at_place image who) { left = n })).
+    (λ (x : (place_of name ≡ place_of who) × (row_at (with_row image who (record (at_place image who) { left = n })) (place_of name)
+    ≡ record (at_place image who) { left = n })).
     let w : In (at_place image who) (life_of name) = subst (λ p. In (row_at image p) (life_of name)) x.0 h in
     let l : (at_place image who).life ≡ life_of who = grind (arith, nat_tests) in
     absurd (s (same_name who name (sym x.0) (sym l ∙ w.is))))
-    (λ (x : (place_of name ≢ place_of who) × (row_at (with_row image who (record (at_place image who) { left = n })) (place_of name) ≡ row_at image (place_of name))). rw x.1 h)
+    (λ (x : (place_of name ≢ place_of who) × (row_at (with_row image who (record (at_place image who) { left = n })) (place_of name)
+    ≡ row_at image (place_of name))). rw x.1 h)
     (row_set image who (place_of name) (record (at_place image who) { left = n }) long)))
     (λ f. rw f h)
 in_after image n (View stamp members resilience) name long f s h = absurd s
@@ -253,15 +288,21 @@ viewed_in false n life given r up pos free h = by_cases (nat_lt 0 (member_life r
     (λ t. let g : In (record r { left = n }) life = rw t at h in let l = g.left in absurd (omega arith))
     (λ f. let g : In r life = rw f at h in let j = g.joined in let l = g.left in let i = g.is in grind (arith, nat_tests))
 
-pub in_viewed : (image : Image) (n : ℕ) (stamp : Stamp) (members : List ℕ) (resilience place life : ℕ) → place < 16 → 0 < n → 0 < life → In (row_at (after image n (View stamp members resilience)) place) life → slice_index members place ≡ life
+pub in_viewed : (image : Image) (n : ℕ) (stamp : Stamp) (members : List ℕ) (resilience place life : ℕ) → place < 16 → 0 < n → 0 < life
+    → In (row_at (after image n (View stamp members resilience)) place) life → slice_index members place ≡ life
 in_viewed image n stamp members resilience place life low up pos h =
-    viewed_in (is_blank image) n life (slice_index members place) (row_at image place) up pos (λ t. blank_joined image place t) (rw (row_view image n stamp members resilience place low) at h)
+    viewed_in (is_blank image) n life (slice_index members place) (row_at image place) up pos (λ t. blank_joined image place t)
+    (rw (row_view image n stamp members resilience place low) at h)
 
-within_at : (a b : List ℕ) (from n place : ℕ) → list_all (λ p. (slice_index a p == 0) || (slice_index a p == slice_index b p)) (range_with_len from n) ≡ true → from ≤ place → place < from + n → 0 < slice_index a place → slice_index b place ≡ slice_index a place
+within_at : (a b : List ℕ) (from n place : ℕ) → list_all (λ p. (slice_index a p == 0) || (slice_index a p == slice_index b p)) (range_with_len from n) ≡ true
+    → from ≤ place → place < from + n → 0 < slice_index a place → slice_index b place ≡ slice_index a place
 within_at a b from zero place h l u pos = absurd (omega arith)
 within_at a b from (suc n) place h l u pos = by_cases (from == place)
-    (λ t. let e : from ≡ place = grind (arith, nat_tests) in let z : 0 < slice_index a from = subst (λ p. 0 < slice_index a p) (sym e) pos in let w : slice_index b from ≡ slice_index a from = grind (arith, nat_tests) in subst (λ p. slice_index b p ≡ slice_index a p) e w)
-    (λ f. let e : from ≢ place = grind (arith, nat_tests) in within_at a b (suc from) n place (let w : list_all (λ p. (slice_index a p == 0) || (slice_index a p == slice_index b p)) (range_with_len (suc from) n) ≡ true = grind (arith, nat_tests) in w) (omega arith) (omega arith) pos)
+    (λ t. let e : from ≡ place = grind (arith, nat_tests) in let z : 0 < slice_index a from = subst (λ p. 0 < slice_index a p) (sym e) pos in
+    let w : slice_index b from ≡ slice_index a from = grind (arith, nat_tests) in subst (λ p. slice_index b p ≡ slice_index a p) e w)
+    (λ f. let e : from ≢ place = grind (arith, nat_tests) in
+    within_at a b (suc from) n place (let w : list_all (λ p. (slice_index a p == 0) || (slice_index a p == slice_index b p)) (range_with_len (suc from) n)
+    ≡ true = grind (arith, nat_tests) in w) (omega arith) (omega arith) pos)
 
 first_member : (n given life : ℕ) (r : Row) → 0 < life → given ≡ life → In (viewed true n given r) life
 first_member n given life r pos e = by_cases (given == 0)
@@ -273,7 +314,10 @@ kept_member n given life r e h = by_cases (nat_lt 0 (member_life r) && not (memb
     (λ t. let j = h.joined in let l = h.left in let i = h.is in absurd (let z : ⊥ = grind (arith, nat_tests) in z))
     (λ f. rw f h)
 
-pub viewed_member : (image : Image) (n : ℕ) (stamp : Stamp) (members : List ℕ) (resilience name : ℕ) → length image.rows ≡ 16 → 0 < n → fits image (View stamp members resilience) ≡ true → has members name ≡ true → (has (members_of image) name ≡ true → In (row_at image (place_of name)) (life_of name)) → In (row_at (after image n (View stamp members resilience)) (place_of name)) (life_of name)
+pub viewed_member : (image : Image) (n : ℕ) (stamp : Stamp) (members : List ℕ) (resilience name : ℕ) → length image.rows ≡ 16 → 0 < n
+    → fits image (View stamp members resilience) ≡ true → has members name ≡ true
+    → (has (members_of image) name ≡ true → In (row_at image (place_of name)) (life_of name))
+    → In (row_at (after image n (View stamp members resilience)) (place_of name)) (life_of name)
 unfolding fits
 viewed_member image n stamp members resilience name long up f h old =
     let given : slice_index members (place_of name) ≡ life_of name = grind (arith, nat_tests) in
@@ -283,18 +327,22 @@ viewed_member image n stamp members resilience name long up f h old =
     (λ b. let w = (view_parts image stamp members resilience f).within b in
     let low = mod16 name in
     let e = within_at members (members_of image) 0 16 (place_of name) w (omega arith) (omega arith) (omega arith) in
-    rw b (kept_member n (slice_index members (place_of name)) (life_of name) (row_at image (place_of name)) given (old (let q : has (members_of image) name ≡ true = grind (arith, nat_tests) in q)))))
+    rw b (kept_member n (slice_index members (place_of name)) (life_of name) (row_at image (place_of name)) given
+    (old (let q : has (members_of image) name ≡ true = grind (arith, nat_tests) in q)))))
 
 -- its Leave ends a membership
-pub out_after : (image : Image) (n name : ℕ) → length image.rows ≡ 16 → 0 < n → In (row_at image (place_of name)) (life_of name) → In (row_at (after image n (Leave name)) (place_of name)) (life_of name) → ⊥
+pub out_after : (image : Image) (n name : ℕ) → length image.rows ≡ 16 → 0 < n → In (row_at image (place_of name)) (life_of name)
+    → In (row_at (after image n (Leave name)) (place_of name)) (life_of name) → ⊥
 unfolding after
 out_after image n name long up old new =
     let is = old.is in
     let t : ((at_place image name).life == life_of name) ≡ true = grind (arith, nat_tests) in
     let now : In (row_at (with_row image name (record (at_place image name) { left = n })) (place_of name)) (life_of name) = rw t at new in
     ⊎_elim
-    (λ (x : (place_of name ≡ place_of name) × (row_at (with_row image name (record (at_place image name) { left = n })) (place_of name) ≡ record (at_place image name) { left = n })).
+    (λ (x : (place_of name ≡ place_of name) × (row_at (with_row image name (record (at_place image name) { left = n })) (place_of name)
+    ≡ record (at_place image name) { left = n })).
     let g : In (record (at_place image name) { left = n }) (life_of name) = subst (λ r. In r (life_of name)) x.1 now in
     let l = g.left in let z : ⊥ = omega arith in z)
-    (λ (x : (place_of name ≢ place_of name) × (row_at (with_row image name (record (at_place image name) { left = n })) (place_of name) ≡ row_at image (place_of name))). absurd (x.0 refl))
+    (λ (x : (place_of name ≢ place_of name) × (row_at (with_row image name (record (at_place image name) { left = n })) (place_of name)
+    ≡ row_at image (place_of name))). absurd (x.0 refl))
     (row_set image name (place_of name) (record (at_place image name) { left = n }) long)

@@ -12,7 +12,9 @@ some_same : {x y : List Entry} → ◌≡◌ {A = Option (List Entry)} (Some x) 
 some_same e = cc
 
 module _ (s : Group) (k : Kept s) where
-  pub shows_keeps : (i : ℕ) → IsThere (s.node i) → (s.node i).promise.by < 256 → (s.node i).promise.by ≢ i → key (s.node i).promise ≤ key (s.node (s.node i).promise.by).promise → s.shown (key (s.node i).promise) i ≡ None → Kept (record s { shown = put2 s.shown (key (s.node i).promise) i (Some (s.node i).list) })
+  pub shows_keeps : (i : ℕ) → IsThere (s.node i) → (s.node i).promise.by < 256 → (s.node i).promise.by ≢ i
+      → key (s.node i).promise ≤ key (s.node (s.node i).promise.by).promise → s.shown (key (s.node i).promise) i ≡ None
+      → Kept (record s { shown = put2 s.shown (key (s.node i).promise) i (Some (s.node i).list) })
   shows_keeps i t small other begun none = record {
     views = k.views;
     group = k.group;
@@ -36,7 +38,8 @@ module _ (s : Group) (k : Kept s) where
     still = λ v l h none. ⊎_elim
         (λ (d : (key (s.node v).promise ≡ p) × (v ≡ i) × (put2 s.shown p i (Some (s.node i).list) (key (s.node v).promise) v ≡ Some (s.node i).list)).
         ap (λ j. (s.node j).list) d.1 ∙ some_same (sym d.2 ∙ h))
-        (λ (d : ((key (s.node v).promise ≡ p) × (v ≡ i) → ⊥) × (put2 s.shown p i (Some (s.node i).list) (key (s.node v).promise) v ≡ s.shown (key (s.node v).promise) v)). k.still v l (sym d.1 ∙ h) none)
+        (λ (d : ((key (s.node v).promise ≡ p) × (v ≡ i) → ⊥)
+        × (put2 s.shown p i (Some (s.node i).list) (key (s.node v).promise) v ≡ s.shown (key (s.node v).promise) v)). k.still v l (sym d.1 ∙ h) none)
         (put2_cases s.shown p i (Some (s.node i).list) (key (s.node v).promise) v);
     short = λ c v l u b h w. ⊎_elim
         (λ (d : (key (s.node c).promise ≡ p) × (v ≡ i) × (put2 s.shown p i (Some (s.node i).list) (key (s.node c).promise) v ≡ Some (s.node i).list)).
@@ -44,14 +47,17 @@ module _ (s : Group) (k : Kept s) where
         let a = ap (λ j. length (s.node j).list) d.1 in
         let b = ap length same in
         inl (omega arith))
-        (λ (d : ((key (s.node c).promise ≡ p) × (v ≡ i) → ⊥) × (put2 s.shown p i (Some (s.node i).list) (key (s.node c).promise) v ≡ s.shown (key (s.node c).promise) v)). k.short c v l u b (sym d.1 ∙ h) w)
+        (λ (d : ((key (s.node c).promise ≡ p) × (v ≡ i) → ⊥)
+        × (put2 s.shown p i (Some (s.node i).list) (key (s.node c).promise) v ≡ s.shown (key (s.node c).promise) v)). k.short c v l u b (sym d.1 ∙ h) w)
         (put2_cases s.shown p i (Some (s.node i).list) (key (s.node c).promise) v);
     served = λ c v l u b served h. ⊎_elim
         (λ (d : (key (s.node c).promise ≡ p) × (v ≡ i) × (put2 s.shown p i (Some (s.node i).list) (key (s.node c).promise) v ≡ Some (s.node i).list)).
         let was = k.sent (key (s.node c).promise) v served in
         let old : s.shown p i ≡ Some was.0 = subst (λ j. s.shown p j ≡ Some was.0) d.1 (subst (λ x. s.shown x v ≡ Some was.0) d.0 was.1) in
         absurd (cc))
-        (λ (d : ((key (s.node c).promise ≡ p) × (v ≡ i) → ⊥) × (put2 s.shown p i (Some (s.node i).list) (key (s.node c).promise) v ≡ s.shown (key (s.node c).promise) v)). k.served c v l u b served (sym d.1 ∙ h))
+        (λ (d : ((key (s.node c).promise ≡ p) × (v ≡ i) → ⊥)
+        × (put2 s.shown p i (Some (s.node i).list) (key (s.node c).promise) v ≡ s.shown (key (s.node c).promise) v)). k.served c v l u b served (sym d.1
+        ∙ h))
         (put2_cases s.shown p i (Some (s.node i).list) (key (s.node c).promise) v);
     sent = λ x v served. ⊎_elim
         (λ (d : (x ≡ p) × (v ≡ i) × (put2 s.shown p i (Some (s.node i).list) x v ≡ Some (s.node i).list)). ((s.node i).list, d.2))
@@ -65,7 +71,9 @@ module _ (s : Group) (k : Kept s) where
       p : ℕ
       p = key (s.node i).promise
 
-  pub serves_keeps : (i : ℕ) (list : List Entry) → IsUp (s.node i) → s.shown (key (s.node i).promise) i ≡ Some list → ((j : ℕ) → mem list j ≡ true → IsThere (s.node j) → (j ≡ (s.node i).promise.by) ⊎ ((vote : List Entry) × (s.shown (key (s.node i).promise) j ≡ Some vote))) → Kept (record s { served = put2 s.served (key (s.node i).promise) i true })
+  pub serves_keeps : (i : ℕ) (list : List Entry) → IsUp (s.node i) → s.shown (key (s.node i).promise) i ≡ Some list
+      → ((j : ℕ) → mem list j ≡ true → IsThere (s.node j) → (j ≡ (s.node i).promise.by)
+      ⊎ ((vote : List Entry) × (s.shown (key (s.node i).promise) j ≡ Some vote))) → Kept (record s { served = put2 s.served (key (s.node i).promise) i true })
   serves_keeps i list up is voted = record {
     views = k.views;
     group = k.group;
@@ -89,10 +97,14 @@ module _ (s : Group) (k : Kept s) where
               (λ (x : (vote : List Entry) × (s.shown (key (s.node i).promise) j ≡ Some vote)). let q = (k.shown p j x.0 x.1).promised in omega arith)
               (voted j (subst (λ y. mem y j ≡ true) (sym same) m) t);
         })
-        (λ (d : ((key (s.node c).promise ≡ p) × (v ≡ i) → ⊥) × (put2 s.served p i true (key (s.node c).promise) v ≡ s.served (key (s.node c).promise) v)). k.served c v l u b (sym d.1 ∙ served) h)
+        (λ (d : ((key (s.node c).promise ≡ p) × (v ≡ i) → ⊥)
+        × (put2 s.served p i true (key (s.node c).promise) v ≡ s.served (key (s.node c).promise) v)). k.served c v l u b (sym d.1 ∙ served) h)
         (put2_cases s.served p i true (key (s.node c).promise) v);
     sent = λ x v served. ⊎_elim
-        (λ (d : (x ≡ p) × (v ≡ i) × (put2 s.served p i true x v ≡ true)). (list, subst (λ j. s.shown x j ≡ Some list) (sym d.1) (subst (λ y. s.shown y i ≡ Some list) (sym d.0) is)))
+        (λ (d : (x ≡ p) × (v ≡ i) × (put2 s.served p i true x v ≡ true)). (
+          list,
+          subst (λ j. s.shown x j ≡ Some list) (sym d.1) (subst (λ y. s.shown y i ≡ Some list) (sym d.0) is),
+        ))
         (λ (d : ((x ≡ p) × (v ≡ i) → ⊥) × (put2 s.served p i true x v ≡ s.served x v)). k.sent x v (sym d.1 ∙ served))
         (put2_cases s.served p i true x v);
     witness = k.witness;

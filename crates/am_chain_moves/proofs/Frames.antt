@@ -26,10 +26,23 @@ later_all node i n h = put_at (λ j m. Later (node j) m) node i n h (λ j _. lat
 pub shown_later : (a b : ℕ → Node) (x name : ℕ) (l : List Entry) → ((j : ℕ) → Later (a j) (b j)) → ShownOk a x name l → ShownOk b x name l
 shown_later a b x name l up h =
     let p = h.promised in let q = (up name).promise in let r = h.begun in let t = (up h.stamp.by).promise in
-    record { promised = omega arith; list = begins_trans h.list (up name).list; stamp = h.stamp; is = h.is; small = h.small; other = h.other; begun = omega arith }
+    record {
+      promised = omega arith;
+      list = begins_trans h.list (up name).list;
+      stamp = h.stamp;
+      is = h.is;
+      small = h.small;
+      other = h.other;
+      begun =
+          omega arith;
+    }
 
 pub served_later : (a b : ℕ → Node) (views : Views) (x : ℕ) (l : List Entry) → ((j : ℕ) → Later (a j) (b j)) → ServedOk a views x l → ServedOk b views x l
-served_later a b views x l up h = record { chain = h.chain; promised = λ j t m. let p = h.promised j ((up j).there t) m in let q = (up j).promise in omega arith }
+served_later a b views x l up h = record {
+  chain = h.chain;
+  promised = λ j t m. let p = h.promised j ((up j).there t) m in let q = (up j).promise in
+      omega arith;
+}
 
 pub witness_later : (a b : ℕ → Node) (group : List Entry) (n : ℕ) → ((j : ℕ) → Later (a j) (b j)) → Witness a group n → Witness b group n
 witness_later a b group n up w = record {
@@ -54,25 +67,32 @@ departed_later a b views d up h = record {
 module _ (s : Group) (k : Kept s) (i : ℕ) (n : Node) where
   -- its ballot is the one that it had, or one that nobody voted for yet
   abbrev pub OldBallot : Type 0
-  OldBallot = IsUp n → n.ballot ≡ true → (IsUp (s.node i) × ((s.node i).ballot ≡ true) × (n.promise ≡ (s.node i).promise)) ⊎ ((h : ℕ) (l : List Entry) → s.shown (key n.promise) h ≡ Some l → ⊥)
+  OldBallot = IsUp n → n.ballot ≡ true → (IsUp (s.node i) × ((s.node i).ballot ≡ true) × (n.promise ≡ (s.node i).promise))
+      ⊎ ((h : ℕ) (l : List Entry) → s.shown (key n.promise) h ≡ Some l → ⊥)
 
   -- its list is as it was, or no longer than what it showed to each unfinished ballot, or than what the coordinator has
   abbrev pub OldList : Type 0
   OldList = ((n.list ≡ (s.node i).list) × (IsUp n → IsUp (s.node i)))
-      ⊎ (IsUp n × ((c : ℕ) (l : List Entry) → c ≢ i → IsUp (s.node c) → (s.node c).ballot ≡ true → s.shown (key (s.node c).promise) i ≡ Some l → (length n.list ≤ length l) ⊎ (length n.list ≤ length (s.node c).list)))
+      ⊎ (IsUp n × ((c : ℕ) (l : List Entry) → c ≢ i → IsUp (s.node c) → (s.node c).ballot ≡ true → s.shown (key (s.node c).promise) i ≡ Some l
+      → (length n.list ≤ length l) ⊎ (length n.list ≤ length (s.node c).list)))
 
-  pub node_change : Later (s.node i) n → NodeOk s.views s.group i n → OldBallot → OldList → ((l : List Entry) → s.shown (key n.promise) i ≡ Some l → s.views.decided (key n.promise) ≡ false → n.list ≡ l) → (n.departed ≡ true → ((s.node i).departed ≡ true) ⊎ DepartedOk s.node s.views i) → Kept (with_node s i n)
+  pub node_change : Later (s.node i) n → NodeOk s.views s.group i n → OldBallot → OldList
+      → ((l : List Entry) → s.shown (key n.promise) i ≡ Some l → s.views.decided (key n.promise) ≡ false → n.list ≡ l)
+      → (n.departed ≡ true → ((s.node i).departed ≡ true) ⊎ DepartedOk s.node s.views i) → Kept (with_node s i n)
   node_change later ok ballot list still gone = record {
     views = k.views;
     group = k.group;
     each = put_at (λ j m. NodeOk s.views s.group j m) s.node i n ok (λ j _. k.each j);
     shown = λ x name l h. shown_later s.node (put s.node i n) x name l up (k.shown x name l h);
-    still = put_at (λ v m. (l : List Entry) → s.shown (key m.promise) v ≡ Some l → s.views.decided (key m.promise) ≡ false → m.list ≡ l) s.node i n still (λ v _. k.still v);
+    still = put_at (λ v m. (l : List Entry) → s.shown (key m.promise) v ≡ Some l → s.views.decided (key m.promise) ≡ false
+        → m.list ≡ l) s.node i n still (λ v _. k.still v);
     short = λ c v l. put_at
-        (λ c m. IsUp m → m.ballot ≡ true → s.shown (key m.promise) v ≡ Some l → IsUp (put s.node i n v) → (length (put s.node i n v).list ≤ length l) ⊎ (length (put s.node i n v).list ≤ length m.list))
+        (λ c m. IsUp m → m.ballot ≡ true → s.shown (key m.promise) v ≡ Some l → IsUp (put s.node i n v)
+        → (length (put s.node i n v).list ≤ length l) ⊎ (length (put s.node i n v).list ≤ length m.list))
         s.node i n (short_own v l) (λ c other. short_other c v l other) c;
     served = λ c h l. put_at
-        (λ c m. IsUp m → m.ballot ≡ true → s.served (key m.promise) h ≡ true → s.shown (key m.promise) h ≡ Some l → ServedOk (put s.node i n) s.views (key m.promise) l)
+        (λ c m. IsUp m → m.ballot ≡ true → s.served (key m.promise) h ≡ true → s.shown (key m.promise) h ≡ Some l
+        → ServedOk (put s.node i n) s.views (key m.promise) l)
         s.node i n
         (λ u b a d. ⊎_elim
         (λ (o : IsUp (s.node i) × ((s.node i).ballot ≡ true) × (n.promise ≡ (s.node i).promise)).
@@ -93,10 +113,12 @@ module _ (s : Group) (k : Kept s) (i : ℕ) (n : Node) where
         (λ t. ⊎_elim
         (λ (o : (n.list ≡ (s.node i).list) × (IsUp n → IsUp (s.node i))).
         k.enough x decided holders counts (λ h y. ⊎_elim
-        (λ (z : (h ≡ i) × (put s.node i n h ≡ n)). subst (λ j. Begins (opening (s.views.chosen x)) (s.node j).list) (sym z.0) (subst (Begins (opening (s.views.chosen x))) (ap (λ (m : Node). m.list) z.1 ∙ o.0) (stored h y)))
+        (λ (z : (h ≡ i) × (put s.node i n h ≡ n)). subst (λ j. Begins (opening (s.views.chosen x)) (s.node j).list) (sym z.0)
+        (subst (Begins (opening (s.views.chosen x))) (ap (λ (m : Node). m.list) z.1 ∙ o.0) (stored h y)))
         (λ (z : (h ≢ i) × (put s.node i n h ≡ s.node h)). subst (λ (m : Node). Begins (opening (s.views.chosen x)) m.list) z.1 (stored h y))
         (put_cases s.node i n h)) much)
-        (λ (o : IsUp n × ((c : ℕ) (l : List Entry) → c ≢ i → IsUp (s.node c) → (s.node c).ballot ≡ true → s.shown (key (s.node c).promise) i ≡ Some l → (length n.list ≤ length l) ⊎ (length n.list ≤ length (s.node c).list))).
+        (λ (o : IsUp n × ((c : ℕ) (l : List Entry) → c ≢ i → IsUp (s.node c) → (s.node c).ballot ≡ true → s.shown (key (s.node c).promise) i ≡ Some l
+        → (length n.list ≤ length l) ⊎ (length n.list ≤ length (s.node c).list))).
         begins_trans (subst (λ (m : Node). Begins (opening (s.views.chosen x)) m.list) (put_same s.node i n) (stored i t)) (ok.list o.0))
         list)
         (λ f. k.enough x decided holders counts (λ h y. ⊎_elim
@@ -108,7 +130,8 @@ module _ (s : Group) (k : Kept s) (i : ℕ) (n : Node) where
       up : (j : ℕ) → Later (s.node j) (put s.node i n j)
       up = later_all s.node i n later
 
-      short_own : (v : ℕ) (l : List Entry) → IsUp n → n.ballot ≡ true → s.shown (key n.promise) v ≡ Some l → IsUp (put s.node i n v) → (length (put s.node i n v).list ≤ length l) ⊎ (length (put s.node i n v).list ≤ length n.list)
+      short_own : (v : ℕ) (l : List Entry) → IsUp n → n.ballot ≡ true → s.shown (key n.promise) v ≡ Some l → IsUp (put s.node i n v)
+          → (length (put s.node i n v).list ≤ length l) ⊎ (length (put s.node i n v).list ≤ length n.list)
       short_own v l u b d = put_at
           (λ v m. s.shown (key n.promise) v ≡ Some l → IsUp m → (length m.list ≤ length l) ⊎ (length m.list ≤ length n.list))
           s.node i n (λ _ _. inr (omega arith))
@@ -120,12 +143,16 @@ module _ (s : Group) (k : Kept s) (i : ℕ) (n : Node) where
           (λ (o : (h : ℕ) (l : List Entry) → s.shown (key n.promise) h ≡ Some l → ⊥). absurd (o v l d))
           (ballot u b)) v d
 
-      short_other : (c v : ℕ) (l : List Entry) → c ≢ i → IsUp (s.node c) → (s.node c).ballot ≡ true → s.shown (key (s.node c).promise) v ≡ Some l → IsUp (put s.node i n v) → (length (put s.node i n v).list ≤ length l) ⊎ (length (put s.node i n v).list ≤ length (s.node c).list)
+      short_other : (c v : ℕ) (l : List Entry) → c ≢ i → IsUp (s.node c) → (s.node c).ballot ≡ true → s.shown (key (s.node c).promise) v ≡ Some l
+          → IsUp (put s.node i n v) → (length (put s.node i n v).list ≤ length l) ⊎ (length (put s.node i n v).list ≤ length (s.node c).list)
       short_other c v l other u b d = put_at
           (λ v m. s.shown (key (s.node c).promise) v ≡ Some l → IsUp m → (length m.list ≤ length l) ⊎ (length m.list ≤ length (s.node c).list))
           s.node i n
           (λ d w. ⊎_elim
-          (λ (o : (n.list ≡ (s.node i).list) × (IsUp n → IsUp (s.node i))). let e = ap length o.0 in ⊎_elim (λ (a : length (s.node i).list ≤ length l). inl (omega arith)) (λ (a : length (s.node i).list ≤ length (s.node c).list). inr (omega arith)) (k.short c i l u b d (o.1 w)))
-          (λ (o : IsUp n × ((c : ℕ) (l : List Entry) → c ≢ i → IsUp (s.node c) → (s.node c).ballot ≡ true → s.shown (key (s.node c).promise) i ≡ Some l → (length n.list ≤ length l) ⊎ (length n.list ≤ length (s.node c).list))). o.1 c l other u b d)
+          (λ (o : (n.list ≡ (s.node i).list) × (IsUp n → IsUp (s.node i))). let e = ap length o.0 in
+          ⊎_elim (λ (a : length (s.node i).list ≤ length l). inl (omega arith)) (λ (a : length (s.node i).list ≤ length (s.node c).list). inr (omega arith))
+          (k.short c i l u b d (o.1 w)))
+          (λ (o : IsUp n × ((c : ℕ) (l : List Entry) → c ≢ i → IsUp (s.node c) → (s.node c).ballot ≡ true → s.shown (key (s.node c).promise) i ≡ Some l
+          → (length n.list ≤ length l) ⊎ (length n.list ≤ length (s.node c).list))). o.1 c l other u b d)
           list)
           (λ v _ d w. k.short c v l u b d w) v d

@@ -1,5 +1,6 @@
 -- The group list grows, and the chain does.
-use Rattle.std.proofs.Common.{◌≡◌, ◌≢◌, ◌⊎◌, ⊎_elim, ℕ, zero, suc, ◌+◌, ◌-◌, ◌<◌, ◌≤◌, min, true, false, List, [], ◌∷◌, ◌++◌, length, take, Some, slice_get, refl, sym, ap, ◌∙◌, subst, arith}
+use Rattle.std.proofs.Common.{◌≡◌, ◌≢◌, ◌⊎◌, ⊎_elim, ℕ, zero, suc, ◌+◌, ◌-◌, ◌<◌, ◌≤◌, min, true, false, List, [], ◌∷◌, ◌++◌, length, take, Some, slice_get}
+use Rattle.std.proofs.Common.{refl, sym, ap, ◌∙◌, subst, arith}
 use Rattle.std.proofs.lemmas.List.{take-append-le}
 use Rattle.am_base.specs.declared.entry.Entry.{Entry}
 use Rattle.am_base.specs.declared.entry.Entry.TheVariants.{Data, Join, Leave, View}
@@ -67,7 +68,8 @@ node_accepts views a b i m h ok =
       leads = ok.leads;
       promised = ok.promised;
       stays = ok.stays;
-      joined = λ l. let o = ok.joined l in let x = o.accepted in record { accepted = omega arith; member = subst (λ l. mem l i ≡ true) (sym (take_more m.start h x)) o.member };
+      joined = λ l. let o = ok.joined l in let x = o.accepted in
+          record { accepted = omega arith; member = subst (λ l. mem l i ≡ true) (sym (take_more m.start h x)) o.member };
       own = ok.own;
       late = ok.late;
       ballot = ok.ballot;
@@ -76,7 +78,8 @@ node_accepts views a b i m h ok =
     }
 
 -- an entry that is held as the list is accepted up to a number
-pub accept_witness : (node : ℕ → Node) (list group : List Entry) (to n : ℕ) → ((j : ℕ) → (node j).has_log ≡ true → (node j).start ≤ length group) → MayAccept node list (length group) to → length group < n → n ≤ to → Witness node (take to list) n
+pub accept_witness : (node : ℕ → Node) (list group : List Entry) (to n : ℕ) → ((j : ℕ) → (node j).has_log ≡ true → (node j).start ≤ length group)
+    → MayAccept node list (length group) to → length group < n → n ≤ to → Witness node (take to list) n
 accept_witness node list group to n start may low high =
     let long = length_take to list may.within in
     let it = begins_take to list in
@@ -103,7 +106,8 @@ two : (a b : ℕ) → (a ≤ b) ⊎ (b < a)
 two a b = grind arith
 
 -- more of the chain is accepted
-pub group_change : (s : Group) (k : Kept s) (list : List Entry) (to : ℕ) → list ≡ chain_of s.views → MayAccept s.node list (length s.group) to → Kept (record s { group = take to list })
+pub group_change : (s : Group) (k : Kept s) (list : List Entry) (to : ℕ) → list ≡ chain_of s.views → MayAccept s.node list (length s.group) to
+    → Kept (record s { group = take to list })
 group_change s k list to is may =
     let long = length_take to list may.within in
     let chain : Begins (take to list) (chain_of s.views) = subst (Begins (take to list)) is (begins_take to list) in
@@ -138,16 +142,20 @@ module _ (s : Group) (k : Kept s) (i : ℕ) (e : Entry) (leads : Leads i (s.node
   grown = record s.views { line = put s.views.line (key (view_of (s.node i).list)) ((s.node i).list ++ e ∷ []) }
 
   pub chain_is : chain_of grown ≡ (s.node i).list ++ e ∷ []
-  chain_is = ap (λ x. put s.views.line x ((s.node i).list ++ e ∷ []) (key s.views.current)) (ap key view_is) ∙ put_same s.views.line (key s.views.current) ((s.node i).list ++ e ∷ [])
+  chain_is = ap (λ x. put s.views.line x ((s.node i).list ++ e ∷ []) (key s.views.current)) (ap key view_is)
+      ∙ put_same s.views.line (key s.views.current) ((s.node i).list ++ e ∷ [])
 
   chain_grows : Begins (chain_of s.views) (chain_of grown)
-  chain_grows = subst (Begins (chain_of s.views)) (sym chain_is) (subst (λ l. Begins l ((s.node i).list ++ e ∷ [])) list_is (begins_more (s.node i).list (e ∷ [])))
+  chain_grows = subst (Begins (chain_of s.views)) (sym chain_is)
+      (subst (λ l. Begins l ((s.node i).list ++ e ∷ [])) list_is (begins_more (s.node i).list (e ∷ [])))
 
   line_grows : (x : ℕ) → Begins (s.views.line x) (put s.views.line (key (view_of (s.node i).list)) ((s.node i).list ++ e ∷ []) x)
   line_grows x = ⊎_elim
-      (λ (c : (x ≡ key (view_of (s.node i).list)) × (put s.views.line (key (view_of (s.node i).list)) ((s.node i).list ++ e ∷ []) x ≡ (s.node i).list ++ e ∷ [])).
+      (λ (c : (x ≡ key (view_of (s.node i).list)) × (put s.views.line (key (view_of (s.node i).list)) ((s.node i).list ++ e ∷ []) x
+      ≡ (s.node i).list ++ e ∷ [])).
       let at : x ≡ key s.views.current = c.0 ∙ ap key view_is in
-      subst (Begins (s.views.line x)) (sym c.1) (subst (λ l. Begins l ((s.node i).list ++ e ∷ [])) (list_is ∙ ap s.views.line (sym at)) (begins_more (s.node i).list (e ∷ []))))
+      subst (Begins (s.views.line x)) (sym c.1) (subst (λ l. Begins l ((s.node i).list ++ e ∷ [])) (list_is
+      ∙ ap s.views.line (sym at)) (begins_more (s.node i).list (e ∷ []))))
       (λ (c : (x ≢ key (view_of (s.node i).list)) × (put s.views.line (key (view_of (s.node i).list)) ((s.node i).list ++ e ∷ []) x ≡ s.views.line x)).
       subst (Begins (s.views.line x)) (sym c.1) (begins_refl (s.views.line x)))
       (put_cases s.views.line (key (view_of (s.node i).list)) ((s.node i).list ++ e ∷ []) x)
@@ -193,21 +201,38 @@ module _ (s : Group) (k : Kept s) (i : ℕ) (e : Entry) (leads : Leads i (s.node
             (begins_pushed e (subst (Begins a) chain_is h));
         joined = ok.joined;
         own = ok.own;
-        late = λ u l. let o = ok.late u l in record { before = o.before; last = o.last; list = o.list; member = o.member; ended = o.ended; lines = λ x d h. begins_trans (o.lines x d h) (line_grows x) };
+        late = λ u l. let o = ok.late u l in record {
+          before = o.before;
+          last = o.last;
+          list = o.list;
+          member = o.member;
+          ended = o.ended;
+          lines =
+              λ x d h. begins_trans (o.lines x d h) (line_grows x);
+        };
         ballot = λ u b. let o = ok.ballot u b in record { small = o.small; above = o.above; by = o.by; staying = o.staying; member = o.member };
         complete = ok.complete;
         heard = ok.heard;
       }
     where
       stay : mem (chain_of s.views) j ≡ true → IsThere (s.node j) → (s.node j).leaving ≡ false → mem (chain_of grown) j ≡ true
-      stay m t l = subst (λ y. mem y j ≡ true) (sym chain_is) (mem_push (s.node i).list e j good_grown (spares t l) (subst (λ y. mem y j ≡ true) (sym list_is) m))
+      stay m t l = subst (λ y. mem y j ≡ true) (sym chain_is)
+          (mem_push (s.node i).list e j good_grown (spares t l) (subst (λ y. mem y j ≡ true) (sym list_is) m))
 
-  pub chain_change : (n : Node) → n.list ≡ (s.node i).list ++ e ∷ [] → n.has_log ≡ true → n.start ≡ (s.node i).start → n.promise ≡ (s.node i).promise → n.ballot ≡ (s.node i).ballot
+  pub chain_change : (n : Node) → n.list ≡ (s.node i).list ++ e ∷ [] → n.has_log ≡ true → n.start ≡ (s.node i).start → n.promise ≡ (s.node i).promise
+      → n.ballot ≡ (s.node i).ballot
       → (n.leaving ≡ false → (s.node i).leaving ≡ false) → (n.departed ≡ true → ((s.node i).departed ≡ true) ⊎ DepartedOk s.node grown i)
       → ((j : ℕ) → j ≢ i → IsThere (s.node j) → (s.node j).leaving ≡ false → Spares j e)
       → NodeOk grown s.group i n → Kept (record s { node = put s.node i n; views = grown })
   chain_change n list_n log start promise ballot staying gone spares ok =
-      let later : Later (s.node i) n = record { list = subst (Begins (s.node i).list) (sym list_n) (begins_more (s.node i).list (e ∷ [])); log = λ h. log; start = λ h. start; there = λ h. leads.up.there; staying = staying; promise = let z = ap key promise in omega arith } in
+      let later : Later (s.node i) n = record {
+        list = subst (Begins (s.node i).list) (sym list_n) (begins_more (s.node i).list (e ∷ []));
+        log = λ h. log;
+        start = λ h. start;
+        there = λ h. leads.up.there;
+        staying = staying;
+        promise = let z = ap key promise in omega arith;
+      } in
       let up = later_all s.node i n later in
       let chain_n : n.list ≡ chain_of grown = list_n ∙ sym chain_is in
       record {
@@ -220,10 +245,12 @@ module _ (s : Group) (k : Kept s) (i : ℕ) (e : Entry) (leads : Leads i (s.node
             (λ v _. k.still v);
         short = λ c v l u b h w. absurd_short c v l u b h w;
         served = λ c h l. put_at
-            (λ c m. IsUp m → m.ballot ≡ true → s.served (key m.promise) h ≡ true → s.shown (key m.promise) h ≡ Some l → ServedOk (put s.node i n) grown (key m.promise) l)
+            (λ c m. IsUp m → m.ballot ≡ true → s.served (key m.promise) h ≡ true → s.shown (key m.promise) h ≡ Some l
+            → ServedOk (put s.node i n) grown (key m.promise) l)
             s.node i n
             (λ u b. absurd (no_ballot (sym ballot ∙ b)))
-            (λ c other u b a d. let o = served_later s.node (put s.node i n) s.views (key (s.node c).promise) l up (k.served c h l u b a d) in record { chain = begins_trans o.chain chain_grows; promised = o.promised }) c;
+            (λ c other u b a d. let o = served_later s.node (put s.node i n) s.views (key (s.node c).promise) l up (k.served c h l u b a d) in
+            record { chain = begins_trans o.chain chain_grows; promised = o.promised }) c;
         sent = k.sent;
         witness = λ m low high. witness_later s.node (put s.node i n) s.group m up (k.witness m low high);
         departed = put_at (λ d m. m.departed ≡ true → DepartedOk (put s.node i n) grown d) s.node i n
@@ -247,19 +274,32 @@ module _ (s : Group) (k : Kept s) (i : ℕ) (e : Entry) (leads : Leads i (s.node
           let p = ap key (leads.acts ∙ view_is) in omega arith
 
       up_all : (j : ℕ) → Later (s.node j) (put s.node i n j)
-      up_all = later_all s.node i n (record { list = subst (Begins (s.node i).list) (sym list_n) (begins_more (s.node i).list (e ∷ [])); log = λ h. log; start = λ h. start; there = λ h. leads.up.there; staying = staying; promise = let z = ap key promise in omega arith })
+      up_all = later_all s.node i n (record {
+        list = subst (Begins (s.node i).list) (sym list_n) (begins_more (s.node i).list (e ∷ []));
+        log = λ h. log;
+        start =
+            λ h. start;
+        there = λ h. leads.up.there;
+        staying = staying;
+        promise = let z = ap key promise in omega arith;
+      })
 
       departed_grows : (d : ℕ) → DepartedOk s.node s.views d → DepartedOk (put s.node i n) grown d
-      departed_grows d h = let o = departed_later s.node (put s.node i n) s.views d up_all h in record { before = o.before; chain = begins_trans o.chain chain_grows; stored = o.stored }
+      departed_grows d h = let o = departed_later s.node (put s.node i n) s.views d up_all h in
+          record { before = o.before; chain = begins_trans o.chain chain_grows; stored = o.stored }
 
       -- nobody voted for a ballot above the current view and numbers
-      absurd_short : (c v : ℕ) (l : List Entry) → IsUp (put s.node i n c) → (put s.node i n c).ballot ≡ true → s.shown (key (put s.node i n c).promise) v ≡ Some l → IsUp (put s.node i n v) → (length (put s.node i n v).list ≤ length l) ⊎ (length (put s.node i n v).list ≤ length (put s.node i n c).list)
+      absurd_short : (c v : ℕ) (l : List Entry) → IsUp (put s.node i n c) → (put s.node i n c).ballot ≡ true
+          → s.shown (key (put s.node i n c).promise) v ≡ Some l → IsUp (put s.node i n v)
+          → (length (put s.node i n v).list ≤ length l) ⊎ (length (put s.node i n v).list ≤ length (put s.node i n c).list)
       absurd_short c v l = put_at
-          (λ c m. IsUp m → m.ballot ≡ true → s.shown (key m.promise) v ≡ Some l → IsUp (put s.node i n v) → (length (put s.node i n v).list ≤ length l) ⊎ (length (put s.node i n v).list ≤ length m.list))
+          (λ c m. IsUp m → m.ballot ≡ true → s.shown (key m.promise) v ≡ Some l → IsUp (put s.node i n v)
+          → (length (put s.node i n v).list ≤ length l) ⊎ (length (put s.node i n v).list ≤ length m.list))
           s.node i n
           (λ u b. absurd (no_ballot (sym ballot ∙ b)))
           (λ c other u b h. put_at
           (λ v m. s.shown (key (s.node c).promise) v ≡ Some l → IsUp m → (length m.list ≤ length l) ⊎ (length m.list ≤ length (s.node c).list))
           s.node i n
-          (λ h w. let o = (k.each c).ballot u b in let a = o.above in let p = (k.shown (key (s.node c).promise) i l h).promised in let q = ap key (leads.acts ∙ view_is) in absurd (omega arith))
+          (λ h w. let o = (k.each c).ballot u b in let a = o.above in let p = (k.shown (key (s.node c).promise) i l h).promised in
+          let q = ap key (leads.acts ∙ view_is) in absurd (omega arith))
           (λ v differ h w. k.short c v l u b h w) v h) c

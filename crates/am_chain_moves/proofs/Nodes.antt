@@ -1,5 +1,6 @@
 -- What each move of one node keeps of that node.
-use Rattle.std.proofs.Common.{◌≡◌, ◌≢◌, ◌⊎◌, ⊎_elim, ℕ, ◌+◌, ◌<◌, ◌≤◌, Bool, true, false, List, [], ◌∷◌, ◌++◌, length, take, Some, slice_get, refl, sym, ap, ◌∙◌, subst, arith}
+use Rattle.std.proofs.Common.{◌≡◌, ◌≢◌, ◌⊎◌, ⊎_elim, ℕ, ◌+◌, ◌<◌, ◌≤◌, Bool, true, false, List, [], ◌∷◌, ◌++◌, length, take, Some, slice_get, refl, sym, ap}
+use Rattle.std.proofs.Common.{◌∙◌, subst, arith}
 use Rattle.std.proofs.lemmas.List.{take-append-le}
 use Rattle.std.proofs.lemmas.Option.{slice_get_within}
 use Rattle.am_base.specs.declared.name.Stamp.{Stamp}
@@ -7,7 +8,8 @@ use Rattle.am_base.specs.declared.entry.Entry.{Entry}
 use Rattle.am_base.specs.declared.entry.Entry.TheVariants.{View}
 use Rattle.am_base.specs.Names.{rank_of}
 use Rattle.am_chain_lists.specs.Whole.{Begins, mem, view_of, key}
-use Rattle.am_chain_lists.proofs.Prefixes.{begins_more, begins_trans, begins_length, begins_both, begins_same, begins_push, length_push, below_begins, below_length, below_of, begins_take, length_take}
+use Rattle.am_chain_lists.proofs.Prefixes.{begins_more, begins_trans, begins_length, begins_both, begins_same, begins_push, length_push, below_begins}
+use Rattle.am_chain_lists.proofs.Prefixes.{below_length, below_of, begins_take, length_take}
 use Rattle.am_chain_lists.proofs.Members.{mem_between}
 use Rattle.am_chain_lists.proofs.Order.{view_up}
 use Rattle.am_chain_moves.specs.Group.{Node, opening, Views, Group, chain_of, current_of, IsThere, IsUp, IsOngoing}
@@ -21,7 +23,8 @@ pub flags_ok : (views : Views) (group : List Entry) (i : ℕ) (m : Node) (stoppe
     → (IsUp (record m { stopped = stopped; departed = departed; leaving = leaving; ballot = ballot }) → ballot ≡ true → (m.ballot ≡ true) × (leaving ≡ false))
     → NodeOk views group i m → NodeOk views group i (record m { stopped = stopped; departed = departed; leaving = leaving; ballot = ballot })
 flags_ok views group i m stopped departed leaving ballot there staying voting ok =
-    let up : IsUp (record m { stopped = stopped; departed = departed; leaving = leaving; ballot = ballot }) → IsUp m = λ u. record { log = u.log; there = there u.there } in
+    let up : IsUp (record m { stopped = stopped; departed = departed; leaving = leaving; ballot = ballot })
+    → IsUp m = λ u. record { log = u.log; there = there u.there } in
     record {
       small = ok.small;
       list = λ u. ok.list (up u);
@@ -33,13 +36,16 @@ flags_ok views group i m stopped departed leaving ballot there staying voting ok
       joined = λ h. let o = ok.joined h in record { accepted = o.accepted; member = o.member };
       own = λ u. ok.own (up u);
       late = λ u l. let o = ok.late (up u) l in record { before = o.before; last = o.last; list = o.list; member = o.member; ended = o.ended; lines = o.lines };
-      ballot = λ u b. let v = voting u b in let o = ok.ballot (up u) v.0 in record { small = o.small; above = o.above; by = o.by; staying = v.1; member = o.member };
+      ballot = λ u b. let v = voting u b in let o = ok.ballot (up u) v.0 in
+          record { small = o.small; above = o.above; by = o.by; staying = v.1; member = o.member };
       complete = λ x c t. ok.complete x c (there t);
       heard = ok.heard;
     }
 
 -- told and acc
-pub fronts_ok : (views : Views) (group : List Entry) (i : ℕ) (m : Node) (told acc : ℕ) → ViewsOk views → Begins group (chain_of views) → IsUp m → told ≤ length group → acc ≤ told → acc ≤ length m.list → ((x : ℕ) → views.decided x ≡ true → key m.promise < x → told ≤ length (views.chosen x).before) → NodeOk views group i m → NodeOk views group i (record m { told = told; acc = acc })
+pub fronts_ok : (views : Views) (group : List Entry) (i : ℕ) (m : Node) (told acc : ℕ) → ViewsOk views → Begins group (chain_of views) → IsUp m
+    → told ≤ length group → acc ≤ told → acc ≤ length m.list → ((x : ℕ) → views.decided x ≡ true → key m.promise < x → told ≤ length (views.chosen x).before)
+    → NodeOk views group i m → NodeOk views group i (record m { told = told; acc = acc })
 fronts_ok views group i m told acc v g u low a w heard ok =
     let up : IsUp (record m { told = told; acc = acc }) → IsUp m = λ u. record { log = u.log; there = record { goes = u.there.goes; stays = u.there.stays } } in
     let there : IsThere (record m { told = told; acc = acc }) → IsThere m = λ t. record { goes = t.goes; stays = t.stays } in
@@ -61,7 +67,8 @@ fronts_ok views group i m told acc v g u low a w heard ok =
     }
 
 -- a greater stamp of another name
-pub raise_ok : (views : Views) (group : List Entry) (i : ℕ) (m : Node) (stamp : Stamp) → key m.promise < key stamp → stamp.by < 256 → stamp.by ≢ i → NodeOk views group i m → NodeOk views group i (record m { promise = stamp; ballot = false })
+pub raise_ok : (views : Views) (group : List Entry) (i : ℕ) (m : Node) (stamp : Stamp) → key m.promise < key stamp → stamp.by < 256 → stamp.by ≢ i
+    → NodeOk views group i m → NodeOk views group i (record m { promise = stamp; ballot = false })
 raise_ok views group i m stamp above small other ok =
     let there : IsThere (record m { promise = stamp; ballot = false }) → IsThere m = λ t. record { goes = t.goes; stays = t.stays } in
     let up : IsUp (record m { promise = stamp; ballot = false }) → IsUp m = λ u. record { log = u.log; there = there u.there } in
@@ -75,14 +82,22 @@ raise_ok views group i m stamp above small other ok =
       stays = λ t. ok.stays (there t);
       joined = λ h. let o = ok.joined h in record { accepted = o.accepted; member = o.member };
       own = λ u. ok.own (up u);
-      late = λ u l. let o = ok.late (up u) (omega arith) in record { before = o.before; last = o.last; list = o.list; member = o.member; ended = o.ended; lines = λ x d h. o.lines x d (omega arith) };
+      late = λ u l. let o = ok.late (up u) (omega arith) in record {
+        before = o.before;
+        last = o.last;
+        list = o.list;
+        member = o.member;
+        ended = o.ended;
+        lines = λ x d h. o.lines x d (omega arith);
+      };
       ballot = λ u b. absurd (cc);
       complete = λ x c t. ok.complete x c (there t);
       heard = λ x d l. ok.heard x d (omega arith);
     }
 
 -- who doesn't leave has promised the current view
-pub not_late : (views : Views) (group : List Entry) (i : ℕ) (m : Node) → ViewsOk views → IsUp m → m.leaving ≡ false → NodeOk views group i m → key views.current ≤ key m.promise
+pub not_late : (views : Views) (group : List Entry) (i : ℕ) (m : Node) → ViewsOk views → IsUp m → m.leaving ≡ false → NodeOk views group i m
+    → key views.current ≤ key m.promise
 not_late views group i m v u staying ok = ⊎_elim
     (λ (h : key views.current ≤ key m.promise). h)
     (λ (h : key m.promise < key views.current).
@@ -108,7 +123,8 @@ own_above i m h = let r : rank_of m.promise.by < 256 = small m.promise.by h in o
 pub view_current : (views : Views) (list : List Entry) → ViewsOk views → Begins list (chain_of views) → key (view_of list) ≤ key views.current
 view_current views list v h = let a = view_up v.good h in let e = ap key v.view in omega arith
 
-pub begin_ok : (views : Views) (group : List Entry) (i : ℕ) (m : Node) → ViewsOk views → i < 256 → IsUp m → m.leaving ≡ false → mem m.list i ≡ true → NodeOk views group i m → NodeOk views group i (record m { promise = own_stamp i m; ballot = true })
+pub begin_ok : (views : Views) (group : List Entry) (i : ℕ) (m : Node) → ViewsOk views → i < 256 → IsUp m → m.leaving ≡ false → mem m.list i ≡ true
+    → NodeOk views group i m → NodeOk views group i (record m { promise = own_stamp i m; ballot = true })
 begin_ok views group i m v small u staying member ok =
     let there : IsThere (record m { promise = own_stamp i m; ballot = true }) → IsThere m = λ t. record { goes = t.goes; stays = t.stays } in
     let up : IsUp (record m { promise = own_stamp i m; ballot = true }) → IsUp m = λ u. record { log = u.log; there = there u.there } in
@@ -147,7 +163,13 @@ longer_ok views group i m e u chain ongoing leads late ballot ok =
       small = ok.small;
       list = λ u. chain;
       blank = λ h. absurd (cc);
-      fronts = record { told = ok.fronts.told; acc = ok.fronts.acc; within = omega arith; delivered = subst (λ l. Begins l group) (sym same) ok.fronts.delivered };
+      fronts = record {
+        told = ok.fronts.told;
+        acc = ok.fronts.acc;
+        within = omega arith;
+        delivered =
+            subst (λ l. Begins l group) (sym same) ok.fronts.delivered;
+      };
       leads = λ l. absurd (leads l.acts l.by);
       promised = λ t. ok.promised (there t);
       stays = λ t. ok.stays (there t);
@@ -176,7 +198,8 @@ two : (a b : ℕ) → (a ≤ b) ⊎ (b < a)
 two a b = grind arith
 
 -- the next entry of the line of a decided promise is the next of the chain
-pub store_late : (views : Views) (i : ℕ) (m : Node) (e : Entry) → views.decided (key m.promise) ≡ true → IsOngoing m.list i → slice_get (views.line (key m.promise)) (length m.list) ≡ Some e → LateOk views i m → LateOk views i (longer m e)
+pub store_late : (views : Views) (i : ℕ) (m : Node) (e : Entry) → views.decided (key m.promise) ≡ true → IsOngoing m.list i
+    → slice_get (views.line (key m.promise)) (length m.list) ≡ Some e → LateOk views i m → LateOk views i (longer m e)
 store_late views i m e decided ongoing next o =
     let line = o.lines (key m.promise) decided (omega arith) in
     let all = begins_push e (begins_trans o.list line) next in
@@ -191,7 +214,8 @@ store_late views i m e decided ongoing next o =
     (two (length (o.before ++ o.last ∷ [])) (length m.list)) in
     record { before = o.before; last = o.last; list = begins_both all line (omega arith); member = o.member; ended = o.ended; lines = o.lines }
 
-pub store_chain : (views : Views) (group : List Entry) (i : ℕ) (m : Node) (e : Entry) → ViewsOk views → IsUp m → views.decided (key m.promise) ≡ true → IsOngoing m.list i → slice_get (views.line (key m.promise)) (length m.list) ≡ Some e → NodeOk views group i m → Begins (m.list ++ e ∷ []) (chain_of views)
+pub store_chain : (views : Views) (group : List Entry) (i : ℕ) (m : Node) (e : Entry) → ViewsOk views → IsUp m → views.decided (key m.promise) ≡ true
+    → IsOngoing m.list i → slice_get (views.line (key m.promise)) (length m.list) ≡ Some e → NodeOk views group i m → Begins (m.list ++ e ∷ []) (chain_of views)
 store_chain views group i m e v u decided ongoing next ok = ⊎_elim
     (λ (h : key views.current ≤ key m.promise).
     let o = v.order (key m.promise) decided in
@@ -202,7 +226,9 @@ store_chain views group i m e v u decided ongoing next ok = ⊎_elim
     begins_trans o.list (o.lines (key views.current) v.now (omega arith)))
     (two (key views.current) (key m.promise))
 
-pub store_ok : (views : Views) (group : List Entry) (i : ℕ) (m : Node) (e : Entry) → ViewsOk views → IsUp m → views.decided (key m.promise) ≡ true → m.promise.by ≢ i → IsOngoing m.list i → slice_get (views.line (key m.promise)) (length m.list) ≡ Some e → NodeOk views group i m → NodeOk views group i (longer m e)
+pub store_ok : (views : Views) (group : List Entry) (i : ℕ) (m : Node) (e : Entry) → ViewsOk views → IsUp m → views.decided (key m.promise) ≡ true
+    → m.promise.by ≢ i → IsOngoing m.list i → slice_get (views.line (key m.promise)) (length m.list) ≡ Some e → NodeOk views group i m
+    → NodeOk views group i (longer m e)
 store_ok views group i m e v u decided other ongoing next ok = longer_ok views group i m e u (store_chain views group i m e v u decided ongoing next ok) ongoing
     (λ acts by. other (ap (λ (s : Stamp). s.by) acts ∙ by))
     (λ l. store_late views i m e decided ongoing next (ok.late u l))
@@ -210,12 +236,15 @@ store_ok views group i m e v u decided other ongoing next ok = longer_ok views g
     ok
 
 -- the next entry of a list that was sent of
-pub fetch_chain : (node : ℕ → Node) (views : Views) (group : List Entry) (i : ℕ) (m : Node) (list : List Entry) (e : Entry) → IsUp m → ServedOk node views (key m.promise) list → slice_get list (length m.list) ≡ Some e → NodeOk views group i m → Begins (m.list ++ e ∷ []) list
+pub fetch_chain : (node : ℕ → Node) (views : Views) (group : List Entry) (i : ℕ) (m : Node) (list : List Entry) (e : Entry) → IsUp m
+    → ServedOk node views (key m.promise) list → slice_get list (length m.list) ≡ Some e → NodeOk views group i m → Begins (m.list ++ e ∷ []) list
 fetch_chain node views group i m list e u served next ok =
     let within = slice_get_within list (length m.list) e next in
     begins_push e (begins_both (ok.list u) served.chain (omega arith)) next
 
-pub fetch_ok : (node : ℕ → Node) (views : Views) (group : List Entry) (i : ℕ) (m : Node) (list : List Entry) (e : Entry) → ViewsOk views → IsUp m → m.ballot ≡ true → ServedOk node views (key m.promise) list → slice_get list (length m.list) ≡ Some e → NodeOk views group i m → NodeOk views group i (longer m e)
+pub fetch_ok : (node : ℕ → Node) (views : Views) (group : List Entry) (i : ℕ) (m : Node) (list : List Entry) (e : Entry) → ViewsOk views → IsUp m
+    → m.ballot ≡ true → ServedOk node views (key m.promise) list → slice_get list (length m.list) ≡ Some e → NodeOk views group i m
+    → NodeOk views group i (longer m e)
 fetch_ok node views group i m list e v u voting served next ok =
     let b = ok.ballot u voting in
     let above = b.above in
@@ -235,7 +264,8 @@ fetch_ok node views group i m list e v u voting served next ok =
     ok
 
 -- a Welcome that is heard is of the current view
-pub welcome_now : (s : Group) (j : ℕ) (stamp : Stamp) (base join : ℕ) → MayWelcome s j stamp base join → ViewsOk s.views → NodeOk s.views s.group j (s.node j) → key s.views.current ≤ key stamp
+pub welcome_now : (s : Group) (j : ℕ) (stamp : Stamp) (base join : ℕ) → MayWelcome s j stamp base join → ViewsOk s.views → NodeOk s.views s.group j (s.node j)
+    → key s.views.current ≤ key stamp
 welcome_now s j stamp base join w v ok = ⊎_elim
     (λ (h : key s.views.current ≤ key stamp). h)
     (λ (h : key stamp < key s.views.current).
@@ -248,19 +278,28 @@ welcome_now s j stamp base join w v ok = ⊎_elim
     let q = w.promise in omega arith)
     (two (key s.views.current) (key stamp))
 
-pub welcome_ok : (s : Group) (j : ℕ) (stamp : Stamp) (base join : ℕ) → MayWelcome s j stamp base join → ViewsOk s.views → Begins s.group (chain_of s.views) → NodeOk s.views s.group j (s.node j) → NodeOk s.views s.group j (record (s.node j) { list = take base s.group; has_log = true; start = join; promise = stamp; told = base; acc = base })
+pub welcome_ok : (s : Group) (j : ℕ) (stamp : Stamp) (base join : ℕ) → MayWelcome s j stamp base join → ViewsOk s.views → Begins s.group (chain_of s.views)
+    → NodeOk s.views s.group j (s.node j) → NodeOk s.views s.group j
+    (record (s.node j) { list = take base s.group; has_log = true; start = join; promise = stamp; told = base; acc = base })
 welcome_ok s j stamp base join w v g ok =
     let now = welcome_now s j stamp base join w v ok in
     let below = w.below in
     let accepted = w.accepted in
     let long = length_take base s.group (omega arith) in
     let no_ballot = w.no_ballot in
-    let there : IsThere (record (s.node j) { list = take base s.group; has_log = true; start = join; promise = stamp; told = base; acc = base }) → IsThere (s.node j) = λ t. record { goes = t.goes; stays = t.stays } in
+    let there : IsThere (record (s.node j) { list = take base s.group; has_log = true; start = join; promise = stamp; told = base; acc = base })
+    → IsThere (s.node j) = λ t. record { goes = t.goes; stays = t.stays } in
     record {
       small = w.small;
       list = λ u. begins_trans (begins_take base s.group) g;
       blank = λ h. absurd (cc);
-      fronts = record { told = omega arith; acc = omega arith; within = omega arith; delivered = begins_trans (begins_take base (take base s.group)) (begins_take base s.group) };
+      fronts = record {
+        told = omega arith;
+        acc = omega arith;
+        within = omega arith;
+        delivered =
+            begins_trans (begins_take base (take base s.group)) (begins_take base s.group);
+      };
       leads = λ l. absurd (w.other (ap (λ (s : Stamp). s.by) l.acts ∙ l.by));
       promised = λ t h. now;
       stays = λ t. ok.stays (there t);
@@ -270,6 +309,7 @@ welcome_ok s j stamp base join w v g ok =
       ballot = λ u b. absurd (cc);
       complete = λ x c t h.
           let o = begins_length (subst (Begins (opening (s.views.chosen x))) (ok.blank w.no_log) (ok.complete x c (there t) h)) in
-          let l = length_push (s.views.chosen x).before (View (s.views.chosen x).stamp (s.views.chosen x).members (s.views.chosen x).resilience) in absurd (omega arith);
+          let l = length_push (s.views.chosen x).before (View (s.views.chosen x).stamp (s.views.chosen x).members (s.views.chosen x).resilience) in
+          absurd (omega arith);
       heard = λ x d l. let o = v.order x d in absurd (omega arith);
     }

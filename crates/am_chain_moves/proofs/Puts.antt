@@ -26,7 +26,8 @@ put_at P f i x new old j = ⊎_elim
     (λ (c : (j ≢ i) × (put f i x j ≡ f j)). subst (λ y. P j y) (sym c.1) (old j c.0))
     (put_cases f i x j)
 
-pub put2_cases : {A : Type 0} (f : ℕ → ℕ → A) (a b : ℕ) (x : A) (c d : ℕ) → ((c ≡ a) × (d ≡ b) × (put2 f a b x c d ≡ x)) ⊎ (((c ≡ a) × (d ≡ b) → ⊥) × (put2 f a b x c d ≡ f c d))
+pub put2_cases : {A : Type 0} (f : ℕ → ℕ → A) (a b : ℕ) (x : A) (c d : ℕ)
+    → ((c ≡ a) × (d ≡ b) × (put2 f a b x c d ≡ x)) ⊎ (((c ≡ a) × (d ≡ b) → ⊥) × (put2 f a b x c d ≡ f c d))
 unfolding put2
 put2_cases f a b x c d = by_cases ((c == a) && (d == b))
     (λ t. let both : (c ≡ a) × (d ≡ b) = grind (arith, nat_tests) in inl (both.0, both.1, rw t refl))

@@ -1,5 +1,6 @@
 -- Each move but a decision keeps what is kept, whoever stopped.
-use Rattle.std.proofs.Common.{◌≡◌, ◌≢◌, ◌⊎◌, ⊎_elim, inl, inr, ℕ, ◌<◌, ◌≤◌, Bool, true, false, List, [], ◌∷◌, ◌++◌, length, take, Some, slice_get, refl, sym, ap, ◌∙◌, subst, arith}
+use Rattle.std.proofs.Common.{◌≡◌, ◌≢◌, ◌⊎◌, ⊎_elim, inl, inr, ℕ, ◌<◌, ◌≤◌, Bool, true, false, List, [], ◌∷◌, ◌++◌, length, take, Some, slice_get, refl, sym}
+use Rattle.std.proofs.Common.{ap, ◌∙◌, subst, arith}
 use Rattle.std.proofs.lemmas.List.{take-append-le}
 use Rattle.am_base.specs.declared.name.Stamp.{Stamp}
 use Rattle.am_base.specs.declared.entry.Entry.{Entry}
@@ -19,7 +20,14 @@ use Rattle.am_chain_moves.proofs.Nodes.{flags_ok, fronts_ok, raise_ok, begin_ok,
 use Rattle.am_chain_moves.proofs.Fronts.{group_change, chain_change, grown, views_grow, chain_is, good_grown}
 
 later_longer : (m : Node) (e : Entry) → Later m (longer m e)
-later_longer m e = record { list = begins_more m.list (e ∷ []); log = λ h. h; start = λ h. refl; there = λ t. record { goes = t.goes; stays = t.stays }; staying = λ h. h; promise = omega arith }
+later_longer m e = record {
+  list = begins_more m.list (e ∷ []);
+  log = λ h. h;
+  start = λ h. refl;
+  there = λ t. record { goes = t.goes; stays = t.stays };
+  staying = λ h. h;
+  promise = omega arith;
+}
 
 two : (a b : ℕ) → (a ≤ b) ⊎ (b < a)
 two a b = grind arith
@@ -29,7 +37,8 @@ unfolding mem fits
 leave_fits list i h = h
 
 module _ (s : Group) (k : Kept s) where
-  held_same : (i : ℕ) (a b : Node) (list : List Entry) (x : ℕ) → a.list ≡ b.list → a.has_log ≡ b.has_log → IsHeld (put s.node i b) list x → IsHeld (put s.node i a) list x
+  held_same : (i : ℕ) (a b : Node) (list : List Entry) (x : ℕ) → a.list ≡ b.list → a.has_log ≡ b.has_log → IsHeld (put s.node i b) list x
+      → IsHeld (put s.node i a) list x
   held_same i a b list x lists logs h = record {
     holders = h.holders;
     counts = h.counts;
@@ -44,18 +53,25 @@ module _ (s : Group) (k : Kept s) where
           (λ (c : (j ≢ i) × (put s.node i b j ≡ s.node j)). subst P (sym (put_other s.node i a j c.0)) (subst P c.1 h))
           (put_cases s.node i b j)
 
-  pub stores_keeps : (i : ℕ) (e : Entry) → IsUp (s.node i) → s.views.decided (key (s.node i).promise) ≡ true → (s.node i).promise.by ≢ i → IsOngoing (s.node i).list i → slice_get (s.views.line (key (s.node i).promise)) (length (s.node i).list) ≡ Some e → Kept (with_node s i (longer (s.node i) e))
+  pub stores_keeps : (i : ℕ) (e : Entry) → IsUp (s.node i) → s.views.decided (key (s.node i).promise) ≡ true → (s.node i).promise.by ≢ i
+      → IsOngoing (s.node i).list i → slice_get (s.views.line (key (s.node i).promise)) (length (s.node i).list) ≡ Some e
+      → Kept (with_node s i (longer (s.node i) e))
   stores_keeps i e u decided other ongoing next =
       let n = longer (s.node i) e in
       let up : IsUp n = record { log = u.log; there = record { goes = u.there.goes; stays = u.there.stays } } in
       node_change s k i n (later_longer (s.node i) e)
       (store_ok s.views s.group i (s.node i) e k.views u decided other ongoing next (k.each i))
       (λ _ b. inl (u, b, refl))
-      (inr (up, λ c l differ w b h. let p = (k.shown (key (s.node c).promise) i l h).promised in let o = (k.each c).ballot w b in let a = o.above in let d = k.views.order (key (s.node i).promise) decided in absurd (omega arith)))
+      (inr (
+        up,
+        λ c l differ w b h. let p = (k.shown (key (s.node c).promise) i l h).promised in let o = (k.each c).ballot w b in let a = o.above in
+            let d = k.views.order (key (s.node i).promise) decided in absurd (omega arith),
+      ))
       (λ l h none. absurd (cc))
       (λ h. inl h)
 
-  pub fetches_keeps : (i h : ℕ) (list : List Entry) (e : Entry) → IsUp (s.node i) → (s.node i).ballot ≡ true → s.served (key (s.node i).promise) h ≡ true → s.shown (key (s.node i).promise) h ≡ Some list → slice_get list (length (s.node i).list) ≡ Some e → Kept (with_node s i (longer (s.node i) e))
+  pub fetches_keeps : (i h : ℕ) (list : List Entry) (e : Entry) → IsUp (s.node i) → (s.node i).ballot ≡ true → s.served (key (s.node i).promise) h ≡ true
+      → s.shown (key (s.node i).promise) h ≡ Some list → slice_get list (length (s.node i).list) ≡ Some e → Kept (with_node s i (longer (s.node i) e))
   fetches_keeps i h list e u voting sent is next =
       let n = longer (s.node i) e in
       let up : IsUp n = record { log = u.log; there = record { goes = u.there.goes; stays = u.there.stays } } in
@@ -64,15 +80,19 @@ module _ (s : Group) (k : Kept s) where
       (fetch_ok s.node s.views s.group i (s.node i) list e k.views u voting served next (k.each i))
       (λ _ b. inl (u, b, refl))
       (inr (up, λ c l differ w b shown. inr (shorter i list e u voting served next c l differ w b shown)))
-      (λ l h none. let o = k.shown (key (s.node i).promise) i l h in absurd (o.other (key_by o.stamp (s.node i).promise o.small (k.each i).small o.is ∙ ((k.each i).ballot u voting).by)))
+      (λ l h none. let o = k.shown (key (s.node i).promise) i l h in
+      absurd (o.other (key_by o.stamp (s.node i).promise o.small (k.each i).small o.is ∙ ((k.each i).ballot u voting).by)))
       (λ h. inl h)
     where
-      shorter : (i : ℕ) (list : List Entry) (e : Entry) → IsUp (s.node i) → (s.node i).ballot ≡ true → ServedOk s.node s.views (key (s.node i).promise) list → slice_get list (length (s.node i).list) ≡ Some e → (c : ℕ) (l : List Entry) → c ≢ i → IsUp (s.node c) → (s.node c).ballot ≡ true → s.shown (key (s.node c).promise) i ≡ Some l → length ((s.node i).list ++ e ∷ []) ≤ length (s.node c).list
+      shorter : (i : ℕ) (list : List Entry) (e : Entry) → IsUp (s.node i) → (s.node i).ballot ≡ true → ServedOk s.node s.views (key (s.node i).promise) list
+          → slice_get list (length (s.node i).list) ≡ Some e → (c : ℕ) (l : List Entry) → c ≢ i → IsUp (s.node c) → (s.node c).ballot ≡ true
+          → s.shown (key (s.node c).promise) i ≡ Some l → length ((s.node i).list ++ e ∷ []) ≤ length (s.node c).list
       shorter i list e u voting served next c l differ w b shown =
           let mine = (k.each i).ballot u voting in
           let theirs = (k.each c).ballot w b in
           let p = (k.shown (key (s.node c).promise) i l shown).promised in
-          let apart : key (s.node c).promise ≢ key (s.node i).promise = λ same. differ (sym theirs.by ∙ key_by (s.node c).promise (s.node i).promise (k.each c).small (k.each i).small same ∙ mine.by) in
+          let apart : key (s.node c).promise ≢ key (s.node i).promise =
+          λ same. differ (sym theirs.by ∙ key_by (s.node c).promise (s.node i).promise (k.each c).small (k.each i).small same ∙ mine.by) in
           let below : key (s.node c).promise < key (s.node i).promise = omega arith in
           let chain_c = (k.each c).list w in
           let now = (k.each c).stays w.there theirs.staying (s.node c).list chain_c theirs.member in
@@ -84,23 +104,40 @@ module _ (s : Group) (k : Kept s) where
           (λ (x : length list < length (s.node c).list). omega arith)
           (two (length (s.node c).list) (length list))
 
-  pub learns_keeps : (i told acc : ℕ) → IsUp (s.node i) → told ≤ length s.group → ((x : ℕ) → s.views.decided x ≡ true → key (s.node i).promise < x → told ≤ length (s.views.chosen x).before) → acc ≤ told → acc ≤ length (s.node i).list → Kept (with_node s i (record (s.node i) { told = told; acc = acc }))
+  pub learns_keeps : (i told acc : ℕ) → IsUp (s.node i) → told ≤ length s.group
+      → ((x : ℕ) → s.views.decided x ≡ true → key (s.node i).promise < x → told ≤ length (s.views.chosen x).before) → acc ≤ told → acc ≤ length (s.node i).list
+      → Kept (with_node s i (record (s.node i) { told = told; acc = acc }))
   learns_keeps i told acc u low heard a w =
       let n = record (s.node i) { told = told; acc = acc } in
       node_change s k i n
-      (record { list = begins_refl (s.node i).list; log = λ h. h; start = λ h. refl; there = λ t. record { goes = t.goes; stays = t.stays }; staying = λ h. h; promise = omega arith })
+      (record {
+        list = begins_refl (s.node i).list;
+        log = λ h. h;
+        start = λ h. refl;
+        there = λ t. record { goes = t.goes; stays = t.stays };
+        staying = λ h. h;
+        promise = omega arith;
+      })
       (fronts_ok s.views s.group i (s.node i) told acc k.views k.group u low a w heard (k.each i))
       (λ _ b. inl (u, b, refl))
       (inl (refl, λ _. u))
       (λ l h none. k.still i l h none)
       (λ h. inl h)
 
-  pub begins_keeps : (i : ℕ) → i < 256 → IsUp (s.node i) → (s.node i).leaving ≡ false → mem (s.node i).list i ≡ true → Kept (with_node s i (record (s.node i) { promise = own_stamp i (s.node i); ballot = true }))
+  pub begins_keeps : (i : ℕ) → i < 256 → IsUp (s.node i) → (s.node i).leaving ≡ false → mem (s.node i).list i ≡ true
+      → Kept (with_node s i (record (s.node i) { promise = own_stamp i (s.node i); ballot = true }))
   begins_keeps i small u staying member =
       let n = record (s.node i) { promise = own_stamp i (s.node i); ballot = true } in
       let above = own_above i (s.node i) (k.each i).small in
       node_change s k i n
-      (record { list = begins_refl (s.node i).list; log = λ h. h; start = λ h. refl; there = λ t. record { goes = t.goes; stays = t.stays }; staying = λ h. h; promise = omega arith })
+      (record {
+        list = begins_refl (s.node i).list;
+        log = λ h. h;
+        start = λ h. refl;
+        there = λ t. record { goes = t.goes; stays = t.stays };
+        staying = λ h. h;
+        promise = omega arith;
+      })
       (begin_ok s.views s.group i (s.node i) k.views small u staying member (k.each i))
       (λ _ _. inr (λ h l shown.
       let o = k.shown (key (own_stamp i (s.node i))) h l shown in
@@ -112,12 +149,20 @@ module _ (s : Group) (k : Kept s) where
       (λ l h none. let o = k.shown (key (own_stamp i (s.node i))) i l h in absurd (o.other (key_by o.stamp (own_stamp i (s.node i)) o.small small o.is)))
       (λ h. inl h)
 
-  pub raises_keeps : (i : ℕ) (stamp : Stamp) → IsThere (s.node i) → IsAbove s.node i stamp → Kept (with_node s i (record (s.node i) { promise = stamp; ballot = false }))
+  pub raises_keeps : (i : ℕ) (stamp : Stamp) → IsThere (s.node i) → IsAbove s.node i stamp
+      → Kept (with_node s i (record (s.node i) { promise = stamp; ballot = false }))
   raises_keeps i stamp t a =
       let n = record (s.node i) { promise = stamp; ballot = false } in
       let greater = a.greater in
       node_change s k i n
-      (record { list = begins_refl (s.node i).list; log = λ h. h; start = λ h. refl; there = λ t. record { goes = t.goes; stays = t.stays }; staying = λ h. h; promise = omega arith })
+      (record {
+        list = begins_refl (s.node i).list;
+        log = λ h. h;
+        start = λ h. refl;
+        there = λ t. record { goes = t.goes; stays = t.stays };
+        staying = λ h. h;
+        promise = omega arith;
+      })
       (raise_ok s.views s.group i (s.node i) stamp a.greater a.small a.other (k.each i))
       (λ _ b. absurd (cc))
       (inl (refl, λ w. record { log = w.log; there = t }))
@@ -127,7 +172,8 @@ module _ (s : Group) (k : Kept s) where
   flags_keep : (i : ℕ) (stopped departed leaving ballot : Bool)
       → (IsThere (record (s.node i) { stopped = stopped; departed = departed; leaving = leaving; ballot = ballot }) → IsThere (s.node i))
       → (leaving ≡ false → (s.node i).leaving ≡ false)
-      → (IsUp (record (s.node i) { stopped = stopped; departed = departed; leaving = leaving; ballot = ballot }) → ballot ≡ true → ((s.node i).ballot ≡ true) × (leaving ≡ false))
+      → (IsUp (record (s.node i) { stopped = stopped; departed = departed; leaving = leaving; ballot = ballot }) → ballot ≡ true → ((s.node i).ballot ≡ true)
+      × (leaving ≡ false))
       → (departed ≡ true → ((s.node i).departed ≡ true) ⊎ DepartedOk s.node s.views i)
       → Kept (with_node s i (record (s.node i) { stopped = stopped; departed = departed; leaving = leaving; ballot = ballot }))
   flags_keep i stopped departed leaving ballot there staying voting gone =
@@ -158,7 +204,8 @@ module _ (s : Group) (k : Kept s) where
       (λ t. let z = t.stays in absurd (cc)) (λ h. h) (λ u. let z = u.there.stays in absurd (cc))
       (λ h. inr (record { before = before; chain = begins_trans d.accepted k.group; stored = d.stored }))
 
-  pub welcomes_keeps : (j : ℕ) (stamp : Stamp) (base join : ℕ) → MayWelcome s j stamp base join → Kept (with_node s j (record (s.node j) { list = take base s.group; has_log = true; start = join; promise = stamp; told = base; acc = base }))
+  pub welcomes_keeps : (j : ℕ) (stamp : Stamp) (base join : ℕ) → MayWelcome s j stamp base join
+      → Kept (with_node s j (record (s.node j) { list = take base s.group; has_log = true; start = join; promise = stamp; told = base; acc = base }))
   welcomes_keeps j stamp base join w =
       let n = record (s.node j) { list = take base s.group; has_log = true; start = join; promise = stamp; told = base; acc = base } in
       let ok = k.each j in
@@ -170,7 +217,14 @@ module _ (s : Group) (k : Kept s) where
       let last = k.views.order (key stamp) w.decided in
       let up : IsUp n = record { log = refl; there = record { goes = w.there.goes; stays = w.there.stays } } in
       node_change s k j n
-      (record { list = subst (λ l. Begins l (take base s.group)) (sym empty) (begins_nil (take base s.group)); log = λ h. refl; start = λ h. absurd (cc); there = λ t. record { goes = t.goes; stays = t.stays }; staying = λ h. h; promise = promise })
+      (record {
+        list = subst (λ l. Begins l (take base s.group)) (sym empty) (begins_nil (take base s.group));
+        log = λ h. refl;
+        start = λ h. absurd (cc);
+        there = λ t. record { goes = t.goes; stays = t.stays };
+        staying = λ h. h;
+        promise = promise;
+      })
       (welcome_ok s j stamp base join w k.views k.group ok)
       (λ u b. absurd (cc))
       (inr (up, λ c l differ u b h. let p = (k.shown (key (s.node c).promise) j l h).promised in let a = ((k.each c).ballot u b).above in absurd (omega arith)))
@@ -199,7 +253,8 @@ module _ (s : Group) (k : Kept s) where
   spares_staying i (Leave name) h j l = λ same. let z = h.0 in let w = ap (λ x. (s.node x).leaving) same in absurd (cc)
   spares_staying i (View stamp members resilience) h j l = absurd h
 
-  pub numbers_keeps : (i : ℕ) (e : Entry) → Leads i (s.node i) → fits (told (s.node i).list) e ≡ true → MayNumber s.node i e → Kept (with_line s i (longer (s.node i) e))
+  pub numbers_keeps : (i : ℕ) (e : Entry) → Leads i (s.node i) → fits (told (s.node i).list) e ≡ true → MayNumber s.node i e
+      → Kept (with_line s i (longer (s.node i) e))
   numbers_keeps i e l fit may =
       let m = s.node i in
       let n = longer m e in
@@ -223,7 +278,13 @@ module _ (s : Group) (k : Kept s) where
         small = ok.small;
         list = λ u. subst (Begins n.list) (sym chain) (begins_refl n.list);
         blank = λ h. absurd (cc);
-        fronts = record { told = ok.fronts.told; acc = ok.fronts.acc; within = omega arith; delivered = subst (λ x. Begins x s.group) (sym same) ok.fronts.delivered };
+        fronts = record {
+          told = ok.fronts.told;
+          acc = ok.fronts.acc;
+          within = omega arith;
+          delivered =
+              subst (λ x. Begins x s.group) (sym same) ok.fronts.delivered;
+        };
         leads = λ q. record { chain = sym chain; member = subst (λ x. mem x i ≡ true) (sym chain) mem_then };
         promised = λ t. ok.promised (there t);
         stays = λ t q a h x. subst (λ y. mem y i ≡ true) (sym chain) mem_then;
@@ -235,7 +296,9 @@ module _ (s : Group) (k : Kept s) where
         heard = ok.heard;
       })
 
-  pub closes_keeps : (i n : ℕ) → Leads i (s.node i) → (s.node i).leaving ≡ true → ((j : ℕ) → mem (s.node i).list j ≡ true → j ≡ i) → MayAccept (put s.node i (longer (s.node i) (Leave i))) ((s.node i).list ++ Leave i ∷ []) (length s.group) n → Kept (record (with_line s i (record (longer (s.node i) (Leave i)) { departed = true })) { group = take n ((s.node i).list ++ Leave i ∷ []) })
+  pub closes_keeps : (i n : ℕ) → Leads i (s.node i) → (s.node i).leaving ≡ true → ((j : ℕ) → mem (s.node i).list j ≡ true → j ≡ i)
+      → MayAccept (put s.node i (longer (s.node i) (Leave i))) ((s.node i).list ++ Leave i ∷ []) (length s.group) n
+      → Kept (record (with_line s i (record (longer (s.node i) (Leave i)) { departed = true })) { group = take n ((s.node i).list ++ Leave i ∷ []) })
   closes_keeps i to l leaving alone may =
       let e = Leave i in
       let m = s.node i in
@@ -253,13 +316,24 @@ module _ (s : Group) (k : Kept s) where
       let long = length_push m.list e in
       let same = take-append-le m.acc m.list (e ∷ []) within in
       let closed : Kept (record s { node = put s.node i n; views = views }) = chain_change s k i e l fit tt n refl log refl refl refl (λ h. h)
-      (λ h. inr (record { before = m.list; chain = subst (Begins (m.list ++ e ∷ [])) (sym chain) (begins_refl (m.list ++ e ∷ [])); stored = λ j x t stays. let z = ap (λ x. (s.node x).leaving) (alone j x) in absurd (cc) }))
+      (λ h. inr (record {
+        before = m.list;
+        chain = subst (Begins (m.list ++ e ∷ [])) (sym chain) (begins_refl (m.list ++ e ∷ []));
+        stored =
+            λ j x t stays. let z = ap (λ x. (s.node x).leaving) (alone j x) in absurd (cc);
+      }))
       (λ j differ t stays. λ same. differ (sym same))
       (record {
         small = ok.small;
         list = λ u. absurd (not_there u.there);
         blank = λ h. absurd (cc);
-        fronts = record { told = ok.fronts.told; acc = ok.fronts.acc; within = omega arith; delivered = subst (λ x. Begins x s.group) (sym same) ok.fronts.delivered };
+        fronts = record {
+          told = ok.fronts.told;
+          acc = ok.fronts.acc;
+          within = omega arith;
+          delivered =
+              subst (λ x. Begins x s.group) (sym same) ok.fronts.delivered;
+        };
         leads = λ q. absurd (not_there q.up.there);
         promised = λ t. absurd (not_there t);
         stays = λ t. absurd (not_there t);
@@ -271,4 +345,9 @@ module _ (s : Group) (k : Kept s) where
         heard = ok.heard;
       }) in
       group_change (record s { node = put s.node i n; views = views }) closed (m.list ++ e ∷ []) to (sym chain)
-      (record { rises = may.rises; within = may.within; held = λ x low high. let h = may.held x low high in (h.0, h.1, h.2, held_same i n (longer m e) (m.list ++ e ∷ []) h.0 refl refl h.3) })
+      (record {
+        rises = may.rises;
+        within = may.within;
+        held = λ x low high. let h = may.held x low high in
+            (h.0, h.1, h.2, held_same i n (longer m e) (m.list ++ e ∷ []) h.0 refl refl h.3);
+      })

@@ -35,24 +35,26 @@ module _ (founders : List ℕ) (first resilience : ℕ) (may : MayBegin founders
   member_first : (a : List Entry) (j : ℕ) → Begins a (opening (first_choice founders first resilience)) → mem a j ≡ true → has founders j ≡ true
   member_first a j h m = ⊎_elim
       (λ (x : Begins a []). absurd (nobody a j (begins_length x) m))
-      (λ (x : a ≡ [] ++ View (first_stamp first) founders resilience ∷ []). mem_viewed [] (first_stamp first) founders resilience j (subst (λ l. mem l j ≡ true) x m))
+      (λ (x : a ≡ [] ++ View (first_stamp first) founders resilience ∷ []). mem_viewed [] (first_stamp first) founders resilience j
+      (subst (λ l. mem l j ≡ true) x m))
       (begins_pushed {a = a} {b = []} (View (first_stamp first) founders resilience) h)
 
   first_member : (j : ℕ) → has founders j ≡ true → mem (opening (first_choice founders first resilience)) j ≡ true
   first_member j h = viewed_mem [] (first_stamp first) founders resilience j first_good h
 
-  first_ok : (b : Bool) (j : ℕ) → has founders j ≡ b → NodeOk (start founders first resilience).views (opening (first_choice founders first resilience)) j (record {
-    list = if b then opening (first_choice founders first resilience) else [];
-    has_log = b;
-    stopped = false;
-    departed = false;
-    leaving = false;
-    start = 1;
-    promise = if b then first_stamp first else no_stamp;
-    told = 0;
-    acc = 0;
-    ballot = false;
-  })
+  first_ok : (b : Bool) (j : ℕ) → has founders j ≡ b → NodeOk (start founders first resilience).views (opening (first_choice founders first resilience)) j
+      (record {
+        list = if b then opening (first_choice founders first resilience) else [];
+        has_log = b;
+        stopped = false;
+        departed = false;
+        leaving = false;
+        start = 1;
+        promise = if b then first_stamp first else no_stamp;
+        told = 0;
+        acc = 0;
+        ballot = false;
+      })
   first_ok true j h = record {
     small = may.small;
     list = λ u. begins_refl (opening (first_choice founders first resilience));
@@ -74,7 +76,13 @@ module _ (founders : List ℕ) (first resilience : ℕ) (may : MayBegin founders
         small = zero_small;
         list = λ u. let z = u.log in absurd (cc);
         blank = λ z. refl;
-        fronts = record { told = omega arith; acc = omega arith; within = omega arith; delivered = begins_nil (opening (first_choice founders first resilience)) };
+        fronts = record {
+          told = omega arith;
+          acc = omega arith;
+          within = omega arith;
+          delivered =
+              begins_nil (opening (first_choice founders first resilience));
+        };
         leads = λ l. let z = l.up.log in absurd (cc);
         promised = λ t m. absurd (mem_nil j m);
         stays = λ t l a b m. let y = member_first a j b m in absurd (cc);

@@ -116,13 +116,19 @@ pub record Kept (s : Group) : Type 0 where
   pub each : (i : ℕ) → NodeOk s.views s.group i (s.node i)
   pub shown : (x name : ℕ) (list : List Entry) → s.shown x name ≡ Some list → ShownOk s.node x name list
   -- until a ballot is decided, a voter that promised no greater one still has the list that it showed
-  pub still : (v : ℕ) (list : List Entry) → s.shown (key (s.node v).promise) v ≡ Some list → s.views.decided (key (s.node v).promise) ≡ false → (s.node v).list ≡ list
+  pub still : (v : ℕ) (list : List Entry) → s.shown (key (s.node v).promise) v ≡ Some list → s.views.decided (key (s.node v).promise) ≡ false
+      → (s.node v).list ≡ list
   -- what a voter has, it has shown to an unfinished ballot, or the coordinator has it
-  pub short : (c k : ℕ) (list : List Entry) → IsUp (s.node c) → (s.node c).ballot ≡ true → s.shown (key (s.node c).promise) k ≡ Some list → IsUp (s.node k) → (length (s.node k).list ≤ length list) ⊎ (length (s.node k).list ≤ length (s.node c).list)
-  pub served : (c h : ℕ) (list : List Entry) → IsUp (s.node c) → (s.node c).ballot ≡ true → s.served (key (s.node c).promise) h ≡ true → s.shown (key (s.node c).promise) h ≡ Some list → ServedOk s.node s.views (key (s.node c).promise) list
+  pub short : (c k : ℕ) (list : List Entry) → IsUp (s.node c) → (s.node c).ballot ≡ true → s.shown (key (s.node c).promise) k ≡ Some list → IsUp (s.node k)
+      → (length (s.node k).list ≤ length list) ⊎ (length (s.node k).list ≤ length (s.node c).list)
+  pub served : (c h : ℕ) (list : List Entry) → IsUp (s.node c) → (s.node c).ballot ≡ true → s.served (key (s.node c).promise) h ≡ true
+      → s.shown (key (s.node c).promise) h ≡ Some list → ServedOk s.node s.views (key (s.node c).promise) list
   -- a name sent only of what it showed
   pub sent : (x h : ℕ) → s.served x h ≡ true → (list : List Entry) × (s.shown x h ≡ Some list)
   pub witness : (n : ℕ) → 1 < n → n ≤ length s.group → Witness s.node s.group n
   pub departed : (d : ℕ) → (s.node d).departed ≡ true → DepartedOk s.node s.views d
   -- a view whose View enough of its members have stored stands in the chain
-  pub enough : (x : ℕ) → s.views.decided x ≡ true → (holders : ℕ → Bool) → ((h : ℕ) → holders h ≡ true → has (s.views.chosen x).members h ≡ true) → ((h : ℕ) → holders h ≡ true → Begins (opening (s.views.chosen x)) (s.node h).list) → min ((s.views.chosen x).resilience + 1) (how_many (has (s.views.chosen x).members)) ≤ how_many holders → Begins (opening (s.views.chosen x)) (chain_of s.views)
+  pub enough : (x : ℕ) → s.views.decided x ≡ true → (holders : ℕ → Bool) → ((h : ℕ) → holders h ≡ true → has (s.views.chosen x).members h ≡ true)
+      → ((h : ℕ) → holders h ≡ true → Begins (opening (s.views.chosen x)) (s.node h).list)
+      → min ((s.views.chosen x).resilience + 1) (how_many (has (s.views.chosen x).members)) ≤ how_many holders
+      → Begins (opening (s.views.chosen x)) (chain_of s.views)

@@ -96,35 +96,51 @@ with_choice s i members resilience = record s {
 
 pub data Move : Group → Group → Type 0 where
   -- the sequencer numbers an entry that fits: Request, Spread, Send and Tick of a sequencer, JoinAsk, LeaveAsk
-  numbers : {s : Group} (i : ℕ) (e : Entry) → Leads i (s.node i) → fits (told (s.node i).list) e ≡ true → MayNumber s.node i e → Move s (with_line s i (longer (s.node i) e))
+  numbers : {s : Group} (i : ℕ) (e : Entry) → Leads i (s.node i) → fits (told (s.node i).list) e ≡ true → MayNumber s.node i e
+      → Move s (with_line s i (longer (s.node i) e))
   -- a node takes the next entry of the line of its promise, of another's ballot, as long as its own Leave isn't in its list:
   -- Bcast, Order, a Piece of the promise's own name, Result
-  stores : {s : Group} (i : ℕ) (e : Entry) → IsUp (s.node i) → s.views.decided (key (s.node i).promise) ≡ true → (s.node i).promise.by ≢ i → IsOngoing (s.node i).list i → slice_get (s.views.line (key (s.node i).promise)) (length (s.node i).list) ≡ Some e → Move s (with_node s i (longer (s.node i) e))
+  stores : {s : Group} (i : ℕ) (e : Entry) → IsUp (s.node i) → s.views.decided (key (s.node i).promise) ≡ true → (s.node i).promise.by ≢ i
+      → IsOngoing (s.node i).list i → slice_get (s.views.line (key (s.node i).promise)) (length (s.node i).list) ≡ Some e
+      → Move s (with_node s i (longer (s.node i) e))
   -- the sequencer's accept front rises: Ack, and each other step that ends with a refresh
-  accepts : {s : Group} (i n : ℕ) → Leads i (s.node i) → MayAccept s.node (s.node i).list (length s.group) n → Move s (record s { group = take n (s.node i).list })
+  accepts : {s : Group} (i n : ℕ) → Leads i (s.node i) → MayAccept s.node (s.node i).list (length s.group) n
+      → Move s (record s { group = take n (s.node i).list })
   -- a node is told how far the list is accepted, and gives out no more than it has: Bcast, Order, Accept, and a sequencer's refresh
-  learns : {s : Group} (i told acc : ℕ) → IsUp (s.node i) → (s.node i).told ≤ told → told ≤ length s.group → ((x : ℕ) → s.views.decided x ≡ true → key (s.node i).promise < x → told ≤ length (s.views.chosen x).before) → (s.node i).acc ≤ acc → acc ≤ told → acc ≤ length (s.node i).list → Move s (with_node s i (record (s.node i) { told = told; acc = acc }))
+  learns : {s : Group} (i told acc : ℕ) → IsUp (s.node i) → (s.node i).told ≤ told → told ≤ length s.group
+      → ((x : ℕ) → s.views.decided x ≡ true → key (s.node i).promise < x → told ≤ length (s.views.chosen x).before) → (s.node i).acc ≤ acc → acc ≤ told
+      → acc ≤ length (s.node i).list → Move s (with_node s i (record (s.node i) { told = told; acc = acc }))
   -- a member that isn't leaving begins a ballot: Reset, HandOver
-  begins : {s : Group} (i : ℕ) → i < 256 → IsUp (s.node i) → (s.node i).leaving ≡ false → mem (s.node i).list i ≡ true → Move s (with_node s i (record (s.node i) { promise = own_stamp i (s.node i); ballot = true }))
+  begins : {s : Group} (i : ℕ) → i < 256 → IsUp (s.node i) → (s.node i).leaving ≡ false → mem (s.node i).list i ≡ true
+      → Move s (with_node s i (record (s.node i) { promise = own_stamp i (s.node i); ballot = true }))
   -- a node promises a greater stamp, which ends its own ballot: Invite, Vote of a greater stamp, Result
-  raises : {s : Group} (i : ℕ) (stamp : Stamp) → IsThere (s.node i) → IsAbove s.node i stamp → Move s (with_node s i (record (s.node i) { promise = stamp; ballot = false }))
+  raises : {s : Group} (i : ℕ) (stamp : Stamp) → IsThere (s.node i) → IsAbove s.node i stamp
+      → Move s (with_node s i (record (s.node i) { promise = stamp; ballot = false }))
   -- a node shows its list to the ballot that it promised: Invite, also one that is answered Newer
-  shows : {s : Group} (i : ℕ) → IsThere (s.node i) → (s.node i).promise.by < 256 → (s.node i).promise.by ≢ i → key (s.node i).promise ≤ key (s.node (s.node i).promise.by).promise → s.shown (key (s.node i).promise) i ≡ None → Move s (record s { shown = put2 s.shown (key (s.node i).promise) i (Some (s.node i).list) })
+  shows : {s : Group} (i : ℕ) → IsThere (s.node i) → (s.node i).promise.by < 256 → (s.node i).promise.by ≢ i
+      → key (s.node i).promise ≤ key (s.node (s.node i).promise.by).promise → s.shown (key (s.node i).promise) i ≡ None
+      → Move s (record s { shown = put2 s.shown (key (s.node i).promise) i (Some (s.node i).list) })
   -- a node sends of the list that it showed, where each of that list's members but the coordinator has voted or isn't there: Fetch
-  serves : {s : Group} (i : ℕ) (list : List Entry) → IsUp (s.node i) → s.shown (key (s.node i).promise) i ≡ Some list → ((j : ℕ) → mem list j ≡ true → IsThere (s.node j) → (j ≡ (s.node i).promise.by) ⊎ ((vote : List Entry) × (s.shown (key (s.node i).promise) j ≡ Some vote))) → Move s (record s { served = put2 s.served (key (s.node i).promise) i true })
+  serves : {s : Group} (i : ℕ) (list : List Entry) → IsUp (s.node i) → s.shown (key (s.node i).promise) i ≡ Some list
+      → ((j : ℕ) → mem list j ≡ true → IsThere (s.node j) → (j ≡ (s.node i).promise.by)
+      ⊎ ((vote : List Entry) × (s.shown (key (s.node i).promise) j ≡ Some vote))) → Move s (record s { served = put2 s.served (key (s.node i).promise) i true })
   -- a coordinator takes the next entry of a list that a voter sent of: a Piece of another name
-  fetches : {s : Group} (i h : ℕ) (list : List Entry) (e : Entry) → IsUp (s.node i) → (s.node i).ballot ≡ true → s.served (key (s.node i).promise) h ≡ true → s.shown (key (s.node i).promise) h ≡ Some list → slice_get list (length (s.node i).list) ≡ Some e → Move s (with_node s i (longer (s.node i) e))
+  fetches : {s : Group} (i h : ℕ) (list : List Entry) (e : Entry) → IsUp (s.node i) → (s.node i).ballot ≡ true → s.served (key (s.node i).promise) h ≡ true
+      → s.shown (key (s.node i).promise) h ≡ Some list → slice_get list (length (s.node i).list) ≡ Some e → Move s (with_node s i (longer (s.node i) e))
   -- a coordinator decides its ballot: Reset, Vote, GiveUp, Piece
   decides : {s : Group} (i : ℕ) (members : List ℕ) (resilience : ℕ) → MayDecide s i members resilience → Move s (with_choice s i members resilience)
   -- a ballot ends without a decision
   gives_over : {s : Group} (i : ℕ) → Move s (with_node s i (record (s.node i) { ballot = false }))
   -- an accepted name gets the list up to some base below its Join: Welcome
-  welcomes : {s : Group} (j : ℕ) (stamp : Stamp) (base join : ℕ) → MayWelcome s j stamp base join → Move s (with_node s j (record (s.node j) { list = take base s.group; has_log = true; start = join; promise = stamp; told = base; acc = base }))
+  welcomes : {s : Group} (j : ℕ) (stamp : Stamp) (base join : ℕ) → MayWelcome s j stamp base join
+      → Move s (with_node s j (record (s.node j) { list = take base s.group; has_log = true; start = join; promise = stamp; told = base; acc = base }))
   -- a member asks to leave: Leave
   asks : {s : Group} (i : ℕ) → IsUp (s.node i) → (s.node i).ballot ≡ false → Move s (with_node s i (record (s.node i) { leaving = true }))
   -- a leaving member goes: Gone
   departs : {s : Group} (i : ℕ) (before : List Entry) → MayDepart s i before → Move s (with_node s i (record (s.node i) { departed = true }))
   -- the only member numbers its own Leave, accepts what it may, and goes: Leave, Tick
-  closes : {s : Group} (i n : ℕ) → Leads i (s.node i) → (s.node i).leaving ≡ true → ((j : ℕ) → mem (s.node i).list j ≡ true → j ≡ i) → MayAccept (put s.node i (longer (s.node i) (Leave i))) ((s.node i).list ++ Leave i ∷ []) (length s.group) n → Move s (record (with_line s i (record (longer (s.node i) (Leave i)) { departed = true })) { group = take n ((s.node i).list ++ Leave i ∷ []) })
+  closes : {s : Group} (i n : ℕ) → Leads i (s.node i) → (s.node i).leaving ≡ true → ((j : ℕ) → mem (s.node i).list j ≡ true → j ≡ i)
+      → MayAccept (put s.node i (longer (s.node i) (Leave i))) ((s.node i).list ++ Leave i ∷ []) (length s.group) n
+      → Move s (record (with_line s i (record (longer (s.node i) (Leave i)) { departed = true })) { group = take n ((s.node i).list ++ Leave i ∷ []) })
   -- a node stops: Stop
   stops : {s : Group} (i : ℕ) → Move s (with_node s i (record (s.node i) { stopped = true }))

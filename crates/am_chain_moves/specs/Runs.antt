@@ -28,11 +28,13 @@ pub record Step (s t : Group) : Type 0 where
 
 -- the names that count for a view: its members, and who joined since
 abbrev pub counts_for : Group → ℕ → ℕ → Bool
-counts_for s view name = has (s.views.chosen view).members name || ((s.node name).has_log && nat_lt (length (opening (s.views.chosen view))) (s.node name).start)
+counts_for s view name = has (s.views.chosen view).members name
+    || ((s.node name).has_log && nat_lt (length (opening (s.views.chosen view))) (s.node name).start)
 
 -- of the names that count for the greatest complete view, no more are stopped undeparted than its resilience
 abbrev pub IsLawful : Group → Type 0
-IsLawful s = (view : ℕ) → s.views.complete view ≡ true → ((x : ℕ) → s.views.complete x ≡ true → x ≤ view) → how_many (λ name. counts_for s view name && ((s.node name).stopped && not (s.node name).departed)) ≤ (s.views.chosen view).resilience
+IsLawful s = (view : ℕ) → s.views.complete view ≡ true → ((x : ℕ) → s.views.complete x ≡ true → x ≤ view)
+    → how_many (λ name. counts_for s view name && ((s.node name).stopped && not (s.node name).departed)) ≤ (s.views.chosen view).resilience
 
 -- how a group begins: its founders have their View, by one of them
 pub record MayBegin (founders : List ℕ) (first resilience : ℕ) : Type 0 where

@@ -102,22 +102,30 @@ within_total n least most low high = and_from (nat_le least n) (nat_le n most) (
 
 total_fits : (packet : Packet) → HasParts packet → is_total (kind_for packet) (12 + length (fields_of packet)) ≡ true
 unfolding HasParts fields_of
-total_fits (packets.Request sender stamp report req body) parts = within_total (12 + length (fields_of (packets.Request sender stamp report req body))) 24 1048 (omega arith) (omega (arith, parts))
-total_fits (packets.Spread sender stamp report req body) parts = within_total (12 + length (fields_of (packets.Spread sender stamp report req body))) 24 1048 (omega arith) (omega (arith, parts))
-total_fits (packets.Bcast sender stamp base acc number entry) parts = within_total (12 + length (fields_of (packets.Bcast sender stamp base acc number entry))) 25 65535 (omega (arith, entry_some entry)) (omega (arith, entry_short entry parts))
+total_fits (packets.Request sender stamp report req body) parts =
+    within_total (12 + length (fields_of (packets.Request sender stamp report req body))) 24 1048 (omega arith) (omega (arith, parts))
+total_fits (packets.Spread sender stamp report req body) parts =
+    within_total (12 + length (fields_of (packets.Spread sender stamp report req body))) 24 1048 (omega arith) (omega (arith, parts))
+total_fits (packets.Bcast sender stamp base acc number entry) parts =
+    within_total (12 + length (fields_of (packets.Bcast sender stamp base acc number entry))) 25 65535 (omega (arith, entry_some entry))
+    (omega (arith, entry_short entry parts))
 total_fits (packets.Order sender stamp base acc number from req) parts = refl
 total_fits (packets.Accept sender stamp base acc top poll) parts = refl
 total_fits (packets.Ack sender stamp report) parts = refl
 total_fits (packets.Nack sender stamp report) parts = refl
 total_fits (packets.Hold sender stamp base top req) parts = refl
 total_fits (packets.JoinAsk sender stamp) parts = refl
-total_fits (packets.Welcome sender stamp base join image) parts = within_total (12 + length (fields_of (packets.Welcome sender stamp base join image))) 238 238 (omega (arith, length-rows_bytes image.rows, parts)) (omega (arith, length-rows_bytes image.rows, parts))
+total_fits (packets.Welcome sender stamp base join image) parts =
+    within_total (12 + length (fields_of (packets.Welcome sender stamp base join image))) 238 238 (omega (arith, length-rows_bytes image.rows, parts))
+    (omega (arith, length-rows_bytes image.rows, parts))
 total_fits (packets.LeaveAsk sender stamp report) parts = refl
 total_fits (packets.Gone sender stamp number) parts = refl
 total_fits (packets.Invite sender stamp) parts = refl
 total_fits (packets.Vote sender stamp vote) parts = refl
 total_fits (packets.Fetch sender stamp stored) parts = refl
-total_fits (packets.Piece sender stamp base number entry) parts = within_total (12 + length (fields_of (packets.Piece sender stamp base number entry))) 21 65535 (omega (arith, entry_some entry)) (omega (arith, entry_short entry parts))
+total_fits (packets.Piece sender stamp base number entry) parts =
+    within_total (12 + length (fields_of (packets.Piece sender stamp base number entry))) 21 65535 (omega (arith, entry_some entry))
+    (omega (arith, entry_short entry parts))
 total_fits (packets.Result sender stamp base number members resilience) parts = refl
 total_fits (packets.HandOver sender stamp) parts = refl
 
@@ -144,7 +152,8 @@ fields_short (packets.HandOver sender stamp) parts = omega arith
 
 -- ---- the fields of each kind
 
-packet_again : (packet : Packet) (bytes : List ℕ) → drop 12 bytes ≡ fields_of packet → length bytes ≡ 12 + length (fields_of packet) → IsWithin packet → HasParts packet
+packet_again : (packet : Packet) (bytes : List ℕ) → drop 12 bytes ≡ fields_of packet → length bytes ≡ 12 + length (fields_of packet) → IsWithin packet
+    → HasParts packet
     → packet_at (kind_for packet) (sender_of packet) (stamp_of packet) bytes ≡ Ok packet
 unfolding packet_at fields_of IsWithin HasParts
 packet_again (packets.Request sender stamp report req body) bytes h long within parts =

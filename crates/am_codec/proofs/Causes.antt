@@ -20,7 +20,8 @@ Tells (Err (BadLength said found)) bytes = HasKind bytes × (total_in bytes ≡ 
 Tells (Err (BadField at)) bytes = HasTotal bytes × (wrong_in (kind_at (kind_in bytes)) bytes ≡ Some at)
 Tells (Ok packet) bytes = HasTotal bytes
 
-fields_tell : (r : Read Packet) (kind : Kind) (bytes : List ℕ) → HasTotal bytes → kind_at (kind_in bytes) ≡ Some kind → Fails r (packet_fields kind bytes) → Tells r bytes
+fields_tell : (r : Read Packet) (kind : Kind) (bytes : List ℕ) → HasTotal bytes → kind_at (kind_in bytes) ≡ Some kind → Fails r (packet_fields kind bytes)
+    → Tells r bytes
 fields_tell (Ok packet) kind bytes has is fails = has
 fields_tell (Err e) kind bytes has is fails =
     let wrong : wrong_in (kind_at (kind_in bytes)) bytes ≡ Some fails.0 = rw is fails.2 in
@@ -35,23 +36,27 @@ kind_tells (Some kind) bytes is has =
     (λ same. fields_tell (fields_at kind bytes) kind bytes ((has, some), eqb-true _ _ same) is (packet_fails kind bytes))
     (λ other. ((has, some), refl, refl, eqb-false _ _ other))
 
-version_tells : (bytes : List ℕ) → HasMark bytes → Tells (cond (not (eqb (version_in bytes) 3)) (Err (BadVersion (version_in bytes))) (of_kind_at (kind_at (kind_in bytes)) bytes)) bytes
+version_tells : (bytes : List ℕ) → HasMark bytes → Tells (cond (not (eqb (version_in bytes) 3)) (Err (BadVersion (version_in bytes)))
+    (of_kind_at (kind_at (kind_in bytes)) bytes)) bytes
 version_tells bytes has =
     cond_both (not (eqb (version_in bytes) 3)) (Err (BadVersion (version_in bytes))) (of_kind_at (kind_at (kind_in bytes)) bytes) (λ r. Tells r bytes)
     (λ other. (has, refl, eqb-false _ _ (not-true (eqb (version_in bytes) 3) other)))
     (λ same. kind_tells (kind_at (kind_in bytes)) bytes refl (has, eqb-true _ _ (not-false (eqb (version_in bytes) 3) same)))
 
 mark_tells : (bytes : List ℕ) → 12 ≤ length bytes
-    → Tells (cond (not (has_mark bytes)) (Err BadMark) (cond (not (eqb (version_in bytes) 3)) (Err (BadVersion (version_in bytes))) (of_kind_at (kind_at (kind_in bytes)) bytes))) bytes
+    → Tells (cond (not (has_mark bytes)) (Err BadMark) (cond (not (eqb (version_in bytes) 3)) (Err (BadVersion (version_in bytes)))
+    (of_kind_at (kind_at (kind_in bytes)) bytes))) bytes
 mark_tells bytes long =
-    cond_both (not (has_mark bytes)) (Err BadMark) (cond (not (eqb (version_in bytes) 3)) (Err (BadVersion (version_in bytes))) (of_kind_at (kind_at (kind_in bytes)) bytes)) (λ r. Tells r bytes)
+    cond_both (not (has_mark bytes)) (Err BadMark) (cond (not (eqb (version_in bytes) 3)) (Err (BadVersion (version_in bytes)))
+    (of_kind_at (kind_at (kind_in bytes)) bytes)) (λ r. Tells r bytes)
     (λ none. (long, not-true (has_mark bytes) none))
     (λ some. version_tells bytes (long, not-false (has_mark bytes) some))
 
 pub tells : (bytes : List ℕ) → Tells (reading bytes) bytes
 unfolding reading
 tells bytes =
-    cond_both (ltb (length bytes) 12) (Err Short) (cond (not (has_mark bytes)) (Err BadMark) (cond (not (eqb (version_in bytes) 3)) (Err (BadVersion (version_in bytes))) (of_kind_at (kind_at (kind_in bytes)) bytes))) (λ r. Tells r bytes)
+    cond_both (ltb (length bytes) 12) (Err Short) (cond (not (has_mark bytes)) (Err BadMark)
+    (cond (not (eqb (version_in bytes) 3)) (Err (BadVersion (version_in bytes))) (of_kind_at (kind_at (kind_in bytes)) bytes))) (λ r. Tells r bytes)
     (λ short. ltb-true _ _ short)
     (λ long. mark_tells bytes (ltb-false _ _ long))
 
@@ -84,7 +89,8 @@ pub some_kind : (o : Option Kind) → o ≢ None → (kind : Kind) × (o ≡ Som
 some_kind None h = absurd (h refl)
 some_kind (Some kind) h = (kind, refl)
 
-pub is_long : (bytes : List ℕ) (said found : ℕ) → HasKind bytes → total_in bytes ≡ said → found_in bytes ≡ found → said ≢ length bytes → reading bytes ≡ Err (BadLength said found)
+pub is_long : (bytes : List ℕ) (said found : ℕ) → HasKind bytes → total_in bytes ≡ said → found_in bytes ≡ found → said ≢ length bytes
+    → reading bytes ≡ Err (BadLength said found)
 unfolding of_kind_at
 is_long bytes said found has is count other =
     let kind = some_kind (kind_at (kind_in bytes)) has.1 in
@@ -105,4 +111,5 @@ headed bytes kind has is = marked bytes has.0.0 ∙ rw (is, eq-eqb _ _ has.1) re
 pub is_wrong : (bytes : List ℕ) (at : ℕ) → HasTotal bytes → wrong_in (kind_at (kind_in bytes)) bytes ≡ Some at → reading bytes ≡ Err (BadField at)
 is_wrong bytes at has wrong =
     let kind = some_kind (kind_at (kind_in bytes)) has.0.1 in
-    headed bytes kind.0 has kind.1 ∙ wrong_is (fields_at kind.0 bytes) (packet_fields kind.0 bytes) at (packet_fails kind.0 bytes) (subst (λ o. wrong_in o bytes ≡ Some at) kind.1 wrong)
+    headed bytes kind.0 has kind.1 ∙ wrong_is (fields_at kind.0 bytes) (packet_fields kind.0 bytes) at (packet_fails kind.0 bytes)
+    (subst (λ o. wrong_in o bytes ≡ Some at) kind.1 wrong)

@@ -1,5 +1,6 @@
 -- A field is refused exactly where it is the first wrong one.
-use Rattle.std.proofs.Common.{◌≡◌, ℕ, zero, suc, ◌+◌, ◌&&◌, ◌||◌, not, Bool, true, false, cond, eqb, leb, List, [], ◌∷◌, ◌++◌, length, drop, slice_index, Some, None, Ok, Err, refl, ◌∙◌}
+use Rattle.std.proofs.Common.{◌≡◌, ℕ, zero, suc, ◌+◌, ◌&&◌, ◌||◌, not, Bool, true, false, cond, eqb, leb, List, [], ◌∷◌, ◌++◌, length, drop, slice_index, Some}
+use Rattle.std.proofs.Common.{None, Ok, Err, refl, ◌∙◌}
 use Rattle.byteorder.specs.Endian.{big_number}
 use Rattle.am_base.specs.declared.name.Stamp.{Stamp}
 use Rattle.am_base.specs.declared.entry.Entry.TheVariants.{Data, View}
@@ -8,8 +9,10 @@ use Rattle.am_codec.specs.declared.refusal.PacketRefusal.TheVariants.{BadField}
 use Rattle.am_codec.specs.declared.kind.Kind.{Kind}
 use Rattle.am_codec.specs.declared.kind.Kind.TheVariants as kinds
 use Rattle.am_codec.specs.Kinds.{is_total}
-use Rattle.am_codec.specs.Reading.{Read, ◌>>=◌, number_at, report_at, stamp_at, set_at, resilience_at, flag_at, life_at, row_at, rows_at, image_at, vote_at, entry_at, data_at, join_at, leave_at, view_at, view_fields_at, packet_at, fields_at}
-use Rattle.am_codec.specs.Faults.{Field, field, first_wrong, number_field, report_fields, set_field, resilience_field, flag_field, is_life, life_field, row_fields, rows_fields, image_fields, vote_fields, entry_fields, kind_fields, packet_fields}
+use Rattle.am_codec.specs.Reading.{Read, ◌>>=◌, number_at, report_at, stamp_at, set_at, resilience_at, flag_at, life_at, row_at, rows_at, image_at, vote_at}
+use Rattle.am_codec.specs.Reading.{entry_at, data_at, join_at, leave_at, view_at, view_fields_at, packet_at, fields_at}
+use Rattle.am_codec.specs.Faults.{Field, field, first_wrong, number_field, report_fields, set_field, resilience_field, flag_field, is_life, life_field}
+use Rattle.am_codec.specs.Faults.{row_fields, rows_fields, image_fields, vote_fields, entry_fields, kind_fields, packet_fields}
 use Rattle.am_codec.proofs.Fields.{passed, ok_is}
 
 -- reading fails exactly as its fields do
@@ -18,11 +21,13 @@ Fails (Ok x) fs = first_wrong fs ≡ None
 Fails (Err e) fs = (at : ℕ) × (e ≡ BadField at) × (first_wrong fs ≡ Some at)
 
 -- the first wrong field of two lists
-none_after : (right : Bool) (at : ℕ) (fs gs : List Field) → cond right (first_wrong fs) (Some at) ≡ None → (first_wrong fs ≡ None → first_wrong (fs ++ gs) ≡ first_wrong gs) → cond right (first_wrong (fs ++ gs)) (Some at) ≡ first_wrong gs
+none_after : (right : Bool) (at : ℕ) (fs gs : List Field) → cond right (first_wrong fs) (Some at) ≡ None
+    → (first_wrong fs ≡ None → first_wrong (fs ++ gs) ≡ first_wrong gs) → cond right (first_wrong (fs ++ gs)) (Some at) ≡ first_wrong gs
 none_after true at fs gs e h = h e
 none_after false at fs gs e h = absurd cc
 
-some_after : (right : Bool) (first at : ℕ) (fs gs : List Field) → cond right (first_wrong fs) (Some first) ≡ Some at → (first_wrong fs ≡ Some at → first_wrong (fs ++ gs) ≡ Some at) → cond right (first_wrong (fs ++ gs)) (Some first) ≡ Some at
+some_after : (right : Bool) (first at : ℕ) (fs gs : List Field) → cond right (first_wrong fs) (Some first) ≡ Some at
+    → (first_wrong fs ≡ Some at → first_wrong (fs ++ gs) ≡ Some at) → cond right (first_wrong (fs ++ gs)) (Some first) ≡ Some at
 some_after true first at fs gs e h = h e
 some_after false first at fs gs e h = e
 
@@ -38,7 +43,8 @@ after_none : {A : Type 0} (r : Read A) (fs gs : List Field) → first_wrong fs �
 after_none (Ok x) fs gs first second = none_then fs gs first ∙ second
 after_none (Err e) fs gs first second = (second.0, second.1, none_then fs gs first ∙ second.2)
 
-pub in_turn : {A B : Type 0} (r : Read A) (f : A → Read B) (fs gs : List Field) → Fails r fs → ((x : A) → r ≡ Ok x → Fails (f x) gs) → Fails (r >>= f) (fs ++ gs)
+pub in_turn : {A B : Type 0} (r : Read A) (f : A → Read B) (fs gs : List Field) → Fails r fs → ((x : A) → r ≡ Ok x → Fails (f x) gs)
+    → Fails (r >>= f) (fs ++ gs)
 in_turn (Ok x) f fs gs first second = after_none (f x) fs gs first (second x refl)
 in_turn (Err e) f fs gs first second = (first.0, first.1, some_then fs gs first.0 first.2)
 
@@ -72,7 +78,8 @@ number_is bytes at n read = ok_is _ n (passed _ (Ok (big_number 4 (drop at bytes
 report_fails : (bytes : List ℕ) (at : ℕ) → Fails (report_at bytes at) (report_fields bytes at)
 unfolding report_at
 report_fails bytes at =
-    in_turn (number_at bytes at) (λ stored. number_at bytes (at + 4) >>= λ taken. Ok (record { stored = stored; taken = taken })) (number_field bytes at ∷ []) _ (number_fails bytes at) (λ stored stored-is.
+    in_turn (number_at bytes at) (λ stored. number_at bytes (at + 4) >>= λ taken. Ok (record { stored = stored; taken = taken })) (number_field bytes at ∷ []) _
+    (number_fails bytes at) (λ stored stored-is.
     last (number_at bytes (at + 4)) (λ taken. record { stored = stored; taken = taken }) (number_field bytes (at + 4) ∷ []) (number_fails bytes (at + 4)))
 
 stamp_fails : (bytes : List ℕ) (at : ℕ) → Fails (stamp_at bytes at) (number_field bytes at ∷ [])
@@ -97,7 +104,8 @@ flag_fails : (bytes : List ℕ) (at : ℕ) → Fails (flag_at bytes at) (flag_fi
 unfolding flag_at
 flag_fails bytes at = a_flag (eqb (slice_index bytes at) 0) (eqb (slice_index bytes at) 1) at
 
-a_life : (within a b : Bool) (at life : ℕ) → Fails (cond within (cond a (cond b (Ok life) (Err (BadField at))) (cond b (Err (BadField at)) (Ok life))) (Err (BadField at))) (field at (within && cond a b (not b)) ∷ [])
+a_life : (within a b : Bool) (at life : ℕ) → Fails (cond within (cond a (cond b (Ok life) (Err (BadField at))) (cond b (Err (BadField at)) (Ok life)))
+    (Err (BadField at))) (field at (within && cond a b (not b)) ∷ [])
 a_life true true true at life = refl
 a_life true true false at life = (at, refl, refl)
 a_life true false true at life = (at, refl, refl)
@@ -114,80 +122,121 @@ life_fails_there bytes at joined read = rw (number_is bytes (at + 1) joined read
 row_fails : (bytes : List ℕ) (at : ℕ) → Fails (row_at bytes at) (row_fields bytes at)
 unfolding row_at
 row_fails bytes at =
-    in_turn (number_at bytes (at + 1)) (λ joined. life_at bytes at joined >>= λ life. number_at bytes (at + 5) >>= λ left. number_at bytes (at + 9) >>= λ last-one. Ok (record { life = life; joined = joined; left = left; last = last-one })) (number_field bytes (at + 1) ∷ []) _ (number_fails bytes (at + 1)) (λ joined joined-is.
-    in_turn (life_at bytes at joined) (λ life. number_at bytes (at + 5) >>= λ left. number_at bytes (at + 9) >>= λ last-one. Ok (record { life = life; joined = joined; left = left; last = last-one })) (life_field bytes at ∷ []) _ (life_fails_there bytes at joined joined-is) (λ life life-is.
-    in_turn (number_at bytes (at + 5)) (λ left. number_at bytes (at + 9) >>= λ last-one. Ok (record { life = life; joined = joined; left = left; last = last-one })) (number_field bytes (at + 5) ∷ []) _ (number_fails bytes (at + 5)) (λ left left-is.
-    last (number_at bytes (at + 9)) (λ last-one. record { life = life; joined = joined; left = left; last = last-one }) (number_field bytes (at + 9) ∷ []) (number_fails bytes (at + 9)))))
+    in_turn (number_at bytes (at + 1)) (λ joined. life_at bytes at joined >>= λ life. number_at bytes (at + 5) >>= λ left. number_at bytes (at + 9) >>=
+    λ last-one. Ok (record { life = life; joined = joined; left = left; last = last-one })) (number_field bytes (at + 1) ∷ []) _
+    (number_fails bytes (at + 1)) (λ joined joined-is.
+    in_turn (life_at bytes at joined) (λ life. number_at bytes (at + 5) >>= λ left. number_at bytes (at + 9) >>= λ last-one. Ok
+    (record { life = life; joined = joined; left = left; last = last-one })) (life_field bytes at ∷ []) _ (life_fails_there bytes at joined joined-is)
+    (λ life life-is.
+    in_turn (number_at bytes (at + 5)) (λ left. number_at bytes (at + 9) >>= λ last-one. Ok
+    (record { life = life; joined = joined; left = left; last = last-one })) (number_field bytes (at + 5) ∷ []) _ (number_fails bytes (at + 5))
+    (λ left left-is.
+    last (number_at bytes (at + 9)) (λ last-one. record { life = life; joined = joined; left = left; last = last-one }) (number_field bytes (at + 9) ∷ [])
+    (number_fails bytes (at + 9)))))
 
 rows_fail : (more : ℕ) (bytes : List ℕ) (at : ℕ) → Fails (rows_at more bytes at) (rows_fields more bytes at)
 unfolding rows_at rows_fields
 rows_fail zero bytes at = refl
 rows_fail (suc more) bytes at =
-    in_turn (row_at bytes at) (λ row. rows_at more bytes (at + 13) >>= λ rows. Ok (row ∷ rows)) (row_fields bytes at) (rows_fields more bytes (at + 13)) (row_fails bytes at) (λ row row-is.
+    in_turn (row_at bytes at) (λ row. rows_at more bytes (at + 13) >>= λ rows. Ok (row ∷ rows)) (row_fields bytes at) (rows_fields more bytes (at + 13))
+    (row_fails bytes at) (λ row row-is.
     last (rows_at more bytes (at + 13)) (λ rows. row ∷ rows) (rows_fields more bytes (at + 13)) (rows_fail more bytes (at + 13)))
 
 image_fails : (bytes : List ℕ) (at : ℕ) → Fails (image_at bytes at) (image_fields bytes at)
 unfolding image_at
 image_fails bytes at =
-    in_turn (stamp_at bytes at) (λ view. number_at bytes (at + 5) >>= λ view_number. resilience_at bytes (at + 9) >>= λ resilience. rows_at 16 bytes (at + 10) >>= λ rows. Ok (record { view = view; view_number = view_number; resilience = resilience; rows = rows })) (number_field bytes at ∷ []) _ (stamp_fails bytes at) (λ view view-is.
-    in_turn (number_at bytes (at + 5)) (λ view_number. resilience_at bytes (at + 9) >>= λ resilience. rows_at 16 bytes (at + 10) >>= λ rows. Ok (record { view = view; view_number = view_number; resilience = resilience; rows = rows })) (number_field bytes (at + 5) ∷ []) _ (number_fails bytes (at + 5)) (λ view_number view_number-is.
-    in_turn (resilience_at bytes (at + 9)) (λ resilience. rows_at 16 bytes (at + 10) >>= λ rows. Ok (record { view = view; view_number = view_number; resilience = resilience; rows = rows })) (resilience_field bytes (at + 9) ∷ []) _ (resilience_fails bytes (at + 9)) (λ resilience resilience-is.
-    last (rows_at 16 bytes (at + 10)) (λ rows. record { view = view; view_number = view_number; resilience = resilience; rows = rows }) (rows_fields 16 bytes (at + 10)) (rows_fail 16 bytes (at + 10)))))
+    in_turn (stamp_at bytes at) (λ view. number_at bytes (at + 5) >>= λ view_number. resilience_at bytes (at + 9) >>= λ resilience. rows_at 16 bytes
+    (at + 10) >>= λ rows. Ok (record { view = view; view_number = view_number; resilience = resilience; rows = rows })) (number_field bytes at ∷ []) _
+    (stamp_fails bytes at) (λ view view-is.
+    in_turn (number_at bytes (at + 5)) (λ view_number. resilience_at bytes (at + 9) >>= λ resilience. rows_at 16 bytes (at + 10) >>= λ rows. Ok
+    (record { view = view; view_number = view_number; resilience = resilience; rows = rows })) (number_field bytes (at + 5) ∷ []) _
+    (number_fails bytes (at + 5)) (λ view_number view_number-is.
+    in_turn (resilience_at bytes (at + 9)) (λ resilience. rows_at 16 bytes (at + 10) >>= λ rows. Ok
+    (record { view = view; view_number = view_number; resilience = resilience; rows = rows })) (resilience_field bytes (at + 9) ∷ []) _
+    (resilience_fails bytes (at + 9)) (λ resilience resilience-is.
+    last (rows_at 16 bytes (at + 10)) (λ rows. record { view = view; view_number = view_number; resilience = resilience; rows = rows })
+    (rows_fields 16 bytes (at + 10)) (rows_fail 16 bytes (at + 10)))))
 
 vote_fails : (bytes : List ℕ) (at : ℕ) → Fails (vote_at bytes at) (vote_fields bytes at)
 unfolding vote_at
 vote_fails bytes at =
-    in_turn (stamp_at bytes at) (λ view. number_at bytes (at + 5) >>= λ top. number_at bytes (at + 9) >>= λ taken. set_at bytes (at + 13) >>= λ members. Ok (record { view = view; top = top; taken = taken; members = members })) (number_field bytes at ∷ []) _ (stamp_fails bytes at) (λ view view-is.
-    in_turn (number_at bytes (at + 5)) (λ top. number_at bytes (at + 9) >>= λ taken. set_at bytes (at + 13) >>= λ members. Ok (record { view = view; top = top; taken = taken; members = members })) (number_field bytes (at + 5) ∷ []) _ (number_fails bytes (at + 5)) (λ top top-is.
-    in_turn (number_at bytes (at + 9)) (λ taken. set_at bytes (at + 13) >>= λ members. Ok (record { view = view; top = top; taken = taken; members = members })) (number_field bytes (at + 9) ∷ []) _ (number_fails bytes (at + 9)) (λ taken taken-is.
-    last (set_at bytes (at + 13)) (λ members. record { view = view; top = top; taken = taken; members = members }) (set_field bytes (at + 13) ∷ []) (set_fails bytes (at + 13)))))
+    in_turn (stamp_at bytes at) (λ view. number_at bytes (at + 5) >>= λ top. number_at bytes (at + 9) >>= λ taken. set_at bytes (at + 13) >>= λ members. Ok
+    (record { view = view; top = top; taken = taken; members = members })) (number_field bytes at ∷ []) _ (stamp_fails bytes at) (λ view view-is.
+    in_turn (number_at bytes (at + 5)) (λ top. number_at bytes (at + 9) >>= λ taken. set_at bytes (at + 13) >>= λ members. Ok
+    (record { view = view; top = top; taken = taken; members = members })) (number_field bytes (at + 5) ∷ []) _ (number_fails bytes (at + 5)) (λ top top-is.
+    in_turn (number_at bytes (at + 9)) (λ taken. set_at bytes (at + 13) >>= λ members. Ok (record { view = view; top = top; taken = taken; members = members }))
+    (number_field bytes (at + 9) ∷ []) _ (number_fails bytes (at + 9)) (λ taken taken-is.
+    last (set_at bytes (at + 13)) (λ members. record { view = view; top = top; taken = taken; members = members }) (set_field bytes (at + 13) ∷ [])
+    (set_fails bytes (at + 13)))))
 
 entry_fails : (bytes : List ℕ) (at : ℕ) → Fails (entry_at bytes at) (entry_fields bytes at)
 unfolding entry_at data_at join_at leave_at view_at view_fields_at
 entry_fails bytes at =
-    either (eqb (slice_index bytes at) 1) _ _ _ _ (guarded _ 10 _ _ (last (number_at bytes (at + 2)) (λ req. Data (slice_index bytes (at + 1)) req (drop (at + 6) bytes)) (number_field bytes (at + 2) ∷ []) (number_fails bytes (at + 2))))
+    either (eqb (slice_index bytes at) 1) _ _ _ _ (guarded _ 10 _ _
+    (last (number_at bytes (at + 2)) (λ req. Data (slice_index bytes (at + 1)) req (drop (at + 6) bytes)) (number_field bytes (at + 2) ∷ [])
+    (number_fails bytes (at + 2))))
     (either (eqb (slice_index bytes at) 2) _ _ _ _ (one _ 10 _)
     (either (eqb (slice_index bytes at) 3) _ _ _ _ (one _ 10 _)
-    (either (eqb (slice_index bytes at) 4) _ _ _ _ (guarded _ 10 _ _ (in_turn (stamp_at bytes (at + 1)) (λ stamp. set_at bytes (at + 6) >>= λ members. resilience_at bytes (at + 16) >>= λ resilience. Ok (View stamp members resilience)) (number_field bytes (at + 1) ∷ []) _ (stamp_fails bytes (at + 1)) (λ stamp stamp-is.
-    in_turn (set_at bytes (at + 6)) (λ members. resilience_at bytes (at + 16) >>= λ resilience. Ok (View stamp members resilience)) (set_field bytes (at + 6) ∷ []) _ (set_fails bytes (at + 6)) (λ members members-is.
-    last (resilience_at bytes (at + 16)) (λ resilience. View stamp members resilience) (resilience_field bytes (at + 16) ∷ []) (resilience_fails bytes (at + 16))))))
+    (either (eqb (slice_index bytes at) 4) _ _ _ _ (guarded _ 10 _ _
+    (in_turn (stamp_at bytes (at + 1)) (λ stamp. set_at bytes (at + 6) >>= λ members. resilience_at bytes (at + 16) >>= λ resilience. Ok
+    (View stamp members resilience)) (number_field bytes (at + 1) ∷ []) _ (stamp_fails bytes (at + 1)) (λ stamp stamp-is.
+    in_turn (set_at bytes (at + 6)) (λ members. resilience_at bytes (at + 16) >>= λ resilience. Ok (View stamp members resilience)) (set_field bytes (at + 6)
+    ∷ []) _ (set_fails bytes (at + 6)) (λ members members-is.
+    last (resilience_at bytes (at + 16)) (λ resilience. View stamp members resilience) (resilience_field bytes (at + 16) ∷ [])
+    (resilience_fails bytes (at + 16))))))
     (at, refl, refl))))
 
 kind_fails : (kind : Kind) (sender : ℕ) (stamp : Stamp) (bytes : List ℕ) → Fails (packet_at kind sender stamp bytes) (kind_fields kind bytes)
 unfolding packet_at kind_fields
 kind_fails kinds.Request sender stamp bytes =
-    in_turn (report_at bytes 12) (λ report. number_at bytes 20 >>= λ req. Ok (packets.Request sender stamp report req (drop 24 bytes))) (report_fields bytes 12) _ (report_fails bytes 12) (λ report report-is.
+    in_turn (report_at bytes 12) (λ report. number_at bytes 20 >>= λ req. Ok (packets.Request sender stamp report req (drop 24 bytes)))
+    (report_fields bytes 12) _ (report_fails bytes 12) (λ report report-is.
     last (number_at bytes 20) (λ req. packets.Request sender stamp report req (drop 24 bytes)) (number_field bytes 20 ∷ []) (number_fails bytes 20))
 kind_fails kinds.Spread sender stamp bytes =
-    in_turn (report_at bytes 12) (λ report. number_at bytes 20 >>= λ req. Ok (packets.Spread sender stamp report req (drop 24 bytes))) (report_fields bytes 12) _ (report_fails bytes 12) (λ report report-is.
+    in_turn (report_at bytes 12) (λ report. number_at bytes 20 >>= λ req. Ok (packets.Spread sender stamp report req (drop 24 bytes)))
+    (report_fields bytes 12) _ (report_fails bytes 12) (λ report report-is.
     last (number_at bytes 20) (λ req. packets.Spread sender stamp report req (drop 24 bytes)) (number_field bytes 20 ∷ []) (number_fails bytes 20))
 kind_fails kinds.Bcast sender stamp bytes =
-    in_turn (number_at bytes 12) (λ base. number_at bytes 16 >>= λ acc. number_at bytes 20 >>= λ number. entry_at bytes 24 >>= λ entry. Ok (packets.Bcast sender stamp base acc number entry)) (number_field bytes 12 ∷ []) _ (number_fails bytes 12) (λ base base-is.
-    in_turn (number_at bytes 16) (λ acc. number_at bytes 20 >>= λ number. entry_at bytes 24 >>= λ entry. Ok (packets.Bcast sender stamp base acc number entry)) (number_field bytes 16 ∷ []) _ (number_fails bytes 16) (λ acc acc-is.
-    in_turn (number_at bytes 20) (λ number. entry_at bytes 24 >>= λ entry. Ok (packets.Bcast sender stamp base acc number entry)) (number_field bytes 20 ∷ []) _ (number_fails bytes 20) (λ number number-is.
+    in_turn (number_at bytes 12) (λ base. number_at bytes 16 >>= λ acc. number_at bytes 20 >>= λ number. entry_at bytes 24 >>= λ entry. Ok
+    (packets.Bcast sender stamp base acc number entry)) (number_field bytes 12 ∷ []) _ (number_fails bytes 12) (λ base base-is.
+    in_turn (number_at bytes 16) (λ acc. number_at bytes 20 >>= λ number. entry_at bytes 24 >>= λ entry. Ok (packets.Bcast sender stamp base acc number entry))
+    (number_field bytes 16 ∷ []) _ (number_fails bytes 16) (λ acc acc-is.
+    in_turn (number_at bytes 20) (λ number. entry_at bytes 24 >>= λ entry. Ok (packets.Bcast sender stamp base acc number entry)) (number_field bytes 20 ∷ []) _
+    (number_fails bytes 20) (λ number number-is.
     last (entry_at bytes 24) (λ entry. packets.Bcast sender stamp base acc number entry) (entry_fields bytes 24) (entry_fails bytes 24))))
 kind_fails kinds.Order sender stamp bytes =
-    in_turn (number_at bytes 12) (λ base. number_at bytes 16 >>= λ acc. number_at bytes 20 >>= λ number. number_at bytes 25 >>= λ req. Ok (packets.Order sender stamp base acc number (slice_index bytes 24) req)) (number_field bytes 12 ∷ []) _ (number_fails bytes 12) (λ base base-is.
-    in_turn (number_at bytes 16) (λ acc. number_at bytes 20 >>= λ number. number_at bytes 25 >>= λ req. Ok (packets.Order sender stamp base acc number (slice_index bytes 24) req)) (number_field bytes 16 ∷ []) _ (number_fails bytes 16) (λ acc acc-is.
-    in_turn (number_at bytes 20) (λ number. number_at bytes 25 >>= λ req. Ok (packets.Order sender stamp base acc number (slice_index bytes 24) req)) (number_field bytes 20 ∷ []) _ (number_fails bytes 20) (λ number number-is.
-    last (number_at bytes 25) (λ req. packets.Order sender stamp base acc number (slice_index bytes 24) req) (number_field bytes 25 ∷ []) (number_fails bytes 25))))
+    in_turn (number_at bytes 12) (λ base. number_at bytes 16 >>= λ acc. number_at bytes 20 >>= λ number. number_at bytes 25 >>= λ req. Ok
+    (packets.Order sender stamp base acc number (slice_index bytes 24) req)) (number_field bytes 12 ∷ []) _ (number_fails bytes 12) (λ base base-is.
+    in_turn (number_at bytes 16) (λ acc. number_at bytes 20 >>= λ number. number_at bytes 25 >>= λ req. Ok
+    (packets.Order sender stamp base acc number (slice_index bytes 24) req)) (number_field bytes 16 ∷ []) _ (number_fails bytes 16) (λ acc acc-is.
+    in_turn (number_at bytes 20) (λ number. number_at bytes 25 >>= λ req. Ok (packets.Order sender stamp base acc number (slice_index bytes 24) req))
+    (number_field bytes 20 ∷ []) _ (number_fails bytes 20) (λ number number-is.
+    last (number_at bytes 25) (λ req. packets.Order sender stamp base acc number (slice_index bytes 24) req) (number_field bytes 25 ∷ [])
+    (number_fails bytes 25))))
 kind_fails kinds.Accept sender stamp bytes =
-    in_turn (number_at bytes 12) (λ base. number_at bytes 16 >>= λ acc. number_at bytes 20 >>= λ top. flag_at bytes 24 >>= λ poll. Ok (packets.Accept sender stamp base acc top poll)) (number_field bytes 12 ∷ []) _ (number_fails bytes 12) (λ base base-is.
-    in_turn (number_at bytes 16) (λ acc. number_at bytes 20 >>= λ top. flag_at bytes 24 >>= λ poll. Ok (packets.Accept sender stamp base acc top poll)) (number_field bytes 16 ∷ []) _ (number_fails bytes 16) (λ acc acc-is.
-    in_turn (number_at bytes 20) (λ top. flag_at bytes 24 >>= λ poll. Ok (packets.Accept sender stamp base acc top poll)) (number_field bytes 20 ∷ []) _ (number_fails bytes 20) (λ top top-is.
+    in_turn (number_at bytes 12) (λ base. number_at bytes 16 >>= λ acc. number_at bytes 20 >>= λ top. flag_at bytes 24 >>= λ poll. Ok
+    (packets.Accept sender stamp base acc top poll)) (number_field bytes 12 ∷ []) _ (number_fails bytes 12) (λ base base-is.
+    in_turn (number_at bytes 16) (λ acc. number_at bytes 20 >>= λ top. flag_at bytes 24 >>= λ poll. Ok (packets.Accept sender stamp base acc top poll))
+    (number_field bytes 16 ∷ []) _ (number_fails bytes 16) (λ acc acc-is.
+    in_turn (number_at bytes 20) (λ top. flag_at bytes 24 >>= λ poll. Ok (packets.Accept sender stamp base acc top poll)) (number_field bytes 20 ∷ []) _
+    (number_fails bytes 20) (λ top top-is.
     last (flag_at bytes 24) (λ poll. packets.Accept sender stamp base acc top poll) (flag_field bytes 24 ∷ []) (flag_fails bytes 24))))
 kind_fails kinds.Ack sender stamp bytes =
     last (report_at bytes 12) (λ report. packets.Ack sender stamp report) (report_fields bytes 12) (report_fails bytes 12)
 kind_fails kinds.Nack sender stamp bytes =
     last (report_at bytes 12) (λ report. packets.Nack sender stamp report) (report_fields bytes 12) (report_fails bytes 12)
 kind_fails kinds.Hold sender stamp bytes =
-    in_turn (number_at bytes 12) (λ base. number_at bytes 16 >>= λ top. number_at bytes 20 >>= λ req. Ok (packets.Hold sender stamp base top req)) (number_field bytes 12 ∷ []) _ (number_fails bytes 12) (λ base base-is.
-    in_turn (number_at bytes 16) (λ top. number_at bytes 20 >>= λ req. Ok (packets.Hold sender stamp base top req)) (number_field bytes 16 ∷ []) _ (number_fails bytes 16) (λ top top-is.
+    in_turn (number_at bytes 12) (λ base. number_at bytes 16 >>= λ top. number_at bytes 20 >>= λ req. Ok (packets.Hold sender stamp base top req))
+    (number_field bytes 12 ∷ []) _ (number_fails bytes 12) (λ base base-is.
+    in_turn (number_at bytes 16) (λ top. number_at bytes 20 >>= λ req. Ok (packets.Hold sender stamp base top req)) (number_field bytes 16 ∷ []) _
+    (number_fails bytes 16) (λ top top-is.
     last (number_at bytes 20) (λ req. packets.Hold sender stamp base top req) (number_field bytes 20 ∷ []) (number_fails bytes 20)))
 kind_fails kinds.JoinAsk sender stamp bytes = refl
 kind_fails kinds.Welcome sender stamp bytes =
-    in_turn (number_at bytes 12) (λ base. number_at bytes 16 >>= λ join. image_at bytes 20 >>= λ image. Ok (packets.Welcome sender stamp base join image)) (number_field bytes 12 ∷ []) _ (number_fails bytes 12) (λ base base-is.
-    in_turn (number_at bytes 16) (λ join. image_at bytes 20 >>= λ image. Ok (packets.Welcome sender stamp base join image)) (number_field bytes 16 ∷ []) _ (number_fails bytes 16) (λ join join-is.
+    in_turn (number_at bytes 12) (λ base. number_at bytes 16 >>= λ join. image_at bytes 20 >>= λ image. Ok (packets.Welcome sender stamp base join image))
+    (number_field bytes 12 ∷ []) _ (number_fails bytes 12) (λ base base-is.
+    in_turn (number_at bytes 16) (λ join. image_at bytes 20 >>= λ image. Ok (packets.Welcome sender stamp base join image)) (number_field bytes 16 ∷ []) _
+    (number_fails bytes 16) (λ join join-is.
     last (image_at bytes 20) (λ image. packets.Welcome sender stamp base join image) (image_fields bytes 20) (image_fails bytes 20)))
 kind_fails kinds.LeaveAsk sender stamp bytes =
     last (report_at bytes 12) (λ report. packets.LeaveAsk sender stamp report) (report_fields bytes 12) (report_fails bytes 12)
@@ -199,18 +248,26 @@ kind_fails kinds.Vote sender stamp bytes =
 kind_fails kinds.Fetch sender stamp bytes =
     last (number_at bytes 12) (λ stored. packets.Fetch sender stamp stored) (number_field bytes 12 ∷ []) (number_fails bytes 12)
 kind_fails kinds.Piece sender stamp bytes =
-    in_turn (number_at bytes 12) (λ base. number_at bytes 16 >>= λ number. entry_at bytes 20 >>= λ entry. Ok (packets.Piece sender stamp base number entry)) (number_field bytes 12 ∷ []) _ (number_fails bytes 12) (λ base base-is.
-    in_turn (number_at bytes 16) (λ number. entry_at bytes 20 >>= λ entry. Ok (packets.Piece sender stamp base number entry)) (number_field bytes 16 ∷ []) _ (number_fails bytes 16) (λ number number-is.
+    in_turn (number_at bytes 12) (λ base. number_at bytes 16 >>= λ number. entry_at bytes 20 >>= λ entry. Ok (packets.Piece sender stamp base number entry))
+    (number_field bytes 12 ∷ []) _ (number_fails bytes 12) (λ base base-is.
+    in_turn (number_at bytes 16) (λ number. entry_at bytes 20 >>= λ entry. Ok (packets.Piece sender stamp base number entry)) (number_field bytes 16 ∷ []) _
+    (number_fails bytes 16) (λ number number-is.
     last (entry_at bytes 20) (λ entry. packets.Piece sender stamp base number entry) (entry_fields bytes 20) (entry_fails bytes 20)))
 kind_fails kinds.Result sender stamp bytes =
-    in_turn (number_at bytes 12) (λ base. number_at bytes 16 >>= λ number. set_at bytes 20 >>= λ members. resilience_at bytes 30 >>= λ resilience. Ok (packets.Result sender stamp base number members resilience)) (number_field bytes 12 ∷ []) _ (number_fails bytes 12) (λ base base-is.
-    in_turn (number_at bytes 16) (λ number. set_at bytes 20 >>= λ members. resilience_at bytes 30 >>= λ resilience. Ok (packets.Result sender stamp base number members resilience)) (number_field bytes 16 ∷ []) _ (number_fails bytes 16) (λ number number-is.
-    in_turn (set_at bytes 20) (λ members. resilience_at bytes 30 >>= λ resilience. Ok (packets.Result sender stamp base number members resilience)) (set_field bytes 20 ∷ []) _ (set_fails bytes 20) (λ members members-is.
-    last (resilience_at bytes 30) (λ resilience. packets.Result sender stamp base number members resilience) (resilience_field bytes 30 ∷ []) (resilience_fails bytes 30))))
+    in_turn (number_at bytes 12) (λ base. number_at bytes 16 >>= λ number. set_at bytes 20 >>= λ members. resilience_at bytes 30 >>= λ resilience. Ok
+    (packets.Result sender stamp base number members resilience)) (number_field bytes 12 ∷ []) _ (number_fails bytes 12) (λ base base-is.
+    in_turn (number_at bytes 16) (λ number. set_at bytes 20 >>= λ members. resilience_at bytes 30 >>= λ resilience. Ok
+    (packets.Result sender stamp base number members resilience)) (number_field bytes 16 ∷ []) _ (number_fails bytes 16) (λ number number-is.
+    in_turn (set_at bytes 20) (λ members. resilience_at bytes 30 >>= λ resilience. Ok (packets.Result sender stamp base number members resilience))
+    (set_field bytes 20 ∷ []) _ (set_fails bytes 20) (λ members members-is.
+    last (resilience_at bytes 30) (λ resilience. packets.Result sender stamp base number members resilience) (resilience_field bytes 30 ∷ [])
+    (resilience_fails bytes 30))))
 kind_fails kinds.HandOver sender stamp bytes = refl
 
 pub packet_fails : (kind : Kind) (bytes : List ℕ) → Fails (fields_at kind bytes) (packet_fields kind bytes)
 unfolding fields_at
 packet_fails kind bytes =
-    in_turn (stamp_at bytes 5) (λ stamp. cond (is_total kind (length bytes)) (packet_at kind (slice_index bytes 4) stamp bytes) (Err (BadField 10))) (number_field bytes 5 ∷ []) _ (stamp_fails bytes 5) (λ stamp stamp-is.
-    guarded (is_total kind (length bytes)) 10 (packet_at kind (slice_index bytes 4) stamp bytes) (kind_fields kind bytes) (kind_fails kind (slice_index bytes 4) stamp bytes))
+    in_turn (stamp_at bytes 5) (λ stamp. cond (is_total kind (length bytes)) (packet_at kind (slice_index bytes 4) stamp bytes) (Err (BadField 10)))
+    (number_field bytes 5 ∷ []) _ (stamp_fails bytes 5) (λ stamp stamp-is.
+    guarded (is_total kind (length bytes)) 10 (packet_at kind (slice_index bytes 4) stamp bytes) (kind_fields kind bytes)
+    (kind_fails kind (slice_index bytes 4) stamp bytes))

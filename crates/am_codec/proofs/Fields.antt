@@ -1,5 +1,6 @@
 -- Each field: what was read stands there, and what stands there is read.
-use Rattle.std.proofs.Common.{◌≡◌, ℕ, ◌+◌, ◌^◌, ◌<◌, ◌≤◌, Bool, true, false, cond, eqb, List, [], ◌∷◌, ◌++◌, length, get_or, drop, slice_index, Ok, Err, ◌⊎◌, inl, inr, refl, sym, ap, subst, ◌∙◌, append_assoc, arith}
+use Rattle.std.proofs.Common.{◌≡◌, ℕ, ◌+◌, ◌^◌, ◌<◌, ◌≤◌, Bool, true, false, cond, eqb, List, [], ◌∷◌, ◌++◌, length, get_or, drop, slice_index, Ok, Err, ◌⊎◌}
+use Rattle.std.proofs.Common.{inl, inr, refl, sym, ap, subst, ◌∙◌, append_assoc, arith}
 use Rattle.std.specs.Prelude.{nat_le}
 use Rattle.std.proofs.lemmas.Bool.{leb-true, le-leb, eqb-true}
 use Rattle.std.proofs.lemmas.List.{drop-drop, drop_more, drop_all, get_or-drop, append-nil}
@@ -54,7 +55,8 @@ to_end bytes at next piece taken short = taken.here ∙ ap (λ xs. piece ++ xs) 
 pub byte_takes : (bytes : List ℕ) (at next : ℕ) → next ≡ at + 1 → at < length bytes → Takes bytes at (slice_index bytes at ∷ []) next
 byte_takes bytes at next e lt = record { here = rw e (drop_more bytes at 0 lt) }
 
-pub number_takes : (bytes : List ℕ) (at next n : ℕ) → next ≡ at + 4 → IsBytes bytes → next ≤ length bytes → number_at bytes at ≡ Ok n → Takes bytes at (big_bytes 4 n) next × IsNumber n
+pub number_takes : (bytes : List ℕ) (at next n : ℕ) → next ≡ at + 4 → IsBytes bytes → next ≤ length bytes → number_at bytes at ≡ Ok n
+    → Takes bytes at (big_bytes 4 n) next × IsNumber n
 unfolding number_at
 number_takes bytes at next n e fits long read =
     let test = passed (nat_le (big_number 4 (drop at bytes)) most_number) (Ok (big_number 4 (drop at bytes))) (BadField at) n read in
@@ -62,7 +64,8 @@ number_takes bytes at next n e fits long read =
     let here : drop at bytes ≡ big_bytes 4 (big_number 4 (drop at bytes)) ++ drop next bytes = rw e (number_front 4 at bytes (omega arith) fits) in
     (record { here = here ∙ ap (λ v. big_bytes 4 v ++ drop next bytes) is }, rw (← is) (leb-true (big_number 4 (drop at bytes)) most_number test.0))
 
-pub report_takes : (bytes : List ℕ) (at next : ℕ) (report : Report) → next ≡ at + 8 → IsBytes bytes → next ≤ length bytes → report_at bytes at ≡ Ok report → Takes bytes at (report_bytes report) next × IsReport report
+pub report_takes : (bytes : List ℕ) (at next : ℕ) (report : Report) → next ≡ at + 8 → IsBytes bytes → next ≤ length bytes → report_at bytes at ≡ Ok report
+    → Takes bytes at (report_bytes report) next × IsReport report
 unfolding report_at
 report_takes bytes at next report e fits long read =
     let a = bind_ok (number_at bytes at) (λ stored. number_at bytes (at + 4) >>= λ taken. Ok (record { stored = stored; taken = taken })) report read in
@@ -70,18 +73,25 @@ report_takes bytes at next report e fits long read =
     let ta = number_takes bytes at (at + 4) a.0 refl fits (omega arith) a.1 in
     let tb = number_takes bytes (at + 4) next b.0 (omega arith) fits long b.1 in
     let made : Report = record { stored = a.0; taken = b.0 } in
-    subst (λ (r : Report). Takes bytes at (report_bytes r) next × IsReport r) (ok_is made report b.2) (and_then bytes at (at + 4) next (big_bytes 4 a.0) (big_bytes 4 b.0) ta.0 tb.0, record { stored = ta.1; taken = tb.1 })
+    subst (λ (r : Report). Takes bytes at (report_bytes r) next
+    × IsReport r) (ok_is made report b.2) (
+      and_then bytes at (at + 4) next (big_bytes 4 a.0) (big_bytes 4 b.0) ta.0 tb.0,
+      record { stored = ta.1; taken = tb.1 },
+    )
 
-pub stamp_takes : (bytes : List ℕ) (at next : ℕ) (stamp : Stamp) → next ≡ at + 5 → IsBytes bytes → next ≤ length bytes → stamp_at bytes at ≡ Ok stamp → Takes bytes at (stamp_bytes stamp) next × IsNumber stamp.round
+pub stamp_takes : (bytes : List ℕ) (at next : ℕ) (stamp : Stamp) → next ≡ at + 5 → IsBytes bytes → next ≤ length bytes → stamp_at bytes at ≡ Ok stamp
+    → Takes bytes at (stamp_bytes stamp) next × IsNumber stamp.round
 unfolding stamp_at
 stamp_takes bytes at next stamp e fits long read =
     let a = bind_ok (number_at bytes at) (λ round. Ok (record { round = round; by = slice_index bytes (at + 4) })) stamp read in
     let ta = number_takes bytes at (at + 4) a.0 refl fits (omega arith) a.1 in
     let tb = byte_takes bytes (at + 4) next (omega arith) (omega arith) in
     let made : Stamp = record { round = a.0; by = slice_index bytes (at + 4) } in
-    subst (λ (s : Stamp). Takes bytes at (stamp_bytes s) next × IsNumber s.round) (ok_is made stamp a.2) (and_then bytes at (at + 4) next (big_bytes 4 a.0) (slice_index bytes (at + 4) ∷ []) ta.0 tb, ta.1)
+    subst (λ (s : Stamp). Takes bytes at (stamp_bytes s) next
+    × IsNumber s.round) (ok_is made stamp a.2) (and_then bytes at (at + 4) next (big_bytes 4 a.0) (slice_index bytes (at + 4) ∷ []) ta.0 tb, ta.1)
 
-pub set_takes : (bytes : List ℕ) (at next : ℕ) (set : List ℕ) → next ≡ at + 10 → IsBytes bytes → next ≤ length bytes → set_at bytes at ≡ Ok set → Takes bytes at (set_bytes set) next × IsSet set
+pub set_takes : (bytes : List ℕ) (at next : ℕ) (set : List ℕ) → next ≡ at + 10 → IsBytes bytes → next ≤ length bytes → set_at bytes at ≡ Ok set
+    → Takes bytes at (set_bytes set) next × IsSet set
 unfolding set_at
 set_takes bytes at next set e fits long read =
     let mask = big_number 2 (drop at bytes) in
@@ -89,29 +99,35 @@ set_takes bytes at next set e fits long read =
     let test = passed (are_parts mask lives) (Ok (of_parts mask lives)) (BadField (at + 2)) set read in
     let is : of_parts mask lives ≡ set = ok_is (of_parts mask lives) set test.1 in
     let first : drop at bytes ≡ big_bytes 2 mask ++ drop (at + 2) bytes = number_front 2 at bytes (omega arith) fits in
-    let second : drop (at + 2) bytes ≡ big_bytes 8 lives ++ drop next bytes = number_front 8 (at + 2) bytes (omega arith) fits ∙ ap (λ k. big_bytes 8 lives ++ drop k bytes) (let k : at + 2 + 8 ≡ next = omega arith in k) in
+    let second : drop (at + 2) bytes ≡ big_bytes 8 lives ++ drop next bytes = number_front 8 (at + 2) bytes (omega arith) fits
+    ∙ ap (λ k. big_bytes 8 lives ++ drop k bytes) (let k : at + 2 + 8 ≡ next = omega arith in k) in
     let mask-is : mask_of (of_parts mask lives) ≡ mask = mask-places_of 16 mask lives (big_number-lt 2 (drop at bytes) (IsBytes-drop at bytes fits)) in
-    let lives-is : lives_of (of_parts mask lives) ≡ lives = lives-places_of 16 mask lives (big_number-lt 8 (drop (at + 2) bytes) (IsBytes-drop (at + 2) bytes fits)) test.0 in
+    let lives-is : lives_of (of_parts mask lives) ≡ lives = lives-places_of 16 mask lives
+    (big_number-lt 8 (drop (at + 2) bytes) (IsBytes-drop (at + 2) bytes fits)) test.0 in
     let both = and_then bytes at (at + 2) next (big_bytes 2 mask) (big_bytes 8 lives) (record { here = first }) (record { here = second }) in
     let spelled : Takes bytes at (set_bytes (of_parts mask lives)) next = rw (mask-is, lives-is) both in
     subst (λ (s : List ℕ). Takes bytes at (set_bytes s) next × IsSet s) is (spelled, is_set mask lives)
 
-pub resilience_takes : (bytes : List ℕ) (at next n : ℕ) → next ≡ at + 1 → next ≤ length bytes → resilience_at bytes at ≡ Ok n → Takes bytes at (n ∷ []) next × (n ≤ 15)
+pub resilience_takes : (bytes : List ℕ) (at next n : ℕ) → next ≡ at + 1 → next ≤ length bytes → resilience_at bytes at ≡ Ok n → Takes bytes at (n ∷ []) next
+    × (n ≤ 15)
 unfolding resilience_at
 resilience_takes bytes at next n e long read =
     let test = passed (nat_le (slice_index bytes at) 15) (Ok (slice_index bytes at)) (BadField at) n read in
     let is : slice_index bytes at ≡ n = ok_is (slice_index bytes at) n test.1 in
     subst (λ (v : ℕ). Takes bytes at (v ∷ []) next × (v ≤ 15)) is (byte_takes bytes at next e (omega arith), leb-true (slice_index bytes at) 15 test.0)
 
-pub flag_takes : (bytes : List ℕ) (at next : ℕ) (flag : Bool) → next ≡ at + 1 → next ≤ length bytes → flag_at bytes at ≡ Ok flag → Takes bytes at (flag_byte flag ∷ []) next
+pub flag_takes : (bytes : List ℕ) (at next : ℕ) (flag : Bool) → next ≡ at + 1 → next ≤ length bytes → flag_at bytes at ≡ Ok flag
+    → Takes bytes at (flag_byte flag ∷ []) next
 unfolding flag_at
 flag_takes bytes at next flag e long read =
     let here = byte_takes bytes at next e (omega arith) in
     elim (chosen (eqb (slice_index bytes at) 0) (Ok false) (cond (eqb (slice_index bytes at) 1) (Ok true) (Err (BadField at))) flag read) [
-      | inl (zero-is, r) ↦ subst (λ (f : Bool). Takes bytes at (flag_byte f ∷ []) next) (ok_is false flag r) (subst (λ (v : ℕ). Takes bytes at (v ∷ []) next) (eqb-true _ _ zero-is) here)
+      | inl (zero-is, r) ↦ subst (λ (f : Bool). Takes bytes at (flag_byte f ∷ []) next) (ok_is false flag r)
+          (subst (λ (v : ℕ). Takes bytes at (v ∷ []) next) (eqb-true _ _ zero-is) here)
       | inr (not-zero, r) ↦
           let test = passed (eqb (slice_index bytes at) 1) (Ok true) (BadField at) flag r in
-          subst (λ (f : Bool). Takes bytes at (flag_byte f ∷ []) next) (ok_is true flag test.1) (subst (λ (v : ℕ). Takes bytes at (v ∷ []) next) (eqb-true _ _ test.0) here)
+          subst (λ (f : Bool). Takes bytes at (flag_byte f ∷ []) next) (ok_is true flag test.1)
+          (subst (λ (v : ℕ). Takes bytes at (v ∷ []) next) (eqb-true _ _ test.0) here)
     ]
 
 -- ---- what stands there is read
@@ -135,12 +151,14 @@ pub number_again : (bytes rest : List ℕ) (at n : ℕ) → drop at bytes ≡ bi
 unfolding number_at
 number_again bytes rest at n h within = rw (value 4 n bytes rest at h (omega arith), le-leb n most_number within) refl
 
-pub report_again : (bytes rest : List ℕ) (at : ℕ) (report : Report) → drop at bytes ≡ report_bytes report ++ rest → IsReport report → report_at bytes at ≡ Ok report
+pub report_again : (bytes rest : List ℕ) (at : ℕ) (report : Report) → drop at bytes ≡ report_bytes report ++ rest → IsReport report
+    → report_at bytes at ≡ Ok report
 unfolding report_at
 report_again bytes rest at report h within =
     rw (number_again bytes _ at report.stored h within.stored, number_again bytes _ (at + 4) report.taken (later bytes _ at 4 h) within.taken) refl
 
-pub stamp_again : (bytes rest : List ℕ) (at : ℕ) (stamp : Stamp) → drop at bytes ≡ stamp_bytes stamp ++ rest → IsNumber stamp.round → stamp_at bytes at ≡ Ok stamp
+pub stamp_again : (bytes rest : List ℕ) (at : ℕ) (stamp : Stamp) → drop at bytes ≡ stamp_bytes stamp ++ rest → IsNumber stamp.round
+    → stamp_at bytes at ≡ Ok stamp
 unfolding stamp_at
 stamp_again bytes rest at stamp h within =
     rw (number_again bytes _ at stamp.round h within, peek bytes _ at 4 h) refl
@@ -148,8 +166,10 @@ stamp_again bytes rest at stamp h within =
 pub set_again : (bytes rest : List ℕ) (at : ℕ) (set : List ℕ) → drop at bytes ≡ set_bytes set ++ rest → IsSet set → set_at bytes at ≡ Ok set
 unfolding set_at
 set_again bytes rest at set h is =
-    let mask-fits : mask_of set < 256 ^ 2 = let lt = mask_of-lt set in let lt2 : mask_of set < 2 ^ 16 = subst (λ (k : ℕ). mask_of set < 2 ^ k) is.places lt in lt2 in
-    let lives-fits : lives_of set < 256 ^ 8 = let lt = lives_of-lt set is in let lt2 : lives_of set < 16 ^ 16 = subst (λ (k : ℕ). lives_of set < 16 ^ k) is.places lt in lt2 in
+    let mask-fits : mask_of set < 256 ^ 2 = let lt = mask_of-lt set in let lt2 : mask_of set < 2 ^ 16 = subst (λ (k : ℕ). mask_of set < 2 ^ k) is.places lt in
+    lt2 in
+    let lives-fits : lives_of set < 256 ^ 8 = let lt = lives_of-lt set is in
+    let lt2 : lives_of set < 16 ^ 16 = subst (λ (k : ℕ). lives_of set < 16 ^ k) is.places lt in lt2 in
     let mask-is : big_number 2 (drop at bytes) ≡ mask_of set = value 2 (mask_of set) bytes _ at h mask-fits in
     let lives-is : big_number 8 (drop (at + 2) bytes) ≡ lives_of set = value 8 (lives_of set) bytes _ (at + 2) (later bytes _ at 2 h) lives-fits in
     rw (mask-is, lives-is, fit set is, back set is) refl

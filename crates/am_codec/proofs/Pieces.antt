@@ -22,7 +22,8 @@ four old one two three new a b c d e1 e2 e3 e4 = after old three new (a ++ b ++ 
 pub rows_bytes-append : (xs : List Row) (row : Row) → rows_bytes (xs ++ row ∷ []) ≡ rows_bytes xs ++ row_bytes row
 unfolding rows_bytes
 rows_bytes-append [] row = refl
-rows_bytes-append (x ∷ xs) row = ap (λ bytes. row_bytes x ++ bytes) (rows_bytes-append xs row) ∙ sym (append_assoc (row_bytes x) (rows_bytes xs) (row_bytes row))
+rows_bytes-append (x ∷ xs) row = ap (λ bytes. row_bytes x ++ bytes) (rows_bytes-append xs row)
+    ∙ sym (append_assoc (row_bytes x) (rows_bytes xs) (row_bytes row))
 
 pub length-rows_bytes : (xs : List Row) → length (rows_bytes xs) ≡ 13 * length xs
 unfolding rows_bytes
@@ -35,11 +36,16 @@ unfolding rows_bytes
 none old = sym (append-nil old)
 
 -- one row more
-pub more_rows : (rows : List Row) (d : Row) (i : ℕ) (old middle new : List ℕ) → i < length rows → middle ≡ old ++ rows_bytes (take i rows) → new ≡ middle ++ row_bytes (get_or rows i d) → new ≡ old ++ rows_bytes (take (i + 1) rows)
-more_rows rows d i old middle new lt before now = rw (take_more rows i d lt, rows_bytes-append (take i rows) (get_or rows i d)) (after old middle new (rows_bytes (take i rows)) (row_bytes (get_or rows i d)) now before)
+pub more_rows : (rows : List Row) (d : Row) (i : ℕ) (old middle new : List ℕ) → i < length rows → middle ≡ old ++ rows_bytes (take i rows)
+    → new ≡ middle ++ row_bytes (get_or rows i d) → new ≡ old ++ rows_bytes (take (i + 1) rows)
+more_rows rows d i old middle new lt before now = rw (
+  take_more rows i d lt,
+  rows_bytes-append (take i rows) (get_or rows i d),
+) (after old middle new (rows_bytes (take i rows)) (row_bytes (get_or rows i d)) now before)
 
 -- so many rows leave room for another
-pub room : (rows : List Row) (i : ℕ) (old middle : List ℕ) → i < 16 → middle ≡ old ++ rows_bytes (take i rows) → length old + 208 ≤ most_packet → length middle + 13 ≤ most_packet
+pub room : (rows : List Row) (i : ℕ) (old middle : List ℕ) → i < 16 → middle ≡ old ++ rows_bytes (take i rows) → length old + 208 ≤ most_packet
+    → length middle + 13 ≤ most_packet
 room rows i old middle lt before h =
     let long = length-append old (rows_bytes (take i rows)) in
     let each = length-rows_bytes (take i rows) in

@@ -1,5 +1,6 @@
 -- Which field of a packet is wrong: each field with a limit at its offset, in the order in which they are looked at.
-use Rattle.std.specs.Prelude.{ℕ, zero, suc, ◌+◌, List, [], ◌∷◌, ◌++◌, length, drop, Bool, false, not, ◌==◌, ◌&&◌, ◌||◌, nat_le, if◌then◌else◌, Option, Some, None, slice_index}
+use Rattle.std.specs.Prelude.{ℕ, zero, suc, ◌+◌, List, [], ◌∷◌, ◌++◌, length, drop, Bool, false, not, ◌==◌, ◌&&◌, ◌||◌, nat_le, if◌then◌else◌, Option, Some}
+use Rattle.std.specs.Prelude.{None, slice_index}
 use Rattle.am_base.specs.Most.{most_number}
 use Rattle.byteorder.specs.Endian.{big_number}
 use Rattle.am_base.specs.Names.{are_parts}
@@ -62,7 +63,8 @@ entry_fields bytes at =
     if slice_index bytes at == 1 then field 10 (nat_le (at + 6) (length bytes) && nat_le (length bytes) (at + 1030)) ∷ number_field bytes (at + 2) ∷ []
     else if slice_index bytes at == 2 then field 10 (length bytes == at + 2) ∷ []
     else if slice_index bytes at == 3 then field 10 (length bytes == at + 2) ∷ []
-    else if slice_index bytes at == 4 then field 10 (length bytes == at + 17) ∷ number_field bytes (at + 1) ∷ set_field bytes (at + 6) ∷ resilience_field bytes (at + 16) ∷ []
+    else if slice_index bytes at == 4 then field 10 (length bytes == at + 17) ∷ number_field bytes (at + 1) ∷ set_field bytes (at + 6)
+    ∷ resilience_field bytes (at + 16) ∷ []
     else field at false ∷ []
 
 -- the fields of each kind

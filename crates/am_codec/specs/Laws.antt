@@ -25,7 +25,8 @@ spelled_so = (bytes : List ℕ) (packet : Packet) → IsBytes bytes → reading 
 
 -- a spelling that begins another is that other
 abbrev pub no_prefix : Type 0
-no_prefix = (packet other : Packet) (more : List ℕ) → IsPacket packet → IsPacket other → spelling packet ++ more ≡ spelling other → (packet ≡ other) × (more ≡ [])
+no_prefix = (packet other : Packet) (more : List ℕ) → IsPacket packet → IsPacket other → spelling packet ++ more ≡ spelling other → (packet ≡ other)
+    × (more ≡ [])
 
 -- the first bytes of a spelling are refused, as too few for a header or by the total that the header says
 abbrev pub parts_refused : Type 0

@@ -1,5 +1,6 @@
 -- What bytes spell, or the first cause that they are no packet.
-use Rattle.std.specs.Prelude.{ℕ, zero, suc, ◌+◌, List, [], ◌∷◌, length, drop, min, Bool, true, false, not, ◌==◌, ◌&&◌, nat_lt, nat_le, if◌then◌else◌, Option, Some, None, Result, Ok, Err, slice_index}
+use Rattle.std.specs.Prelude.{ℕ, zero, suc, ◌+◌, List, [], ◌∷◌, length, drop, min, Bool, true, false, not, ◌==◌, ◌&&◌, nat_lt, nat_le, if◌then◌else◌, Option}
+use Rattle.std.specs.Prelude.{Some, None, Result, Ok, Err, slice_index}
 use Rattle.am_base.specs.Most.{most_number}
 use Rattle.byteorder.specs.Endian.{big_number}
 use Rattle.am_base.specs.declared.name.Stamp.{Stamp}
@@ -57,7 +58,9 @@ flag_at bytes at = if slice_index bytes at == 0 then Ok false else if slice_inde
 -- a life, which is 0 where the number of its Join is
 unfoldable pub life_at : List ℕ → ℕ → ℕ → Read ℕ
 life_at bytes at joined =
-    if nat_le (slice_index bytes at) 16 then (if slice_index bytes at == 0 then (if joined == 0 then Ok (slice_index bytes at) else Err (BadField at)) else (if joined == 0 then Err (BadField at) else Ok (slice_index bytes at)))
+    if nat_le (slice_index bytes at) 16 then (if slice_index bytes at
+    == 0 then (if joined == 0 then Ok (slice_index bytes at) else Err (BadField at)) else
+    (if joined == 0 then Err (BadField at) else Ok (slice_index bytes at)))
     else Err (BadField at)
 
 unfoldable pub row_at : List ℕ → ℕ → Read Row

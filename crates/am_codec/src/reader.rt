@@ -582,7 +582,8 @@ fn begin(kind: Kind, bytes: &[u8]) -> Result<Stamp, PacketRefusal>
     requires { 12 ≤ length bytes.now }
     ensures least { OnOk result (least_total kind ≤ length bytes.now) }
     ensures most { OnOk result (length bytes.now ≤ most_total kind) }
-    ensures ok { IfOk result (λ stamp. fields_at kind bytes.now ≡ packet_at kind (slice_index bytes.now 4) stamp bytes.now) }
+    ensures ok { IfOk result (λ stamp. fields_at kind bytes.now
+        ≡ packet_at kind (slice_index bytes.now 4) stamp bytes.now) }
     ensures err { IfErr result (λ refusal. fields_at kind bytes.now ≡ Err refusal) }
 {
     let stamp = stamp(bytes, 5)?;
@@ -596,8 +597,10 @@ fn begin(kind: Kind, bytes: &[u8]) -> Result<Stamp, PacketRefusal>
 #[tactic(auto, unfolding(crate::specs::Reading::of_kind_at))]
 fn kind_of(bytes: &[u8]) -> Result<Kind, PacketRefusal>
     requires { 12 ≤ length bytes.now }
-    ensures ok { IfOk result (λ kind. of_kind_at (kind_at (kind_in bytes.now)) bytes.now ≡ fields_at kind bytes.now) }
-    ensures err { IfErr result (λ refusal. of_kind_at (kind_at (kind_in bytes.now)) bytes.now ≡ Err refusal) }
+    ensures ok { IfOk result (λ kind. of_kind_at (kind_at (kind_in bytes.now)) bytes.now
+        ≡ fields_at kind bytes.now) }
+    ensures err { IfErr result (λ refusal. of_kind_at (kind_at (kind_in bytes.now)) bytes.now
+        ≡ Err refusal) }
 {
     let Some(kind) = Kind::of_byte(bytes[3]) else {
         return Err(PacketRefusal::BadKind(bytes[3]));
@@ -646,14 +649,21 @@ pub fn decode(bytes: &[u8]) -> Result<Packet, PacketRefusal>
     // What is read is spelled so.
     ensures found { IfOk result (λ packet. IsPacket packet × (bytes.now ≡ spelling packet)) }
     // What is spelled so is read.
-    ensures only { (packet : Packet) → IsPacket packet → bytes.now ≡ spelling packet → result ≡ Ok packet }
+    ensures only { (packet : Packet) → IsPacket packet → bytes.now ≡ spelling packet
+        → result ≡ Ok packet }
     // Each refusal comes exactly where it is the first cause.
     ensures short { (result ≡ Err Short) ↔ (length bytes.now < 12) }
-    ensures bad_mark { (result ≡ Err BadMark) ↔ ((12 ≤ length bytes.now) × (has_mark bytes.now ≡ false)) }
-    ensures bad_version { (version : ℕ) → (result ≡ Err (BadVersion version)) ↔ (HasMark bytes.now × (version_in bytes.now ≡ version) × (version ≢ 3)) }
-    ensures bad_kind { (kind : ℕ) → (result ≡ Err (BadKind kind)) ↔ (HasVersion bytes.now × (kind_in bytes.now ≡ kind) × (kind_at kind ≡ None)) }
-    ensures bad_length { (said found : ℕ) → (result ≡ Err (BadLength said found)) ↔ (HasKind bytes.now × (total_in bytes.now ≡ said) × (found_in bytes.now ≡ found) × (said ≢ length bytes.now)) }
-    ensures bad_field { (at : ℕ) → (result ≡ Err (BadField at)) ↔ (HasTotal bytes.now × (wrong_in (kind_at (kind_in bytes.now)) bytes.now ≡ Some at)) }
+    ensures bad_mark { (result ≡ Err BadMark)
+        ↔ ((12 ≤ length bytes.now) × (has_mark bytes.now ≡ false)) }
+    ensures bad_version { (version : ℕ) → (result ≡ Err (BadVersion version))
+        ↔ (HasMark bytes.now × (version_in bytes.now ≡ version) × (version ≢ 3)) }
+    ensures bad_kind { (kind : ℕ) → (result ≡ Err (BadKind kind))
+        ↔ (HasVersion bytes.now × (kind_in bytes.now ≡ kind) × (kind_at kind ≡ None)) }
+    ensures bad_length { (said found : ℕ) → (result ≡ Err (BadLength said found))
+        ↔ (HasKind bytes.now × (total_in bytes.now ≡ said) × (found_in bytes.now ≡ found)
+        × (said ≢ length bytes.now)) }
+    ensures bad_field { (at : ℕ) → (result ≡ Err (BadField at))
+        ↔ (HasTotal bytes.now × (wrong_in (kind_at (kind_in bytes.now)) bytes.now ≡ Some at)) }
 {
     read(bytes)
 }

@@ -239,7 +239,8 @@ fn put_send(into: &mut PacketBytes, report: Report, req: u32, body: &Body)
 
 fn put_numbers(into: &mut PacketBytes, first: u32, second: u32, third: u32)
     requires { length into.old + 12 ≤ most_packet }
-    ensures { into.new ≡ into.old ++ (big_bytes 4 first ++ big_bytes 4 second ++ big_bytes 4 third) }
+    ensures { into.new ≡ into.old ++ (big_bytes 4 first ++ big_bytes 4 second
+        ++ big_bytes 4 third) }
 {
     put_number(into, first);
     put_number(into, second);
@@ -256,7 +257,8 @@ fn put_two(into: &mut PacketBytes, first: u32, second: u32)
 
 fn put_bcast(into: &mut PacketBytes, base: u32, acc: u32, number: u32, entry: &Entry)
     requires { length into.old ≤ 12 }
-    ensures { into.new ≡ into.old ++ (big_bytes 4 base ++ big_bytes 4 acc ++ big_bytes 4 number ++ entry_bytes entry.now) }
+    ensures { into.new ≡ into.old ++ (big_bytes 4 base ++ big_bytes 4 acc ++ big_bytes 4 number
+        ++ entry_bytes entry.now) }
 {
     put_numbers(into, base, acc, number);
     put_entry(into, entry);
@@ -264,7 +266,8 @@ fn put_bcast(into: &mut PacketBytes, base: u32, acc: u32, number: u32, entry: &E
 
 fn put_order(into: &mut PacketBytes, base: u32, acc: u32, number: u32, from: Name, req: u32)
     requires { length into.old ≤ 12 }
-    ensures { into.new ≡ into.old ++ (big_bytes 4 base ++ big_bytes 4 acc ++ big_bytes 4 number ++ from ∷ [] ++ big_bytes 4 req) }
+    ensures { into.new ≡ into.old ++ (big_bytes 4 base ++ big_bytes 4 acc ++ big_bytes 4 number
+        ++ from ∷ [] ++ big_bytes 4 req) }
 {
     put_numbers(into, base, acc, number);
     put_byte(into, from.get());
@@ -273,7 +276,8 @@ fn put_order(into: &mut PacketBytes, base: u32, acc: u32, number: u32, from: Nam
 
 fn put_accept(into: &mut PacketBytes, base: u32, acc: u32, top: u32, poll: bool)
     requires { length into.old ≤ 12 }
-    ensures { into.new ≡ into.old ++ (big_bytes 4 base ++ big_bytes 4 acc ++ big_bytes 4 top ++ flag_byte poll ∷ []) }
+    ensures { into.new ≡ into.old ++ (big_bytes 4 base ++ big_bytes 4 acc ++ big_bytes 4 top
+        ++ flag_byte poll ∷ []) }
 {
     put_numbers(into, base, acc, top);
     put_flag(into, poll);
@@ -281,7 +285,8 @@ fn put_accept(into: &mut PacketBytes, base: u32, acc: u32, top: u32, poll: bool)
 
 fn put_welcome(into: &mut PacketBytes, base: u32, join: u32, image: &Image)
     requires { length into.old ≤ 12 }
-    ensures { into.new ≡ into.old ++ (big_bytes 4 base ++ big_bytes 4 join ++ image_bytes image.now) }
+    ensures { into.new ≡ into.old ++ (big_bytes 4 base ++ big_bytes 4 join
+        ++ image_bytes image.now) }
 {
     put_two(into, base, join);
     put_image(into, image);
@@ -289,7 +294,8 @@ fn put_welcome(into: &mut PacketBytes, base: u32, join: u32, image: &Image)
 
 fn put_piece(into: &mut PacketBytes, base: u32, number: u32, entry: &Entry)
     requires { length into.old ≤ 12 }
-    ensures { into.new ≡ into.old ++ (big_bytes 4 base ++ big_bytes 4 number ++ entry_bytes entry.now) }
+    ensures { into.new ≡ into.old ++ (big_bytes 4 base ++ big_bytes 4 number
+        ++ entry_bytes entry.now) }
 {
     put_two(into, base, number);
     put_entry(into, entry);
@@ -297,7 +303,8 @@ fn put_piece(into: &mut PacketBytes, base: u32, number: u32, entry: &Entry)
 
 fn put_result(into: &mut PacketBytes, base: u32, number: u32, members: Names, resilience: u8)
     requires { length into.old ≤ 12 }
-    ensures { into.new ≡ into.old ++ (big_bytes 4 base ++ big_bytes 4 number ++ set_bytes members ++ resilience ∷ []) }
+    ensures { into.new ≡ into.old ++ (big_bytes 4 base ++ big_bytes 4 number ++ set_bytes members
+        ++ resilience ∷ []) }
 {
     put_two(into, base, number);
     put_set(into, members);

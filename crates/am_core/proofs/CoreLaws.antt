@@ -48,26 +48,30 @@ keeps_sends f g a b x first told = λ all s.
     let one = first all s in
     told all one.0 ∙ ap g one.1
 
-pub keeps_makes : {A : Type 0} (f : CoreState → CoreState) (row told : CoreState → A) (a b c : CoreState) → Keeps f a b → Makes row b told c → Makes (λ m. row (f m)) a told c
+pub keeps_makes : {A : Type 0} (f : CoreState → CoreState) (row told : CoreState → A) (a b c : CoreState) → Keeps f a b → Makes row b told c
+    → Makes (λ m. row (f m)) a told c
 keeps_makes f row told a b c first next = λ all s.
     let one = first all s in
     let two = next all one.0 in
     (two.0, two.1, ap row (sym one.1) ∙ two.2)
 
-pub adds_makes : {A : Type 0} (e : Entry) (row told : CoreState → A) (a b c : CoreState) → Adds e a b → Makes row b told c → Makes (λ m. row (record m { log = with_entry m.log e })) a told c
+pub adds_makes : {A : Type 0} (e : Entry) (row told : CoreState → A) (a b c : CoreState) → Adds e a b → Makes row b told c
+    → Makes (λ m. row (record m { log = with_entry m.log e })) a told c
 adds_makes e row told a b c first next = λ all s.
     let one = first all s in
     let two = next (with_entry all e) one.0 in
     (two.0, two.1, ap row (sym one.1) ∙ two.2)
 
-pub makes_keeps : {A : Type 0} (f : CoreState → CoreState) (row told : CoreState → A) (a b c : CoreState) → Makes row a (λ m. told (f m)) b → Keeps f b c → Makes row a told c
+pub makes_keeps : {A : Type 0} (f : CoreState → CoreState) (row told : CoreState → A) (a b c : CoreState) → Makes row a (λ m. told (f m)) b → Keeps f b c
+    → Makes row a told c
 makes_keeps f row told a b c first next = λ all s.
     let one = first all s in
     let two = next one.0 one.1 in
     (one.0, two.0, one.2 ∙ ap told (sym two.1))
 
 -- the unions, one number more, and those of the whole list
-pub unions_more : (log : Log) (from number : ℕ) → from ≤ number → unions log from (number + 1 - from) ≡ union_of (unions log from (number - from)) (members_at log (number + 1))
+pub unions_more : (log : Log) (from number : ℕ) → from ≤ number
+    → unions log from (number + 1 - from) ≡ union_of (unions log from (number - from)) (members_at log (number + 1))
 unfolding unions
 unions_more log from number h =
     let next : number + 1 - from ≡ suc (number - from) = omega arith in
@@ -83,7 +87,8 @@ unfolding unions
 unions_whole all kept from zero is h = ap members_of (end-image all kept from is h)
 unions_whole all kept from (suc more) is h =
     let at = end-image all kept (from + suc more) is (omega arith) in
-    ap (λ a. union_of a (members_at kept (from + suc more))) (unions_whole all kept from more is h) ∙ ap (λ i. union_of (unions all from more) (members_of i)) at
+    ap (λ a. union_of a (members_at kept (from + suc more))) (unions_whole all kept from more is h)
+    ∙ ap (λ i. union_of (unions all from more) (members_of i)) at
 
 pub since_whole : (c : CoreState) → c.base ≤ c.acc → Sends since_accepted c (since_accepted c)
 since_whole c h = λ all s.

@@ -1,5 +1,6 @@
 -- The end of a list tells the same as all of it.
-use Rattle.std.proofs.Common.{◌≡◌, ℕ, zero, suc, ◌+◌, ◌-◌, ◌<◌, ◌≤◌, List, [], ◌∷◌, ◌++◌, length, take, drop, refl, sym, ◌∙◌, ap, subst, arith, length-append, length-drop, slice_get, Some, true, nat_le, add-one}
+use Rattle.std.proofs.Common.{◌≡◌, ℕ, zero, suc, ◌+◌, ◌-◌, ◌<◌, ◌≤◌, List, [], ◌∷◌, ◌++◌, length, take, drop, refl, sym, ◌∙◌, ap, subst, arith, length-append}
+use Rattle.std.proofs.Common.{length-drop, slice_get, Some, true, nat_le, add-one}
 use Rattle.std.proofs.lemmas.List.{take-append-le, drop-append-le, length-take-le, take-append-drop, drop-drop, take_more}
 use Rattle.std.proofs.lemmas.List.Elements.{All-push, All-drop}
 use Rattle.std.proofs.lemmas.Option.{slice_get_within, get_or_from_slice_get}
@@ -25,13 +26,15 @@ end-top all kept is =
     omega arith
 
 -- from the kept image on, any entries of the kept list
-pub end-fold : (all kept : Log) (xs : List Entry) → IsEnd all kept → fold kept.image (kept.start + 1) xs ≡ fold all.image (all.start + 1) (take (gone all kept) all.entries ++ xs)
+pub end-fold : (all kept : Log) (xs : List Entry) → IsEnd all kept
+    → fold kept.image (kept.start + 1) xs ≡ fold all.image (all.start + 1) (take (gone all kept) all.entries ++ xs)
 end-fold all kept xs is =
     let a = is.low in
     let b = is.high in
     let l = length-take-le (gone all kept) all.entries (omega arith) in
     let at : all.start + 1 + length (take (gone all kept) all.entries) ≡ kept.start + 1 = omega arith in
-    ap (λ i. fold i (kept.start + 1) xs) is.image ∙ ap (λ k. fold (image_at all kept.start) k xs) (sym at) ∙ sym (fold-append all.image (all.start + 1) (take (gone all kept) all.entries) xs)
+    ap (λ i. fold i (kept.start + 1) xs) is.image ∙ ap (λ k. fold (image_at all kept.start) k xs) (sym at)
+    ∙ sym (fold-append all.image (all.start + 1) (take (gone all kept) all.entries) xs)
 
 pub end-told : (all kept : Log) → IsEnd all kept → told_by kept ≡ told_by all
 end-told all kept is =
@@ -53,7 +56,8 @@ end-entry all kept zero is h = absurd (omega arith)
 end-entry all kept (suc before) is h =
     let a = is.low in
     let at : gone all kept + (before - kept.start) ≡ before - all.start = omega arith in
-    let e = ap (λ xs. slice_get xs (before - kept.start)) is.entries ∙ slice_get-drop (gone all kept) (before - kept.start) all.entries ∙ ap (slice_get all.entries) at in
+    let e = ap (λ xs. slice_get xs (before - kept.start)) is.entries ∙ slice_get-drop (gone all kept) (before - kept.start) all.entries
+    ∙ ap (slice_get all.entries) at in
     rw e (grind (arith, nat_tests))
 
 pub end-same : EndsTellTheSame
@@ -111,19 +115,22 @@ pub image-push : (log : Log) (e : Entry) (number : ℕ) → number ≤ top_of lo
 image-push log e number h = ap (fold log.image (log.start + 1)) (take-append-le (number - log.start) log.entries (e ∷ []) (omega arith))
 
 pub image-top : (log : Log) → image_at log (top_of log) ≡ told_by log
-image-top log = let at : top_of log - log.start ≡ length log.entries = omega arith in ap (fold log.image (log.start + 1)) (ap (λ k. take k log.entries) at ∙ take-length log.entries)
+image-top log = let at : top_of log - log.start ≡ length log.entries = omega arith in
+    ap (fold log.image (log.start + 1)) (ap (λ k. take k log.entries) at ∙ take-length log.entries)
 
 pub image-start : (log : Log) → image_at log log.start ≡ log.image
 unfolding fold
 image-start log = rw (sub_self log.start) refl
 
-pub entry-get : (log : Log) (number : ℕ) (e : Entry) → log.start ≤ number → entry_at log (number + 1) ≡ Some e → slice_get log.entries (number - log.start) ≡ Some e
+pub entry-get : (log : Log) (number : ℕ) (e : Entry) → log.start ≤ number → entry_at log (number + 1) ≡ Some e
+    → slice_get log.entries (number - log.start) ≡ Some e
 entry-get log number e h is =
     let at : entry_at log (suc number) ≡ Some e = rw add-one at is in
     let low : nat_le log.start number ≡ true = grind (arith, nat_tests) in
     rw low at at
 
-pub image-next : (log : Log) (number : ℕ) (e : Entry) → log.start ≤ number → entry_at log (number + 1) ≡ Some e → image_at log (number + 1) ≡ after (image_at log number) (number + 1) e
+pub image-next : (log : Log) (number : ℕ) (e : Entry) → log.start ≤ number → entry_at log (number + 1) ≡ Some e
+    → image_at log (number + 1) ≡ after (image_at log number) (number + 1) e
 image-next log number e h is =
     let i = number - log.start in
     let get = entry-get log number e h is in
@@ -132,7 +139,8 @@ image-next log number e h is =
     let at : i + 1 ≡ number + 1 - log.start = omega arith in
     let to : log.start + 1 + length (take i log.entries) ≡ number + 1 = omega arith in
     ap (λ k. fold log.image (log.start + 1) (take k log.entries)) (sym at)
-    ∙ ap (fold log.image (log.start + 1)) (take_more log.entries i e within ∙ ap (λ x. take i log.entries ++ x ∷ []) (get_or_from_slice_get log.entries i e e get))
+    ∙ ap (fold log.image (log.start + 1)) (take_more log.entries i e within
+    ∙ ap (λ x. take i log.entries ++ x ∷ []) (get_or_from_slice_get log.entries i e e get))
     ∙ fold-push log.image (log.start + 1) (take i log.entries) e
     ∙ ap (λ k. after (image_at log number) k e) to
 
@@ -152,7 +160,8 @@ above-above log a b low le high =
     λ k. record { start = b; image = i k; entries = es k }
 
 -- what a history keeps, with an entry more and with some let go
-pub kept-push : (log : Log) (capacity : ℕ) (e : Entry) → IsKept log capacity → fits (told_by log) e ≡ true → length log.entries < capacity → IsEntry e → top_of log < most_number → IsKept (with_entry log e) capacity
+pub kept-push : (log : Log) (capacity : ℕ) (e : Entry) → IsKept log capacity → fits (told_by log) e ≡ true → length log.entries < capacity → IsEntry e
+    → top_of log < most_number → IsKept (with_entry log e) capacity
 kept-push log capacity e is fit room within numbers =
     let more = length-append log.entries (e ∷ []) in
     record {
@@ -163,7 +172,8 @@ kept-push log capacity e is fit room within numbers =
       numbers = omega arith;
     }
 
-pub kept-above : (log : Log) (capacity to : ℕ) → IsKept log capacity → log.start ≤ to → to ≤ top_of log → IsImage (image_at log to) → IsKept (above log to) capacity
+pub kept-above : (log : Log) (capacity to : ℕ) → IsKept log capacity → log.start ≤ to → to ≤ top_of log → IsImage (image_at log to)
+    → IsKept (above log to) capacity
 kept-above log capacity to is low high rows =
     let k = to - log.start in
     let less = length-drop k log.entries in

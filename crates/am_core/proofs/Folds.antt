@@ -1,5 +1,6 @@
 -- Folding a list in two parts.
-use Rattle.std.proofs.Common.{Bool, false, ◌≡◌, ℕ, zero, suc, ◌+◌, ◌≤◌, List, [], ◌∷◌, ◌++◌, length, take, drop, refl, sym, ◌∙◌, ap, subst, true, slice_get, arith, add-zero, zero-add}
+use Rattle.std.proofs.Common.{Bool, false, ◌≡◌, ℕ, zero, suc, ◌+◌, ◌≤◌, List, [], ◌∷◌, ◌++◌, length, take, drop, refl, sym, ◌∙◌, ap, subst, true, slice_get}
+use Rattle.std.proofs.Common.{arith, add-zero, zero-add}
 use Rattle.am_base.specs.declared.image.Image.{Image}
 use Rattle.am_base.specs.declared.entry.Entry.{Entry}
 use Rattle.am_base.specs.Lists.{fold, after, fits, AllFit}
@@ -12,26 +13,31 @@ split false f g = g refl
 pub fold-append : (image : Image) (number : ℕ) (xs ys : List Entry) → fold image number (xs ++ ys) ≡ fold (fold image number xs) (number + length xs) ys
 unfolding fold
 fold-append image number [] ys = ap (λ k. fold image k ys) (sym (add-zero number))
-fold-append image number (e ∷ es) ys = fold-append (after image number e) (number + 1) es ys ∙ ap (λ k. fold (fold (after image number e) (number + 1) es) k ys) (omega arith)
+fold-append image number (e ∷ es) ys = fold-append (after image number e) (number + 1) es ys
+    ∙ ap (λ k. fold (fold (after image number e) (number + 1) es) k ys) (omega arith)
 
 -- one entry more
-pub fold-push : (image : Image) (number : ℕ) (xs : List Entry) (e : Entry) → fold image number (xs ++ e ∷ []) ≡ after (fold image number xs) (number + length xs) e
+pub fold-push : (image : Image) (number : ℕ) (xs : List Entry) (e : Entry)
+    → fold image number (xs ++ e ∷ []) ≡ after (fold image number xs) (number + length xs) e
 unfolding fold
 fold-push image number xs e = fold-append image number xs (e ∷ [])
 
-pub AllFit-append : (image : Image) (number : ℕ) (xs ys : List Entry) → AllFit image number xs → AllFit (fold image number xs) (number + length xs) ys → AllFit image number (xs ++ ys)
+pub AllFit-append : (image : Image) (number : ℕ) (xs ys : List Entry) → AllFit image number xs → AllFit (fold image number xs) (number + length xs) ys
+    → AllFit image number (xs ++ ys)
 unfolding fold AllFit
 AllFit-append image number [] ys a b = let P : ℕ → Type 0 = λ k. AllFit image k ys in subst P (add-zero number) b
 AllFit-append image number (e ∷ es) ys a b =
     let P : ℕ → Type 0 = λ k. AllFit (fold (after image number e) (number + 1) es) k ys in
     (a.0, AllFit-append (after image number e) (number + 1) es ys a.1 (subst P (omega arith) b))
 
-pub AllFit-push : (image : Image) (number : ℕ) (xs : List Entry) (e : Entry) → AllFit image number xs → fits (fold image number xs) e ≡ true → AllFit image number (xs ++ e ∷ [])
+pub AllFit-push : (image : Image) (number : ℕ) (xs : List Entry) (e : Entry) → AllFit image number xs → fits (fold image number xs) e ≡ true
+    → AllFit image number (xs ++ e ∷ [])
 unfolding fold AllFit
 AllFit-push image number xs e a f = AllFit-append image number xs (e ∷ []) a (f, tt)
 
 -- what is left of a list that fits, behind so many of its entries
-pub AllFit-drop : (image : Image) (number k : ℕ) (xs : List Entry) → k ≤ length xs → AllFit image number xs → AllFit (fold image number (take k xs)) (number + k) (drop k xs)
+pub AllFit-drop : (image : Image) (number k : ℕ) (xs : List Entry) → k ≤ length xs → AllFit image number xs
+    → AllFit (fold image number (take k xs)) (number + k) (drop k xs)
 unfolding fold AllFit
 AllFit-drop image number zero xs h a = let P : ℕ → Type 0 = λ k. AllFit image k xs in subst P (sym (add-zero number)) a
 AllFit-drop image number (suc k) [] h a = absurd (omega arith)

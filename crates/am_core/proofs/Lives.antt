@@ -1,5 +1,6 @@
 -- The lives of a place only grow.
-use Rattle.std.proofs.Common.{◌≡◌, ◌⊎◌, ⊎_elim, inl, inr, ℕ, zero, suc, ◌+◌, ◌-◌, ◌<◌, ◌≤◌, max, List, [], ◌∷◌, length, take, drop, refl, sym, ◌∙◌, ap, subst, Bool, true, false, ◌==◌, ◌&&◌, ◌||◌, nat_lt, Some, slice_get, slice_index, slice_index_or, arith}
+use Rattle.std.proofs.Common.{◌≡◌, ◌⊎◌, ⊎_elim, inl, inr, ℕ, zero, suc, ◌+◌, ◌-◌, ◌<◌, ◌≤◌, max, List, [], ◌∷◌, length, take, drop, refl, sym, ◌∙◌, ap, subst}
+use Rattle.std.proofs.Common.{Bool, true, false, ◌==◌, ◌&&◌, ◌||◌, nat_lt, Some, slice_get, slice_index, slice_index_or, arith}
 use Rattle.std.specs.List.{list_all}
 use Rattle.std.proofs.lemmas.List.{get_or-map, length-map, length-set, get_or-set_other}
 use Rattle.std.proofs.lemmas.Grind.{get_or-set_at}
@@ -11,7 +12,8 @@ use Rattle.am_base.specs.declared.entry.Entry.{Entry}
 use Rattle.am_base.specs.declared.entry.Entry.TheVariants.{Data, Join, Leave, View}
 use Rattle.am_base.specs.Names.{place_of, life_of, has}
 use Rattle.am_base.specs.Stamps.{stamp_eq, no_stamp}
-use Rattle.am_base.specs.Lists.{Log, blank_row, is_blank, is_blank_row, at_place, member_life, members_of, members_at, viewed, with_row, after, fits, fold, AllFit, image_at, told_by, top_of}
+use Rattle.am_base.specs.Lists.{Log, blank_row, is_blank, is_blank_row, at_place, member_life, members_of, members_at, viewed, with_row, after, fits, fold}
+use Rattle.am_base.specs.Lists.{AllFit, image_at, told_by, top_of}
 use Rattle.am_base.proofs.Places.{get_or-by_place, slice_index-by_place, length-by_place}
 use Rattle.am_base.specs.Limits.{IsImage}
 use Rattle.am_core.specs.Kept.{IsKept, above}
@@ -31,7 +33,8 @@ pub used_image : (image : Image) → IsImage image → IsUsed image
 used_image image is = record { places = is.places; unused = λ place h. (is.rows place h).unused }
 
 -- a row after one is set
-with_row_at : (image : Image) (name : ℕ) (r : Row) (place : ℕ) → length image.rows ≡ 16 → place < 16 → ((place ≡ place_of name) × (row_at (with_row image name r) place ≡ r)) ⊎ (row_at (with_row image name r) place ≡ row_at image place)
+with_row_at : (image : Image) (name : ℕ) (r : Row) (place : ℕ) → length image.rows ≡ 16 → place < 16
+    → ((place ≡ place_of name) × (row_at (with_row image name r) place ≡ r)) ⊎ (row_at (with_row image name r) place ≡ row_at image place)
 with_row_at image name r place long h = ⊎_elim
     (λ p. inl (p.1, get_or-set_at image.rows (place_of name) place r blank_row p.1 (let e = p.1 in omega arith)))
     (λ p. inr (get_or-set_other image.rows (place_of name) place r blank_row p.1))
@@ -45,7 +48,8 @@ with_row_used image name r is row = record {
       ⊎_elim (λ p. subst P (sym p.1) row) (λ p. subst P (sym p) (is.unused place h)) (with_row_at image name r place is.places h);
 }
 
-viewed_used : (first : Bool) (number life : ℕ) (r : Row) → (r.joined ≡ 0 → r.life ≡ 0) → (viewed first number life r).joined ≡ 0 → (viewed first number life r).life ≡ 0
+viewed_used : (first : Bool) (number life : ℕ) (r : Row) → (r.joined ≡ 0 → r.life ≡ 0) → (viewed first number life r).joined ≡ 0
+    → (viewed first number life r).life ≡ 0
 viewed_used first number life r is = grind (arith, nat_tests)
 
 pub used_after : (image : Image) (number : ℕ) (e : Entry) → 0 < number → IsUsed image → IsUsed (after image number e)
@@ -53,7 +57,8 @@ unfolding after
 used_after image number (Data from req body) n is = split ((at_place image from).life == life_of from)
     (λ t. rw t (with_row_used image from (record (at_place image from) { last = req }) is (is.unused (place_of from) (omega arith))))
     (λ f. rw f is)
-used_after image number (Join name) n is = with_row_used image name (record { life = life_of name; joined = number; left = 0; last = 0 }) is (λ z. absurd (omega arith))
+used_after image number (Join name) n is = with_row_used image name (record { life = life_of name; joined = number; left = 0; last = 0 }) is
+    (λ z. absurd (omega arith))
 used_after image number (Leave name) n is = split ((at_place image name).life == life_of name)
     (λ t. rw t (with_row_used image name (record (at_place image name) { left = number }) is (is.unused (place_of name) (omega arith))))
     (λ f. rw f is)
@@ -61,7 +66,8 @@ used_after image number (View stamp members resilience) n is = record {
   places = length-by_place (λ place. viewed (is_blank image) number (slice_index members place) (row_at image place));
   unused = λ place h.
       let P : Row → Type 0 = λ x. x.joined ≡ 0 → x.life ≡ 0 in
-      subst P (sym (get_or-by_place (λ place. viewed (is_blank image) number (slice_index members place) (row_at image place)) place blank_row h)) (viewed_used (is_blank image) number (slice_index members place) (row_at image place) (is.unused place h));
+      subst P (sym (get_or-by_place (λ place. viewed (is_blank image) number (slice_index members place) (row_at image place)) place blank_row h))
+      (viewed_used (is_blank image) number (slice_index members place) (row_at image place) (is.unused place h));
 }
 
 blank_all : (a b c d : Bool) → (a && (b && (c && d))) ≡ true → d ≡ true
@@ -82,7 +88,8 @@ viewed_grows : (first : Bool) (number life : ℕ) (r : Row) → (first ≡ true 
 viewed_grows true number life r is = let z = is refl in omega arith
 viewed_grows false number life r is = grind (arith, nat_tests)
 
-with_row_grows : (image : Image) (name : ℕ) (r : Row) (place : ℕ) → length image.rows ≡ 16 → place < 16 → (at_place image name).life ≤ r.life → (row_at image place).life ≤ (row_at (with_row image name r) place).life
+with_row_grows : (image : Image) (name : ℕ) (r : Row) (place : ℕ) → length image.rows ≡ 16 → place < 16 → (at_place image name).life ≤ r.life
+    → (row_at image place).life ≤ (row_at (with_row image name r) place).life
 with_row_grows image name r place long h le = ⊎_elim
     (λ (p : (place ≡ place_of name) × (row_at (with_row image name r) place ≡ r)).
     let a = ap (λ k. (row_at image k).life) p.0 in
@@ -94,28 +101,33 @@ with_row_grows image name r place long h le = ⊎_elim
 join_grows : (r : Row) (life : ℕ) → (r.joined ≡ 0 → r.life ≡ 0) → ((r.joined == 0) || (nat_lt 0 r.left && nat_lt r.life life)) ≡ true → r.life ≤ life
 join_grows r life unused fit = grind (arith, nat_tests)
 
-pub life_after : (image : Image) (number : ℕ) (e : Entry) (place : ℕ) → place < 16 → IsUsed image → fits image e ≡ true → (row_at image place).life ≤ (row_at (after image number e) place).life
+pub life_after : (image : Image) (number : ℕ) (e : Entry) (place : ℕ) → place < 16 → IsUsed image → fits image e ≡ true
+    → (row_at image place).life ≤ (row_at (after image number e) place).life
 unfolding after fits
 life_after image number (Data from req body) place h is fit = split ((at_place image from).life == life_of from)
     (λ t. rw t (with_row_grows image from (record (at_place image from) { last = req }) place is.places h (omega arith)))
     (λ f. rw f (omega arith))
 life_after image number (Join name) place h is fit =
     let unused = is.unused (place_of name) (omega arith) in
-    with_row_grows image name (record { life = life_of name; joined = number; left = 0; last = 0 }) place is.places h (join_grows (at_place image name) (life_of name) unused fit)
+    with_row_grows image name (record { life = life_of name; joined = number; left = 0; last = 0 }) place is.places h
+    (join_grows (at_place image name) (life_of name) unused fit)
 life_after image number (Leave name) place h is fit = split ((at_place image name).life == life_of name)
     (λ t. rw t (with_row_grows image name (record (at_place image name) { left = number }) place is.places h (omega arith)))
     (λ f. rw f (omega arith))
 life_after image number (View stamp members resilience) place h is fit =
     let P : Row → Type 0 = λ x. (row_at image place).life ≤ x.life in
     subst P (sym (get_or-by_place (λ place. viewed (is_blank image) number (slice_index members place) (row_at image place)) place blank_row h))
-    (viewed_grows (is_blank image) number (slice_index members place) (row_at image place) (λ t. blank_lives image.rows place (blank_all (stamp_eq image.view no_stamp) (image.view_number == 0) (image.resilience == 0) (list_all is_blank_row image.rows) t)))
+    (viewed_grows (is_blank image) number (slice_index members place) (row_at image place)
+    (λ t. blank_lives image.rows place (blank_all (stamp_eq image.view no_stamp) (image.view_number == 0) (image.resilience == 0)
+    (list_all is_blank_row image.rows) t)))
 
 pub used_fold : (image : Image) (number : ℕ) (es : List Entry) → 0 < number → IsUsed image → IsUsed (fold image number es)
 unfolding fold
 used_fold image number [] n is = is
 used_fold image number (e ∷ es) n is = used_fold (after image number e) (number + 1) es (omega arith) (used_after image number e n is)
 
-pub life_fold : (image : Image) (number : ℕ) (es : List Entry) (place : ℕ) → place < 16 → 0 < number → IsUsed image → AllFit image number es → (row_at image place).life ≤ (row_at (fold image number es) place).life
+pub life_fold : (image : Image) (number : ℕ) (es : List Entry) (place : ℕ) → place < 16 → 0 < number → IsUsed image → AllFit image number es
+    → (row_at image place).life ≤ (row_at (fold image number es) place).life
 unfolding fold AllFit
 life_fold image number [] place h n is fit = omega arith
 life_fold image number (e ∷ es) place h n is fit =
@@ -124,7 +136,8 @@ life_fold image number (e ∷ es) place h n is fit =
     omega arith
 
 -- up to any number, a place's life is at most that at the top
-pub life_most : (log : Log) (capacity number place : ℕ) → IsKept log capacity → log.start ≤ number → number ≤ top_of log → place < 16 → (row_at (image_at log number) place).life ≤ (row_at (told_by log) place).life
+pub life_most : (log : Log) (capacity number place : ℕ) → IsKept log capacity → log.start ≤ number → number ≤ top_of log → place < 16
+    → (row_at (image_at log number) place).life ≤ (row_at (told_by log) place).life
 life_most log capacity number place is low high h =
     let k = number - log.start in
     let at : log.start + 1 + k ≡ number + 1 = omega arith in
@@ -144,7 +157,8 @@ member_at image place h = get_or-map member_life image.rows place blank_row 0 h
 member_most_row : (r : Row) → member_life r ≤ r.life
 member_most_row r = grind (arith, nat_tests)
 
-pub member_most : (log : Log) (capacity number place : ℕ) → IsKept log capacity → log.start ≤ number → number ≤ top_of log → place < 16 → slice_index (members_at log number) place ≤ (row_at (told_by log) place).life
+pub member_most : (log : Log) (capacity number place : ℕ) → IsKept log capacity → log.start ≤ number → number ≤ top_of log → place < 16
+    → slice_index (members_at log number) place ≤ (row_at (told_by log) place).life
 member_most log capacity number place is low high h =
     let used = image_used log capacity number is in
     let a = member_at (image_at log number) place (let p = used.places in omega arith) in
@@ -165,9 +179,11 @@ member_row image name is h =
 pub unions_long : (log : Log) (from more : ℕ) → length (image_at log from).rows ≡ 16 → length (unions log from more) ≡ 16
 unfolding unions
 unions_long log from zero h = length-map (image_at log from).rows member_life ∙ h
-unions_long log from (suc more) h = length-by_place (λ place. max (slice_index (unions log from more) place) (slice_index (members_at log (from + suc more)) place))
+unions_long log from (suc more) h = length-by_place (λ place. max (slice_index (unions log from more) place)
+    (slice_index (members_at log (from + suc more)) place))
 
-pub unions_most : (log : Log) (from more place bound : ℕ) → place < 16 → ((k : ℕ) → from ≤ k → k ≤ from + more → slice_index (members_at log k) place ≤ bound) → slice_index (unions log from more) place ≤ bound
+pub unions_most : (log : Log) (from more place bound : ℕ) → place < 16 → ((k : ℕ) → from ≤ k → k ≤ from + more → slice_index (members_at log k) place ≤ bound)
+    → slice_index (unions log from more) place ≤ bound
 unfolding unions
 unions_most log from zero place bound h each = each from (omega arith) (omega arith)
 unions_most log from (suc more) place bound h each =
@@ -176,7 +192,8 @@ unions_most log from (suc more) place bound h each =
     let b = each (from + suc more) (omega arith) (omega arith) in
     omega arith
 
-pub unions_least : (log : Log) (from more place k : ℕ) → place < 16 → from ≤ k → k ≤ from + more → slice_index (members_at log k) place ≤ slice_index (unions log from more) place
+pub unions_least : (log : Log) (from more place k : ℕ) → place < 16 → from ≤ k → k ≤ from + more
+    → slice_index (members_at log k) place ≤ slice_index (unions log from more) place
 unfolding unions
 unions_least log from zero place k h l u =
     let e : k ≡ from = omega arith in
@@ -190,18 +207,21 @@ unions_least log from (suc more) place k h l u =
     (eq-or-lt_of_le u)
 
 -- an entry fits what is told before it
-pub fit_at : (image : Image) (number k : ℕ) (es : List Entry) (e : Entry) → AllFit image number es → slice_get es k ≡ Some e → fits (fold image number (take k es)) e ≡ true
+pub fit_at : (image : Image) (number k : ℕ) (es : List Entry) (e : Entry) → AllFit image number es → slice_get es k ≡ Some e
+    → fits (fold image number (take k es)) e ≡ true
 unfolding fold AllFit
 fit_at image number k [] e fit get = absurd (cc)
 fit_at image number zero (x ∷ es) e fit get = let s : x ≡ e = cc in ap (fits image) (sym s) ∙ fit.0
 fit_at image number (suc k) (x ∷ es) e fit get = fit_at (after image number x) (number + 1) k es e fit.1 get
 
 -- a Leave changes no life
-pub leave_life : (image : Image) (number name place : ℕ) → place < 16 → IsUsed image → (row_at (after image number (Leave name)) place).life ≡ (row_at image place).life
+pub leave_life : (image : Image) (number name place : ℕ) → place < 16 → IsUsed image
+    → (row_at (after image number (Leave name)) place).life ≡ (row_at image place).life
 unfolding after
 leave_life image number name place h is = split ((at_place image name).life == life_of name)
     (λ t. rw t (⊎_elim
-    (λ (p : (place ≡ place_of name) × (row_at (with_row image name (record (at_place image name) { left = number })) place ≡ record (at_place image name) { left = number })). ap (λ (x : Row). x.life) p.1 ∙ ap (λ k. (row_at image k).life) (sym p.0))
+    (λ (p : (place ≡ place_of name) × (row_at (with_row image name (record (at_place image name) { left = number })) place
+    ≡ record (at_place image name) { left = number })). ap (λ (x : Row). x.life) p.1 ∙ ap (λ k. (row_at image k).life) (sym p.0))
     (λ (p : row_at (with_row image name (record (at_place image name) { left = number })) place ≡ row_at image place). ap (λ (x : Row). x.life) p)
     (with_row_at image name (record (at_place image name) { left = number }) place is.places h)))
     (λ f. rw f refl)

@@ -12,7 +12,8 @@ all_true p a (suc n) each = rw (each a (omega arith) (omega arith)) (all_true p 
 pub one_false : (p : ℕ → Bool) (a n k : ℕ) → a ≤ k → k < a + n → p k ≡ false → list_all p (range_with_len a n) ≡ false
 one_false p a n k low high e =
     let at : a + (k - a) ≡ k = omega arith in
-    list_all_at p (range_with_len a n) (k - a) 0 (let l = length-range_with_len a n in omega arith) (ap p (get_or-range_with_len a n (k - a) 0 (omega arith) ∙ at) ∙ e)
+    list_all_at p (range_with_len a n) (k - a) 0 (let l = length-range_with_len a n in
+    omega arith) (ap p (get_or-range_with_len a n (k - a) 0 (omega arith) ∙ at) ∙ e)
 
 pub all_at : (p : ℕ → Bool) (a n k : ℕ) → a ≤ k → k < a + n → list_all p (range_with_len a n) ≡ true → p k ≡ true
 all_at p a n k low high e = split (p k) (λ t. t) (λ f. absurd (let g = one_false p a n k low high f in cc))

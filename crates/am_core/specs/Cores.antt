@@ -78,7 +78,8 @@ Keeps f old new = (all : Log) → Stands all old → Stands all new × (whole al
 
 -- the list gets this entry, and nothing else changes
 abbrev pub Adds : Entry → CoreState → CoreState → Type 0
-Adds e old new = (all : Log) → Stands all old → Stands (with_entry all e) new × (whole (with_entry all e) new ≡ record (whole all old) { log = with_entry all e })
+Adds e old new = (all : Log) → Stands all old → Stands (with_entry all e) new
+    × (whole (with_entry all e) new ≡ record (whole all old) { log = with_entry all e })
 
 -- this is what the protocol's core tells or sends
 abbrev pub Sends : {A : Type 0} → (CoreState → A) → CoreState → A → Type 0

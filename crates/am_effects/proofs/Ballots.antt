@@ -1,5 +1,6 @@
 -- The effects of ballots.
-use Rattle.std.proofs.Common.{◌≡◌, ℕ, zero, suc, ◌+◌, ◌-◌, ◌==◌, ◌&&◌, min, max, nat_lt, nat_le, not, Bool, true, false, if◌then◌else◌, List, [], length, Option, Some, None, slice_get, refl, sym, ap, subst, ◌∙◌, arith}
+use Rattle.std.proofs.Common.{◌≡◌, ℕ, zero, suc, ◌+◌, ◌-◌, ◌==◌, ◌&&◌, min, max, nat_lt, nat_le, not, Bool, true, false, if◌then◌else◌, List, [], length}
+use Rattle.std.proofs.Common.{Option, Some, None, slice_get, refl, sym, ap, subst, ◌∙◌, arith}
 use Rattle.std.proofs.lemmas.Bool.Decides.{nat_tests}
 use Rattle.am_base.specs.declared.image.Vote.{Vote}
 use Rattle.am_base.specs.declared.image.Image.{Image}
@@ -12,12 +13,14 @@ use Rattle.am_base.specs.Lists.{Log, entry_at, after}
 use Rattle.am_packet.specs.Boxes.{Letter, with_letter}
 use Rattle.am_model.specs.Node.{Node, Ballot, top, told, view, members, others, only_name, those, is_member, pushed}
 use Rattle.am_model.specs.Emit.{invite_of, fetch_of, result_of}
-use Rattle.am_model.specs.Ballots.{promised, Verdict, need_of, best_of, is_waited_for, left_in, trimmed_for, decide, with_result, with_fetch, answered, next_stamp, new_ballot, begin, with_vote, newly_needed, keep_vote, without_voter, give_up}
+use Rattle.am_model.specs.Ballots.{promised, Verdict, need_of, best_of, is_waited_for, left_in, trimmed_for, decide, with_result, with_fetch, answered}
+use Rattle.am_model.specs.Ballots.{next_stamp, new_ballot, begin, with_vote, newly_needed, keep_vote, without_voter, give_up}
 use Rattle.am_model.specs.Ticks.{viewed_by}
 use Rattle.am_model.specs.Calls.{reset_row, give_up_of, give_up_row}
 use Rattle.am_model.proofs.Greatest.{and_both}
 use Rattle.am_effects.specs.Causes.{Cause, calls}
-use Rattle.am_effects.specs.Looks.{HasLearned, Looks, finds_itself_out, waits, fetches_from_best, finds_too_few, finds_no_room, decides, MayBegin, BeginsBy, by_reset, by_hand_over, MayLook, was_reset, was_handed, HasOpen, Balloting, as_it_is, without_one}
+use Rattle.am_effects.specs.Looks.{HasLearned, Looks, finds_itself_out, waits, fetches_from_best, finds_too_few, finds_no_room, decides, MayBegin, BeginsBy}
+use Rattle.am_effects.specs.Looks.{by_reset, by_hand_over, MayLook, was_reset, was_handed, HasOpen, Balloting, as_it_is, without_one}
 use Rattle.am_effects.specs.Changes.{opens}
 use Rattle.am_effects.specs.Courses.{nothing_yet, and_then, looked}
 use Rattle.am_effects.specs.Letters.{invite, fetch, result, MayInvite, has_begun, for_ballot, MayTell, decided}
@@ -85,11 +88,13 @@ entry_is log (suc before) index e =
     let k : before - log.start ≡ index = omega arith in
     rw t (ap (slice_get log.entries) k)
 
-pub viewed : (image : Image) (number : ℕ) (stamp : Stamp) (names : List ℕ) (resilience : ℕ) → ((after image number (View stamp names resilience)).view_number ≡ number) × ((after image number (View stamp names resilience)).view ≡ stamp)
+pub viewed : (image : Image) (number : ℕ) (stamp : Stamp) (names : List ℕ) (resilience : ℕ)
+    → ((after image number (View stamp names resilience)).view_number ≡ number) × ((after image number (View stamp names resilience)).view ≡ stamp)
 unfolding after
 viewed image number stamp names resilience = (refl, refl)
 
-says_result : (m : Node) (c : Cause) (n p : Node) (b : Ballot) (v : Verdict) (letters : List Letter) → Looks p b v → RestsWhole v.node n → AllSay m c n letters → AllSay m c n (with_result v.outcome n letters)
+says_result : (m : Node) (c : Cause) (n p : Node) (b : Ballot) (v : Verdict) (letters : List Letter) → Looks p b v → RestsWhole v.node n → AllSay m c n letters
+    → AllSay m c n (with_result v.outcome n letters)
 says_result m c n p b v letters (finds_itself_out x) r h = h
 says_result m c n p b v letters (waits x y) r h = h
 says_result m c n p b v letters (fetches_from_best x y z) r h = h
@@ -103,13 +108,16 @@ says_result m c n p b v letters (decides x) r h =
     let image : told n ≡ after (told p) number e = ap Rattle.am_base.specs.Lists.told_by r.log ∙ told_pushed before e in
     let is = viewed (told p) number b.stamp names (max b.resilience (told p).resilience) in
     let high : number ≡ (told n).view_number = sym (ap (λ (i : Image). i.view_number) image ∙ is.0) in
-    let there : entry_at n.core.log number ≡ Some e = ap (λ l. entry_at l number) r.log ∙ (entry_is (pushed before e).core.log number (length p.core.log.entries) (omega arith) ∙ get_last p.core.log.entries e) in
+    let there : entry_at n.core.log number ≡ Some e = ap (λ l. entry_at l number) r.log
+    ∙ (entry_is (pushed before e).core.log number (length p.core.log.entries) (omega arith) ∙ get_last p.core.log.entries e) in
     let stamp : view n ≡ b.stamp = ap (λ (i : Image). i.view) image ∙ is.1 in
     let o = said.Decided number names in
     and_says m c n (without_name names n.core.who) (result_of n number names (told n).resilience) letters
-    (result (without_name names n.core.who) number names high (ap viewed_by there) (decided (record b { answer = o; is_over = true }) number names r.rests.ballot refl stamp)) h
+    (result (without_name names n.core.who) number names high (ap viewed_by there)
+    (decided (record b { answer = o; is_over = true }) number names r.rests.ballot refl stamp)) h
 
-says_fetch : (m : Node) (c : Cause) (n p : Node) (b : Ballot) (v : Verdict) (letters : List Letter) → Looks p b v → RestsWhole v.node n → AllSay m c n letters → AllSay m c n (with_fetch v.outcome n letters)
+says_fetch : (m : Node) (c : Cause) (n p : Node) (b : Ballot) (v : Verdict) (letters : List Letter) → Looks p b v → RestsWhole v.node n → AllSay m c n letters
+    → AllSay m c n (with_fetch v.outcome n letters)
 says_fetch m c n p b v letters (finds_itself_out x) r h = h
 says_fetch m c n p b v letters (waits x y) r h = h
 says_fetch m c n p b v letters (finds_too_few x y) r h = h
@@ -119,11 +127,13 @@ says_fetch m c n p b v letters (fetches_from_best x y z) r h =
     let from = (best_of p b).by in
     let o = said.Fetching from (top p + 1) in
     and_says m c n (only_name from) (fetch_of n) letters
-    (fetch (only_name from) (for_ballot (record b { answer = o; is_over = false }) (record { last = r.rests.ballot; open_ = refl }) from (top p + 1) refl refl)) h
+    (fetch (only_name from) (for_ballot (record b { answer = o; is_over = false }) (record { last = r.rests.ballot; open_ = refl }) from (top p + 1) refl refl))
+    h
 
 -- ---- a look at the end of a row
 
-pub effect_answered : (m : Node) (c : Cause) (p : Node) (b : Ballot) (f : Node → List Letter) → Comes m c p → b.is_over ≡ false → Balloting c p b → ((n : Node) → RestsWhole (decide p b).node n → AllSay m c n (f n)) → HasEffect m c (answered (decide p b) f)
+pub effect_answered : (m : Node) (c : Cause) (p : Node) (b : Ballot) (f : Node → List Letter) → Comes m c p → b.is_over ≡ false → Balloting c p b
+    → ((n : Node) → RestsWhole (decide p b).node n → AllSay m c n (f n)) → HasEffect m c (answered (decide p b) f)
 effect_answered m c p b f comes over why says =
     let v = decide p b in
     let l = looks_at p b in
@@ -134,7 +144,8 @@ effect_answered m c p b f comes over why says =
 abbrev opened : Node → ℕ → ℕ → Node
 opened m least resilience = record (promised m (next_stamp m)) { ballot = Some (new_ballot (next_stamp m) least (min resilience 15)) }
 
-same_look : (m : Node) (least resilience : ℕ) → decide (promised m (next_stamp m)) (new_ballot (next_stamp m) least (min resilience 15)) ≡ decide (opened m least resilience) (new_ballot (next_stamp m) least (min resilience 15))
+same_look : (m : Node) (least resilience : ℕ) → decide (promised m (next_stamp m)) (new_ballot (next_stamp m) least (min resilience 15))
+    ≡ decide (opened m least resilience) (new_ballot (next_stamp m) least (min resilience 15))
 unfolding decide best_of
 same_look m least resilience = refl
 
@@ -148,8 +159,10 @@ row_begin m c least resilience by may =
     let p = opened m least resilience in
     let b = new_ballot (next_stamp m) least (min resilience 15) in
     let f : Node → List Letter = λ n. with_letter (others m) (invite_of n) [] in
-    let h : HasEffect m c (answered (decide p b) f) = effect_answered m c p b f (λ o. and_then nothing_yet (opens {m = m} least resilience by may) tt) refl (as_it_is b (record { last = refl; open_ = refl }) (looks_on m c p by))
-    (λ n r. and_says m c n (others m) (invite_of n) [] (let new = ballot_look p b (decide p b) (looks_at p b) in invite (others m) (has_begun new.0 (r.rests.ballot ∙ new.1) (r.rests.promise ∙ promise_look p b (decide p b) (looks_at p b)))) (none_says m c n)) in
+    let h : HasEffect m c (answered (decide p b) f) = effect_answered m c p b f (λ o. and_then nothing_yet (opens {m = m} least resilience by may) tt) refl
+    (as_it_is b (record { last = refl; open_ = refl }) (looks_on m c p by))
+    (λ n r. and_says m c n (others m) (invite_of n) [] (let new = ballot_look p b (decide p b) (looks_at p b) in
+    invite (others m) (has_begun new.0 (r.rests.ballot ∙ new.1) (r.rests.promise ∙ promise_look p b (decide p b) (looks_at p b)))) (none_says m c n)) in
     subst (λ v. HasEffect m c (answered v f)) (sym (same_look m least resilience)) h
 
 pub row_reset : (m : Node) (c : Cause) (least resilience : ℕ) → BeginsBy m c → HasEffect m c (reset_row m least resilience)
@@ -160,13 +173,15 @@ row_reset m c least resilience by =
     effect_if m c m.leaving _ _ (λ t. search rows) (λ g. row_begin m c least resilience by (record { member = both.0; listed = both.1; stays = g })))
 
 -- a vote is kept
-pub row_keep_vote : (m : Node) (c : Cause) (b : Ballot) (name : ℕ) (vote : Vote) → HasOpen m b → Balloting c m (with_vote b name vote) → HasEffect m c (keep_vote m b name vote)
+pub row_keep_vote : (m : Node) (c : Cause) (b : Ballot) (name : ℕ) (vote : Vote) → HasOpen m b → Balloting c m (with_vote b name vote)
+    → HasEffect m c (keep_vote m b name vote)
 unfolding keep_vote
 row_keep_vote m c b name vote open_ why =
     let new = with_vote b name vote in
     let v = decide m new in
     effect_answered m c m new (λ n. with_fetch v.outcome n (with_letter (newly_needed m b new) (invite_of n) [])) (λ o. nothing_yet) open_.open_ why
-    (λ n r. says_fetch m c n m new v _ (looks_at m new) r (and_says m c n (newly_needed m b new) (invite_of n) [] (invite (newly_needed m b new) (letters.goes_on b open_)) (none_says m c n)))
+    (λ n r. says_fetch m c n m new v _ (looks_at m new) r (and_says m c n (newly_needed m b new) (invite_of n) []
+    (invite (newly_needed m b new) (letters.goes_on b open_)) (none_says m c n)))
 
 row_give_up : (m : Node) (b : Ballot) (name : ℕ) → HasOpen m b → (name == m.core.who) ≡ false → HasEffect m (calls (does.GiveUp name)) (give_up m b name)
 unfolding give_up

@@ -1,5 +1,6 @@
 -- The effects of the calls.
-use Rattle.std.proofs.Common.{◌≡◌, ℕ, ◌+◌, ◌||◌, ◌==◌, nat_lt, nat_le, not, Bool, true, false, if◌then◌else◌, List, [], length, Option, Some, None, find, is_some, inl, inr, refl, ap, ◌∙◌, arith}
+use Rattle.std.proofs.Common.{◌≡◌, ℕ, ◌+◌, ◌||◌, ◌==◌, nat_lt, nat_le, not, Bool, true, false, if◌then◌else◌, List, [], length, Option, Some, None, find}
+use Rattle.std.proofs.Common.{is_some, inl, inr, refl, ap, ◌∙◌, arith}
 use Rattle.std.proofs.lemmas.Bool.Decides.{nat_tests}
 use Rattle.am_base.specs.declared.entry.Entry.{Entry}
 use Rattle.am_base.specs.declared.entry.Entry.TheVariants.{Data}
@@ -13,9 +14,11 @@ use Rattle.am_sender.specs.declared.OwnSend.{OwnSend}
 use Rattle.am_sender.specs.Sends as own
 use Rattle.am_model.specs.declared.status.Status.{Status}
 use Rattle.am_model.specs.declared.status.Status.TheVariants as status
-use Rattle.am_model.specs.Node.{Node, Ballot, top, view, own_row, others, only_name, lowest_or_first, acts, has_room, is_member, is_asking, is_sequencer, waiting, unsettled, pushed}
+use Rattle.am_model.specs.Node.{Node, Ballot, top, view, own_row, others, only_name, lowest_or_first, acts, has_room, is_member, is_asking, is_sequencer}
+use Rattle.am_model.specs.Node.{waiting, unsettled, pushed}
 use Rattle.am_model.specs.Emit.{Plan, quiet, join_ask_of, leave_ask_of, hand_over_of, request_of, spread_of, bcast_of}
-use Rattle.am_model.specs.Calls.{everywhere_else, would_emit, hand_in, number_send, emit, queued, queue, given, ask_to_join, join_by, state_by, go, leave_now, leave_by, is_unfinished, ask_of, send_row, done_row, take_row, join_row, state_row, leave_row, ask_row}
+use Rattle.am_model.specs.Calls.{everywhere_else, would_emit, hand_in, number_send, emit, queued, queue, given, ask_to_join, join_by, state_by, go, leave_now}
+use Rattle.am_model.specs.Calls.{leave_by, is_unfinished, ask_of, send_row, done_row, take_row, join_row, state_row, leave_row, ask_row}
 use Rattle.am_model.proofs.Greatest.{and_both}
 use Rattle.am_effects.specs.Causes.{Cause, calls}
 use Rattle.am_effects.specs.Changes.{numbers, own_send, queues, collects, takes, asks_to_join, asks_to_leave}
@@ -25,7 +28,8 @@ use Rattle.am_effects.specs.Effects.{Answers}
 use Rattle.am_effects.proofs.Tests.{not_false, not_true}
 use Rattle.am_effects.proofs.Items.{find_get, find_test}
 use Rattle.am_effects.proofs.Rests.{Rests, RestsWhole, leads_rests}
-use Rattle.am_effects.proofs.Plans.{Comes, Does, HasEffect, effect_if, effect_of, row_closing, does_if, does_quiet, does_telling, does_and, does_numbering, tightly, rows}
+use Rattle.am_effects.proofs.Plans.{Comes, Does, HasEffect, effect_if, effect_of, row_closing, does_if, does_quiet, does_telling, does_and, does_numbering}
+use Rattle.am_effects.proofs.Plans.{tightly, rows}
 use Rattle.am_effects.proofs.Alone.{IsAlone, gone, alone_after}
 use Rattle.am_effects.proofs.Says.{waiting_stands, tells_request, tells_spread, tells_bcast}
 
@@ -39,21 +43,28 @@ Allows m c o = (n : Node) → Answers m c n o
 abbrev AllowsAfter : Node → Cause → Outcome → ℕ → Type 0
 AllowsAfter m c o last = (n : Node) → n.sends.last ≡ last → Answers m c n o
 
-does_hand_in : (m : Node) (c : Cause) (p : Node) (s : OwnSend) (o : Outcome) → Course c o m p → AllowsAfter m c o p.sends.last → acts p ≡ true → is_sequencer p ≡ false → HasSend p s.req s.body → Does Rests m c (hand_in p s o)
+does_hand_in : (m : Node) (c : Cause) (p : Node) (s : OwnSend) (o : Outcome) → Course c o m p → AllowsAfter m c o p.sends.last → acts p ≡ true
+    → is_sequencer p ≡ false → HasSend p s.req s.body → Does Rests m c (hand_in p s o)
 does_hand_in m c p s o h a acting f sent = does_if Rests m c (nat_le (length s.body) p.core.rules.pb_up_to) _ _
-    (λ t. does_telling Rests m c p o (only_name (view p).by) (λ n. request_of n s.req s.body) h (λ n r. a n r.asked) (tells_request m c p (only_name (view p).by) s.req s.body acting f sent))
-    (λ g. does_telling Rests m c p o (others p) (λ n. spread_of n s.req s.body) h (λ n r. a n r.asked) (tells_spread m c p (others p) s.req s.body acting f sent))
+    (λ t. does_telling Rests m c p o (only_name (view p).by) (λ n. request_of n s.req s.body) h (λ n r. a n r.asked)
+    (tells_request m c p (only_name (view p).by) s.req s.body acting f sent))
+    (λ g. does_telling Rests m c p o (others p) (λ n. spread_of n s.req s.body) h (λ n r. a n r.asked)
+    (tells_spread m c p (others p) s.req s.body acting f sent))
 
 -- the sequencer numbers its own send
-numbers_own : (m : Node) (c : Cause) (p : Node) (s : OwnSend) (o : Outcome) → Course c o m p → waiting p ≡ Some s → nat_lt (own_row p).last s.req ≡ true → is_sequencer p ≡ true → has_room p ≡ true → Course c o m (pushed p (Data p.core.who s.req s.body))
+numbers_own : (m : Node) (c : Cause) (p : Node) (s : OwnSend) (o : Outcome) → Course c o m p → waiting p ≡ Some s → nat_lt (own_row p).last s.req ≡ true
+    → is_sequencer p ≡ true → has_room p ≡ true → Course c o m (pushed p (Data p.core.who s.req s.body))
 numbers_own m c p s o h is last leads room = and_then h (numbers {m = p} (Data p.core.who s.req s.body) leads room (own_send s is last)) tt
 
-does_number_send : (m : Node) (c : Cause) (p : Node) (s : OwnSend) (o : Outcome) → Course c o m p → AllowsAfter m c o p.sends.last → waiting p ≡ Some s → nat_lt (own_row p).last s.req ≡ true → is_sequencer p ≡ true → has_room p ≡ true → Does Rests m c (number_send p s o)
+does_number_send : (m : Node) (c : Cause) (p : Node) (s : OwnSend) (o : Outcome) → Course c o m p → AllowsAfter m c o p.sends.last → waiting p ≡ Some s
+    → nat_lt (own_row p).last s.req ≡ true → is_sequencer p ≡ true → has_room p ≡ true → Does Rests m c (number_send p s o)
 does_number_send m c p s o h a is last leads room =
     let e = Data p.core.who s.req s.body in
-    does_numbering Rests m c p e o (λ n. bcast_of n (top p + 1) e) (numbers_own m c p s o h is last leads room) (λ n r. a n r.asked) (tells_bcast m c p (others p) e leads refl)
+    does_numbering Rests m c p e o (λ n. bcast_of n (top p + 1) e) (numbers_own m c p s o h is last leads room) (λ n r. a n r.asked)
+    (tells_bcast m c p (others p) e leads refl)
 
-pub does_emit : (m : Node) (c : Cause) (p : Node) (w : Option OwnSend) (o : Outcome) → Course c o m p → AllowsAfter m c o p.sends.last → waiting p ≡ w → Does Rests m c (emit p w o)
+pub does_emit : (m : Node) (c : Cause) (p : Node) (w : Option OwnSend) (o : Outcome) → Course c o m p → AllowsAfter m c o p.sends.last → waiting p ≡ w
+    → Does Rests m c (emit p w o)
 does_emit m c p None o h a is = does_quiet Rests m c p o h (λ n r. a n r.asked)
 does_emit m c p (Some s) o h a is =
     let quietly = does_quiet Rests m c p o h (λ n r. a n r.asked) in
@@ -77,23 +88,28 @@ comes_emit m c p (Some s) said_ h is o =
     (λ g. node_if C (has_room p) _ _ (λ t. numbers_own m c p s o (h o) is both.1 (not_false _ g) t) (λ k. h o)))
 
 -- what is answered as queued was queued
-row_queue : (m : Node) (body : List ℕ) → is_member m.status ≡ true → m.leaving ≡ false → nat_le 4 (length m.sends.queue) ≡ false → HasEffect m (calls (does.Send body)) (queue m body)
+row_queue : (m : Node) (body : List ℕ) → is_member m.status ≡ true → m.leaving ≡ false → nat_le 4 (length m.sends.queue) ≡ false
+    → HasEffect m (calls (does.Send body)) (queue m body)
 row_queue m body member stays few =
     let c = calls (does.Send body) in
     let o = said.Queued (m.sends.last + 1) in
     let h : Course c o m (queued m body) = and_then nothing_yet (queues {m = m} body refl refl member stays few) tt in
-    effect_if m c (is_some (waiting m)) _ _ (λ t. effect_of m c _ (does_quiet RestsWhole m c (queued m body) o h (λ n r. inl (record { next = refl; more = r.rests.asked }))))
-    (λ f. effect_of m c _ (tightly m c _ (does_emit m c (queued m body) (waiting (queued m body)) o h (λ n same. inl (record { next = refl; more = same })) refl)))
+    effect_if m c (is_some (waiting m)) _ _ (λ t. effect_of m c _
+    (does_quiet RestsWhole m c (queued m body) o h (λ n r. inl (record { next = refl; more = r.rests.asked }))))
+    (λ f. effect_of m c _ (tightly m c _ (does_emit m c (queued m body) (waiting (queued m body)) o h
+    (λ n same. inl (record { next = refl; more = same })) refl)))
 
 pub row_send : (m : Node) (body : List ℕ) → HasEffect m (calls (does.Send body)) (send_row m body)
 unfolding send_row
 row_send m body =
-    let k : not (is_member m.status) ≡ false → m.leaving ≡ false → nat_le 4 (length m.sends.queue) ≡ false → HasEffect m (calls (does.Send body)) (queue m body) = λ a b d. row_queue m body (not_false _ a) b d in
+    let k : not (is_member m.status) ≡ false → m.leaving ≡ false → nat_le 4 (length m.sends.queue) ≡ false
+    → HasEffect m (calls (does.Send body)) (queue m body) = λ a b d. row_queue m body (not_false _ a) b d in
     search (rows, k) depth 9
 
 -- ---- what came of a send
 
-collected : (m : Node) (n : Node) (req : ℕ) (found : Option OwnSend) → find (own.is_request req) m.sends.queue ≡ found → Answers m (calls (does.Done req)) n (own.outcome_of req found)
+collected : (m : Node) (n : Node) (req : ℕ) (found : Option OwnSend) → find (own.is_request req) m.sends.queue ≡ found
+    → Answers m (calls (does.Done req)) n (own.outcome_of req found)
 collected m n req None is = tt
 collected m n req (Some s) is = by_number s.number refl
   where
@@ -110,31 +126,38 @@ unfolding done_row
 row_done m req =
     let c = calls (does.Done req) in
     let o = own.collect_outcome req m.sends in
-    effect_of m c _ (does_quiet RestsWhole m c _ o (and_then nothing_yet (collects {m = m} req refl) tt) (λ n r. collected m n req (find (own.is_request req) m.sends.queue) refl))
+    effect_of m c _ (does_quiet RestsWhole m c _ o (and_then nothing_yet (collects {m = m} req refl) tt)
+    (λ n r. collected m n req (find (own.is_request req) m.sends.queue) refl))
 
 -- ---- what is accepted
 
-row_given : (m : Node) (e : Option Entry) → is_member m.status ≡ true → (m.core.taken == m.core.acc) ≡ false → entry_at m.core.log (m.core.taken + 1) ≡ e → HasEffect m (calls does.Take) (given m e)
+row_given : (m : Node) (e : Option Entry) → is_member m.status ≡ true → (m.core.taken == m.core.acc) ≡ false → entry_at m.core.log (m.core.taken + 1) ≡ e
+    → HasEffect m (calls does.Take) (given m e)
 row_given m None member some is = search rows
 row_given m (Some e) member some is =
     let c = calls does.Take in
     let o = said.Took (m.core.taken + 1) e in
     let p = record m { core = record (m.core) { taken = m.core.taken + 1 } } in
-    effect_of m c _ (does_quiet RestsWhole m c p o (and_then nothing_yet (takes {m = m} e refl refl member some is) tt) (λ n r. inl (record { asked = refl; next = refl; there = is; gone_on = r.rests.taken; some = some })))
+    effect_of m c _ (does_quiet RestsWhole m c p o (and_then nothing_yet (takes {m = m} e refl refl member some is) tt)
+    (λ n r. inl (record { asked = refl; next = refl; there = is; gone_on = r.rests.taken; some = some })))
 
 pub row_take : (m : Node) → HasEffect m (calls does.Take) (take_row m)
 unfolding take_row
 row_take m =
-    let k : not (is_member m.status) ≡ false → (m.core.taken == m.core.acc) ≡ false → HasEffect m (calls does.Take) (given m (entry_at m.core.log (m.core.taken + 1))) = λ a b. row_given m _ (not_false _ a) b refl in
+    let k : not (is_member m.status) ≡ false → (m.core.taken == m.core.acc) ≡ false
+    → HasEffect m (calls does.Take) (given m (entry_at m.core.log (m.core.taken + 1))) = λ a b. row_given m _ (not_false _ a) b refl in
     search (rows, k) depth 9
 
 -- ---- joining and leaving
 
-pub row_ask_to_join : (m : Node) (c : Cause) (p : Node) (o : Outcome) → Course c o m p → Allows m c o → is_asking p.status ≡ true → HasEffect m c (ask_to_join p o)
-row_ask_to_join m c p o h a t = effect_of m c _ (does_telling RestsWhole m c p o (everywhere_else p) join_ask_of h (λ n r. a n) (λ n r. join_ask (everywhere_else p) (ap is_asking r.rests.status ∙ t)))
+pub row_ask_to_join : (m : Node) (c : Cause) (p : Node) (o : Outcome) → Course c o m p → Allows m c o → is_asking p.status ≡ true
+    → HasEffect m c (ask_to_join p o)
+row_ask_to_join m c p o h a t = effect_of m c _ (does_telling RestsWhole m c p o (everywhere_else p) join_ask_of h (λ n r. a n)
+    (λ n r. join_ask (everywhere_else p) (ap is_asking r.rests.status ∙ t)))
 
 row_join_by : (m : Node) (s : Status) → m.status ≡ s → HasEffect m (calls does.Join) (join_by m s)
-row_join_by m status.Stranger is = row_ask_to_join m (calls does.Join) (record m { status = status.Asking }) said.Asked (and_then nothing_yet (asks_to_join {m = m} refl is) tt) (λ n. tt) refl
+row_join_by m status.Stranger is = row_ask_to_join m (calls does.Join) (record m { status = status.Asking }) said.Asked
+    (and_then nothing_yet (asks_to_join {m = m} refl is) tt) (λ n. tt) refl
 row_join_by m status.Asking is = search rows
 row_join_by m status.Member is = search rows
 row_join_by m status.Departed is = search rows
@@ -154,16 +177,26 @@ unfolding state_row
 row_state m = row_state_by m m.status
 
 -- a leaving node goes on, whatever the plan before does
-pub row_go : (m : Node) (c : Cause) (p : Plan) (event : NodeEvent) → c ≡ calls event → Does Rests m c p → Comes m c p.node → ((base high : ℕ) → Allows m c (said.Held base high)) → (IsAlone p.node → p.letters (gone p.node) ≡ []) → view p.node ≡ view m → is_member p.node.status ≡ true → p.node.leaving ≡ true → HasEffect m c (go p)
+pub row_go : (m : Node) (c : Cause) (p : Plan) (event : NodeEvent) → c ≡ calls event → Does Rests m c p → Comes m c p.node
+    → ((base high : ℕ) → Allows m c (said.Held base high)) → (IsAlone p.node → p.letters (gone p.node) ≡ []) → view p.node ≡ view m
+    → is_member p.node.status ≡ true → p.node.leaving ≡ true → HasEffect m c (go p)
 row_go m c p event called h comes a quietly viewed member leaves =
     effect_if m c (not (is_sequencer p.node)) _ _
-    (λ t. effect_of m c _ (tightly m c _ (does_and Rests m c p (others p.node) leave_ask_of h (λ n r. leave_ask _ (ap is_member r.status ∙ member) (r.leaving ∙ leaves)))))
+    (λ t. effect_of m c _ (tightly m c _ (does_and Rests m c p (others p.node) leave_ask_of h
+    (λ n r. leave_ask _ (ap is_member r.status ∙ member) (r.leaving ∙ leaves)))))
     (λ f. let leads = not_false _ f in
     effect_if m c (nat_lt 0 (size (others p.node))) _ _
-    (λ t. effect_of m c _ (tightly m c _ (does_and Rests m c p (only_name (lowest_or_first (others p.node))) hand_over_of h (λ n r. hand_over _ (leads_rests r ∙ leads) (r.leaving ∙ leaves)))))
+    (λ t. effect_of m c _ (tightly m c _ (does_and Rests m c p (only_name (lowest_or_first (others p.node))) hand_over_of h
+    (λ n r. hand_over _ (leads_rests r ∙ leads) (r.leaving ∙ leaves)))))
     (λ alone. effect_if m c (has_room p.node) _ _
     (λ room. row_closing m c p event called (comes said.Departed) leads leaves alone room viewed (alone_after p.node alone) (quietly alone))
-    (λ none. effect_of m c _ (record { stays = h.stays; changes = λ n. comes (said.Held p.node.core.base (top p.node)); answer = λ n r. a p.node.core.base (top p.node) n; letters = λ n r. h.letters n r.rests }))))
+    (λ none. effect_of m c _ (record {
+      stays = h.stays;
+      changes = λ n. comes (said.Held p.node.core.base (top p.node));
+      answer =
+          λ n r. a p.node.core.base (top p.node) n;
+      letters = λ n r. h.letters n r.rests;
+    }))))
 
 row_leave_now : (m : Node) → m.status ≡ status.Member → HasEffect m (calls does.Leave) (leave_now m)
 row_leave_now m is =
@@ -171,7 +204,8 @@ row_leave_now m is =
     let n = record m { leaving = true } in
     let k : m.leaving ≡ false → (nat_lt 0 (unsettled m) || is_unfinished m.ballot) ≡ false → HasEffect m c (go (quiet n said.Asked)) = λ a b.
     (let comes : Comes m c n = λ o. and_then nothing_yet (asks_to_leave {m = m} refl is a b) tt in
-    row_go m c (quiet n said.Asked) does.Leave refl (does_quiet Rests m c n said.Asked (comes said.Asked) (λ x r. tt)) comes (λ x y z. tt) (λ alone. refl) refl (ap is_member is) refl) in
+    row_go m c (quiet n said.Asked) does.Leave refl (does_quiet Rests m c n said.Asked (comes said.Asked) (λ x r. tt)) comes (λ x y z. tt) (λ alone. refl) refl
+    (ap is_member is) refl) in
     search (rows, k) depth 9
 
 row_leave_by : (m : Node) (s : Status) → m.status ≡ s → HasEffect m (calls does.Leave) (leave_by m s)
@@ -197,7 +231,8 @@ row_ask_of : (m : Node) (round : ℕ) (b : Option Ballot) → m.ballot ≡ b →
 row_ask_of m round None is = search rows
 row_ask_of m round (Some b) is =
     let c = calls (does.Ask round) in
-    let k : HasEffect m c (quiet m b.answer) = effect_of m c _ (does_quiet RestsWhole m c m b.answer nothing_yet (λ n r. answers_ask m n round b b.answer is refl)) in
+    let k : HasEffect m c (quiet m b.answer) = effect_of m c _
+    (does_quiet RestsWhole m c m b.answer nothing_yet (λ n r. answers_ask m n round b b.answer is refl)) in
     search (rows, k) depth 9
 
 pub row_ask : (m : Node) (round : ℕ) → HasEffect m (calls (does.Ask round)) (ask_row m round)

@@ -19,7 +19,8 @@ use Rattle.am_model.specs.World.{World, current, is_stopped, has_departed, does_
 use Rattle.am_model.specs.Claims.{heard_by}
 use Rattle.am_effects.specs.Causes.{Cause, calls, hears, refuses}
 use Rattle.am_effects.specs.Effects.{Effect}
-use Rattle.am_effects.specs.Events.{actor, WasSentTo, IsCall, send, done, take, join, state, leave, reset, ask, give_up, tick, IsCause, Happens, idles, stops, returns, steps, EventsHaveEffects}
+use Rattle.am_effects.specs.Events.{actor, WasSentTo, IsCall, send, done, take, join, state, leave, reset, ask, give_up, tick, IsCause, Happens, idles, stops}
+use Rattle.am_effects.specs.Events.{returns, steps, EventsHaveEffects}
 use Rattle.am_effects.proofs.Tests.{not_false}
 use Rattle.am_effects.proofs.Hearing.{steps_have_effects, hearing_has_effects, refusing_has_effects}
 
@@ -28,21 +29,24 @@ happens_if w e true u v f g = f refl
 happens_if w e false u v f g = g refl
 
 -- a name's own event
-event_happens : (w : World) (e : Event) (event : NodeEvent) → IsCall w e.act event → Effect (w.nodes (actor w e)) (calls event) (step (w.nodes (actor w e)) event) → Happens w e (does_event w e (actor w e) event)
+event_happens : (w : World) (e : Event) (event : NodeEvent) → IsCall w e.act event
+    → Effect (w.nodes (actor w e)) (calls event) (step (w.nodes (actor w e)) event) → Happens w e (does_event w e (actor w e) event)
 event_happens w e event is effect = happens_if w e (is_stopped w (actor w e)) _ _ (λ t. idles said.IsStopped tt) (λ f. steps (calls event) _ f is effect)
 
 give_up_happens : (w : World) (e : Event) (other : ℕ) → e.act ≡ act.GiveUp other → Happens w e (gives_up w e (actor w e) other)
 give_up_happens w e other is =
     happens_if w e (is_stopped w (actor w e)) _ _ (λ t. idles said.IsStopped tt)
     (λ f. happens_if w e (is_stopped w other) _ _
-    (λ t. steps (calls (does.GiveUp other)) _ f (subst (λ a. IsCall w a (does.GiveUp other)) (sym is) (give_up other t)) (steps_have_effects (w.nodes (actor w e)) (does.GiveUp other)))
+    (λ t. steps (calls (does.GiveUp other)) _ f (subst (λ a. IsCall w a (does.GiveUp other)) (sym is) (give_up other t))
+    (steps_have_effects (w.nodes (actor w e)) (does.GiveUp other)))
     (λ g. idles said.NotStopped tt))
 
 -- what is heard of a packet
 abbrev Hears : World → Event → (Packet → Step) → Type 0
 Hears w e hearing = (p : Packet) → WasSentTo w (actor w e) e.act p → (c : Cause) × IsCause w (actor w e) e.act c × Effect (w.nodes (actor w e)) c (hearing p)
 
-letter_happens : (w : World) (e : Event) (hearing : Packet → Step) (l : Option Letter) → letter_at w.letters (heard_by e.act) ≡ l → Hears w e hearing → Happens w e (heard w e (actor w e) hearing l)
+letter_happens : (w : World) (e : Event) (hearing : Packet → Step) (l : Option Letter) → letter_at w.letters (heard_by e.act) ≡ l → Hears w e hearing
+    → Happens w e (heard w e (actor w e) hearing l)
 letter_happens w e hearing None is h = idles said.NoPacket tt
 letter_happens w e hearing (Some l) is h =
     happens_if w e (not (is_for l (actor w e))) _ _ (λ t. idles said.NotAddressed tt)
@@ -74,10 +78,12 @@ act_happens w e a is = by_act a is
     m : Node
     m = w.nodes (actor w e)
 
-    called : (a : Act) (event : NodeEvent) → e.act ≡ a → IsCall w a event → Effect m (calls event) (step m event) → Happens w e (does_event w e (actor w e) event)
+    called : (a : Act) (event : NodeEvent) → e.act ≡ a → IsCall w a event → Effect m (calls event) (step m event)
+        → Happens w e (does_event w e (actor w e) event)
     called a event is call effect = event_happens w e event (subst (λ x. IsCall w x event) (sym is) call) effect
 
-    by_letter : (hearing : Packet → Step) (number : ℕ) → heard_by e.act ≡ number → Hears w e hearing → Happens w e (heard w e (actor w e) hearing (letter_at w.letters number))
+    by_letter : (hearing : Packet → Step) (number : ℕ) → heard_by e.act ≡ number → Hears w e hearing
+        → Happens w e (heard w e (actor w e) hearing (letter_at w.letters number))
     by_letter hearing number is h = letter_happens w e hearing (letter_at w.letters number) (ap (letter_at w.letters) is) h
 
     by_act : (a : Act) → e.act ≡ a → Happens w e (acts_as w e (actor w e) a)

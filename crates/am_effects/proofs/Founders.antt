@@ -6,7 +6,8 @@ use Rattle.am_base.specs.Names.{place_of, life_of, name_at, has, size, names_fro
 use Rattle.am_model.specs.Node.{founding_stamp}
 
 -- the first name of a set that isn't empty, whose places count from one on
-lowest_is : (p : ℕ) (set : List ℕ) → 0 < size set → (k : ℕ) × (k < length set) × (0 < get_or set k 0) × (first_of (names_from p set) ≡ Some (name_at (p + k) (get_or set k 0)))
+lowest_is : (p : ℕ) (set : List ℕ) → 0 < size set → (k : ℕ) × (k < length set) × (0 < get_or set k 0)
+    × (first_of (names_from p set) ≡ Some (name_at (p + k) (get_or set k 0)))
 lowest_is p [] some = absurd (omega arith)
 lowest_is p (zero ∷ lives) some =
     let h = lowest_is (p + 1) lives some in
@@ -31,5 +32,6 @@ lowest_founds rules may =
     let low = s.1 in
     let place : place_of s.0 ≡ s.0 = omega arith in
     let life : life_of s.0 ≡ 1 = omega arith in
-    let there : (get_or rules.founders (place_of s.0) 0 == life_of s.0) ≡ true = let e = ap (λ k. get_or rules.founders k 0) place ∙ s.2 ∙ sym life in grind (arith, nat_tests) in
+    let there : (get_or rules.founders (place_of s.0) 0 == life_of s.0) ≡ true = let e = ap (λ k. get_or rules.founders k 0) place ∙ s.2 ∙ sym life in
+    grind (arith, nat_tests) in
     subst (λ n. has rules.founders n ≡ true) (sym s.3) there

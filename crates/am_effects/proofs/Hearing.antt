@@ -42,7 +42,8 @@ from_member m s v t leads =
 where_it_is_heard : (m : Node) (c : Cause) (heard : Bool) (p : Plan) → (heard ≡ true → HasEffect m c p) → HasEffect m c (where_heard heard m p)
 where_it_is_heard m c heard p f = effect_if m c heard _ _ f (λ t. search rows)
 
-row_heard_spread : (m : Node) (s : ℕ) (v : Stamp) (report : Report) (req : ℕ) (body : List ℕ) → hears_in_view m s v ≡ true → HasEffect m (hears (packet.Spread s v report req body)) (if is_sequencer m then request_row m s report req body true else spread_row m s req body)
+row_heard_spread : (m : Node) (s : ℕ) (v : Stamp) (report : Report) (req : ℕ) (body : List ℕ) → hears_in_view m s v ≡ true
+    → HasEffect m (hears (packet.Spread s v report req body)) (if is_sequencer m then request_row m s report req body true else spread_row m s req body)
 row_heard_spread m s v report req body t =
     let c = hears (packet.Spread s v report req body) in
     effect_if m c (is_sequencer m) _ _ (λ l. row_request m c s v report req body true (from_member m s v t l) (by_spread s v report req body) (λ e. refl))
@@ -55,23 +56,30 @@ row_hand_over m s v t = row_reset m (hears (packet.HandOver s v)) 1 (told m).res
 row_hear : (m : Node) (p : Packet) → HasEffect m (hears p) (hear_row m p)
 unfolding hear_row
 row_hear m (packet.Request s v report req body) = where_it_is_heard m _ _ _
-    (λ t. let both = and_both (hears_in_view m s v) (is_sequencer m) t in row_request m _ s v report req body false (from_member m s v both.0 both.1) (by_request s v report req body) (λ e. absurd (cc)))
+    (λ t. let both = and_both (hears_in_view m s v) (is_sequencer m) t in
+    row_request m _ s v report req body false (from_member m s v both.0 both.1) (by_request s v report req body) (λ e. absurd (cc)))
 row_hear m (packet.Spread s v report req body) = where_it_is_heard m _ _ _ (λ t. row_heard_spread m s v report req body t)
 row_hear m (packet.Bcast s v base acc number e) = where_it_is_heard m _ _ _ (λ t. row_bcast m s v base acc number e t)
 row_hear m (packet.Order s v base acc number from req) = where_it_is_heard m _ _ _ (λ t. row_order m s v base acc number from req t)
 row_hear m (packet.Accept s v base acc high poll) = where_it_is_heard m _ _ _ (λ t. row_accept m s v base acc high poll t)
-row_hear m (packet.Ack s v report) = where_it_is_heard m _ _ _ (λ t. let both = and_both (hears_in_view m s v) (is_sequencer m) t in row_ack m s v report (from_member m s v both.0 both.1))
-row_hear m (packet.Nack s v report) = where_it_is_heard m _ _ _ (λ t. let both = and_both (hears_in_view m s v) (is_sequencer m) t in row_nack m s v report (from_member m s v both.0 both.1))
+row_hear m (packet.Ack s v report) = where_it_is_heard m _ _ _ (λ t. let both = and_both (hears_in_view m s v) (is_sequencer m) t in
+    row_ack m s v report (from_member m s v both.0 both.1))
+row_hear m (packet.Nack s v report) = where_it_is_heard m _ _ _ (λ t. let both = and_both (hears_in_view m s v) (is_sequencer m) t in
+    row_nack m s v report (from_member m s v both.0 both.1))
 row_hear m (packet.Hold s v base high req) = where_it_is_heard m _ _ _ (λ t. row_hold m s v base high req)
-row_hear m (packet.JoinAsk s v) = where_it_is_heard m _ _ _ (λ t. let both = and_both (hears_member m s) (is_sequencer m) t in row_join_ask m s v both.1 (other_heard m s both.0))
-row_hear m (packet.Welcome s v base join image) = where_it_is_heard m _ _ _ (λ t. let both = and_both (hears_asking m s) (v.by == s) t in row_welcome m s v base join image both.0 both.1)
-row_hear m (packet.LeaveAsk s v report) = where_it_is_heard m _ _ _ (λ t. let both = and_both (hears_member m s) (is_sequencer m) t in row_leave_ask m s v report both.1 (other_heard m s both.0))
+row_hear m (packet.JoinAsk s v) = where_it_is_heard m _ _ _ (λ t. let both = and_both (hears_member m s) (is_sequencer m) t in
+    row_join_ask m s v both.1 (other_heard m s both.0))
+row_hear m (packet.Welcome s v base join image) = where_it_is_heard m _ _ _ (λ t. let both = and_both (hears_asking m s) (v.by == s) t in
+    row_welcome m s v base join image both.0 both.1)
+row_hear m (packet.LeaveAsk s v report) = where_it_is_heard m _ _ _ (λ t. let both = and_both (hears_member m s) (is_sequencer m) t in
+    row_leave_ask m s v report both.1 (other_heard m s both.0))
 row_hear m (packet.Gone s v number) = where_it_is_heard m _ _ _ (λ t. row_gone m s v number t)
 row_hear m (packet.Invite s v) = where_it_is_heard m _ _ _ (λ t. let both = and_both (hears_asking m s) (v.by == s) t in row_invite m s v both.0 both.1)
 row_hear m (packet.Vote s v show) = where_it_is_heard m _ _ _ (λ t. row_vote m s v show t)
 row_hear m (packet.Fetch s v low) = where_it_is_heard m _ _ _ (λ t. row_fetch m s v low)
 row_hear m (packet.Piece s v base number e) = where_it_is_heard m _ _ _ (λ t. row_piece m s v base number e t)
-row_hear m (packet.Result s v base number names resilience) = where_it_is_heard m _ _ _ (λ t. let both = and_both (hears_member m s) (v.by == s) t in row_result m s v base number names resilience both.0 both.1)
+row_hear m (packet.Result s v base number names resilience) =
+    where_it_is_heard m _ _ _ (λ t. let both = and_both (hears_member m s) (v.by == s) t in row_result m s v base number names resilience both.0 both.1)
 row_hear m (packet.HandOver s v) = where_it_is_heard m _ _ _ (λ t. row_hand_over m s v t)
 
 -- ---- steps

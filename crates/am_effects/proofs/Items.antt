@@ -1,5 +1,6 @@
 -- Items of lists, and what holds of each of them.
-use Rattle.std.proofs.Common.{◌≡◌, ◌⊎◌, inl, inr, ℕ, zero, suc, ◌==◌, Bool, true, List, [], ◌∷◌, ◌++◌, length, take, find, Some, slice_get, refl, sym, ap, ◌∙◌, subst}
+use Rattle.std.proofs.Common.{◌≡◌, ◌⊎◌, inl, inr, ℕ, zero, suc, ◌==◌, Bool, true, List, [], ◌∷◌, ◌++◌, length, take, find, Some, slice_get, refl, sym, ap, ◌∙◌}
+use Rattle.std.proofs.Common.{subst}
 use Rattle.std.specs.Prelude.{All}
 use Rattle.std.proofs.lemmas.List.Elements.{All-head, All-tail, All-cons, All-append, All-take, All-drop}
 use Rattle.am_base.specs.Names.{size}
@@ -17,7 +18,8 @@ get_front (z ∷ xs) ys zero x h = h
 get_front (z ∷ xs) ys (suc k) x h = get_front xs ys k x h
 
 -- of a list with one more, one that was there or the new one
-pub get_push : {A : Type 0} (xs : List A) (x : A) (k : ℕ) (y : A) → slice_get (xs ++ x ∷ []) k ≡ Some y → (slice_get xs k ≡ Some y) ⊎ ((k ≡ length xs) × (x ≡ y))
+pub get_push : {A : Type 0} (xs : List A) (x : A) (k : ℕ) (y : A) → slice_get (xs ++ x ∷ []) k ≡ Some y
+    → (slice_get xs k ≡ Some y) ⊎ ((k ≡ length xs) × (x ≡ y))
 get_push [] x zero y h = inr (refl, cc)
 get_push [] x (suc k) y h = absurd (cc)
 get_push (z ∷ xs) x zero y h = inl h
@@ -66,7 +68,8 @@ all_find P p (z ∷ xs) x h g = split (p z)
     (λ f. all_find P p xs x (All-tail P z xs h) (rw f at g))
 
 -- one letter more
-pub all_letter : (P : Letter → Type 0) (to : List ℕ) (packet : Packet) (letters : List Letter) → P (letter_to to packet) → All P letters → All P (with_letter to packet letters)
+pub all_letter : (P : Letter → Type 0) (to : List ℕ) (packet : Packet) (letters : List Letter) → P (letter_to to packet) → All P letters
+    → All P (with_letter to packet letters)
 all_letter P to packet letters p h =
     let n = place_for (kind_of packet) letters in
     split (size to == 0) (λ t. rw t h)

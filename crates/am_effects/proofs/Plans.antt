@@ -38,7 +38,8 @@ and_last (changed y ys) x = changed y (and_last ys x)
 -- the changes of a course
 pub course_changes : {c : Cause} {o : Outcome} {m n : Node} → Course c o m n → Changes c o m n
 course_changes nothing_yet = unchanged
-course_changes {m = m} (used_report s v report by may) = changed (takes_report {m = m} s v report by may) (changed (refreshes {m = with_report m s report}) unchanged)
+course_changes {m = m} (used_report s v report by may) = changed (takes_report {m = m} s v report by may)
+    (changed (refreshes {m = with_report m s report}) unchanged)
 course_changes (and_then h z plain) = and_last (course_changes h) z
 
 deed_changes : {c : Cause} {o : Outcome} {m n : Node} → Deeds c o m n → Changes c o m n
@@ -53,7 +54,8 @@ AllSay m c n letters = All (LetterSays m c n) letters
 pub none_says : (m : Node) (c : Cause) (n : Node) → AllSay m c n []
 none_says m c n = All-nil (LetterSays m c n)
 
-pub and_says : (m : Node) (c : Cause) (n : Node) (to : List ℕ) (packet : Packet) (letters : List Letter) → Says m c n to packet → AllSay m c n letters → AllSay m c n (with_letter to packet letters)
+pub and_says : (m : Node) (c : Cause) (n : Node) (to : List ℕ) (packet : Packet) (letters : List Letter) → Says m c n to packet → AllSay m c n letters
+    → AllSay m c n (with_letter to packet letters)
 and_says m c n to packet letters s h = all_letter (LetterSays m c n) to packet letters (record { says = s; any = refl }) h
 
 -- ---- plans
@@ -71,11 +73,13 @@ pub record HasEffect (m : Node) (c : Cause) (p : Plan) : Type 0 where
   pub effect : Effect m c (finish m p)
 
 -- by what a test says
-pub effect_if : (m : Node) (c : Cause) (b : Bool) (p q : Plan) → (b ≡ true → HasEffect m c p) → (b ≡ false → HasEffect m c q) → HasEffect m c (if b then p else q)
+pub effect_if : (m : Node) (c : Cause) (b : Bool) (p q : Plan) → (b ≡ true → HasEffect m c p) → (b ≡ false → HasEffect m c q)
+    → HasEffect m c (if b then p else q)
 effect_if m c true p q f g = f refl
 effect_if m c false p q f g = g refl
 
-pub does_if : (R : Node → Node → Type 0) (m : Node) (c : Cause) (b : Bool) (p q : Plan) → (b ≡ true → Does R m c p) → (b ≡ false → Does R m c q) → Does R m c (if b then p else q)
+pub does_if : (R : Node → Node → Type 0) (m : Node) (c : Cause) (b : Bool) (p q : Plan) → (b ≡ true → Does R m c p) → (b ≡ false → Does R m c q)
+    → Does R m c (if b then p else q)
 does_if R m c true p q f g = f refl
 does_if R m c false p q f g = g refl
 
@@ -102,23 +106,41 @@ Tells R m c p to packet = (n : Node) → R p n → Says m c n to (packet n)
 abbrev pub Answered : (Node → Node → Type 0) → Node → Cause → Node → (Node → Outcome) → Type 0
 Answered R m c p outcome = (n : Node) → R p n → Answers m c n (outcome n)
 
-pub does_quiet : (R : Node → Node → Type 0) (m : Node) (c : Cause) (p : Node) (o : Outcome) → Course c o m p → Answered R m c p (λ n. o) → Does R m c (quiet p o)
+pub does_quiet : (R : Node → Node → Type 0) (m : Node) (c : Cause) (p : Node) (o : Outcome) → Course c o m p → Answered R m c p (λ n. o)
+    → Does R m c (quiet p o)
 does_quiet R m c p o h a = record { stays = refl; changes = λ n. h; answer = a; letters = λ n r. none_says m c n }
 
 -- with an answer that the step tells
-pub does_saying : (R : Node → Node → Type 0) (m : Node) (c : Cause) (p : Node) (o : Outcome) (f : Node → Outcome) → ((n : Node) → Course c (f n) m p) → Answered R m c p f → Does R m c (record (quiet p o) { outcome = f })
+pub does_saying : (R : Node → Node → Type 0) (m : Node) (c : Cause) (p : Node) (o : Outcome) (f : Node → Outcome) → ((n : Node) → Course c (f n) m p)
+    → Answered R m c p f → Does R m c (record (quiet p o) { outcome = f })
 does_saying R m c p o f h a = record { stays = refl; changes = h; answer = a; letters = λ n r. none_says m c n }
 
-pub does_polling : (R : Node → Node → Type 0) (m : Node) (c : Cause) (p : Node) (o : Outcome) → Course c o m p → Answered R m c p (λ n. o) → Does R m c (polling p o)
+pub does_polling : (R : Node → Node → Type 0) (m : Node) (c : Cause) (p : Node) (o : Outcome) → Course c o m p → Answered R m c p (λ n. o)
+    → Does R m c (polling p o)
 does_polling R m c p o h a = record { stays = refl; changes = λ n. h; answer = a; letters = λ n r. none_says m c n }
 
-pub does_telling : (R : Node → Node → Type 0) (m : Node) (c : Cause) (p : Node) (o : Outcome) (to : List ℕ) (packet : Node → Packet) → Course c o m p → Answered R m c p (λ n. o) → Tells R m c p to packet → Does R m c (telling p o to packet)
-does_telling R m c p o to packet h a t = record { stays = refl; changes = λ n. h; answer = a; letters = λ n r. and_says m c n to (packet n) [] (t n r) (none_says m c n) }
+pub does_telling : (R : Node → Node → Type 0) (m : Node) (c : Cause) (p : Node) (o : Outcome) (to : List ℕ) (packet : Node → Packet) → Course c o m p
+    → Answered R m c p (λ n. o) → Tells R m c p to packet → Does R m c (telling p o to packet)
+does_telling R m c p o to packet h a t = record {
+  stays = refl;
+  changes = λ n. h;
+  answer = a;
+  letters =
+      λ n r. and_says m c n to (packet n) [] (t n r) (none_says m c n);
+}
 
-pub does_and : (R : Node → Node → Type 0) (m : Node) (c : Cause) (p : Plan) (to : List ℕ) (packet : Node → Packet) → Does R m c p → Tells R m c p.node to packet → Does R m c (and_telling p to packet)
-does_and R m c p to packet h t = record { stays = h.stays; changes = h.changes; answer = h.answer; letters = λ n r. and_says m c n to (packet n) (p.letters n) (t n r) (h.letters n r) }
+pub does_and : (R : Node → Node → Type 0) (m : Node) (c : Cause) (p : Plan) (to : List ℕ) (packet : Node → Packet) → Does R m c p → Tells R m c p.node to packet
+    → Does R m c (and_telling p to packet)
+does_and R m c p to packet h t = record {
+  stays = h.stays;
+  changes = h.changes;
+  answer = h.answer;
+  letters =
+      λ n r. and_says m c n to (packet n) (p.letters n) (t n r) (h.letters n r);
+}
 
-pub does_where : (R : Node → Node → Type 0) (m : Node) (c : Cause) (test : Node → Bool) (p : Plan) (to : List ℕ) (packet : Node → Packet) → Does R m c p → ((n : Node) → R p.node n → test n ≡ true → Says m c n to (packet n)) → Does R m c (and_where test p to packet)
+pub does_where : (R : Node → Node → Type 0) (m : Node) (c : Cause) (test : Node → Bool) (p : Plan) (to : List ℕ) (packet : Node → Packet) → Does R m c p
+    → ((n : Node) → R p.node n → test n ≡ true → Says m c n to (packet n)) → Does R m c (and_where test p to packet)
 does_where R m c test p to packet h t = record {
   stays = h.stays;
   changes = h.changes;
@@ -126,8 +148,15 @@ does_where R m c test p to packet h t = record {
   letters = λ n r. split (test n) (λ b. rw b (and_says m c n to (packet n) (p.letters n) (t n r b) (h.letters n r))) (λ b. rw b (h.letters n r));
 }
 
-pub does_numbering : (R : Node → Node → Type 0) (m : Node) (c : Cause) (p : Node) (e : Entry) (o : Outcome) (packet : Node → Packet) → Course c o m (pushed p e) → Answered R m c (pushed p e) (λ n. o) → Tells R m c (pushed p e) (others p) packet → Does R m c (numbering p e o packet)
-does_numbering R m c p e o packet h a t = record { stays = refl; changes = λ n. h; answer = a; letters = λ n r. and_says m c n (others p) (packet n) [] (t n r) (none_says m c n) }
+pub does_numbering : (R : Node → Node → Type 0) (m : Node) (c : Cause) (p : Node) (e : Entry) (o : Outcome) (packet : Node → Packet) → Course c o m (pushed p e)
+    → Answered R m c (pushed p e) (λ n. o) → Tells R m c (pushed p e) (others p) packet → Does R m c (numbering p e o packet)
+does_numbering R m c p e o packet h a t = record {
+  stays = refl;
+  changes = λ n. h;
+  answer = a;
+  letters =
+      λ n r. and_says m c n (others p) (packet n) [] (t n r) (none_says m c n);
+}
 
 -- ---- a plan that is done
 
@@ -173,7 +202,8 @@ unfolding finish refresh_at_end
 row_let_go m c s v number is heard leaves =
     let p = record m { status = Departed } in
     let n = refresh_at_end p in
-    let quietly : is_sequencer n ≡ false = ap (λ (t : Status). is_member t && stamp_eq n.core.promise (view n) && ((view n).by == n.core.who)) (rests_at_end p).rests.status in
+    let quietly : is_sequencer n ≡ false = ap (λ (t : Status). is_member t && stamp_eq n.core.promise (view n) && ((view n).by == n.core.who))
+    (rests_at_end p).rests.status in
     record {
       effect = rw quietly (record {
         changes = changed (departs {m = m} s v number is heard leaves) (changed (refreshes {m = p}) (changed (settles {m = refresh p}) unchanged));
@@ -187,7 +217,8 @@ row_let_go m c s v number is heard leaves =
     }
 
 -- the last member's own Leave is numbered, and it departs; it tells nobody
-pub row_closing : (m : Node) (c : Cause) (p : Plan) (event : NodeEvent) → c ≡ calls event → Course c said.Departed m p.node → is_sequencer p.node ≡ true → p.node.leaving ≡ true
+pub row_closing : (m : Node) (c : Cause) (p : Plan) (event : NodeEvent) → c ≡ calls event → Course c said.Departed m p.node → is_sequencer p.node ≡ true
+    → p.node.leaving ≡ true
     → nat_lt 0 (size (others p.node)) ≡ false → has_room p.node ≡ true → view p.node ≡ view m
     → size (others (refresh_at_end (pushed p.node (Leave p.node.core.who)))) ≡ 0 → p.letters (refresh_at_end (pushed p.node (Leave p.node.core.who))) ≡ []
     → HasEffect m c (record p { node = pushed p.node (Leave p.node.core.who); outcome = λ n. said.Departed; numbers = true; departs = true })

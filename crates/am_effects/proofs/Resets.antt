@@ -1,5 +1,6 @@
 -- The effects of what belongs to ballots.
-use Rattle.std.proofs.Common.{◌≡◌, ℕ, ◌+◌, ◌≤◌, max, ◌==◌, ◌&&◌, ◌||◌, nat_lt, nat_le, not, Bool, true, false, List, [], Option, Some, None, refl, sym, ap, ◌∙◌, arith}
+use Rattle.std.proofs.Common.{◌≡◌, ℕ, ◌+◌, ◌≤◌, max, ◌==◌, ◌&&◌, ◌||◌, nat_lt, nat_le, not, Bool, true, false, List, [], Option, Some, None, refl, sym, ap, ◌∙◌}
+use Rattle.std.proofs.Common.{arith}
 use Rattle.std.proofs.lemmas.Bool.Decides.{nat_tests}
 use Rattle.am_base.specs.declared.image.Vote.{Vote}
 use Rattle.am_base.specs.declared.image.Image.{Image}
@@ -15,7 +16,8 @@ use Rattle.am_model.specs.Node.{Node, Ballot, top, told, view, only_name, is_mem
 use Rattle.am_model.specs.Emit.{Plan, quiet, ack_of, fetch_of, piece_of}
 use Rattle.am_model.specs.Calls.{is_unfinished}
 use Rattle.am_model.specs.Ballots.{promised, vote_of}
-use Rattle.am_model.specs.Resets.{invite_row, is_open, voted_for, vote_row, may_fetch, fetch_row, is_view_past, fetched, caught_up, fetched_for, fetches_from, piece_promised, piece_for, piece_row, hears_result, result_row}
+use Rattle.am_model.specs.Resets.{invite_row, is_open, voted_for, vote_row, may_fetch, fetch_row, is_view_past, fetched, caught_up, fetched_for, fetches_from}
+use Rattle.am_model.specs.Resets.{piece_promised, piece_for, piece_row, hears_result, result_row}
 use Rattle.am_model.specs.Hearing.{hears_member, hears_asking}
 use Rattle.am_model.proofs.Greatest.{and_both}
 use Rattle.am_effects.specs.Causes.{Cause, hears}
@@ -49,9 +51,11 @@ row_invite m s v heard own =
     let c = hears (packet.Invite s v) in
     effect_if m c (stamp_lt v m.core.promise) _ _
     (λ t. effect_of m c _ (does_telling RestsWhole m c m (said.Newer m.core.promise) (only_name s) vote_of nothing_yet (λ n r. tt) (λ n r. vote s v refl)))
-    (λ f. effect_of m c _ (does_telling RestsWhole m c (promised m v) said.Voted (only_name s) vote_of (and_then nothing_yet (promises {m = m} v f (invited s v refl heard own)) tt) (λ n r. tt) (λ n r. vote s v refl)))
+    (λ f. effect_of m c _ (does_telling RestsWhole m c (promised m v) said.Voted
+    (only_name s) vote_of (and_then nothing_yet (promises {m = m} v f (invited s v refl heard own)) tt) (λ n r. tt) (λ n r. vote s v refl)))
 
-row_voted_for : (m : Node) (s : ℕ) (v : Stamp) (show : Vote) (b : Option Ballot) → m.ballot ≡ b → hears_member m s ≡ true → stamp_lt m.core.promise v ≡ false → HasEffect m (hears (packet.Vote s v show)) (voted_for m s v show b)
+row_voted_for : (m : Node) (s : ℕ) (v : Stamp) (show : Vote) (b : Option Ballot) → m.ballot ≡ b → hears_member m s ≡ true → stamp_lt m.core.promise v ≡ false
+    → HasEffect m (hears (packet.Vote s v show)) (voted_for m s v show b)
 row_voted_for m s v show None is heard high = search rows
 row_voted_for m s v show (Some b) is heard high =
     let c = hears (packet.Vote s v show) in
@@ -70,7 +74,8 @@ row_vote m s v show heard =
     effect_if m c (stamp_lt m.core.promise v) _ _
     (λ t.
     let f : stamp_lt v m.core.promise ≡ false = grind (arith, nat_tests) in
-    effect_of m c _ (does_quiet RestsWhole m c (promised m v) (said.Overtaken v) (and_then nothing_yet (promises {m = m} v f (overtaken s v show refl heard t)) tt) (λ n r. tt)))
+    effect_of m c _ (does_quiet RestsWhole m c (promised m v) (said.Overtaken v)
+    (and_then nothing_yet (promises {m = m} v f (overtaken s v show refl heard t)) tt) (λ n r. tt)))
     (λ f. row_voted_for m s v show m.ballot refl heard f)
 
 -- ---- fetching
@@ -89,10 +94,13 @@ row_fetch m s v low =
       changes = λ n. nothing_yet;
       answer = λ n r. tt;
       letters = λ n r. says_served m c m n (piece_of n) (only_name s) low above r.rests
-          (λ number e stands. piece s v low number e refl ((λ i. stamp_eq v (r.rests.promise i) && ((v.by == s) || ((v.by == r.rests.who i) && stamp_eq (r.rests.view i) v))) ∙ not_false _ may) stands);
+          (λ number e stands. piece s v low number e refl ((λ i. stamp_eq v (r.rests.promise i)
+          && ((v.by == s) || ((v.by == r.rests.who i) && stamp_eq (r.rests.view i) v))) ∙ not_false _ may) stands);
     })))
 
-row_fetched : (m : Node) (c : Cause) (v : Stamp) (base number : ℕ) (e : Entry) (in_ballot : Bool) (then_ : Node → Plan) → (MayStore m (max m.core.base base) base number e → is_view_past v in_ballot e ≡ false → HasEffect m c (then_ (pushed (trimmed m base) e))) → HasEffect m c (fetched m v base number e in_ballot then_)
+row_fetched : (m : Node) (c : Cause) (v : Stamp) (base number : ℕ) (e : Entry) (in_ballot : Bool) (then_ : Node → Plan)
+    → (MayStore m (max m.core.base base) base number e → is_view_past v in_ballot e ≡ false → HasEffect m c (then_ (pushed (trimmed m base) e)))
+    → HasEffect m c (fetched m v base number e in_ballot then_)
 row_fetched m c v base number e in_ballot then_ goes =
     let within = is_within_bound m (max m.core.base base) number in
     effect_if m c (nat_le number (top m)) _ _ (λ t. search rows)
@@ -104,7 +112,15 @@ row_fetched m c v base number e in_ballot then_ goes =
     let rest = or_second (not (fits (told m) e)) (is_view_past v in_ballot e || not within) f in
     let next : number ≡ top m + 1 = grind (arith, nat_tests) in
     let taken : base ≤ m.core.taken = grind (arith, nat_tests) in
-    goes (record { next = next; taken = taken; stays = stays; fits = not_false _ (or_first (not (fits (told m) e)) (is_view_past v in_ballot e || not within) f); within = not_false _ (or_second (is_view_past v in_ballot e) (not within) rest) }) (or_first (is_view_past v in_ballot e) (not within) rest))))))
+    goes (record {
+      next = next;
+      taken = taken;
+      stays = stays;
+      fits =
+          not_false _ (or_first (not (fits (told m) e)) (is_view_past v in_ballot e || not within) f);
+      within =
+          not_false _ (or_second (is_view_past v in_ballot e) (not within) rest);
+    }) (or_first (is_view_past v in_ballot e) (not within) rest))))))
 
 -- a Piece of a promise, or of a ballot
 record OfPromise (m : Node) (s : ℕ) (v : Stamp) : Type 0 where
@@ -118,21 +134,25 @@ member_heard m s t = (and_both (not (s == m.core.who)) (is_member m.status) t).1
 stamps_meet : (a b d : Stamp) → stamp_eq a b ≡ true → stamp_eq d a ≡ true → stamp_eq b d ≡ true
 stamps_meet a b d s t = grind (arith, nat_tests)
 
-row_piece_promised : (m : Node) (s : ℕ) (v : Stamp) (base number : ℕ) (e : Entry) → OfPromise m s v → is_unfinished m.ballot ≡ false → HasEffect m (hears (packet.Piece s v base number e)) (piece_promised m s v base number e)
+row_piece_promised : (m : Node) (s : ℕ) (v : Stamp) (base number : ℕ) (e : Entry) → OfPromise m s v → is_unfinished m.ballot ≡ false
+    → HasEffect m (hears (packet.Piece s v base number e)) (piece_promised m s v base number e)
 row_piece_promised m s v base number e h none =
     let c = hears (packet.Piece s v base number e) in
     let p = pushed (trimmed m base) e in
     effect_if m c (not (v.by == s)) _ _ (λ t. search rows)
     (λ own. row_fetched m c v base number e false (caught_up s v number)
     (λ may past.
-    let change : Course c (said.Stored number) m p = and_then nothing_yet (fetches {m = m} s v base number e refl h.heard h.promise h.below (without_ballot none (not_false _ own) past) may) tt in
-    effect_of m c _ (does_where RestsWhole m c (λ n. stamp_eq (view n) v) (quiet p (said.Stored number)) (only_name s) ack_of (does_quiet RestsWhole m c p (said.Stored number) change (λ n r. tt))
+    let change : Course c (said.Stored number) m p = and_then nothing_yet
+    (fetches {m = m} s v base number e refl h.heard h.promise h.below (without_ballot none (not_false _ own) past) may) tt in
+    effect_of m c _ (does_where RestsWhole m c (λ n. stamp_eq (view n) v) (quiet p (said.Stored number))
+    (only_name s) ack_of (does_quiet RestsWhole m c p (said.Stored number) change (λ n r. tt))
     (λ n r t.
     let member : is_member n.status ≡ true = ap is_member r.rests.status ∙ member_heard m s h.heard in
     let same : stamp_eq n.core.promise (view n) ≡ true = ap (λ x. stamp_eq x (view n)) r.rests.promise ∙ stamps_meet v m.core.promise (view n) h.promise t in
     ack (only_name s) (rw (member, same) refl)))))
 
-row_piece_for : (m : Node) (s : ℕ) (v : Stamp) (base number : ℕ) (e : Entry) (b : Option Ballot) → m.ballot ≡ b → OfPromise m s v → HasEffect m (hears (packet.Piece s v base number e)) (piece_for m s v base number e b)
+row_piece_for : (m : Node) (s : ℕ) (v : Stamp) (base number : ℕ) (e : Entry) (b : Option Ballot) → m.ballot ≡ b → OfPromise m s v
+    → HasEffect m (hears (packet.Piece s v base number e)) (piece_for m s v base number e b)
 row_piece_for m s v base number e None is h = row_piece_promised m s v base number e h (ap is_unfinished is)
 row_piece_for m s v base number e (Some b) is h =
     let c = hears (packet.Piece s v base number e) in
@@ -143,23 +163,32 @@ row_piece_for m s v base number e (Some b) is h =
     effect_if m c (not (fetches_from b.answer s)) _ _ (λ t. search rows)
     (λ from. row_fetched m c v base number e true (fetched_for b)
     (λ may past.
-    let comes : Comes m c p = λ o. and_then nothing_yet (fetches {m = m} s v base number e refl h.heard h.promise h.below (for_ballot b has_open (not_false _ from) past) may) tt in
-    effect_answered m c p b (λ n. []) comes f (as_it_is b (record { last = is; open_ = f }) (was_fetched s v base number e refl h.promise)) (λ n r. none_says m c n))))
+    let comes : Comes m c p = λ o. and_then nothing_yet (fetches {m =
+    m} s v base number e refl h.heard h.promise h.below (for_ballot b has_open (not_false _ from) past) may) tt in
+    effect_answered m c p b (λ n. []) comes f (as_it_is b (record { last = is; open_ = f }) (was_fetched s v base number e refl h.promise))
+    (λ n r. none_says m c n))))
 
-pub row_piece : (m : Node) (s : ℕ) (v : Stamp) (base number : ℕ) (e : Entry) → hears_member m s ≡ true → HasEffect m (hears (packet.Piece s v base number e)) (piece_row m s v base number e)
+pub row_piece : (m : Node) (s : ℕ) (v : Stamp) (base number : ℕ) (e : Entry) → hears_member m s ≡ true
+    → HasEffect m (hears (packet.Piece s v base number e)) (piece_row m s v base number e)
 unfolding piece_row
 row_piece m s v base number e heard =
     let c = hears (packet.Piece s v base number e) in
     effect_if m c (not (stamp_eq v m.core.promise) || stamp_eq (view m) v) _ _ (λ t. search rows)
     (λ f. row_piece_for m s v base number e m.ballot refl
-    (record { heard = heard; promise = not_false _ (or_first (not (stamp_eq v m.core.promise)) (stamp_eq (view m) v) f); below = or_second (not (stamp_eq v m.core.promise)) (stamp_eq (view m) v) f }))
+    (record {
+      heard = heard;
+      promise = not_false _ (or_first (not (stamp_eq v m.core.promise)) (stamp_eq (view m) v) f);
+      below =
+          or_second (not (stamp_eq v m.core.promise)) (stamp_eq (view m) v) f;
+    }))
 
 -- ---- a decided view
 
 stamp_reversed : (a b : Stamp) → stamp_eq a b ≡ true → stamp_eq b a ≡ true
 stamp_reversed a b t = grind (arith, nat_tests)
 
-row_hears_result : (m : Node) (s : ℕ) (v : Stamp) (base number : ℕ) (names : List ℕ) (resilience : ℕ) → hears_member m s ≡ true → (v.by == s) ≡ true → (v.by == m.core.who) ≡ false → stamp_lt v m.core.promise ≡ false
+row_hears_result : (m : Node) (s : ℕ) (v : Stamp) (base number : ℕ) (names : List ℕ) (resilience : ℕ) → hears_member m s ≡ true → (v.by == s) ≡ true
+    → (v.by == m.core.who) ≡ false → stamp_lt v m.core.promise ≡ false
     → HasEffect m (hears (packet.Result s v base number names resilience)) (hears_result (promised m v) s v base number names resilience)
 row_hears_result m s v base number names resilience heard own other low =
     let c = hears (packet.Result s v base number names resilience) in
@@ -172,28 +201,42 @@ row_hears_result m s v base number names resilience heard own other low =
     effect_if m c (stamp_eq (view p) v) _ _
     (λ t.
     let back = stamp_reversed (view p) v t in
-    effect_of m c _ (does_telling RestsWhole m c p said.Known (only_name s) ack_of (comes _) (λ n r. tt) (tells_ack m c p (only_name s) (rw (member, back) refl))))
+    effect_of m c _ (does_telling RestsWhole m c p said.Known (only_name s) ack_of (comes _) (λ n r. tt)
+    (tells_ack m c p (only_name s) (rw (member, back) refl))))
     (λ below. effect_if m c (nat_le number (top p)) _ _ (λ t. quietly said.Unfit (λ n. tt))
     (λ new. effect_if m c (has_own_leave p) _ _ (λ t. quietly said.Behind (λ n. tt))
     (λ stays. effect_if m c (nat_lt (top p + 1) number) _ _
     (λ t.
     let by : v.by ≡ s = grind (arith, nat_tests) in
     effect_of m c _ (does_telling RestsWhole m c p (said.Catching (top p + 1)) (only_name s) fetch_of (comes _) (λ n r. tt)
-    (λ n r. fetch (only_name s) (of_promise ((λ i. (r.rests.promise i).by == r.rests.who i) ∙ other) (ap only_name (sym by) ∙ ap (λ (x : Stamp). only_name x.by) (sym r.rests.promise))))))
+    (λ n r. fetch (only_name s) (of_promise ((λ i. (r.rests.promise i).by == r.rests.who i) ∙ other) (ap only_name (sym by)
+    ∙ ap (λ (x : Stamp). only_name x.by) (sym r.rests.promise))))))
     (λ near. effect_if m c (nat_lt p.core.taken base) _ _ (λ t. quietly said.Behind (λ n. tt))
     (λ up. effect_if m c (not (fits (told p) e) || not within) _ _ (λ t. quietly said.Unfit (λ n. tt))
     (λ f.
     let next : number ≡ top p + 1 = grind (arith, nat_tests) in
     let taken : base ≤ p.core.taken = grind (arith, nat_tests) in
     let n = pushed (trimmed p base) e in
-    let may : MayStore p (max p.core.base base) base number e = record { next = next; taken = taken; stays = stays; fits = not_false _ (or_first (not (fits (told p) e)) (not within) f); within = not_false _ (or_second (not (fits (told p) e)) (not within) f) } in
+    let may : MayStore p (max p.core.base base) base number e =
+    record {
+      next = next;
+      taken = taken;
+      stays = stays;
+      fits = not_false _ (or_first (not (fits (told p) e)) (not within) f);
+      within =
+          not_false _ (or_second (not (fits (told p) e)) (not within) f);
+    } in
     let stamp : view n ≡ v = ap (λ (i : Image). i.view) (told_pushed (trimmed p base) e) ∙ (viewed (told p) (top p + 1) v names resilience).1 in
     let same : stamp_eq v (view n) ≡ true = ap (stamp_eq v) stamp ∙ itself v in
-    effect_of m c _ (does_telling RestsWhole m c n (said.Stored number) (only_name s) ack_of (and_then (comes _) (stores_view {m = p} s v base number names resilience refl heard own other refl below may) tt) (λ k r. tt) (tells_ack m c n (only_name s) (rw (member, same) refl)))))))))
+    effect_of m c _ (does_telling RestsWhole m c n (said.Stored number)
+    (only_name s) ack_of (and_then (comes _) (stores_view {m = p} s v base number names resilience refl heard own other refl below may) tt) (λ k r. tt)
+    (tells_ack m c n (only_name s) (rw (member, same) refl)))))))))
 
-pub row_result : (m : Node) (s : ℕ) (v : Stamp) (base number : ℕ) (names : List ℕ) (resilience : ℕ) → hears_member m s ≡ true → (v.by == s) ≡ true → HasEffect m (hears (packet.Result s v base number names resilience)) (result_row m s v base number names resilience)
+pub row_result : (m : Node) (s : ℕ) (v : Stamp) (base number : ℕ) (names : List ℕ) (resilience : ℕ) → hears_member m s ≡ true → (v.by == s) ≡ true
+    → HasEffect m (hears (packet.Result s v base number names resilience)) (result_row m s v base number names resilience)
 unfolding result_row
 row_result m s v base number names resilience heard own =
     let c = hears (packet.Result s v base number names resilience) in
     effect_if m c ((v.by == m.core.who) || stamp_lt v m.core.promise) _ _ (λ t. search rows)
-    (λ f. row_hears_result m s v base number names resilience heard own (or_first (v.by == m.core.who) (stamp_lt v m.core.promise) f) (or_second (v.by == m.core.who) (stamp_lt v m.core.promise) f))
+    (λ f. row_hears_result m s v base number names resilience heard own (or_first (v.by == m.core.who) (stamp_lt v m.core.promise) f)
+    (or_second (v.by == m.core.who) (stamp_lt v m.core.promise) f))

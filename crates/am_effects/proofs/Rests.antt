@@ -1,5 +1,6 @@
 -- What a refresh and the end of a step leave as it is.
-use Rattle.std.proofs.Common.{◌≡◌, ℕ, ◌+◌, ◌-◌, ◌≤◌, ◌==◌, ◌&&◌, max, min, nat_lt, if◌then◌else◌, List, [], ◌∷◌, ◌++◌, length, Option, Some, None, slice_get, option_map, refl, sym, ap, ◌∙◌, subst, arith, length-append}
+use Rattle.std.proofs.Common.{◌≡◌, ℕ, ◌+◌, ◌-◌, ◌≤◌, ◌==◌, ◌&&◌, max, min, nat_lt, if◌then◌else◌, List, [], ◌∷◌, ◌++◌, length, Option, Some, None, slice_get}
+use Rattle.std.proofs.Common.{option_map, refl, sym, ap, ◌∙◌, subst, arith, length-append}
 use Rattle.std.proofs.lemmas.Option.{slice_get-map}
 use Rattle.std.proofs.lemmas.List.{append-nil}
 use Rattle.am_base.specs.declared.entry.Entry.{Entry}
@@ -178,7 +179,8 @@ rests_sends p m n f h =
         acc = r.acc;
         taken = r.taken;
         asked = r.asked;
-        sends = λ req body s. let x = f req body (r.sends req body s) in record { index = x.index; send = x.send; there = x.there; request = x.request; body_ = x.body_ };
+        sends = λ req body s. let x = f req body (r.sends req body s) in
+            record { index = x.index; send = x.send; there = x.there; request = x.request; body_ = x.body_ };
       };
       log = h.log;
       begins = h.begins;
@@ -186,7 +188,8 @@ rests_sends p m n f h =
 
 pub rests_at_end : (m : Node) → RestsWhole m (refresh_at_end m)
 unfolding refresh_at_end
-rests_at_end m = subst (RestsWhole m) (sym (settle_is (refresh m))) (rests_sends m (refresh m) (settle (refresh m)) (sends_settle (refresh m)) (rests_refresh m))
+rests_at_end m = subst (RestsWhole m) (sym (settle_is (refresh m)))
+    (rests_sends m (refresh m) (settle (refresh m)) (sends_settle (refresh m)) (rests_refresh m))
 
 -- ---- its own Leave more
 
@@ -210,7 +213,8 @@ rests_left p n h =
       start = r.start;
       more = e ∷ [];
       entries = ap (λ (l : Log). l.entries) h.log;
-      view = r.view ∙ ap (λ (i : Image). i.view) (fold_append p.core.log.image (p.core.log.start + 1) p.core.log.entries (e ∷ [])) ∙ view_left (told p) (p.core.log.start + 1 + length p.core.log.entries) p.core.who;
+      view = r.view ∙ ap (λ (i : Image). i.view) (fold_append p.core.log.image (p.core.log.start + 1) p.core.log.entries (e ∷ []))
+          ∙ view_left (told p) (p.core.log.start + 1 + length p.core.log.entries) p.core.who;
       base = r.base;
       acc = r.acc;
       taken = r.taken;

@@ -1,5 +1,6 @@
 -- What letters say of a node, once the step is done.
-use Rattle.std.proofs.Common.{◌≡◌, ℕ, ◌+◌, ◌==◌, ◌&&◌, true, false, zero, suc, ◌-◌, ◌≤◌, List, [], ◌∷◌, drop, length, Some, slice_get, refl, sym, ap, ◌∙◌, arith, length-append}
+use Rattle.std.proofs.Common.{◌≡◌, ℕ, ◌+◌, ◌==◌, ◌&&◌, true, false, zero, suc, ◌-◌, ◌≤◌, List, [], ◌∷◌, drop, length, Some, slice_get, refl, sym, ap, ◌∙◌}
+use Rattle.std.proofs.Common.{arith, length-append}
 use Rattle.std.proofs.lemmas.Option.{slice_get_within}
 use Rattle.am_base.specs.declared.name.Stamp.{Stamp}
 use Rattle.am_base.specs.declared.image.Image.{Image}
@@ -55,19 +56,29 @@ pub leads_pushed : (m : Node) (e : Entry) → is_view e ≡ false → is_sequenc
 leads_pushed m e f = λ i. acts_pushed m e f i && ((view_pushed m e f i).by == m.core.who)
 
 pub stands_pushed : (m : Node) (base : ℕ) (e : Entry) → Stands (pushed m e).core.log base (top m + 1) e
-stands_pushed m base e = record { index = length m.core.log.entries; there = get_last m.core.log.entries e; at = λ low. omega arith; within = simp length-append (omega arith) }
+stands_pushed m base e = record {
+  index = length m.core.log.entries;
+  there = get_last m.core.log.entries e;
+  at = λ low. omega arith;
+  within =
+      simp length-append (omega arith);
+}
 
 -- ---- letters
 
-pub tells_request : (m : Node) (c : Cause) (p : Node) (to : List ℕ) (req : ℕ) (body : List ℕ) → acts p ≡ true → is_sequencer p ≡ false → HasSend p req body → Tells Rests m c p to (λ n. request_of n req body)
+pub tells_request : (m : Node) (c : Cause) (p : Node) (to : List ℕ) (req : ℕ) (body : List ℕ) → acts p ≡ true → is_sequencer p ≡ false → HasSend p req body
+    → Tells Rests m c p to (λ n. request_of n req body)
 tells_request m c p to req body a f h n r = request to req body (acts_rests r ∙ a) (leads_rests r ∙ f) (r.sends req body h)
 
-pub tells_spread : (m : Node) (c : Cause) (p : Node) (to : List ℕ) (req : ℕ) (body : List ℕ) → acts p ≡ true → is_sequencer p ≡ false → HasSend p req body → Tells Rests m c p to (λ n. spread_of n req body)
+pub tells_spread : (m : Node) (c : Cause) (p : Node) (to : List ℕ) (req : ℕ) (body : List ℕ) → acts p ≡ true → is_sequencer p ≡ false → HasSend p req body
+    → Tells Rests m c p to (λ n. spread_of n req body)
 tells_spread m c p to req body a f h n r = spread to req body (acts_rests r ∙ a) (leads_rests r ∙ f) (r.sends req body h)
 
 -- the entry that is numbered
-pub tells_bcast : (m : Node) (c : Cause) (p : Node) (to : List ℕ) (e : Entry) → is_sequencer p ≡ true → is_view e ≡ false → Tells Rests m c (pushed p e) to (λ n. bcast_of n (top p + 1) e)
-tells_bcast m c p to e leads plain n r = bcast to (top p + 1) e (leads_rests r ∙ leads_pushed p e plain ∙ leads) (stands_rests m.core.base (top p + 1) e r (stands_pushed p m.core.base e))
+pub tells_bcast : (m : Node) (c : Cause) (p : Node) (to : List ℕ) (e : Entry) → is_sequencer p ≡ true → is_view e ≡ false
+    → Tells Rests m c (pushed p e) to (λ n. bcast_of n (top p + 1) e)
+tells_bcast m c p to e leads plain n r = bcast to (top p + 1) e (leads_rests r ∙ leads_pushed p e plain
+    ∙ leads) (stands_rests m.core.base (top p + 1) e r (stands_pushed p m.core.base e))
 
 pub tells_ack : (m : Node) (c : Cause) (p : Node) (to : List ℕ) → acts p ≡ true → Tells RestsWhole m c p to ack_of
 tells_ack m c p to a n r = ack to (acts_rests r.rests ∙ a)
@@ -77,7 +88,9 @@ tells_nack m c p to a n r = nack to (acts_rests r.rests ∙ a)
 
 -- ---- entries sent again
 
-says_each : (m : Node) (c : Cause) (n : Node) (packet : ℕ → Entry → Packet) (to : List ℕ) (number : ℕ) (es : List Entry) (letters : List Letter) → ((i k : ℕ) (e : Entry) → slice_get es i ≡ Some e → k ≡ number + i → Says m c n to (packet k e)) → AllSay m c n letters → AllSay m c n (put_all packet to number es letters)
+says_each : (m : Node) (c : Cause) (n : Node) (packet : ℕ → Entry → Packet) (to : List ℕ) (number : ℕ) (es : List Entry) (letters : List Letter)
+    → ((i k : ℕ) (e : Entry) → slice_get es i ≡ Some e → k ≡ number + i → Says m c n to (packet k e)) → AllSay m c n letters
+    → AllSay m c n (put_all packet to number es letters)
 unfolding put_all
 says_each m c n packet to number [] letters f h = h
 says_each m c n packet to number (e ∷ es) letters f h =
@@ -85,11 +98,18 @@ says_each m c n packet to number (e ∷ es) letters f h =
     (and_says m c n to (packet number e) letters (f zero number e refl (omega arith)) h)
 
 -- a letter for each entry that stands above a number
-pub says_served : (m : Node) (c : Cause) (p n : Node) (packet : ℕ → Entry → Packet) (to : List ℕ) (low : ℕ) → m.core.base ≤ low → Rests p n → ((k : ℕ) (e : Entry) → Stands n.core.log m.core.base k e → Says m c n to (packet k e)) → AllSay m c n (put_all packet to (low + 1) (served p low) [])
+pub says_served : (m : Node) (c : Cause) (p n : Node) (packet : ℕ → Entry → Packet) (to : List ℕ) (low : ℕ) → m.core.base ≤ low → Rests p n
+    → ((k : ℕ) (e : Entry) → Stands n.core.log m.core.base k e → Says m c n to (packet k e)) → AllSay m c n (put_all packet to (low + 1) (served p low) [])
 says_served m c p n packet to low above r f =
     let skip = low - p.core.log.start in
     says_each m c n packet to (low + 1) (served p low) []
     (λ i k e there is.
     let at = sym (slice_get-drop skip i p.core.log.entries) ∙ get_take 8 (drop skip p.core.log.entries) i e there in
-    f k e (stands_rests m.core.base k e r (record { index = skip + i; there = at; at = λ b. omega arith; within = let few = slice_get_within p.core.log.entries (skip + i) e at in omega arith })))
+    f k e (stands_rests m.core.base k e r (record {
+      index = skip + i;
+      there = at;
+      at = λ b. omega arith;
+      within = let few =
+          slice_get_within p.core.log.entries (skip + i) e at in omega arith;
+    })))
     (none_says m c n)

@@ -14,7 +14,8 @@ use Rattle.am_model.specs.declared.status.Status.TheVariants as status
 use Rattle.am_model.specs.Node.{Node, Ballot, told, view, others, only_name, acts, has_room, is_asking, is_member, is_sequencer, waiting}
 use Rattle.am_model.specs.Emit.{quiet, ack_of, invite_of, fetch_of, result_of}
 use Rattle.am_model.specs.Calls.{would_emit, emit, go}
-use Rattle.am_model.specs.Ticks.{tick_ballot, tick_promised, tick_member, put_off, behind_view, viewed_by, and_result, tick_sequencer, tick_acting, tick_with, tick_by, tick_row}
+use Rattle.am_model.specs.Ticks.{tick_ballot, tick_promised, tick_member, put_off, behind_view, viewed_by, and_result, tick_sequencer, tick_acting, tick_with}
+use Rattle.am_model.specs.Ticks.{tick_by, tick_row}
 use Rattle.am_model.proofs.Greatest.{split}
 use Rattle.am_effects.specs.Causes.{Cause, calls}
 use Rattle.am_effects.specs.Courses.{nothing_yet}
@@ -38,26 +39,33 @@ pub open_rests : {p n : Node} {b : Ballot} → RestsWhole p n → HasOpen p b �
 open_rests r h = record { last = r.rests.ballot ∙ h.last; open_ = h.open_ }
 
 row_tick_ballot : (m : Node) (b : Ballot) (o : Outcome) → HasOpen m b → b.answer ≡ o → HasEffect m tick (tick_ballot m o)
-row_tick_ballot m b (said.Waiting names) h is = effect_of m tick _ (does_telling RestsWhole m tick m said.Ticked names invite_of nothing_yet (λ n r. tt) (λ n r. invite names (goes_on b h)))
-row_tick_ballot m b (said.Fetching from want) h is = effect_of m tick _ (does_telling RestsWhole m tick m said.Ticked (only_name from) fetch_of nothing_yet (λ n r. tt) (λ n r. fetch (only_name from) (for_ballot b (open_rests r h) from want is refl)))
+row_tick_ballot m b (said.Waiting names) h is = effect_of m tick _
+    (does_telling RestsWhole m tick m said.Ticked names invite_of nothing_yet (λ n r. tt) (λ n r. invite names (goes_on b h)))
+row_tick_ballot m b (said.Fetching from want) h is = effect_of m tick _
+    (does_telling RestsWhole m tick m said.Ticked (only_name from) fetch_of nothing_yet (λ n r. tt)
+    (λ n r. fetch (only_name from) (for_ballot b (open_rests r h) from want is refl)))
 row_tick_ballot m b _ h is = search rows
 
 -- ---- who acts, or doesn't
 
 row_tick_promised : (m : Node) → HasEffect m tick (tick_promised m)
 row_tick_promised m = effect_if m tick (m.core.promise.by == m.core.who) _ _ (λ t. search rows)
-    (λ f. effect_of m tick _ (does_telling RestsWhole m tick m said.Ticked (only_name m.core.promise.by) fetch_of nothing_yet (λ n r. tt) (λ n r. fetches n r f)))
+    (λ f. effect_of m tick _ (does_telling RestsWhole m tick m said.Ticked (only_name m.core.promise.by) fetch_of nothing_yet (λ n r. tt)
+    (λ n r. fetches n r f)))
   where
     fetches : (n : Node) → RestsWhole m n → (m.core.promise.by == m.core.who) ≡ false → Says m tick n (only_name m.core.promise.by) (fetch_of n)
-    fetches n r f = fetch (only_name m.core.promise.by) (of_promise ((λ i. (r.rests.promise i).by == r.rests.who i) ∙ f) (ap (λ (v : Stamp). only_name v.by) (sym r.rests.promise)))
+    fetches n r f = fetch (only_name m.core.promise.by) (of_promise ((λ i. (r.rests.promise i).by == r.rests.who i)
+        ∙ f) (ap (λ (v : Stamp). only_name v.by) (sym r.rests.promise)))
 
 row_tick_member : (m : Node) → is_member m.status ≡ true → acts m ≡ true → HasEffect m tick (tick_member m)
 row_tick_member m member acting =
     effect_if m tick m.leaving _ _
-    (λ t. row_go m tick (quiet m said.Ticked) does.Tick refl (does_quiet Rests m tick m said.Ticked nothing_yet (λ n r. tt)) (λ o. nothing_yet) (λ x y z. tt) (λ alone. refl) refl member t)
+    (λ t. row_go m tick (quiet m said.Ticked) does.Tick refl (does_quiet Rests m tick m said.Ticked nothing_yet (λ n r. tt)) (λ o. nothing_yet) (λ x y z. tt)
+    (λ alone. refl) refl member t)
     (λ f. effect_if m tick (would_emit m (waiting m)) _ _
     (λ t. effect_of m tick _ (tightly m tick _ (does_emit m tick m (waiting m) said.Ticked nothing_yet (λ n same. tt) refl)))
-    (λ g. effect_of m tick _ (does_telling RestsWhole m tick m said.Ticked (only_name (view m).by) ack_of nothing_yet (λ n r. tt) (tells_ack m tick m (only_name (view m).by) acting))))
+    (λ g. effect_of m tick _ (does_telling RestsWhole m tick m said.Ticked (only_name (view m).by) ack_of nothing_yet (λ n r. tt)
+    (tells_ack m tick m (only_name (view m).by) acting))))
 
 -- ---- the sequencer
 
@@ -73,8 +81,14 @@ same_emit : (m : Node) (w : Option OwnSend) (o : Outcome) → Same m (emit m w o
 same_emit m None o = (refl, refl, refl, refl)
 same_emit m (Some s) o =
     node_if (Same m) (not (would_emit m (Some s))) _ _ (λ t. (refl, refl, refl, refl))
-    (λ f. node_if (Same m) (not (is_sequencer m)) _ _ (λ t. node_if (Same m) (nat_le (length s.body) m.core.rules.pb_up_to) _ _ (λ u. (refl, refl, refl, refl)) (λ u. (refl, refl, refl, refl)))
-    (λ g. node_if (Same m) (has_room m) _ _ (λ t. (leads_pushed m (Data m.core.who s.req s.body) refl, refl, refl, view_pushed m (Data m.core.who s.req s.body) refl)) (λ k. (refl, refl, refl, refl))))
+    (λ f. node_if (Same m) (not (is_sequencer m)) _ _ (λ t. node_if (Same m) (nat_le (length s.body) m.core.rules.pb_up_to) _ _ (λ u. (refl, refl, refl, refl))
+    (λ u. (refl, refl, refl, refl)))
+    (λ g. node_if (Same m) (has_room m) _ _ (λ t. (
+      leads_pushed m (Data m.core.who s.req s.body) refl,
+      refl,
+      refl,
+      view_pushed m (Data m.core.who s.req s.body) refl,
+    )) (λ k. (refl, refl, refl, refl))))
 
 -- who is alone tells nobody of its send, nor of the last View
 quiet_emit : (m : Node) (w : Option OwnSend) (o : Outcome) (n : Node) → IsAlone (emit m w o).node → is_sequencer m ≡ true → (emit m w o).letters n ≡ []
@@ -112,11 +126,14 @@ row_tick_sequencer m member lead =
       stays = d.stays;
       changes = d.changes;
       answer = d.answer;
-      letters = λ n r. and_says m tick n (behind_view n) (result_of n (told n).view_number (viewed_by (entry_at n.core.log (told n).view_number)) (told n).resilience) (e.letters n)
-          (result (behind_view n) (told n).view_number (viewed_by (entry_at n.core.log (told n).view_number)) refl refl (leads (leads_rests r ∙ same.0 ∙ lead))) (d.letters n r);
+      letters = λ n r. and_says m tick n (behind_view n) (result_of n (told n).view_number (viewed_by (entry_at n.core.log (told n).view_number))
+          (told n).resilience) (e.letters n)
+          (result (behind_view n) (told n).view_number (viewed_by (entry_at n.core.log (told n).view_number)) refl refl (leads (leads_rests r ∙ same.0 ∙ lead)))
+          (d.letters n r);
     } in
     effect_if m tick m.leaving (go p) p
-    (λ t. row_go m tick p does.Tick refl h (comes_emit m tick m (waiting m) o (λ k. nothing_yet) refl) (λ x y z. tt) (quiet_last m o lead) same.3 (ap is_member same.1 ∙ member) (same.2 ∙ t))
+    (λ t. row_go m tick p does.Tick refl h (comes_emit m tick m (waiting m) o (λ k. nothing_yet) refl) (λ x y z. tt) (quiet_last m o lead) same.3
+    (ap is_member same.1 ∙ member) (same.2 ∙ t))
     (λ f. effect_of m tick p (tightly m tick p h))
 
 -- ---- the row

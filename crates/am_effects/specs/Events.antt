@@ -64,8 +64,10 @@ IsIdle _ = Unit {0}
 pub data Happens (w : World) (e : Event) : World → Type 0 where
   idles : (o : Outcome) → IsIdle o → Happens w e (unchanged w e o)
   stops : is_stopped w (actor w e) ≡ false → Happens w e (unchanged (record w { stopped = w.stopped ++ actor w e ∷ [] }) e said.Stopped)
-  returns : (place : ℕ) → place ≡ place_of (actor w e) → (is_stopped w (current w place) || has_departed (w.nodes (current w place)).status) ≡ true → (w.lives place == 16) ≡ false → Happens w e (lives_on (unchanged w e (said.Returned (w.lives place + 1))) place)
-  steps : (c : Cause) (s : Step) → is_stopped w (actor w e) ≡ false → IsCause w (actor w e) e.act c → Effect (w.nodes (actor w e)) c s → Happens w e (stepped w e (actor w e) s)
+  returns : (place : ℕ) → place ≡ place_of (actor w e) → (is_stopped w (current w place) || has_departed (w.nodes (current w place)).status) ≡ true
+      → (w.lives place == 16) ≡ false → Happens w e (lives_on (unchanged w e (said.Returned (w.lives place + 1))) place)
+  steps : (c : Cause) (s : Step) → is_stopped w (actor w e) ≡ false → IsCause w (actor w e) e.act c → Effect (w.nodes (actor w e)) c s
+      → Happens w e (stepped w e (actor w e) s)
 
 -- each event of each world
 abbrev pub EventsHaveEffects : Type 0

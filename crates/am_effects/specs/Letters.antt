@@ -42,7 +42,8 @@ pub record Stands (log : Log) (base number : ℕ) (e : Entry) : Type 0 where
 -- a joiner is welcomed where its Join is accepted: once it was numbered, or where it asks again, is a member, and hasn't stored it
 pub data MayWelcome (m : Node) (n : Node) (s : ℕ) : Type 0 where
   just_joined : (number : ℕ) → number ≡ top m + 1 → top n ≡ number → number ≤ n.core.acc → Stands n.core.log m.core.base number (Join s) → MayWelcome m n s
-  asks_again : n.core.log ≡ m.core.log → ((at_place (told m) s).life ≢ 0 → (at_place (told m) s).life ≡ life_of s) → 0 < (at_place (told m) s).joined → (at_place (told m) s).left ≡ 0 → (at_place (told m) s).joined ≤ m.core.acc → (m.reports s).stored < (at_place (told m) s).joined → MayWelcome m n s
+  asks_again : n.core.log ≡ m.core.log → ((at_place (told m) s).life ≢ 0 → (at_place (told m) s).life ≡ life_of s) → 0 < (at_place (told m) s).joined
+      → (at_place (told m) s).left ≡ 0 → (at_place (told m) s).joined ≤ m.core.acc → (m.reports s).stored < (at_place (told m) s).joined → MayWelcome m n s
 
 -- a vote is asked for by the ballot that the node has begun, or that was open before
 pub data MayInvite (m : Node) (n : Node) : Type 0 where
@@ -65,11 +66,13 @@ pub data Says (m : Node) (c : Cause) (n : Node) : List ℕ → Packet → Type 0
   request : (to : List ℕ) (req : ℕ) (body : List ℕ) → acts n ≡ true → is_sequencer n ≡ false → HasSend n req body → Says m c n to (emits.request_of n req body)
   spread : (to : List ℕ) (req : ℕ) (body : List ℕ) → acts n ≡ true → is_sequencer n ≡ false → HasSend n req body → Says m c n to (emits.spread_of n req body)
   bcast : (to : List ℕ) (number : ℕ) (e : Entry) → is_sequencer n ≡ true → Stands n.core.log m.core.base number e → Says m c n to (emits.bcast_of n number e)
-  order : (to : List ℕ) (number from req : ℕ) (v : Stamp) (report : Report) (body : List ℕ) → c ≡ hears (packet.Spread from v report req body) → is_sequencer n ≡ true → Stands n.core.log m.core.base number (Data from req body) → Says m c n to (emits.order_of n number from req)
+  order : (to : List ℕ) (number from req : ℕ) (v : Stamp) (report : Report) (body : List ℕ) → c ≡ hears (packet.Spread from v report req body)
+      → is_sequencer n ≡ true → Stands n.core.log m.core.base number (Data from req body) → Says m c n to (emits.order_of n number from req)
   accept : (to : List ℕ) (poll : Bool) → is_sequencer n ≡ true → Says m c n to (emits.accept_of n poll)
   ack : (to : List ℕ) → acts n ≡ true → Says m c n to (emits.ack_of n)
   nack : (to : List ℕ) → acts n ≡ true → Says m c n to (emits.nack_of n)
-  hold : (to : List ℕ) (s : ℕ) (v : Stamp) (report : Report) (req : ℕ) (body : List ℕ) → BringsSend c s v report req body → is_sequencer n ≡ true → Says m c n to (emits.hold_of n req)
+  hold : (to : List ℕ) (s : ℕ) (v : Stamp) (report : Report) (req : ℕ) (body : List ℕ) → BringsSend c s v report req body → is_sequencer n ≡ true
+      → Says m c n to (emits.hold_of n req)
   join_ask : (to : List ℕ) → is_asking n.status ≡ true → Says m c n to (emits.join_ask_of n)
   welcome : (s : ℕ) → is_sequencer n ≡ true → MayWelcome m n s → Says m c n (only_name s) (emits.welcome_of n s)
   leave_ask : (to : List ℕ) → is_member n.status ≡ true → n.leaving ≡ true → Says m c n to (emits.leave_ask_of n)
@@ -77,8 +80,10 @@ pub data Says (m : Node) (c : Cause) (n : Node) : List ℕ → Packet → Type 0
   invite : (to : List ℕ) → MayInvite m n → Says m c n to (emits.invite_of n)
   vote : (s : ℕ) (v : Stamp) → c ≡ hears (packet.Invite s v) → Says m c n (only_name s) (vote_of n)
   fetch : (to : List ℕ) → MayFetch m n to → Says m c n to (emits.fetch_of n)
-  piece : (s : ℕ) (v : Stamp) (stored number : ℕ) (e : Entry) → c ≡ hears (packet.Fetch s v stored) → may_fetch n s v ≡ true → Stands n.core.log m.core.base number e → Says m c n (only_name s) (emits.piece_of n number e)
-  result : (to : List ℕ) (number : ℕ) (names : List ℕ) → number ≡ (told n).view_number → viewed_by (entry_at n.core.log number) ≡ names → MayTell n → Says m c n to (emits.result_of n number names (told n).resilience)
+  piece : (s : ℕ) (v : Stamp) (stored number : ℕ) (e : Entry) → c ≡ hears (packet.Fetch s v stored) → may_fetch n s v ≡ true
+      → Stands n.core.log m.core.base number e → Says m c n (only_name s) (emits.piece_of n number e)
+  result : (to : List ℕ) (number : ℕ) (names : List ℕ) → number ≡ (told n).view_number → viewed_by (entry_at n.core.log number) ≡ names → MayTell n
+      → Says m c n to (emits.result_of n number names (told n).resilience)
   hand_over : (to : List ℕ) → is_sequencer n ≡ true → n.leaving ≡ true → Says m c n to (emits.hand_over_of n)
 
 -- a letter goes to any life only where its kind does

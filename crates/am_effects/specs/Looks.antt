@@ -35,10 +35,14 @@ pub record MayDecide (m : Node) (b : Ballot) : Type 0 where
 -- a verdict, and why
 pub data Looks (m : Node) (b : Ballot) : Verdict → Type 0 where
   finds_itself_out : has (need_of m b) m.core.who ≡ false → Looks m b (ends m b (said.NotIn (best_of m b).vote.view))
-  waits : has (need_of m b) m.core.who ≡ true → nat_lt 0 (size (those (is_waited_for m.core.who b) (need_of m b))) ≡ true → Looks m b (goes_on m b (said.Waiting (those (is_waited_for m.core.who b) (need_of m b))))
-  fetches_from_best : has (need_of m b) m.core.who ≡ true → nat_lt 0 (size (those (is_waited_for m.core.who b) (need_of m b))) ≡ false → ((best_of m b).by == m.core.who) ≡ false → Looks m b (goes_on m b (said.Fetching (best_of m b).by (top m + 1)))
-  finds_too_few : HasLearned m b → nat_lt (size (left_in b (need_of m b))) b.least ≡ true → Looks m b (ends m b (said.TooFew (size (left_in b (need_of m b))) b.least))
-  finds_no_room : HasLearned m b → Looks m b (ends (trimmed_for m b (left_in b (need_of m b))) b (said.Crowded (trimmed_for m b (left_in b (need_of m b))).core.base (top m)))
+  waits : has (need_of m b) m.core.who ≡ true → nat_lt 0 (size (those (is_waited_for m.core.who b) (need_of m b))) ≡ true
+      → Looks m b (goes_on m b (said.Waiting (those (is_waited_for m.core.who b) (need_of m b))))
+  fetches_from_best : has (need_of m b) m.core.who ≡ true → nat_lt 0 (size (those (is_waited_for m.core.who b) (need_of m b))) ≡ false
+      → ((best_of m b).by == m.core.who) ≡ false → Looks m b (goes_on m b (said.Fetching (best_of m b).by (top m + 1)))
+  finds_too_few : HasLearned m b → nat_lt (size (left_in b (need_of m b))) b.least ≡ true
+      → Looks m b (ends m b (said.TooFew (size (left_in b (need_of m b))) b.least))
+  finds_no_room : HasLearned m b → Looks m b (ends (trimmed_for m b (left_in b (need_of m b))) b
+      (said.Crowded (trimmed_for m b (left_in b (need_of m b))).core.base (top m)))
   decides : MayDecide m b → Looks m b (ends (restarted (view_of m b)) b (said.Decided (top m + 1) (left_in b (need_of m b))))
 
 -- ---- why it looks
@@ -66,6 +70,7 @@ pub data MayLook (c : Cause) (m : Node) : Type 0 where
 
 -- the ballot that is looked at: the open one with a vote more or a name given up, or as it is
 pub data Balloting (c : Cause) (m : Node) : Ballot → Type 0 where
-  with_more : (old : Ballot) (s : ℕ) (v : Stamp) (vote : Vote) → c ≡ hears (packet.Vote s v vote) → hears_member m s ≡ true → stamp_lt v m.core.promise ≡ false → stamp_lt m.core.promise v ≡ false → HasOpen m old → old.stamp ≡ v → old.given_up s ≡ false → Balloting c m (with_vote old s vote)
+  with_more : (old : Ballot) (s : ℕ) (v : Stamp) (vote : Vote) → c ≡ hears (packet.Vote s v vote) → hears_member m s ≡ true → stamp_lt v m.core.promise ≡ false
+      → stamp_lt m.core.promise v ≡ false → HasOpen m old → old.stamp ≡ v → old.given_up s ≡ false → Balloting c m (with_vote old s vote)
   without_one : (old : Ballot) (name : ℕ) → c ≡ calls (GiveUp name) → HasOpen m old → (name == m.core.who) ≡ false → Balloting c m (without_voter old name)
   as_it_is : (old : Ballot) → HasOpen m old → MayLook c m → Balloting c m old

@@ -1,5 +1,6 @@
 -- Ballots, on the kept end of a list as on all of it.
-use Rattle.std.proofs.Common.{◌≡◌, ℕ, ◌+◌, ◌-◌, max, min, Bool, true, false, not, ◌&&◌, ◌==◌, nat_lt, if◌then◌else◌, List, [], Option, Some, None, unwrap_or, refl, ◌∙◌, ap}
+use Rattle.std.proofs.Common.{◌≡◌, ℕ, ◌+◌, ◌-◌, max, min, Bool, true, false, not, ◌&&◌, ◌==◌, nat_lt, if◌then◌else◌, List, [], Option, Some, None, unwrap_or}
+use Rattle.std.proofs.Common.{refl, ◌∙◌, ap}
 use Rattle.am_base.specs.declared.image.Vote.{Vote}
 use Rattle.am_base.specs.declared.name.Stamp.{Stamp}
 use Rattle.am_base.specs.declared.entry.Entry.TheVariants.{View}
@@ -12,7 +13,9 @@ use Rattle.am_fronts.specs.Reports.{least_of}
 use Rattle.am_packet.specs.Boxes.{Letter, with_letter}
 use Rattle.am_model.specs.Node.{Node, Ballot, top, told, those, is_member, pushed, only_name}
 use Rattle.am_model.specs.Emit.{invite_of, result_of}
-use Rattle.am_model.specs.Ballots.{Verdict, promised, best_of, has_voted, is_waited_for, left_in, taken_by, goes_on, ends, restarted, decide_view, trimmed_for, decide, with_result, with_fetch, answered, next_stamp, new_ballot, begin, with_vote, newly_needed, keep_vote, without_voter, give_up}
+use Rattle.am_model.specs.Ballots.{Verdict, promised, best_of, has_voted, is_waited_for, left_in, taken_by, goes_on, ends, restarted, decide_view, trimmed_for}
+use Rattle.am_model.specs.Ballots.{decide, with_result, with_fetch, answered, next_stamp, new_ballot, begin, with_vote, newly_needed, keep_vote, without_voter}
+use Rattle.am_model.specs.Ballots.{give_up}
 use Rattle.am_model.specs.Calls.{reset_row, give_up_of, give_up_row}
 use Rattle.am_model.specs.Resets.{fetched_for}
 use Rattle.am_model.specs.Ends.{with_log}

@@ -1,5 +1,6 @@
 -- Calls and ticks, on the kept end of a list as on all of it.
-use Rattle.std.proofs.Common.{◌≡◌, ℕ, ◌+◌, ◌-◌, ◌<◌, true, not, ◌&&◌, ◌||◌, ◌==◌, nat_lt, nat_le, if◌then◌else◌, List, length, Option, Some, None, refl, sym, ◌∙◌, ap, subst, arith, is_some}
+use Rattle.std.proofs.Common.{◌≡◌, ℕ, ◌+◌, ◌-◌, ◌<◌, true, not, ◌&&◌, ◌||◌, ◌==◌, nat_lt, nat_le, if◌then◌else◌, List, length, Option, Some, None, refl, sym}
+use Rattle.std.proofs.Common.{◌∙◌, ap, subst, arith, is_some}
 use Rattle.std.proofs.lemmas.Bool.Decides.{nat_tests}
 use Rattle.am_base.specs.declared.entry.Entry.{Entry}
 use Rattle.am_base.specs.declared.entry.Entry.TheVariants.{Data, Leave}
@@ -15,13 +16,17 @@ use Rattle.am_sender.specs.declared.OwnSend.{OwnSend}
 use Rattle.am_sender.specs.Sends as own
 use Rattle.am_model.specs.declared.status.Status.{Status}
 use Rattle.am_model.specs.declared.status.Status.TheVariants as status
-use Rattle.am_model.specs.Node.{Node, Ballot, top, told, view, others, only_name, lowest_or_first, those, acts, is_member, is_sequencer, has_room, waiting, unsettled, pushed}
+use Rattle.am_model.specs.Node.{Node, Ballot, top, told, view, others, only_name, lowest_or_first, those, acts, is_member, is_sequencer, has_room, waiting}
+use Rattle.am_model.specs.Node.{unsettled, pushed}
 use Rattle.am_model.specs.Emit.{Plan, request_of, spread_of, bcast_of, join_ask_of, leave_ask_of, hand_over_of, invite_of, fetch_of, ack_of, result_of}
-use Rattle.am_model.specs.Calls.{everywhere_else, would_emit, hand_in, number_send, emit, queued, queue, send_row, done_row, given, take_row, ask_to_join, join_by, join_row, state_by, state_row, go, is_unfinished, leave_now, leave_by, leave_row, ask_of, ask_row}
-use Rattle.am_model.specs.Ticks.{tick_ballot, tick_promised, tick_member, put_off, behind_view, viewed_by, and_result, tick_sequencer, tick_acting, tick_with, tick_by, tick_row}
+use Rattle.am_model.specs.Calls.{everywhere_else, would_emit, hand_in, number_send, emit, queued, queue, send_row, done_row, given, take_row, ask_to_join}
+use Rattle.am_model.specs.Calls.{join_by, join_row, state_by, state_row, go, is_unfinished, leave_now, leave_by, leave_row, ask_of, ask_row}
+use Rattle.am_model.specs.Ticks.{tick_ballot, tick_promised, tick_member, put_off, behind_view, viewed_by, and_result, tick_sequencer, tick_acting, tick_with}
+use Rattle.am_model.specs.Ticks.{tick_by, tick_row}
 use Rattle.am_model.specs.Ends.{with_log}
 use Rattle.am_ends.proofs.Nodes.{Keeps, reads, same_entry, same_sequencer, keeps_pushed}
-use Rattle.am_ends.proofs.Plans.{Alike, same_others, says_request, says_spread, says_ack, says_leave_ask, says_fetch, alike_if, alike_case, alike_quiet, alike_telling, alike_and, alike_numbering}
+use Rattle.am_ends.proofs.Plans.{Alike, same_others, says_request, says_spread, says_ack, says_leave_ask, says_fetch, alike_if, alike_case, alike_quiet}
+use Rattle.am_ends.proofs.Plans.{alike_telling, alike_and, alike_numbering}
 
 -- ---- what a node tells
 
@@ -46,7 +51,8 @@ alike_hand_in all m s o w h e =
     (λ t. alike_telling all m o w _ _ (λ n. request_of n s.req s.body) _ h e (same_viewer all m h) (says_request s.req s.body))
     (λ f. alike_telling all m o w _ _ (λ n. spread_of n s.req s.body) _ h e (same_others all m h) (says_spread s.req s.body))
 
-pub alike_number_send : (all : Log) (m : Node) (s : OwnSend) (o w : Outcome) → Keeps all m → o ≡ w → Alike (number_send (with_log m all) s o) (number_send m s w)
+pub alike_number_send : (all : Log) (m : Node) (s : OwnSend) (o w : Outcome) → Keeps all m → o ≡ w
+    → Alike (number_send (with_log m all) s o) (number_send m s w)
 alike_number_send all m s o w h e =
     alike_numbering all m (Data m.core.who s.req s.body) o w (λ n. bcast_of n (top (with_log m all) + 1) (Data m.core.who s.req s.body)) _ h e
     (λ a n k. reads all m (λ i t. bcast_of n (t + 1) (Data m.core.who s.req s.body)) h)
@@ -89,7 +95,8 @@ alike_given all m (Some e) h more =
     let o = h.order in
     alike_quiet all n _ _ (record { kept = h.kept; order = record { base = o.base; taken = omega arith; given = omega arith; accepted = o.accepted } }) refl
 
-pub alike_given_same : (all : Log) (m : Node) (e w : Option Entry) → Keeps all m → m.core.taken < m.core.acc → e ≡ w → Alike (given (with_log m all) e) (given m w)
+pub alike_given_same : (all : Log) (m : Node) (e w : Option Entry) → Keeps all m → m.core.taken < m.core.acc → e ≡ w
+    → Alike (given (with_log m all) e) (given m w)
 alike_given_same all m e w h more same = subst (λ x. Alike (given (with_log m all) x) (given m w)) (sym same) (alike_given all m w h more)
 
 pub alike_take : (all : Log) (m : Node) → Keeps all m → Alike (take_row (with_log m all)) (take_row m)

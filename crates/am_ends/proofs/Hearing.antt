@@ -1,5 +1,6 @@
 -- What a member does with packets, and a whole step, on the kept end of a list as on all of it.
-use Rattle.std.proofs.Common.{◌≡◌, ℕ, ◌+◌, ◌≤◌, max, Bool, true, false, not, ◌&&◌, ◌||◌, ◌==◌, nat_lt, nat_le, List, [], length, take, Option, Some, None, refl, sym, ◌∙◌, ap, subst, arith}
+use Rattle.std.proofs.Common.{◌≡◌, ℕ, ◌+◌, ◌≤◌, max, Bool, true, false, not, ◌&&◌, ◌||◌, ◌==◌, nat_lt, nat_le, List, [], length, take, Option, Some, None, refl}
+use Rattle.std.proofs.Common.{sym, ◌∙◌, ap, subst, arith}
 use Rattle.std.specs.Prelude.{Ok, Err}
 use Rattle.std.specs.List.{list_any}
 use Rattle.std.proofs.lemmas.Bool.Decides.{nat_tests}
@@ -25,16 +26,19 @@ use Rattle.am_bodies.specs.Bodies.{is_of, keep_body}
 use Rattle.am_model.specs.Node.{Node, Ballot, told, view, only_name, is_member, has_own_leave, is_within_bound, waiting, pushed, trimmed}
 use Rattle.am_model.specs.Emit.{Step, Plan, ack_of, nack_of, fetch_of, piece_of, put_all}
 use Rattle.am_model.specs.Sequencing.{risen}
-use Rattle.am_model.specs.Receiving.{spread_row, body_of, bodies_after, is_view, noted, acknowledges, stored, store, received, bcast_row, data_of, order_row, accept_row, held_up, hold_row}
+use Rattle.am_model.specs.Receiving.{spread_row, body_of, bodies_after, is_view, noted, acknowledges, stored, store, received, bcast_row, data_of, order_row}
+use Rattle.am_model.specs.Receiving.{accept_row, held_up, hold_row}
 use Rattle.am_model.specs.Ballots.{promised, vote_of}
-use Rattle.am_model.specs.Resets.{invite_row, is_open, voted_for, vote_row, serve_pieces, fetch_row, is_view_past, fetched, caught_up, fetched_for, fetches_from, piece_promised, piece_for, piece_row, hears_result, result_row, hand_over_row}
+use Rattle.am_model.specs.Resets.{invite_row, is_open, voted_for, vote_row, serve_pieces, fetch_row, is_view_past, fetched, caught_up, fetched_for}
+use Rattle.am_model.specs.Resets.{fetches_from, piece_promised, piece_for, piece_row, hears_result, result_row, hand_over_row}
 use Rattle.am_model.specs.Calls.{reset_row}
 use Rattle.am_model.specs.Hearing.{hears_member, hears_asking, hears_in_view, hears_as_sequencer, hears_sequencer, where_heard, hear_row}
 use Rattle.am_model.specs.Step.{read_row, row, step, hear}
 use Rattle.am_model.specs.Ends.{with_log, IsEndOf, StepsAlike, EndsStepAlike, ComesTo}
 use Rattle.am_ends.specs.Order.{StepsKeepOrder}
 use Rattle.am_ends.proofs.Nodes.{Keeps, keeps_end, reads, same_sequencer, keeps_pushed, keeps_trimmed}
-use Rattle.am_ends.proofs.Plans.{Alike, says_ack, says_nack, says_fetch, says_vote, alike_if, alike_case, alike_quiet, alike_saying, alike_sending, alike_telling, alike_where, finish_alike, finish_ordered}
+use Rattle.am_ends.proofs.Plans.{Alike, says_ack, says_nack, says_fetch, says_vote, alike_if, alike_case, alike_quiet, alike_saying, alike_sending}
+use Rattle.am_ends.proofs.Plans.{alike_telling, alike_where, finish_alike, finish_ordered}
 use Rattle.am_ends.proofs.Ballots.{keeps_promised, alike_keep_vote, alike_fetched_for, alike_reset, alike_give_up_row}
 use Rattle.am_ends.proofs.Calls.{alike_send, alike_done, alike_take, alike_join, alike_state, alike_leave, alike_ask, alike_tick}
 use Rattle.am_ends.proofs.Sequencing.{same_served, alike_request, alike_ack, alike_nack, alike_join_ask, alike_welcome, alike_leave_ask, alike_gone_row}
@@ -169,7 +173,8 @@ alike_fetched all m v base number e in_ballot then_ h next =
 keeps_fetched : (all : Log) (m : Node) (base : ℕ) (e : Entry) → Keeps all m → Keeps (with_entry all e) (pushed (trimmed m base) e)
 keeps_fetched all m base e h = keeps_pushed all (trimmed m base) e (keeps_trimmed all m base h)
 
-pub alike_caught_up : (all : Log) (m : Node) (s : ℕ) (v : Stamp) (number : ℕ) → Keeps all m → Alike (caught_up s v number (with_log m all)) (caught_up s v number m)
+pub alike_caught_up : (all : Log) (m : Node) (s : ℕ) (v : Stamp) (number : ℕ) → Keeps all m
+    → Alike (caught_up s v number (with_log m all)) (caught_up s v number m)
 alike_caught_up all m s v number h =
     alike_where (λ n. stamp_eq (view n) v) (λ n. stamp_eq (view n) v) _ _ (only_name s) (only_name s) ack_of ack_of
     (λ a n k. reads a n (λ i t. stamp_eq i.view v) k)
@@ -240,7 +245,8 @@ same_as_sequencer all m s v h = λ i. same_in_view all m s v h i && same_sequenc
 same_of_sequencer : (all : Log) (m : Node) (s : ℕ) (v : Stamp) → Keeps all m → hears_sequencer (with_log m all) s v ≡ hears_sequencer m s v
 same_of_sequencer all m s v h = λ i. same_in_view all m s v h i && (v.by == s)
 
-pub alike_heard : (all : Log) (m : Node) (b c : Bool) (p q : Plan) → Keeps all m → b ≡ c → Alike p q → Alike (where_heard b (with_log m all) p) (where_heard c m q)
+pub alike_heard : (all : Log) (m : Node) (b c : Bool) (p q : Plan) → Keeps all m → b ≡ c → Alike p q
+    → Alike (where_heard b (with_log m all) p) (where_heard c m q)
 alike_heard all m b c p q h e a = alike_if b c p q _ _ e (λ t. a) (λ f. alike_quiet all m _ _ h refl)
 
 pub alike_hear : (all : Log) (m : Node) (p : Packet) → Keeps all m → Alike (hear_row (with_log m all) p) (hear_row m p)

@@ -1,5 +1,6 @@
 -- A node and the same node with all of a list: what they tell, and what the refresh makes of them.
-use Rattle.std.proofs.Common.{◌≡◌, ℕ, ◌+◌, ◌-◌, ◌<◌, ◌≤◌, List, [], ◌∷◌, length-append, drop, take, position, refl, sym, ◌∙◌, ap, arith, Option, Some, None, true, false, ◌&&◌, ◌==◌}
+use Rattle.std.proofs.Common.{◌≡◌, ℕ, ◌+◌, ◌-◌, ◌<◌, ◌≤◌, List, [], ◌∷◌, length-append, drop, take, position, refl, sym, ◌∙◌, ap, arith, Option, Some, None}
+use Rattle.std.proofs.Common.{true, false, ◌&&◌, ◌==◌}
 use Rattle.std.proofs.lemmas.List.{drop-drop}
 use Rattle.am_base.specs.declared.entry.Entry.{Entry}
 use Rattle.am_base.specs.declared.image.Image.{Image}

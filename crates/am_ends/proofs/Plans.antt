@@ -11,7 +11,8 @@ use Rattle.am_packet.specs.Boxes.{Letter, with_letter}
 use Rattle.am_model.specs.declared.status.Status.TheVariants.{Departed}
 use Rattle.am_model.specs.Node.{Node, told, others}
 use Rattle.am_model.specs.Refresh.{refresh_at_end}
-use Rattle.am_model.specs.Emit.{Step, Plan, quiet, telling, polling, and_telling, and_where, numbering, request_of, spread_of, ack_of, nack_of, hold_of, welcome_of, leave_ask_of, fetch_of, with_accept, finish}
+use Rattle.am_model.specs.Emit.{Step, Plan, quiet, telling, polling, and_telling, and_where, numbering, request_of, spread_of, ack_of, nack_of, hold_of}
+use Rattle.am_model.specs.Emit.{welcome_of, leave_ask_of, fetch_of, with_accept, finish}
 use Rattle.am_model.specs.Ballots.{vote_of}
 use Rattle.am_model.specs.Ends.{with_log, IsEndOf, ComesTo, StepsAlike}
 use Rattle.am_ends.specs.Order.{IsOrdered}

@@ -1,5 +1,6 @@
 -- What the sequencer does, on the kept end of a list as on all of it.
-use Rattle.std.proofs.Common.{◌≡◌, ℕ, ◌+◌, ◌-◌, ◌≤◌, Bool, not, ◌&&◌, ◌||◌, ◌==◌, nat_lt, nat_le, if◌then◌else◌, List, [], length, take, refl, sym, ◌∙◌, ap, subst, arith}
+use Rattle.std.proofs.Common.{◌≡◌, ℕ, ◌+◌, ◌-◌, ◌≤◌, Bool, not, ◌&&◌, ◌||◌, ◌==◌, nat_lt, nat_le, if◌then◌else◌, List, [], length, take, refl, sym, ◌∙◌, ap}
+use Rattle.std.proofs.Common.{subst, arith}
 use Rattle.std.proofs.lemmas.Bool.Decides.{nat_tests}
 use Rattle.am_base.specs.declared.image.Report.{Report}
 use Rattle.am_base.specs.declared.image.Row.{Row}
@@ -16,10 +17,12 @@ use Rattle.am_model.specs.declared.status.Status.TheVariants as status
 use Rattle.am_model.specs.Node.{Node, top, told, only_name, is_member, is_within_bound, report_fits, with_report}
 use Rattle.am_model.specs.Emit.{Plan, bcast_of, order_of, hold_of, nack_of, welcome_of, gone_of, fetch_of, served, put_all}
 use Rattle.am_model.specs.Sequencing.{row_at, is_unknown, reported, number_data, requested, request_row, ack_row, serve, asked_again, nack_row}
-use Rattle.am_model.specs.Joining.{admitted, number_join, asks_to_join, join_ask_row, begun, welcomed, welcome_row, all_stored, may_go, let_go, and_gone, asks_to_leave, leave_ask_row, gone_row}
+use Rattle.am_model.specs.Joining.{admitted, number_join, asks_to_join, join_ask_row, begun, welcomed, welcome_row, all_stored, may_go, let_go, and_gone}
+use Rattle.am_model.specs.Joining.{asks_to_leave, leave_ask_row, gone_row}
 use Rattle.am_model.specs.Ends.{with_log}
 use Rattle.am_ends.proofs.Nodes.{Keeps, reads, same_entries, same_since, refresh_end, keeps_refresh}
-use Rattle.am_ends.proofs.Plans.{Says, Alike, says_hold, says_nack, says_fetch, says_welcome, alike_if, alike_case, alike_quiet, alike_polling, alike_saying, alike_sending, alike_telling, alike_and, alike_where, alike_numbering}
+use Rattle.am_ends.proofs.Plans.{Says, Alike, says_hold, says_nack, says_fetch, says_welcome, alike_if, alike_case, alike_quiet, alike_polling, alike_saying}
+use Rattle.am_ends.proofs.Plans.{alike_sending, alike_telling, alike_and, alike_where, alike_numbering}
 use Rattle.am_ends.proofs.Calls.{same_room}
 
 -- ---- reports

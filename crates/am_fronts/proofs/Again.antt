@@ -39,11 +39,13 @@ satisfied_more : (held : ℕ → Bool) (view front g k : ℕ) → front ≤ g �
 satisfied_more held view front g k h e = ⊎_elim
     (λ (l : k < view).
     let was : (nat_le view front && held view) ≡ true = sym (satisfied_low held view front k l) ∙ e in
-    satisfied_low held view g k l ∙ split (held view) (λ t. split (nat_le view front) (λ u. let v : nat_le view g ≡ true = grind (arith, nat_tests) in rw (v, t) refl) (λ u. absurd (let w = rw u at was in cc))) (λ t. absurd (let w = rw t at was in grind (arith, nat_tests))))
+    satisfied_low held view g k l ∙ split (held view) (λ t. split (nat_le view front) (λ u. let v : nat_le view g ≡ true = grind (arith, nat_tests) in
+    rw (v, t) refl) (λ u. absurd (let w = rw u at was in cc))) (λ t. absurd (let w = rw t at was in grind (arith, nat_tests))))
     (λ (u : view ≤ k). satisfied_high held view g k u ∙ sym (satisfied_high held view front k u) ∙ e)
     (cases_lt k view)
 
-pub front_again : (held : ℕ → Bool) (view acc more front rest : ℕ) → front ≡ greatest (front_by held view acc) acc more → front + rest ≡ acc + more → greatest (front_by held view front) front rest ≡ front
+pub front_again : (held : ℕ → Bool) (view acc more front rest : ℕ) → front ≡ greatest (front_by held view acc) acc more → front + rest ≡ acc + more
+    → greatest (front_by held view front) front rest ≡ front
 front_again held view acc more front rest is total =
     let low = greatest_low (front_by held view acc) acc more in
     greatest_is (front_by held view front) front rest front (omega arith) (omega arith) (λ h. absurd (omega arith))
@@ -60,7 +62,8 @@ front_again held view acc more front rest is total =
     absurd (cc))
     (λ f. f))
 
-pub accept_front_again : (reports : ℕ → Report) (log : Log) (acc : ℕ) → acc ≤ top_of log → accept_front reports log (accept_front reports log acc) ≡ accept_front reports log acc
+pub accept_front_again : (reports : ℕ → Report) (log : Log) (acc : ℕ) → acc ≤ top_of log
+    → accept_front reports log (accept_front reports log acc) ≡ accept_front reports log acc
 accept_front_again reports log acc high =
     let front = accept_front reports log acc in
     let low = greatest_low (front_by (is_held reports log) (told_by log).view_number acc) acc (top_of log - acc) in

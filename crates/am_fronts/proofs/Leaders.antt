@@ -1,5 +1,6 @@
 -- Who leads is among those who may need its list, so no more is let go than it has taken itself.
-use Rattle.std.proofs.Common.{◌≡◌, ◌⊎◌, ⊎_elim, inl, inr, ℕ, zero, suc, ◌+◌, ◌-◌, ◌<◌, ◌≤◌, min, List, [], ◌∷◌, length, refl, sym, ◌∙◌, ap, true, nat_lt, Option, Some, None, slice_index, if◌then◌else◌, arith}
+use Rattle.std.proofs.Common.{◌≡◌, ◌⊎◌, ⊎_elim, inl, inr, ℕ, zero, suc, ◌+◌, ◌-◌, ◌<◌, ◌≤◌, min, List, [], ◌∷◌, length, refl, sym, ◌∙◌, ap, true, nat_lt}
+use Rattle.std.proofs.Common.{Option, Some, None, slice_index, if◌then◌else◌, arith}
 use Rattle.std.proofs.lemmas.Bool.Decides.{nat_tests}
 use Rattle.std.proofs.Math.Nat.{eq-or-lt_of_le}
 use Rattle.am_base.specs.declared.image.Report.{Report}
@@ -24,7 +25,8 @@ lesser_first a None = (a, refl, omega arith)
 lesser_first a (Some y) = (min a y, refl, omega arith)
 
 -- the least is at most what each name of the set has
-pub least_in : (f : ℕ → ℕ) (set : List ℕ) (from place : ℕ) → place < length set → 0 < slice_index set place → (x : ℕ) × (least_of f (names_from from set) ≡ Some x) × (x ≤ f (name_at (from + place) (slice_index set place)))
+pub least_in : (f : ℕ → ℕ) (set : List ℕ) (from place : ℕ) → place < length set → 0 < slice_index set place → (x : ℕ)
+    × (least_of f (names_from from set) ≡ Some x) × (x ≤ f (name_at (from + place) (slice_index set place)))
 unfolding least_of
 least_in f [] from place h l = absurd (omega arith)
 least_in f (zero ∷ lives) from zero h l = absurd (omega arith)
@@ -67,15 +69,19 @@ unfolding fits
 leave_fits image name h = h
 
 -- the union has the life of who leads
-leader_there : (c : CoreState) (capacity number : ℕ) → IsKept c.log capacity → c.log.start ≤ c.acc → c.acc ≤ number → number ≤ top_of c.log → has (members_at c.log number) c.who ≡ true → (row_at (told_by c.log) (place_of c.who)).life ≡ life_of c.who → slice_index (since_accepted c) (place_of c.who) ≡ life_of c.who
+leader_there : (c : CoreState) (capacity number : ℕ) → IsKept c.log capacity → c.log.start ≤ c.acc → c.acc ≤ number → number ≤ top_of c.log
+    → has (members_at c.log number) c.who ≡ true → (row_at (told_by c.log) (place_of c.who)).life ≡ life_of c.who
+    → slice_index (since_accepted c) (place_of c.who) ≡ life_of c.who
 leader_there c capacity number is low after high member row =
     let place = place_of c.who in
     let there = is_there (members_at c.log number) c.who member in
     let least = unions_least c.log c.acc (top_of c.log - c.acc) place number (omega arith) after (omega arith) in
-    let most = unions_most c.log c.acc (top_of c.log - c.acc) place (row_at (told_by c.log) place).life (omega arith) (λ k l u. member_most c.log capacity k place is (omega arith) (omega arith) (omega arith)) in
+    let most = unions_most c.log c.acc (top_of c.log - c.acc) place (row_at (told_by c.log) place).life (omega arith)
+    (λ k l u. member_most c.log capacity k place is (omega arith) (omega arith) (omega arith)) in
     omega arith
 
-leader_in : (c : CoreState) (capacity : ℕ) → IsKept c.log capacity → c.log.start ≤ c.acc → c.acc ≤ top_of c.log → MayLead c → (slice_index (since_accepted c) (place_of c.who) ≡ life_of c.who) ⊎ (size (since_accepted c) ≡ 0)
+leader_in : (c : CoreState) (capacity : ℕ) → IsKept c.log capacity → c.log.start ≤ c.acc → c.acc ≤ top_of c.log → MayLead c
+    → (slice_index (since_accepted c) (place_of c.who) ≡ life_of c.who) ⊎ (size (since_accepted c) ≡ 0)
 unfolding unions
 leader_in c capacity is low high leads = ⊎_elim
     (λ (member : has (members_of (told_by c.log)) c.who ≡ true).
@@ -98,13 +104,15 @@ leader_in c capacity is low high leads = ⊎_elim
     let used = image_used c.log capacity before is in
     let after = image-next c.log before (Leave c.who) (omega arith) entry in
     let told = ap (λ i. (row_at i (place_of c.who)).life) (sym (image-top c.log) ∙ ap (image_at c.log) (sym next) ∙ after) in
-    let row = told ∙ leave_life (image_at c.log before) (before + 1) c.who (place_of c.who) (omega arith) used ∙ member_row (image_at c.log before) c.who used member in
+    let row = told ∙ leave_life (image_at c.log before) (before + 1) c.who (place_of c.who) (omega arith) used
+    ∙ member_row (image_at c.log before) c.who used member in
     inl (leader_there c capacity before is low (omega arith) (omega arith) member row))
     (eq-or-lt_of_le high))
     leads
 
 -- no more is let go than it has taken
-pub let_go_within : (reports : ℕ → Report) (c : CoreState) (capacity to : ℕ) → IsKept c.log capacity → c.log.start ≤ c.acc → c.acc ≤ top_of c.log → MayLead c → (reports c.who).taken ≤ c.taken → least_taken reports (since_accepted c) ≡ Some to → to ≤ c.taken
+pub let_go_within : (reports : ℕ → Report) (c : CoreState) (capacity to : ℕ) → IsKept c.log capacity → c.log.start ≤ c.acc → c.acc ≤ top_of c.log → MayLead c
+    → (reports c.who).taken ≤ c.taken → least_taken reports (since_accepted c) ≡ Some to → to ≤ c.taken
 unfolding least_of
 let_go_within reports c capacity to is low high leads own least = ⊎_elim
     (λ (life : slice_index (since_accepted c) (place_of c.who) ≡ life_of c.who).
@@ -123,30 +131,35 @@ let_go_within reports c capacity to is low high leads own least = ⊎_elim
     (leader_in c capacity is low high leads)
 
 -- where nobody is left, what is let go stays below the last entry
-below_top : (reports : ℕ → Report) (c : CoreState) (to : ℕ) → c.acc ≤ top_of c.log → size (members_of (told_by c.log)) ≡ 0 → least_taken reports (since_accepted c) ≡ Some to → to ≤ c.acc → to < top_of c.log
+below_top : (reports : ℕ → Report) (c : CoreState) (to : ℕ) → c.acc ≤ top_of c.log → size (members_of (told_by c.log)) ≡ 0
+    → least_taken reports (since_accepted c) ≡ Some to → to ≤ c.acc → to < top_of c.log
 unfolding unions least_of
 below_top reports c to high none least h = ⊎_elim
     (λ (e : c.acc ≡ top_of c.log).
     let zero_more : top_of c.log - c.acc ≡ 0 = omega arith in
-    let nobody = ap (λ k. size (unions c.log c.acc k)) zero_more ∙ ap (λ k. size (members_at c.log k)) e ∙ ap (λ i. size (members_of i)) (image-top c.log) ∙ none in
+    let nobody = ap (λ k. size (unions c.log c.acc k)) zero_more ∙ ap (λ k. size (members_at c.log k)) e ∙ ap (λ i. size (members_of i)) (image-top c.log)
+    ∙ none in
     let wrong : None ≡ Some to = sym (ap (least_of (λ name. (reports name).taken)) (none_in (since_accepted c) 0 nobody)) ∙ least in
     absurd (cc))
     (λ (below : c.acc < top_of c.log). omega arith)
     (eq-or-lt_of_le high)
 
-leads_above : (c : CoreState) (to : ℕ) → c.log.start ≤ to → to ≤ top_of c.log → (size (members_of (told_by c.log)) ≡ 0 → to < top_of c.log) → MayLead c → MayLead (record c { log = above c.log to; base = to })
+leads_above : (c : CoreState) (to : ℕ) → c.log.start ≤ to → to ≤ top_of c.log → (size (members_of (told_by c.log)) ≡ 0 → to < top_of c.log) → MayLead c
+    → MayLead (record c { log = above c.log to; base = to })
 leads_above c to low high below leads =
     let is = end-above c.log c.log to (end-self c.log) low high in
     let told = end-told c.log (above c.log to) is in
     ⊎_elim
     (λ (member : has (members_of (told_by c.log)) c.who ≡ true). inl (ap (λ i. has (members_of i) c.who) told ∙ member))
     (λ (left : (entry_at c.log (top_of c.log) ≡ Some (Leave c.who)) × (size (members_of (told_by c.log)) ≡ 0)).
-    let entry = ap (entry_at (above c.log to)) (end-top c.log (above c.log to) is) ∙ end-entry c.log (above c.log to) (top_of c.log) is (below left.1) ∙ left.0 in
+    let entry = ap (entry_at (above c.log to)) (end-top c.log (above c.log to) is) ∙ end-entry c.log (above c.log to) (top_of c.log) is (below left.1)
+    ∙ left.0 in
     inr (entry, ap (λ i. size (members_of i)) told ∙ left.1))
     leads
 
 -- who may lead still may after a trim
-pub leads_trimmed : (reports : ℕ → Report) (c : CoreState) (to : ℕ) → c.base ≡ c.log.start → c.acc ≤ top_of c.log → to ≤ c.acc → least_taken reports (since_accepted c) ≡ Some to → MayLead c → MayLead (trimmed to c)
+pub leads_trimmed : (reports : ℕ → Report) (c : CoreState) (to : ℕ) → c.base ≡ c.log.start → c.acc ≤ top_of c.log → to ≤ c.acc
+    → least_taken reports (since_accepted c) ≡ Some to → MayLead c → MayLead (trimmed to c)
 leads_trimmed reports c to base high h least leads = split (nat_lt c.base to)
     (λ t.
     let l : c.base < to = grind (arith, nat_tests) in

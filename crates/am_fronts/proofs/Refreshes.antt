@@ -26,7 +26,8 @@ raised_below old report s t =
     let b : max old.taken report.taken ≡ old.taken = omega arith in
     λ i. record { stored = a i; taken = b i }
 
-reported_below : (reports : ℕ → Report) (name : ℕ) (report : Report) → report.stored ≤ (reports name).stored → report.taken ≤ (reports name).taken → reported reports name report ≡ reports
+reported_below : (reports : ℕ → Report) (name : ℕ) (report : Report) → report.stored ≤ (reports name).stored → report.taken ≤ (reports name).taken
+    → reported reports name report ≡ reports
 reported_below reports name report s t = λ i other. (each other) i
   where
     each : (other : ℕ) → reported reports name report other ≡ reports other
@@ -56,7 +57,9 @@ unfolding go_on accept pass_over
 go_stays s is =
     let c = s.core in
     let a : max c.acc (min c.told (top_of c.log)) ≡ c.acc = let h = is.acc in omega arith in
-    let t : (if nat_lt c.taken (c.start - 1) then max c.taken (min c.acc (c.start - 1)) else c.taken) ≡ c.taken = split (nat_lt c.taken (c.start - 1)) (λ u. let l : c.taken < c.start - 1 = grind (arith, nat_tests) in let p = is.passed l in rw u (omega arith)) (λ u. rw u refl) in
+    let t : (if nat_lt c.taken (c.start - 1) then max c.taken (min c.acc (c.start - 1)) else c.taken) ≡ c.taken =
+    split (nat_lt c.taken (c.start - 1)) (λ u. let l : c.taken < c.start - 1 = grind (arith, nat_tests) in let p = is.passed l in
+    rw u (omega arith)) (λ u. rw u refl) in
     rw a (ap (λ (k : ℕ). record s { core = record s.core { taken = k } }) t)
 
 let_go_stays : (s : Led) → IsRefreshed s → let_go s ≡ s
@@ -72,12 +75,14 @@ refresh_stays s is =
     ∙ let_go_stays s is
 
 -- the accept front goes by what is stored alone
-front_stored : (reports others : ℕ → Report) (log : Log) (acc : ℕ) → ((name : ℕ) → (reports name).stored ≡ (others name).stored) → accept_front reports log acc ≡ accept_front others log acc
+front_stored : (reports others : ℕ → Report) (log : Log) (acc : ℕ) → ((name : ℕ) → (reports name).stored ≡ (others name).stored)
+    → accept_front reports log acc ≡ accept_front others log acc
 front_stored reports others log acc each =
     let e : (λ name. (reports name).stored) ≡ (λ name. (others name).stored) = λ i name. each name i in
     ap (λ (stored : ℕ → ℕ). accept_front (λ name. record { stored = stored name; taken = 0 }) log acc) e
 
-same_stored : (reports : ℕ → Report) (name : ℕ) (report : Report) → report.stored ≤ (reports name).stored → (other : ℕ) → (reported reports name report other).stored ≡ (reports other).stored
+same_stored : (reports : ℕ → Report) (name : ℕ) (report : Report) → report.stored ≤ (reports name).stored → (other : ℕ)
+    → (reported reports name report other).stored ≡ (reports other).stored
 same_stored reports name report h other = split (other == name)
     (λ u. let e : other ≡ name = grind (arith, nat_tests) in let s = ap (λ n. (reports n).stored) e in rw u (omega arith))
     (λ u. rw u refl)
@@ -86,7 +91,8 @@ base_again : (o : Option ℕ) (base : ℕ) → base_after o (base_after o base) 
 base_again None base = refl
 base_again (Some to) base = omega arith
 
-passed_over : (taken acc start : ℕ) → (if nat_lt taken (start - 1) then max taken (min acc (start - 1)) else taken) < start - 1 → min acc (start - 1) ≤ (if nat_lt taken (start - 1) then max taken (min acc (start - 1)) else taken)
+passed_over : (taken acc start : ℕ) → (if nat_lt taken (start - 1) then max taken (min acc (start - 1)) else taken) < start - 1
+    → min acc (start - 1) ≤ (if nat_lt taken (start - 1) then max taken (min acc (start - 1)) else taken)
 passed_over taken acc start = split (nat_lt taken (start - 1))
     (λ u. rw u (λ h. omega arith))
     (λ u. let l : start - 1 ≤ taken = grind (arith, nat_tests) in rw u (λ h. absurd (omega arith)))
@@ -95,7 +101,8 @@ taken_grows : (taken acc start : ℕ) → taken ≤ (if nat_lt taken (start - 1)
 taken_grows taken acc start = split (nat_lt taken (start - 1)) (λ u. rw u (omega arith)) (λ u. rw u (omega arith))
 
 -- where the front is, within the list
-front_within : (reports : ℕ → Report) (log : Log) (acc : ℕ) → acc ≤ top_of log → (acc ≤ accept_front reports log acc) × (accept_front reports log acc ≤ top_of log)
+front_within : (reports : ℕ → Report) (log : Log) (acc : ℕ) → acc ≤ top_of log → (acc ≤ accept_front reports log acc)
+    × (accept_front reports log acc ≤ top_of log)
 front_within reports log acc high =
     let low = greatest_low (front_by (is_held reports log) (told_by log).view_number acc) acc (top_of log - acc) in
     let a = low.0 in
@@ -118,7 +125,8 @@ is_refreshed s high =
     let one = ap (λ (r : Report). r.stored) (reported_self s.reports c.who (report_of c)) in
     let stored = ap (λ (r : Report). r.stored) (reported_self first c.who report) in
     let given = ap (λ (r : Report). r.taken) (reported_self first c.who report) in
-    let told : accept_front second c.log acc ≡ front = ap (accept_front second c.log) at ∙ front_stored second first c.log front (same_stored first c.who report (omega arith)) ∙ accept_front_again first c.log c.acc high in
+    let told : accept_front second c.log acc ≡ front = ap (accept_front second c.log) at
+    ∙ front_stored second first c.log front (same_stored first c.who report (omega arith)) ∙ accept_front_again first c.log c.acc high in
     record {
       stored = omega arith;
       taken = omega arith;
@@ -135,13 +143,18 @@ refresh_again s high = refresh_stays (refresh s) (is_refreshed s high)
 -- on all of the list as on its end
 own_whole : (all : Log) (s : Led) → Stands all s.core → own_report (whole_led all s) ≡ whole_led all (own_report s)
 unfolding own_report
-own_whole all s st = ap (λ (t : ℕ). let l : Led = record { core = whole all s.core; reports = reported s.reports s.core.who (record { stored = t; taken = s.core.taken }) } in l) (sym (end-top all s.core.log st.kept))
+own_whole all s st = ap (λ (t : ℕ). let l : Led = record {
+  core = whole all s.core;
+  reports =
+      reported s.reports s.core.who (record { stored = t; taken = s.core.taken });
+} in l) (sym (end-top all s.core.log st.kept))
 
 tell_whole : (all : Log) (s : Led) → Stands all s.core → s.core.base ≤ s.core.acc → tell (whole_led all s) ≡ whole_led all (tell s)
 unfolding tell
 tell_whole all s st h =
     let b = st.base in
-    ap (λ (t : ℕ). let l : Led = record { core = record (whole all s.core) { told = t }; reports = s.reports } in l) (sym (front_same s.reports all s.core.log s.core.acc st.kept (omega arith)))
+    ap (λ (t : ℕ). let l : Led = record { core = record (whole all s.core) { told = t }; reports = s.reports } in
+    l) (sym (front_same s.reports all s.core.log s.core.acc st.kept (omega arith)))
 
 go_whole : (all : Log) (s : Led) → Stands all s.core → go_on (whole_led all s) ≡ whole_led all (go_on s)
 unfolding go_on
@@ -165,13 +178,17 @@ unfolding own_report tell go_on accept pass_over
 go_up_stands all s st = record { base = st.base; kept = st.kept }
 
 -- after the trim, or without one
-let_go_whole : (all : Log) (s : Led) (o : Option ℕ) → Stands all s.core → s.core.base ≤ s.core.acc → least_taken s.reports (since_accepted s.core) ≡ o → let_go (whole_led all s) ≡ record { core = record (whole all s.core) { base = base_after o s.core.base }; reports = s.reports }
+let_go_whole : (all : Log) (s : Led) (o : Option ℕ) → Stands all s.core → s.core.base ≤ s.core.acc → least_taken s.reports (since_accepted s.core) ≡ o
+    → let_go (whole_led all s) ≡ record { core = record (whole all s.core) { base = base_after o s.core.base }; reports = s.reports }
 unfolding let_go
 let_go_whole all s o st h is =
     let since = since_whole s.core h all st in
-    ap (λ (o : Option ℕ). let l : Led = record { core = record (whole all s.core) { base = base_after o s.core.base }; reports = s.reports } in l) (ap (least_taken s.reports) (sym since) ∙ is)
+    ap (λ (o : Option ℕ). let l : Led = record { core = record (whole all s.core) { base = base_after o s.core.base }; reports = s.reports } in
+    l) (ap (least_taken s.reports) (sym since) ∙ is)
 
-pub leads_some : (old now : Led) (to : ℕ) (core : CoreState) → now ≡ go_up old → old.core.base ≤ old.core.acc → now.core.base ≤ now.core.acc → least_taken now.reports (since_accepted now.core) ≡ Some to → Keeps (trim_to to) now.core core → LeadsBy refresh old (record { core = core; reports = now.reports })
+pub leads_some : (old now : Led) (to : ℕ) (core : CoreState) → now ≡ go_up old → old.core.base ≤ old.core.acc → now.core.base ≤ now.core.acc
+    → least_taken now.reports (since_accepted now.core) ≡ Some to → Keeps (trim_to to) now.core core
+    → LeadsBy refresh old (record { core = core; reports = now.reports })
 leads_some old now to core e low high is keeps = λ all st.
     let P : Led → Type 0 = λ s. Stands all s.core in
     let here : Stands all now.core = subst P (sym e) (go_up_stands all old st) in
@@ -180,7 +197,8 @@ leads_some old now to core e low high is keeps = λ all st.
     let gone = ap let_go whole_now ∙ let_go_whole all now (Some to) here high is in
     (kept.0, ap (λ (c : CoreState). let l : Led = record { core = c; reports = now.reports } in l) kept.1 ∙ sym gone)
 
-pub leads_none : (old now : Led) → now ≡ go_up old → old.core.base ≤ old.core.acc → now.core.base ≤ now.core.acc → least_taken now.reports (since_accepted now.core) ≡ None → LeadsBy refresh old now
+pub leads_none : (old now : Led) → now ≡ go_up old → old.core.base ≤ old.core.acc → now.core.base ≤ now.core.acc
+    → least_taken now.reports (since_accepted now.core) ≡ None → LeadsBy refresh old now
 leads_none old now e low high is = λ all st.
     let P : Led → Type 0 = λ s. Stands all s.core in
     let here : Stands all now.core = subst P (sym e) (go_up_stands all old st) in
@@ -216,7 +234,9 @@ pub leads_up : (old now : Led) → now ≡ go_up old → MayLead old.core → Ma
 leads_up old now e leads = let P : Led → Type 0 = λ s. MayLead s.core in subst P (sym e) (go_up_leads old leads)
 
 -- the steps of the code
-pub go_up_is : (c0 core c3 : CoreState) (r0 r1 r4 : List Report) (front : ℕ) → core ≡ c0 → led c0 r1 ≡ own_report (led c0 r0) → front ≡ accept_front (reports_of r1) core.log core.acc → c3 ≡ advance (record core { told = front }) → led c3 r4 ≡ own_report (led c3 r1) → led c3 r4 ≡ go_up (led c0 r0)
+pub go_up_is : (c0 core c3 : CoreState) (r0 r1 r4 : List Report) (front : ℕ) → core ≡ c0 → led c0 r1 ≡ own_report (led c0 r0)
+    → front ≡ accept_front (reports_of r1) core.log core.acc → c3 ≡ advance (record core { told = front }) → led c3 r4 ≡ own_report (led c3 r1)
+    → led c3 r4 ≡ go_up (led c0 r0)
 unfolding tell go_on
 go_up_is c0 core c3 r0 r1 r4 front is first told next last =
     last
@@ -226,7 +246,9 @@ go_up_is c0 core c3 r0 r1 r4 front is first told next last =
     ∙ ap (λ s. own_report (go_on (tell s))) first
 
 -- no more is let go than it has taken
-pub trims_within : (old now : Led) (capacity to : ℕ) → now ≡ go_up old → MayLead old.core → (old.reports old.core.who).taken ≤ old.core.taken → IsKept now.core.log capacity → now.core.log.start ≤ now.core.acc → now.core.acc ≤ top_of now.core.log → least_taken now.reports (since_accepted now.core) ≡ Some to → to ≤ now.core.taken
+pub trims_within : (old now : Led) (capacity to : ℕ) → now ≡ go_up old → MayLead old.core → (old.reports old.core.who).taken ≤ old.core.taken
+    → IsKept now.core.log capacity → now.core.log.start ≤ now.core.acc → now.core.acc ≤ top_of now.core.log
+    → least_taken now.reports (since_accepted now.core) ≡ Some to → to ≤ now.core.taken
 trims_within old now capacity to e leads own kept low high least =
     let P : Led → Type 0 = λ s. MayLead s.core in
     let Q : Led → Type 0 = λ s. (s.reports s.core.who).taken ≡ s.core.taken in

@@ -1,5 +1,6 @@
 -- Reports by the names' bytes, and the least of them.
-use Rattle.std.proofs.Common.{◌≡◌, ℕ, zero, suc, ◌+◌, ◌<◌, ◌≤◌, List, [], ◌∷◌, length, drop, replicate, refl, sym, ◌∙◌, ap, Bool, true, nat_lt, ◌&&◌, if◌then◌else◌, Option, Some, None, slice_index, count_by, zero-add, arith}
+use Rattle.std.proofs.Common.{◌≡◌, ℕ, zero, suc, ◌+◌, ◌<◌, ◌≤◌, List, [], ◌∷◌, length, drop, replicate, refl, sym, ◌∙◌, ap, Bool, true, nat_lt, ◌&&◌}
+use Rattle.std.proofs.Common.{if◌then◌else◌, Option, Some, None, slice_index, count_by, zero-add, arith}
 use Rattle.std.proofs.lemmas.List.{get_or-replicate, get_or_past, length-replicate, drop_more, drop_all}
 use Rattle.std.proofs.lemmas.List.Sums.{sum_by-cons}
 use Rattle.std.proofs.lemmas.Bool.Decides.{nat_tests}
@@ -12,7 +13,8 @@ use Rattle.am_fronts.specs.Reports.{no_report, no_reports, reports_of, all_up_to
 pub all_same : (n : ℕ) (report : Report) (name : ℕ) → reports_of (replicate n report) name ≡ (if nat_lt name n then report else no_report)
 all_same n report name = split (nat_lt name n)
     (λ t. let h : name < n = grind (arith, nat_tests) in rw t (get_or-replicate n name report no_report h))
-    (λ f. let h : n ≤ name = grind (arith, nat_tests) in let l = length-replicate n report in rw f (get_or_past (replicate n report) name no_report (omega arith)))
+    (λ f. let h : n ≤ name = grind (arith, nat_tests) in let l = length-replicate n report in
+    rw f (get_or_past (replicate n report) name no_report (omega arith)))
 
 pub none_reported : (n : ℕ) → reports_of (replicate n no_report) ≡ no_reports
 none_reported n = λ i name. (all_same n no_report name ∙ either n name) i
@@ -24,11 +26,14 @@ pub all_restarted : (n base : ℕ) → reports_of (replicate n (all_up_to base))
 all_restarted n base = λ i name. all_same n (all_up_to base) name i
 
 -- the names from a place on, by the life there
-names_go : (place life : ℕ) (lives : List ℕ) → names_from place (life ∷ lives) ≡ (if nat_lt 0 life then name_at place life ∷ names_from (place + 1) lives else names_from (place + 1) lives)
+names_go : (place life : ℕ) (lives : List ℕ) → names_from place (life ∷ lives)
+    ≡ (if nat_lt 0 life then name_at place life ∷ names_from (place + 1) lives else names_from (place + 1) lives)
 names_go place zero lives = refl
 names_go place (suc before) lives = let t : nat_lt 0 (suc before) ≡ true = grind (arith, nat_tests) in rw t refl
 
-pub names_more : (set : List ℕ) (place : ℕ) → place < length set → names_from place (drop place set) ≡ (if nat_lt 0 (slice_index set place) then name_at place (slice_index set place) ∷ names_from (place + 1) (drop (place + 1) set) else names_from (place + 1) (drop (place + 1) set))
+pub names_more : (set : List ℕ) (place : ℕ) → place < length set
+    → names_from place (drop place set) ≡ (if nat_lt 0 (slice_index set place) then name_at place (slice_index set place)
+    ∷ names_from (place + 1) (drop (place + 1) set) else names_from (place + 1) (drop (place + 1) set))
 names_more set place h = ap (names_from place) (drop_more set place 0 h) ∙ names_go place (slice_index set place) (drop (place + 1) set)
 
 pub names_end : (set : List ℕ) (place : ℕ) → length set ≤ place → names_from place (drop place set) ≡ []
@@ -45,7 +50,10 @@ lesser_none None = refl
 lesser_none (Some x) = refl
 
 -- what is found up to a place, with the rest
-pub least_more : (f : ℕ → ℕ) (least : Option ℕ) (set : List ℕ) (place : ℕ) → place < length set → lesser least (least_of f (names_from place (drop place set))) ≡ lesser (lesser least (if nat_lt 0 (slice_index set place) then Some (f (name_at place (slice_index set place))) else None)) (least_of f (names_from (place + 1) (drop (place + 1) set)))
+pub least_more : (f : ℕ → ℕ) (least : Option ℕ) (set : List ℕ) (place : ℕ) → place < length set
+    → lesser least (least_of f (names_from place (drop place set)))
+    ≡ lesser (lesser least (if nat_lt 0 (slice_index set place) then Some (f (name_at place (slice_index set place))) else None))
+    (least_of f (names_from (place + 1) (drop (place + 1) set)))
 unfolding least_of
 least_more f least set place h =
     let e = names_more set place h in
@@ -54,7 +62,8 @@ least_more f least set place h =
     (λ t. rw t (ap (λ names. lesser least (least_of f names)) (rw t at e) ∙ sym (lesser_assoc least (Some (f (name_at place (slice_index set place)))) rest)))
     (λ t. rw t (ap (λ names. lesser least (least_of f names)) (rw t at e) ∙ ap (λ l. lesser l rest) (sym (lesser_none least))))
 
-pub least_end : (f : ℕ → ℕ) (least : Option ℕ) (set : List ℕ) (place : ℕ) → length set ≤ place → lesser least (least_of f (names_from place (drop place set))) ≡ least
+pub least_end : (f : ℕ → ℕ) (least : Option ℕ) (set : List ℕ) (place : ℕ) → length set ≤ place
+    → lesser least (least_of f (names_from place (drop place set))) ≡ least
 unfolding least_of
 least_end f least set place h = ap (λ names. lesser least (least_of f names)) (names_end set place h) ∙ lesser_none least
 
@@ -62,7 +71,9 @@ least_end f least set place h = ap (λ names. lesser least (least_of f names)) (
 pub count_cons : (p : ℕ → Bool) (x : ℕ) (xs : List ℕ) → count_by p (x ∷ xs) ≡ (if p x then 1 else 0) + count_by p xs
 count_cons p x xs = sum_by-cons (λ y. if p y then 1 else 0) x xs
 
-pub count_more : (p : ℕ → Bool) (set : List ℕ) (place : ℕ) → place < length set → count_by p (names_from place (drop place set)) ≡ (if nat_lt 0 (slice_index set place) && p (name_at place (slice_index set place)) then 1 else 0) + count_by p (names_from (place + 1) (drop (place + 1) set))
+pub count_more : (p : ℕ → Bool) (set : List ℕ) (place : ℕ) → place < length set
+    → count_by p (names_from place (drop place set)) ≡ (if nat_lt 0 (slice_index set place) && p (name_at place (slice_index set place)) then 1 else 0)
+    + count_by p (names_from (place + 1) (drop (place + 1) set))
 count_more p set place h =
     let name = name_at place (slice_index set place) in
     let rest = names_from (place + 1) (drop (place + 1) set) in

@@ -18,14 +18,17 @@ greatest_same p q from (suc more) each =
     let e = each (from + suc more) (omega arith) (omega arith) in
     rw (e, greatest_same p q from more (λ g l h. each g l (omega arith))) refl
 
-pub held_same : (reports : ℕ → Report) (all kept : Log) (number : ℕ) → IsEnd all kept → kept.start < number → is_held reports kept number ≡ is_held reports all number
+pub held_same : (reports : ℕ → Report) (all kept : Log) (number : ℕ) → IsEnd all kept → kept.start < number
+    → is_held reports kept number ≡ is_held reports all number
 held_same reports all kept number is low =
     let entry = end-entry all kept number is low in
     let before = ap members_of (end-image all kept (number - 1) is (omega arith)) in
     let resilience = ap (λ (i : Image). i.resilience) (end-image all kept number is (omega arith)) in
-    let counted : counted_at kept number ≡ counted_at all number = ap (λ e. counted_of e (members_at kept (number - 1))) entry ∙ ap (counted_of (entry_at all number)) before in
+    let counted : counted_at kept number ≡ counted_at all number = ap (λ e. counted_of e (members_at kept (number - 1))) entry
+    ∙ ap (counted_of (entry_at all number)) before in
     ap (λ r. nat_le (min (r + 1) (size (counted_at kept number))) (holders_at reports kept number)) resilience
-    ∙ ap (λ (set : List ℕ). nat_le (min ((image_at all number).resilience + 1) (size set)) (count_by (λ name. nat_le number (reports name).stored) (names_of set))) counted
+    ∙ ap (λ (set : List ℕ). nat_le (min ((image_at all number).resilience + 1) (size set))
+    (count_by (λ name. nat_le number (reports name).stored) (names_of set))) counted
 
 satisfied_same : (p q : ℕ → Bool) (v w g k : ℕ) → v ≡ w → (v ≤ k → p k ≡ q k) → (k < v → p v ≡ q v) → satisfied_by p v g k ≡ satisfied_by q w g k
 satisfied_same p q v w g k e high low = ⊎_elim
@@ -33,8 +36,12 @@ satisfied_same p q v w g k e high low = ⊎_elim
     (λ (u : v ≤ k). satisfied_high p v g k u ∙ high u ∙ sym (satisfied_high q v g k u))
     (cases_lt k v) ∙ ap (λ n. satisfied_by q n g k) e
 
-pub front_same : (reports : ℕ → Report) (all kept : Log) (acc : ℕ) → IsEnd all kept → kept.start ≤ acc → accept_front reports kept acc ≡ accept_front reports all acc
+pub front_same : (reports : ℕ → Report) (all kept : Log) (acc : ℕ) → IsEnd all kept → kept.start ≤ acc
+    → accept_front reports kept acc ≡ accept_front reports all acc
 front_same reports all kept acc is low =
     let view = ap (λ (i : Image). i.view_number) (end-told all kept is) in
     ap (λ t. greatest (is_front reports kept acc) acc (t - acc)) (end-top all kept is)
-    ∙ greatest_same (is_front reports kept acc) (is_front reports all acc) acc (top_of all - acc) (λ g l u. all_same (is_satisfied reports kept g) (is_satisfied reports all g) (acc + 1) (g - acc) (λ k a b. satisfied_same (is_held reports kept) (is_held reports all) (told_by kept).view_number (told_by all).view_number g k view (λ h. held_same reports all kept k is (omega arith)) (λ h. held_same reports all kept (told_by kept).view_number is (omega arith) ∙ refl)))
+    ∙ greatest_same (is_front reports kept acc) (is_front reports all acc) acc (top_of all - acc)
+    (λ g l u. all_same (is_satisfied reports kept g) (is_satisfied reports all g) (acc + 1) (g - acc)
+    (λ k a b. satisfied_same (is_held reports kept) (is_held reports all) (told_by kept).view_number (told_by all).view_number g k view
+    (λ h. held_same reports all kept k is (omega arith)) (λ h. held_same reports all kept (told_by kept).view_number is (omega arith) ∙ refl)))

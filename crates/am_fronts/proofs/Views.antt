@@ -10,7 +10,8 @@ use Rattle.am_core.proofs.Folds.{split}
 use Rattle.am_core.proofs.Ends.{end-self, end-above, end-told}
 
 -- what one entry does to the last view
-same_view : (image : Image) (number : ℕ) (e : Entry) → (((after image number e).view_number ≡ image.view_number) × ((after image number e).resilience ≡ image.resilience)) ⊎ ((after image number e).view_number ≡ number)
+same_view : (image : Image) (number : ℕ) (e : Entry) → (((after image number e).view_number ≡ image.view_number)
+    × ((after image number e).resilience ≡ image.resilience)) ⊎ ((after image number e).view_number ≡ number)
 unfolding after
 same_view image number (Data from req body) = split ((at_place image from).life == life_of from) (λ t. rw t (inl (refl, refl))) (λ t. rw t (inl (refl, refl)))
 same_view image number (Join name) = inl (refl, refl)
@@ -27,7 +28,8 @@ view_grows image number (e ∷ es) h = ⊎_elim
     (same_view image number e)
 
 -- no View from a number on: the resilience is as before it
-pub resilience_kept : (image : Image) (number : ℕ) (es : List Entry) → (fold image number es).view_number < number → (fold image number es).resilience ≡ image.resilience
+pub resilience_kept : (image : Image) (number : ℕ) (es : List Entry) → (fold image number es).view_number < number
+    → (fold image number es).resilience ≡ image.resilience
 unfolding fold
 resilience_kept image number [] h = refl
 resilience_kept image number (e ∷ es) h = ⊎_elim
@@ -35,7 +37,8 @@ resilience_kept image number (e ∷ es) h = ⊎_elim
     (λ now. let more = view_grows (after image number e) (number + 1) es (omega arith) in absurd (omega arith))
     (same_view image number e)
 
-pub resilience_at : (log : Log) (number : ℕ) → log.start ≤ number → number ≤ top_of log → (told_by log).view_number ≤ number → (image_at log number).resilience ≡ (told_by log).resilience
+pub resilience_at : (log : Log) (number : ℕ) → log.start ≤ number → number ≤ top_of log → (told_by log).view_number ≤ number
+    → (image_at log number).resilience ≡ (told_by log).resilience
 resilience_at log number low high view =
     let end = end-above log log number (end-self log) low high in
     let e = end-told log (above log number) end in

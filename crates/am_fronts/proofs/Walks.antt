@@ -9,7 +9,8 @@ use Rattle.am_base.specs.Lists.{Log, top_of, told_by}
 use Rattle.am_base.specs.Fronts.{greatest, is_held, accept_front}
 use Rattle.am_core.proofs.Ranges.{all_true, one_false}
 
-pub greatest_is : (passes : ℕ → Bool) (from more front : ℕ) → from ≤ front → front ≤ from + more → (from < front → passes front ≡ true) → ((g : ℕ) → front < g → g ≤ from + more → passes g ≡ false) → greatest passes from more ≡ front
+pub greatest_is : (passes : ℕ → Bool) (from more front : ℕ) → from ≤ front → front ≤ from + more → (from < front → passes front ≡ true)
+    → ((g : ℕ) → front < g → g ≤ from + more → passes g ≡ false) → greatest passes from more ≡ front
 unfolding greatest
 greatest_is passes from zero front low high there past = omega arith
 greatest_is passes from (suc more) front low high there past = ⊎_elim
@@ -35,7 +36,9 @@ pub satisfied_low : (held : ℕ → Bool) (view front number : ℕ) → number <
 satisfied_low held view front number h = let f : nat_le view number ≡ false = grind (arith, nat_tests) in rw f refl
 
 -- all is held up to here from the last view on, and the next isn't
-pub front_found : (held : ℕ → Bool) (view acc more front : ℕ) → acc ≤ front → front ≤ acc + more → view ≤ front → ((n : ℕ) → acc < n → view ≤ n → n ≤ front → held n ≡ true) → (front < acc + more → held (front + 1) ≡ false) → greatest (front_by held view acc) acc more ≡ front
+pub front_found : (held : ℕ → Bool) (view acc more front : ℕ) → acc ≤ front → front ≤ acc + more → view ≤ front
+    → ((n : ℕ) → acc < n → view ≤ n → n ≤ front → held n ≡ true) → (front < acc + more → held (front + 1) ≡ false)
+    → greatest (front_by held view acc) acc more ≡ front
 front_found held view acc more front low high viewed all stops = greatest_is (front_by held view acc) acc more front low high
     (λ above. all_true (satisfied_by held view front) (acc + 1) (front - acc) (λ k a b. ⊎_elim
     (λ (l : k < view).
@@ -44,10 +47,12 @@ front_found held view acc more front low high viewed all stops = greatest_is (fr
     satisfied_low held view front k l ∙ rw (reached, there) refl)
     (λ (u : view ≤ k). satisfied_high held view front k u ∙ all k (omega arith) u (omega arith))
     (cases_lt k view)))
-    (λ g l u. one_false (satisfied_by held view g) (acc + 1) (g - acc) (front + 1) (omega arith) (omega arith) (satisfied_high held view g (front + 1) (omega arith) ∙ stops (omega arith)))
+    (λ g l u. one_false (satisfied_by held view g) (acc + 1) (g - acc) (front + 1) (omega arith) (omega arith)
+    (satisfied_high held view g (front + 1) (omega arith) ∙ stops (omega arith)))
 
 -- the last view is above what is accepted, and isn't stored or isn't held
-pub front_stuck : (held : ℕ → Bool) (view acc more : ℕ) → acc < view → (view ≤ acc + more → held view ≡ false) → greatest (front_by held view acc) acc more ≡ acc
+pub front_stuck : (held : ℕ → Bool) (view acc more : ℕ) → acc < view → (view ≤ acc + more → held view ≡ false)
+    → greatest (front_by held view acc) acc more ≡ acc
 front_stuck held view acc more viewed unheld = greatest_is (front_by held view acc) acc more acc (omega arith) (omega arith)
     (λ above. absurd (omega arith))
     (λ g l u. one_false (satisfied_by held view g) (acc + 1) (g - acc) (acc + 1) (omega arith) (omega arith) (⊎_elim
@@ -59,12 +64,15 @@ front_stuck held view acc more viewed unheld = greatest_is (front_by held view a
     (cases_lt (acc + 1) view)))
 
 -- the accept front of a list
-pub front_is : (reports : ℕ → Report) (log : Log) (acc front : ℕ) → acc ≤ front → front ≤ top_of log → (told_by log).view_number ≤ front → ((n : ℕ) → acc < n → (told_by log).view_number ≤ n → n ≤ front → is_held reports log n ≡ true) → (front < top_of log → is_held reports log (front + 1) ≡ false) → front ≡ accept_front reports log acc
+pub front_is : (reports : ℕ → Report) (log : Log) (acc front : ℕ) → acc ≤ front → front ≤ top_of log → (told_by log).view_number ≤ front
+    → ((n : ℕ) → acc < n → (told_by log).view_number ≤ n → n ≤ front → is_held reports log n ≡ true)
+    → (front < top_of log → is_held reports log (front + 1) ≡ false) → front ≡ accept_front reports log acc
 front_is reports log acc front low high viewed all stops =
     let at : acc + (top_of log - acc) ≡ top_of log = omega arith in
     sym (front_found (is_held reports log) (told_by log).view_number acc (top_of log - acc) front low (omega arith) viewed all (λ h. stops (omega arith)))
 
-pub front_stays : (reports : ℕ → Report) (log : Log) (acc : ℕ) → acc ≤ top_of log → acc < (told_by log).view_number → ((told_by log).view_number ≤ top_of log → is_held reports log (told_by log).view_number ≡ false) → acc ≡ accept_front reports log acc
+pub front_stays : (reports : ℕ → Report) (log : Log) (acc : ℕ) → acc ≤ top_of log → acc < (told_by log).view_number
+    → ((told_by log).view_number ≤ top_of log → is_held reports log (told_by log).view_number ≡ false) → acc ≡ accept_front reports log acc
 front_stays reports log acc high viewed unheld =
     let at : acc + (top_of log - acc) ≡ top_of log = omega arith in
     sym (front_stuck (is_held reports log) (told_by log).view_number acc (top_of log - acc) viewed (λ h. unheld (omega arith)))

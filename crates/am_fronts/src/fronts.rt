@@ -82,7 +82,8 @@ impl Fronts {
 
     fn stored_at(&self, place: u8, life: u8) -> Option<u32>
         requires { (place < 16) × (life ≤ 16) }
-        ensures { result ≡ (if nat_lt 0 life then Some ((reports_of self.now (name_at place life)).stored) else None) }
+        ensures { result ≡ (if nat_lt 0 life then Some
+            ((reports_of self.now (name_at place life)).stored) else None) }
     {
         match Name::of(place, life) {
             Some(name) => Some(self.of(name).stored),
@@ -92,7 +93,8 @@ impl Fronts {
 
     fn taken_at(&self, place: u8, life: u8) -> Option<u32>
         requires { (place < 16) × (life ≤ 16) }
-        ensures { result ≡ (if nat_lt 0 life then Some ((reports_of self.now (name_at place life)).taken) else None) }
+        ensures { result ≡ (if nat_lt 0 life then Some
+            ((reports_of self.now (name_at place life)).taken) else None) }
     {
         match Name::of(place, life) {
             Some(name) => Some(self.of(name).taken),
@@ -159,7 +161,8 @@ impl Fronts {
 
     fn has_stored(&self, place: u8, life: u8, number: u32) -> bool
         requires { (place < 16) × (life ≤ 16) }
-        ensures { result ≡ (nat_lt 0 life && nat_le number (reports_of self.now (name_at place life)).stored) }
+        ensures { result ≡ (nat_lt 0 life
+            && nat_le number (reports_of self.now (name_at place life)).stored) }
     {
         if life == 0 {
             return false;
@@ -169,7 +172,8 @@ impl Fronts {
 
     #[tactic(auto, using(crate::proofs::ReportLaws::count_laws))]
     fn holders(&self, counted: Names, number: u32) -> u32
-        ensures { result ≡ count_by (λ name. nat_le number (reports_of self.now name).stored) (names_of counted) }
+        ensures { result ≡ count_by (λ name. nat_le number (reports_of self.now name).stored)
+            (names_of counted) }
     {
         let lives = counted.each_life();
         let mut held = 0;
@@ -197,8 +201,10 @@ impl Fronts {
         requires view { (told_by (L.list log.now)).view_number ≤ from }
         ensures low { from ≤ result }
         ensures high { result ≤ top_of (L.list log.now) }
-        ensures held { (n : ℕ) → from < n → n ≤ result → is_held (reports_of self.now) (L.list log.now) n ≡ true }
-        ensures stops { result < top_of (L.list log.now) → is_held (reports_of self.now) (L.list log.now) (result + 1) ≡ false }
+        ensures held { (n : ℕ) → from < n → n ≤ result
+            → is_held (reports_of self.now) (L.list log.now) n ≡ true }
+        ensures stops { result < top_of (L.list log.now)
+            → is_held (reports_of self.now) (L.list log.now) (result + 1) ≡ false }
     {
         let top = log.top();
         for number in from..top {

@@ -7,7 +7,8 @@ use Rattle.am_base.specs.Names.{has}
 use Rattle.am_group.specs.Groups.{AreFronts, founders_fronts}
 
 -- all fronts are filled
-pub all_filled : (founders : List ℕ) (fronts : List (Option ℕ)) → length fronts ≡ 256 → ((k : ℕ) → k < 256 → get_or fronts k None ≡ (if has founders k then Some 0 else None)) → fronts ≡ founders_fronts founders
+pub all_filled : (founders : List ℕ) (fronts : List (Option ℕ)) → length fronts ≡ 256
+    → ((k : ℕ) → k < 256 → get_or fronts k None ≡ (if has founders k then Some 0 else None)) → fronts ≡ founders_fronts founders
 unfolding founders_fronts
 all_filled founders fronts long each = fill_by_all (λ name. if has founders name then Some 0 else None) fronts 256 None long each
 
@@ -31,7 +32,8 @@ length-founders_fronts founders = let f : ℕ → Option ℕ = λ name. if has f
 
 front-founders_fronts : (founders : List ℕ) (name : ℕ) → name < 256 → get_or (founders_fronts founders) name None ≡ (if has founders name then Some 0 else None)
 unfolding founders_fronts
-front-founders_fronts founders name h = let f : ℕ → Option ℕ = λ n. if has founders n then Some 0 else None in get_or-map-range_with_len f 0 256 name name None h (omega arith)
+front-founders_fronts founders name h = let f : ℕ → Option ℕ = λ n. if has founders n then Some 0 else None in
+    get_or-map-range_with_len f 0 256 name name None h (omega arith)
 
 -- the fronts of a new group
 pub new_fronts : (entries : List Entry) (founders : List ℕ) → length entries ≡ 1 → AreFronts entries (founders_fronts founders)
@@ -40,7 +42,8 @@ new_fronts entries founders one = record {
   names = length-founders_fronts founders;
   within = λ name front h.
       let lt : name < 256 = let l = get_short (founders_fronts founders) name (Some front) h in omega (arith, l, length-founders_fronts founders) in
-      let is : (if has founders name then Some 0 else None) ≡ Some front = sym (front-founders_fronts founders name lt) ∙ get_or_some (founders_fronts founders) name None (Some front) h in
+      let is : (if has founders name then Some 0 else None) ≡ Some front = sym (front-founders_fronts founders name lt)
+      ∙ get_or_some (founders_fronts founders) name None (Some front) h in
       let le = first_is (has founders name) front is in
       omega (arith, le, one);
 }

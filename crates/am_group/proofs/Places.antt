@@ -1,5 +1,6 @@
 -- Each letter stands at its place.
-use Rattle.std.proofs.Common.{◌≡◌, ℕ, zero, suc, ◌+◌, ◌-◌, ◌<◌, ◌≤◌, List, [], ◌∷◌, ◌++◌, length, map, Some, None, slice_get, ◌⊎◌, ⊎_elim, refl, sym, ap, ◌∙◌, subst, arith, length-append, append-nil}
+use Rattle.std.proofs.Common.{◌≡◌, ℕ, zero, suc, ◌+◌, ◌-◌, ◌<◌, ◌≤◌, List, [], ◌∷◌, ◌++◌, length, map, Some, None, slice_get, ◌⊎◌, ⊎_elim, refl, sym, ap, ◌∙◌}
+use Rattle.std.proofs.Common.{subst, arith, length-append, append-nil}
 use Rattle.std.specs.List.{range_with_len}
 use Rattle.std.proofs.lemmas.List.FromFn.{length-map-range_with_len, map-range_with_len_more}
 use Rattle.std.proofs.lemmas.List.Concat.{flat_map-append}
@@ -53,7 +54,8 @@ below_or k n = grind arith
 pub letters_more : (records : List Record) (r : Record) → letters_of (records ++ r ∷ []) ≡ letters_of records ++ r.packets
 letters_more records r = flat_map-append (λ (x : Record). x.packets) records (r ∷ []) ∙ ap (λ ls. letters_of records ++ ls) (append-nil r.packets)
 
-pub places_more : (records : List Record) (places : List Place) (r : Record) → ArePlaces records places → length r.packets ≤ 24 → length records < most_events → ArePlaces (records ++ r ∷ []) (places ++ places_of (length records) (length r.packets))
+pub places_more : (records : List Record) (places : List Place) (r : Record) → ArePlaces records places → length r.packets ≤ 24 → length records < most_events
+    → ArePlaces (records ++ r ∷ []) (places ++ places_of (length records) (length r.packets))
 places_more records places r ok few more_records =
     let number = length records in
     let many = length r.packets in
@@ -64,21 +66,30 @@ places_more records places r ok few more_records =
     let one = length-append records (r ∷ []) in
     let both = length-append places (places_of number many) in
     record {
-      count = both ∙ (let sum : length places + length (places_of number many) ≡ length (letters_of records) + many = omega arith in sum) ∙ sym (length-append (letters_of records) r.packets) ∙ ap length (sym (letters_more records r));
+      count = both ∙ (let sum : length places + length (places_of number many) ≡ length (letters_of records) + many = omega arith in sum)
+          ∙ sym (length-append (letters_of records) r.packets) ∙ ap length (sym (letters_more records r));
       each = λ k p h. ⊎_elim
           (λ (below : k < length places).
           let stood = ok.each k p (sym (get_before places (places_of number many) k below) ∙ h) in
           let l = stood.0 in
-          let short : k < length (letters_of records) = omega arith in
-          (omega arith, ap (λ o. letter_of o p.index) (get_before records (r ∷ []) p.number l) ∙ stood.1 ∙ sym (get_before (letters_of records) r.packets k short) ∙ ap (λ ls. slice_get ls k) (sym (letters_more records r))))
+          let short : k < length (letters_of records) = omega arith in (
+            omega arith,
+            ap (λ o. letter_of o p.index) (get_before records (r ∷ []) p.number l) ∙ stood.1
+                ∙ sym (get_before (letters_of records) r.packets k short) ∙ ap (λ ls. slice_get ls k) (sym (letters_more records r)),
+          ))
           (λ (behind : length places + (k - length places) ≡ k).
           let j = k - length places in
-          let here = place_get number many j f 0 p (sym (get_behind places (places_of number many) j) ∙ ap (slice_get (places ++ places_of number many)) behind ∙ h) in
+          let here = place_get number many j f 0 p (sym (get_behind places (places_of number many) j) ∙ ap (slice_get (places ++ places_of number many)) behind
+          ∙ h) in
           let z : 0 + j ≡ j = omega arith in
           let at : f j ≡ p = ap f (sym z) ∙ here.0 in
           let same : length (letters_of records) + j ≡ k = omega arith in
-          subst (λ (q : Place). (q.number < length (records ++ r ∷ [])) × (letter_of (slice_get (records ++ r ∷ []) q.number) q.index ≡ slice_get (letters_of (records ++ r ∷ [])) k)) at
-          (omega arith, ap (λ o. letter_of o j) (get_last records r) ∙ sym (get_behind (letters_of records) r.packets j) ∙ ap (slice_get (letters_of records ++ r.packets)) same ∙ ap (λ ls. slice_get ls k) (sym (letters_more records r))))
+          subst (λ (q : Place). (q.number < length (records ++ r ∷ []))
+          × (letter_of (slice_get (records ++ r ∷ []) q.number) q.index ≡ slice_get (letters_of (records ++ r ∷ [])) k)) at (
+            omega arith,
+            ap (λ o. letter_of o j) (get_last records r) ∙ sym (get_behind (letters_of records) r.packets j)
+                ∙ ap (slice_get (letters_of records ++ r.packets)) same ∙ ap (λ ls. slice_get ls k) (sym (letters_more records r)),
+          ))
           (below_or k (length places));
       few = omega arith;
       short = omega arith;

@@ -24,16 +24,19 @@ unfolding next_for
 begins letters name after = refl
 
 -- there is no such letter
-pub none_there : (letters : List Letter) (name n : ℕ) (all : Option ℕ) → letter_at letters (n + 1) ≡ None → first_for (drop n letters) (n + 1) name ≡ all → None ≡ all
+pub none_there : (letters : List Letter) (name n : ℕ) (all : Option ℕ) → letter_at letters (n + 1) ≡ None → first_for (drop n letters) (n + 1) name ≡ all
+    → None ≡ all
 none_there letters name n all h so_far = ap (λ ls. first_for ls (n + 1) name) (sym (rest_none letters n (sym (letter_next letters n) ∙ h))) ∙ so_far
 
 -- a letter that is for the name, or isn't
-pub found_there : (letters : List Letter) (name n : ℕ) (letter : Letter) (all : Option ℕ) → letter_at letters (n + 1) ≡ Some letter → is_for letter name ≡ true → first_for (drop n letters) (n + 1) name ≡ all → Some (n + 1) ≡ all
+pub found_there : (letters : List Letter) (name n : ℕ) (letter : Letter) (all : Option ℕ) → letter_at letters (n + 1) ≡ Some letter → is_for letter name ≡ true
+    → first_for (drop n letters) (n + 1) name ≡ all → Some (n + 1) ≡ all
 found_there letters name n letter all h is so_far =
     let here : first_for (letter ∷ drop (n + 1) letters) (n + 1) name ≡ Some (n + 1) = rw is refl in
     sym here ∙ ap (λ ls. first_for ls (n + 1) name) (sym (rest_some letters n letter (sym (letter_next letters n) ∙ h))) ∙ so_far
 
-pub passed_there : (letters : List Letter) (name n : ℕ) (letter : Letter) (all : Option ℕ) → letter_at letters (n + 1) ≡ Some letter → is_for letter name ≡ false → first_for (drop n letters) (n + 1) name ≡ all → first_for (drop (n + 1) letters) (n + 1 + 1) name ≡ all
+pub passed_there : (letters : List Letter) (name n : ℕ) (letter : Letter) (all : Option ℕ) → letter_at letters (n + 1) ≡ Some letter
+    → is_for letter name ≡ false → first_for (drop n letters) (n + 1) name ≡ all → first_for (drop (n + 1) letters) (n + 1 + 1) name ≡ all
 passed_there letters name n letter all h isnt so_far =
     let here : first_for (letter ∷ drop (n + 1) letters) (n + 1) name ≡ first_for (drop (n + 1) letters) (n + 1 + 1) name = rw isnt refl in
     sym here ∙ ap (λ ls. first_for ls (n + 1) name) (sym (rest_some letters n letter (sym (letter_next letters n) ∙ h))) ∙ so_far

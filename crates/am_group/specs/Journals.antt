@@ -28,7 +28,8 @@ letter_of (Some r) index = slice_get r.packets index
 -- each letter stands at its place
 pub record ArePlaces (records : List Record) (places : List Place) : Type 0 where
   pub count : length places ≡ length (letters_of records)
-  pub each : (k : ℕ) (p : Place) → slice_get places k ≡ Some p → (p.number < length records) × (letter_of (slice_get records p.number) p.index ≡ slice_get (letters_of records) k)
+  pub each : (k : ℕ) (p : Place) → slice_get places k ≡ Some p → (p.number < length records)
+      × (letter_of (slice_get records p.number) p.index ≡ slice_get (letters_of records) k)
   pub few : length places ≤ 24 * length records
   pub short : length records ≤ most_events
 

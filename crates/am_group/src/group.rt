@@ -72,7 +72,8 @@ impl Group {
     /// The group of a founding: its list is the founders' View, and each founder is admitted at 1.
     pub fn new(alloc: Global, founding: &Founding) -> Result<Group, NoMemory>
         ensures entries { IfOk result (λ group. group.entries ≡ founders_view founding.now ∷ []) }
-        ensures fronts { IfOk result (λ group. group.fronts ≡ founders_fronts founding.now.founders) }
+        ensures fronts { IfOk result (λ group. group.fronts
+            ≡ founders_fronts founding.now.founders) }
     {
         let mut entries = Vec::new(alloc);
         entries.push(founders_view(founding))?;
@@ -100,7 +101,8 @@ impl Group {
     /// Adds an entry at the end of the list. It is Ok where there is room. Without memory the group stays as it was.
     pub fn append(&mut self, entry: Entry) -> Result<(), NoMemory>
         requires { length self.old.entries < most_number }
-        ensures entries { self.new.entries ≡ (if is_ok result then appended self.old.entries entry else self.old.entries) }
+        ensures entries { self.new.entries
+            ≡ (if is_ok result then appended self.old.entries entry else self.old.entries) }
         ensures fronts { self.new.fronts ≡ self.old.fronts }
         ensures succeeds { 0 < self.old.room → IsOk result }
         ensures room { self.old.room ≤ self.new.room + 1 }

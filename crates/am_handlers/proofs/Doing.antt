@@ -18,7 +18,8 @@ pub core_tells : {A : Type 0} (f : Node → A) (m : Node) (x : A) → CoreTells 
 core_tells f m x told = tells f m x (λ all s. told m all s)
 
 -- a core that changes as the whole list's
-pub core_changes : (f : CoreState → CoreState) (m : Node) (core : CoreState) → Keeps f m.core core → Changes (λ x. record x { core = f x.core }) m (record m { core = core })
+pub core_changes : (f : CoreState → CoreState) (m : Node) (core : CoreState) → Keeps f m.core core
+    → Changes (λ x. record x { core = f x.core }) m (record m { core = core })
 core_changes f m core keeps = changes (λ (x : Node). record x { core = f x.core }) m (record m { core = core }) (λ all s.
     let one = keeps all s in
     (all, one.0, ap (λ (c : CoreState). record m { core = c }) (sym one.1)))

@@ -1,5 +1,6 @@
 -- What is settled of a node's sends stands in its list, as that grows.
-use Rattle.std.proofs.Common.{◌≡◌, ◌⊎◌, ⊎_elim, inl, inr, ℕ, zero, suc, ◌+◌, ◌-◌, ◌<◌, ◌≤◌, List, [], ◌∷◌, length, Bool, true, false, ◌&&◌, ◌==◌, nat_lt, Option, Some, None, slice_get, refl, sym, ◌∙◌, ap, subst, arith}
+use Rattle.std.proofs.Common.{◌≡◌, ◌⊎◌, ⊎_elim, inl, inr, ℕ, zero, suc, ◌+◌, ◌-◌, ◌<◌, ◌≤◌, List, [], ◌∷◌, length, Bool, true, false, ◌&&◌, ◌==◌, nat_lt}
+use Rattle.std.proofs.Common.{Option, Some, None, slice_get, refl, sym, ◌∙◌, ap, subst, arith}
 use Rattle.std.proofs.lemmas.Bool.Decides.{nat_tests}
 use Rattle.am_base.specs.declared.image.Image.{Image}
 use Rattle.am_base.specs.declared.image.Row.{Row}
@@ -38,9 +39,23 @@ due_next r life next due = split (r.joined == 0)
     split (r.life == life)
     (λ t.
     let e : r.life ≡ life = grind (arith, nat_tests) in
-    record { next = r.last + 1; is = record { free = λ h. absurd (no h); younger = λ h. absurd (not_younger h); own = λ j l. refl }; low = due.own (omega arith) e })
+    record {
+      next = r.last + 1;
+      is = record { free = λ h. absurd (no h); younger = λ h. absurd (not_younger h); own = λ j l. refl };
+      low =
+          due.own (omega arith) e;
+    })
     (λ other.
-    record { next = next; is = record { free = λ h. absurd (no h); younger = λ h. absurd (not_younger h); own = λ j l. absurd (let x : ⊥ = grind (arith, nat_tests) in x) }; low = omega arith })))
+    record {
+      next = next;
+      is = record {
+        free = λ h. absurd (no h);
+        younger = λ h. absurd (not_younger h);
+        own =
+            λ j l. absurd (let x : ⊥ = grind (arith, nat_tests) in x);
+      };
+      low = omega arith;
+    })))
 
 next_due : (r : Row) (life next low : ℕ) → IsNext r life next → low ≤ next → IsDue r life low
 next_due r life next low is le = record {
@@ -55,15 +70,27 @@ due_first r life next h = record { free = λ z. h; younger = λ y. h; own = λ j
 
 -- ---- one entry more
 
-next_after : (image : Image) (n : ℕ) (e : Entry) (name low : ℕ) → length image.rows ≡ 16 → 0 < n → fits image e ≡ true → NextFrom (row_at image (place_of name)) (life_of name) low → NextFrom (row_at (after image n e) (place_of name)) (life_of name) low
+next_after : (image : Image) (n : ℕ) (e : Entry) (name low : ℕ) → length image.rows ≡ 16 → 0 < n → fits image e ≡ true
+    → NextFrom (row_at image (place_of name)) (life_of name) low → NextFrom (row_at (after image n e) (place_of name)) (life_of name) low
 next_after image n e name low long up fit from =
     let le = from.low in
     ⊎_elim
-    (λ (x : (request_in name e ≡ []) × IsNext (row_at (after image n e) (place_of name)) (life_of name) from.next). record { next = from.next; is = x.1; low = le })
-    (λ (x : (request_in name e ≡ from.next ∷ []) × IsNext (row_at (after image n e) (place_of name)) (life_of name) (from.next + 1)). record { next = from.next + 1; is = x.1; low = omega arith })
+    (λ (x : (request_in name e ≡ []) × IsNext (row_at (after image n e) (place_of name)) (life_of name) from.next). record {
+      next = from.next;
+      is = x.1;
+      low =
+          le;
+    })
+    (λ (x : (request_in name e ≡ from.next ∷ []) × IsNext (row_at (after image n e) (place_of name)) (life_of name) (from.next + 1)). record {
+      next =
+          from.next + 1;
+      is = x.1;
+      low = omega arith;
+    })
     (entry_goes_on image n e name from.next long up fit from.is)
 
-pub due_after : (image : Image) (n : ℕ) (e : Entry) (name next : ℕ) → length image.rows ≡ 16 → 0 < n → fits image e ≡ true → IsDue (at_place image name) (life_of name) next → IsDue (at_place (after image n e) name) (life_of name) next
+pub due_after : (image : Image) (n : ℕ) (e : Entry) (name next : ℕ) → length image.rows ≡ 16 → 0 < n → fits image e ≡ true
+    → IsDue (at_place image name) (life_of name) next → IsDue (at_place (after image n e) name) (life_of name) next
 due_after image n e name next long up fit due =
     let after_it = next_after image n e name next long up fit (due_next (at_place image name) (life_of name) next due) in
     next_due (at_place (after image n e) name) (life_of name) after_it.next next after_it.is after_it.low
@@ -76,37 +103,47 @@ head_is a b e = cc
 not_empty : (a : ℕ) → a ∷ [] ≡ [] → ⊥
 not_empty a e = cc
 
-next_own : (image : Image) (n name req : ℕ) (body : List ℕ) (low : ℕ) → length image.rows ≡ 16 → 0 < n → fits image (Data name req body) ≡ true → NextFrom (row_at image (place_of name)) (life_of name) low → NextFrom (row_at (after image n (Data name req body)) (place_of name)) (life_of name) (req + 1)
+next_own : (image : Image) (n name req : ℕ) (body : List ℕ) (low : ℕ) → length image.rows ≡ 16 → 0 < n → fits image (Data name req body) ≡ true
+    → NextFrom (row_at image (place_of name)) (life_of name) low
+    → NextFrom (row_at (after image n (Data name req body)) (place_of name)) (life_of name) (req + 1)
 next_own image n name req body low long up fit from =
     let own = own_request name req body in
     ⊎_elim
-    (λ (x : (request_in name (Data name req body) ≡ []) × IsNext (row_at (after image n (Data name req body)) (place_of name)) (life_of name) from.next). absurd (not_empty req (sym own ∙ x.0)))
-    (λ (x : (request_in name (Data name req body) ≡ from.next ∷ []) × IsNext (row_at (after image n (Data name req body)) (place_of name)) (life_of name) (from.next + 1)).
+    (λ (x : (request_in name (Data name req body) ≡ []) × IsNext (row_at (after image n (Data name req body)) (place_of name)) (life_of name) from.next). absurd
+    (not_empty req (sym own ∙ x.0)))
+    (λ (x : (request_in name (Data name req body) ≡ from.next ∷ [])
+    × IsNext (row_at (after image n (Data name req body)) (place_of name)) (life_of name) (from.next + 1)).
     let same = head_is req from.next (sym own ∙ x.0) in
     record { next = from.next + 1; is = x.1; low = omega arith })
     (entry_goes_on image n (Data name req body) name from.next long up fit from.is)
 
-next_fold : (image : Image) (n : ℕ) (es : List Entry) (name low : ℕ) → length image.rows ≡ 16 → 0 < n → AllFit image n es → NextFrom (row_at image (place_of name)) (life_of name) low → NextFrom (row_at (fold image n es) (place_of name)) (life_of name) low
+next_fold : (image : Image) (n : ℕ) (es : List Entry) (name low : ℕ) → length image.rows ≡ 16 → 0 < n → AllFit image n es
+    → NextFrom (row_at image (place_of name)) (life_of name) low → NextFrom (row_at (fold image n es) (place_of name)) (life_of name) low
 unfolding fold AllFit
 next_fold image n [] name low long up fit from = from
 next_fold image n (e ∷ es) name low long up fit from =
     next_fold (after image n e) (n + 1) es name low (long_after image n e long) (omega arith) fit.1 (next_after image n e name low long up fit.0 from)
 
-next_stands : (image : Image) (n : ℕ) (es : List Entry) (name req : ℕ) (body : List ℕ) (low k : ℕ) → length image.rows ≡ 16 → 0 < n → AllFit image n es → NextFrom (row_at image (place_of name)) (life_of name) low → slice_get es k ≡ Some (Data name req body) → NextFrom (row_at (fold image n es) (place_of name)) (life_of name) (req + 1)
+next_stands : (image : Image) (n : ℕ) (es : List Entry) (name req : ℕ) (body : List ℕ) (low k : ℕ) → length image.rows ≡ 16 → 0 < n → AllFit image n es
+    → NextFrom (row_at image (place_of name)) (life_of name) low → slice_get es k ≡ Some (Data name req body)
+    → NextFrom (row_at (fold image n es) (place_of name)) (life_of name) (req + 1)
 unfolding fold AllFit
 next_stands image n [] name req body low k long up fit from at = absurd (cc)
 next_stands image n (e ∷ es) name req body low zero long up fit from at =
     let is : e ≡ Data name req body = cc in
-    let here = subst (λ (x : Entry). fits image x ≡ true → NextFrom (row_at (after image n x) (place_of name)) (life_of name) (req + 1)) (sym is) (λ f. next_own image n name req body low long up f from) fit.0 in
+    let here = subst (λ (x : Entry). fits image x ≡ true → NextFrom (row_at (after image n x) (place_of name)) (life_of name) (req + 1)) (sym is)
+    (λ f. next_own image n name req body low long up f from) fit.0 in
     next_fold (after image n e) (n + 1) es name (req + 1) (long_after image n e long) (omega arith) fit.1 here
 next_stands image n (e ∷ es) name req body low (suc k) long up fit from at =
-    next_stands (after image n e) (n + 1) es name req body low k (long_after image n e long) (omega arith) fit.1 (next_after image n e name low long up fit.0 from) at
+    next_stands (after image n e) (n + 1) es name req body low k (long_after image n e long) (omega arith) fit.1
+    (next_after image n e name low long up fit.0 from) at
 
 -- some next request, whatever the row
 some_next : (r : Row) (life : ℕ) → NextFrom r life 0
 some_next r life = due_next r life 0 (record { free = λ h. omega arith; younger = λ h. omega arith; own = λ j l. omega arith })
 
-pub due_stands : (image : Image) (n : ℕ) (es : List Entry) (name req : ℕ) (body : List ℕ) (k : ℕ) → length image.rows ≡ 16 → 0 < n → AllFit image n es → slice_get es k ≡ Some (Data name req body) → IsDue (at_place (fold image n es) name) (life_of name) (req + 1)
+pub due_stands : (image : Image) (n : ℕ) (es : List Entry) (name req : ℕ) (body : List ℕ) (k : ℕ) → length image.rows ≡ 16 → 0 < n → AllFit image n es
+    → slice_get es k ≡ Some (Data name req body) → IsDue (at_place (fold image n es) name) (life_of name) (req + 1)
 due_stands image n es name req body k long up fit at =
     let last = next_stands image n es name req body 0 k long up fit (some_next (row_at image (place_of name)) (life_of name)) at in
     next_due (at_place (fold image n es) name) (life_of name) last.next (req + 1) last.is last.low
@@ -121,7 +158,8 @@ own_data who req (Leave name) is = absurd (cc)
 own_data who req (View stamp members resilience) is = absurd (cc)
 
 -- a send of the node's own that stands in its list
-pub stands_due : (log : Log) (capacity who req before : ℕ) → IsKept log capacity → log.start ≤ before → passes (is_data_of who req) (entry_at log (before + 1)) ≡ true → IsDue (at_place (told_by log) who) (life_of who) (req + 1)
+pub stands_due : (log : Log) (capacity who req before : ℕ) → IsKept log capacity → log.start ≤ before
+    → passes (is_data_of who req) (entry_at log (before + 1)) ≡ true → IsDue (at_place (told_by log) who) (life_of who) (req + 1)
 stands_due log capacity who req before kept low at =
     let e = some_entry (is_data_of who req) (entry_at log (before + 1)) at in
     let passes_it : is_data_of who req e.0 ≡ true = ap (passes (is_data_of who req)) (sym e.1) ∙ at in

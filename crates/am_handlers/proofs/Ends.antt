@@ -27,7 +27,8 @@ end_made all whole n s e = subst (λ (x : Node). IsEndOf x n) (sym e) (record { 
 pub tells : {A : Type 0} (f : Node → A) (m : Node) (x : A) → ((all : Log) → Stands all m.core → x ≡ f (with_log m all)) → Tells f m x
 tells f m x told = λ whole e. told whole.core.log e.stands ∙ ap f e.same
 
-pub changes : (f : Node → Node) (old new : Node) → ((all : Log) → Stands all old.core → (more : Log) × Stands more new.core × (f (with_log old all) ≡ with_log new more)) → Changes f old new
+pub changes : (f : Node → Node) (old new : Node) → ((all : Log) → Stands all old.core → (more : Log) × Stands more new.core
+    × (f (with_log old all) ≡ with_log new more)) → Changes f old new
 changes f old new by = λ whole e.
     let one = by whole.core.log e.stands in
     end_made one.0 (f whole) new one.1 (ap f (sym e.same) ∙ one.2)
@@ -49,10 +50,13 @@ leads_same m all s = ap (λ (i : Image). (is_member m.status && stamp_eq m.core.
 pub leads_tells : (m : Node) (x : Bool) → x ≡ is_sequencer m → Tells is_sequencer m x
 leads_tells m x is = tells is_sequencer m x (λ all s. is ∙ sym (leads_same m all s))
 
-pub others_tells : (v c : CoreState) (m : Node) (high : ℕ) (all_of set : List ℕ) → v ≡ c → c ≡ m.core → high ≡ top_of v.log → all_of ≡ members_at v.log high → set ≡ without_name all_of v.who → Tells others m set
+pub others_tells : (v c : CoreState) (m : Node) (high : ℕ) (all_of set : List ℕ) → v ≡ c → c ≡ m.core → high ≡ top_of v.log → all_of ≡ members_at v.log high
+    → set ≡ without_name all_of v.who → Tells others m set
 others_tells v c m high all_of set is core top members less = tells others m set (λ all s.
-    let told : members_at v.log high ≡ members_of (told_by m.core.log) = ap (members_at v.log) top ∙ ap members_of (image-top v.log) ∙ ap (λ (x : CoreState). members_of (told_by x.log)) (is ∙ core) in
-    less ∙ ap (λ xs. without_name xs v.who) (members ∙ told) ∙ ap (λ (x : CoreState). without_name (members_of (told_by m.core.log)) x.who) (is ∙ core) ∙ ap (λ i. without_name (members_of i) m.core.who) (sym (told_same m all s)))
+    let told : members_at v.log high ≡ members_of (told_by m.core.log) = ap (members_at v.log) top ∙ ap members_of (image-top v.log)
+    ∙ ap (λ (x : CoreState). members_of (told_by x.log)) (is ∙ core) in
+    less ∙ ap (λ xs. without_name xs v.who) (members ∙ told) ∙ ap (λ (x : CoreState). without_name (members_of (told_by m.core.log)) x.who) (is ∙ core)
+    ∙ ap (λ i. without_name (members_of i) m.core.who) (sym (told_same m all s)))
 
 -- ---- the refresh
 
@@ -82,7 +86,8 @@ still_follows : (m : Node) → is_sequencer (advance m) ≡ is_sequencer m
 unfolding accept pass_over
 still_follows m = refl
 
-pub lead_again : (old : Node) (new : Led) → is_sequencer old ≡ true → LeadsBy fronts.refresh (led_of old) new → StaysAt fronts.refresh (led_of old) new → (all : Node) → IsEndOf all old → refresh (refresh all) ≡ refresh all
+pub lead_again : (old : Node) (new : Led) → is_sequencer old ≡ true → LeadsBy fronts.refresh (led_of old) new → StaysAt fronts.refresh (led_of old) new
+    → (all : Node) → IsEndOf all old → refresh (refresh all) ≡ refresh all
 unfolding refresh lead
 lead_again old new leads by again all end =
     let s = end.stands in

@@ -1,5 +1,6 @@
 -- The parts of a node keep what they keep.
-use Rattle.std.proofs.Common.{◌≡◌, ◌≢◌, ◌<◌, inl, ℕ, ◌+◌, [], ◌∷◌, length, ◌-◌, ◌≤◌, max, min, nat_lt, List, Bool, true, false, ◌&&◌, ◌==◌, Option, Some, None, option_map, refl, sym, ◌∙◌, ap, subst, arith}
+use Rattle.std.proofs.Common.{◌≡◌, ◌≢◌, ◌<◌, inl, ℕ, ◌+◌, [], ◌∷◌, length, ◌-◌, ◌≤◌, max, min, nat_lt, List, Bool, true, false, ◌&&◌, ◌==◌, Option, Some, None}
+use Rattle.std.proofs.Common.{option_map, refl, sym, ◌∙◌, ap, subst, arith}
 use Rattle.am_base.specs.declared.image.Image.{Image}
 use Rattle.am_base.specs.declared.name.Stamp.{Stamp}
 use Rattle.am_base.specs.declared.image.Report.{Report}
@@ -95,7 +96,16 @@ keeps_advance m core is keeps = subst (λ (x : CoreState). NodeKeeps (record m {
   leads = keeps.leads;
   promised = keeps.promised;
   blank = keeps.blank;
-  ballot = λ b there. let is_own = keeps.ballot b there in record { stamp = is_own.stamp; by = is_own.by; ahead = is_own.ahead; logged = is_own.logged; itself = is_own.itself; unvoted = is_own.unvoted; resilience = is_own.resilience };
+  ballot = λ b there. let is_own = keeps.ballot b there in record {
+    stamp = is_own.stamp;
+    by = is_own.by;
+    ahead = is_own.ahead;
+    logged = is_own.logged;
+    itself =
+        is_own.itself;
+    unvoted = is_own.unvoted;
+    resilience = is_own.resilience;
+  };
   settled = keeps.settled;
   due = keeps.due;
   unsent = keeps.unsent;
@@ -113,14 +123,24 @@ keeps_sends m sends may keeps = record {
   leads = keeps.leads;
   promised = keeps.promised;
   blank = keeps.blank;
-  ballot = λ b there. let is_own = keeps.ballot b there in record { stamp = is_own.stamp; by = is_own.by; ahead = is_own.ahead; logged = is_own.logged; itself = is_own.itself; unvoted = is_own.unvoted; resilience = is_own.resilience };
+  ballot = λ b there. let is_own = keeps.ballot b there in record {
+    stamp = is_own.stamp;
+    by = is_own.by;
+    ahead = is_own.ahead;
+    logged = is_own.logged;
+    itself =
+        is_own.itself;
+    unvoted = is_own.unvoted;
+    resilience = is_own.resilience;
+  };
   settled = may.settled;
   due = may.due;
   unsent = may.unsent;
 }
 
 -- the waiting send is settled, which stands in the list
-pub may_settle : (m : Node) (sends : Sends) (req : ℕ) → NodeKeeps m → option_map (λ (send : OwnSend). send.req) (sending.waiting m.sends) ≡ Some req → next_request sends ≡ req + 1 → IsDue (at_place (told m) m.core.who) (life_of m.core.who) (req + 1) → 0 < top m → MaySend m sends
+pub may_settle : (m : Node) (sends : Sends) (req : ℕ) → NodeKeeps m → option_map (λ (send : OwnSend). send.req) (sending.waiting m.sends) ≡ Some req
+    → next_request sends ≡ req + 1 → IsDue (at_place (told m) m.core.who) (life_of m.core.who) (req + 1) → 0 < top m → MaySend m sends
 may_settle m sends req keeps waits next due some = record {
   settled = λ leaves. let none = ap (option_map (λ (send : OwnSend). send.req)) (keeps.settled leaves) in absurd (cc);
   due = subst (λ n. IsDue (at_place (told m) m.core.who) (life_of m.core.who) n) (sym next) due;
@@ -164,13 +184,16 @@ long_fold image n [] long = long
 long_fold image n (e ∷ es) long = long_fold (after image n e) (n + 1) es (long_after image n e long)
 
 -- what is settled stands in the list with an entry more
-pub due_pushed : (m : Node) (e : Entry) (capacity : ℕ) → IsKept m.core.log capacity → fits (told m) e ≡ true → (next : ℕ) → IsDue (at_place (told m) m.core.who) (life_of m.core.who) next → IsDue (at_place (told (pushed m e)) m.core.who) (life_of m.core.who) next
+pub due_pushed : (m : Node) (e : Entry) (capacity : ℕ) → IsKept m.core.log capacity → fits (told m) e ≡ true → (next : ℕ)
+    → IsDue (at_place (told m) m.core.who) (life_of m.core.who) next → IsDue (at_place (told (pushed m e)) m.core.who) (life_of m.core.who) next
 due_pushed m e capacity kept fit next due =
     subst (λ (i : Image). IsDue (at_place i m.core.who) (life_of m.core.who) next) (sym (told-push m.core.log e))
-    (due_after (told m) (top m + 1) e m.core.who next (long_fold m.core.log.image (m.core.log.start + 1) m.core.log.entries kept.image.places) (omega arith) fit due)
+    (due_after (told m) (top m + 1) e m.core.who next (long_fold m.core.log.image (m.core.log.start + 1) m.core.log.entries kept.image.places)
+    (omega arith) fit due)
 
 -- one that isn't a View, where who leads stays a member
-pub keeps_pushed : (m : Node) (e : Entry) → is_view e ≡ false → fits (told m) e ≡ true → (capacity : ℕ) → IsKept m.core.log capacity → has_log m.status ≡ true → (is_sequencer m ≡ true → has (members (pushed m e)) m.core.who ≡ true) → NodeKeeps m → NodeKeeps (pushed m e)
+pub keeps_pushed : (m : Node) (e : Entry) → is_view e ≡ false → fits (told m) e ≡ true → (capacity : ℕ) → IsKept m.core.log capacity → has_log m.status ≡ true
+    → (is_sequencer m ≡ true → has (members (pushed m e)) m.core.who ≡ true) → NodeKeeps m → NodeKeeps (pushed m e)
 keeps_pushed m e plain fit capacity kept has_one stays keeps = record {
   own = keeps.own;
   leads = λ is. stays (sym (leads_pushed m e plain) ∙ is);
@@ -255,7 +278,8 @@ end_keeps m n end keeps =
 
 -- other bodies, and all else the same
 pub keeps_bodies : (m : Node) (bodies : List KeptBody) → NodeKeeps m → NodeKeeps (record m { bodies = bodies })
-keeps_bodies m bodies keeps = keeps_steady m (record m { bodies = bodies }) (record { who = refl; promise = refl; told = refl; top = refl; status = refl; ballot = refl; leaving = refl; sends = refl }) keeps keeps.own
+keeps_bodies m bodies keeps = keeps_steady m (record m { bodies = bodies })
+    (record { who = refl; promise = refl; told = refl; top = refl; status = refl; ballot = refl; leaving = refl; sends = refl }) keeps keeps.own
 
 -- the end of a step leaves a node its name
 settled_at_who : (m : Node) (req : ℕ) (at : Option ℕ) → (settled_at m req at).core.who ≡ m.core.who

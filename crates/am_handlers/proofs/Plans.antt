@@ -30,11 +30,13 @@ done before p mid new outcome sent letters stays is end says sends tells_accepte
     record {
       node = rw stays e;
       answer = says n e;
-      sent = tells_accepted n e ∙ ap (λ ls. with_told before p.polls p.numbers ls n) (sends n e) ∙ ap (λ b. with_told b p.polls p.numbers (p.letters n) n) (sym acc);
+      sent = tells_accepted n e ∙ ap (λ ls. with_told before p.polls p.numbers ls n) (sends n e)
+          ∙ ap (λ b. with_told b p.polls p.numbers (p.letters n) n) (sym acc);
     }
 
 -- a row is its plan, done
-pub does_plan : (row : Node → Plan) (p : Plan) (before : ℕ) (old new : Node) (outcome : Outcome) (letters : List Letter) → before ≡ old.core.acc → row old ≡ p → Done before p outcome letters new → Does row old outcome letters new
+pub does_plan : (row : Node → Plan) (p : Plan) (before : ℕ) (old new : Node) (outcome : Outcome) (letters : List Letter) → before ≡ old.core.acc → row old ≡ p
+    → Done before p outcome letters new → Does row old outcome letters new
 does_plan row p before old new outcome letters acc is did = subst (λ (q : Plan). ComesTo (finish old q) outcome letters new) (sym is) (did old (sym acc))
 
 -- what the end of a node does, the node does
@@ -44,10 +46,12 @@ pub done_whole : (before : ℕ) (rest : Node → Plan) (x mid new : Node) (outco
 done_whole before rest x mid new outcome letters end order alike did = λ first acc.
     let whole = rest (with_log mid x.core.log) in
     let same = finish_alike first.core.log first whole (rest mid) (alike x.core.log (keeps_end x mid end order)) in
-    subst (λ (y : Node). ComesTo (finish first (rest y)) outcome letters new) end.same (comes_whole (finish first whole) (finish first (rest mid)) outcome letters new same (did first acc))
+    subst (λ (y : Node). ComesTo (finish first (rest y)) outcome letters new) end.same
+    (comes_whole (finish first whole) (finish first (rest mid)) outcome letters new same (did first acc))
 
 -- one letter of a core
-pub letter_tells : (to : List ℕ) (packet : Node → Packet) (m : Node) (x : Packet) → CoreTells packet m.core x → Tells (λ n. with_letter to (packet n) []) m (with_letter to x [])
+pub letter_tells : (to : List ℕ) (packet : Node → Packet) (m : Node) (x : Packet) → CoreTells packet m.core x
+    → Tells (λ n. with_letter to (packet n) []) m (with_letter to x [])
 letter_tells to packet m x told = λ n is. ap (λ p. with_letter to p []) (core_tells packet m x told n is)
 
 -- what a node tells, its end tells

@@ -1,5 +1,6 @@
 -- Where a send of the node's own is accepted.
-use Rattle.std.proofs.Common.{◌≡◌, ℕ, suc, ◌+◌, ◌-◌, ◌<◌, ◌≤◌, List, ◌∷◌, [], length, take, drop, get_or, Bool, true, false, nat_lt, nat_le, Option, Some, None, refl, sym, ◌∙◌, ap, option_map, arith}
+use Rattle.std.proofs.Common.{◌≡◌, ℕ, suc, ◌+◌, ◌-◌, ◌<◌, ◌≤◌, List, ◌∷◌, [], length, take, drop, get_or, Bool, true, false, nat_lt, nat_le, Option, Some, None}
+use Rattle.std.proofs.Common.{refl, sym, ◌∙◌, ap, option_map, arith}
 use Rattle.std.specs.Prelude.{slice_get, position}
 use Rattle.std.specs.List.{position_or_len}
 use Rattle.std.proofs.lemmas.Bool.Decides.{nat_tests}
@@ -22,9 +23,11 @@ use Rattle.am_handlers.proofs.Ends.{tells, changes}
 passes_get : {A : Type 0} (p : A → Bool) (xs : List A) (k : ℕ) (d : A) → k < length xs → passes p (slice_get xs k) ≡ p (get_or xs k d)
 passes_get p xs k d h = ap (passes p) (slice_get-get_or xs k d h)
 
-pub position_is : {A : Type 0} (p : A → Bool) (xs : List A) (i : ℕ) (d : A) → i < length xs → passes p (slice_get xs i) ≡ true → ((k : ℕ) → k < i → passes p (slice_get xs k) ≡ false) → position p xs ≡ Some i
+pub position_is : {A : Type 0} (p : A → Bool) (xs : List A) (i : ℕ) (d : A) → i < length xs → passes p (slice_get xs i) ≡ true
+    → ((k : ℕ) → k < i → passes p (slice_get xs k) ≡ false) → position p xs ≡ Some i
 position_is p xs i d within at before =
-    let first : position_or_len p xs ≡ i = position_or_len_is p xs i d (omega arith) (λ k h. sym (passes_get p xs k d (omega arith)) ∙ before k h) (λ h. sym (passes_get p xs i d h) ∙ at) in
+    let first : position_or_len p xs ≡ i = position_or_len_is p xs i d (omega arith) (λ k h. sym (passes_get p xs k d (omega arith))
+    ∙ before k h) (λ h. sym (passes_get p xs i d h) ∙ at) in
     let test : nat_lt (position_or_len p xs) (length xs) ≡ true = grind (arith, nat_tests) in
     rw test (ap Some first)
 
@@ -32,7 +35,8 @@ pub position_none : {A : Type 0} (p : A → Bool) (xs : List A) → ((k : ℕ) �
 position_none p [] none = refl
 position_none p (x ∷ xs) none =
     let all = x ∷ xs in
-    let first : position_or_len p (x ∷ xs) ≡ length (x ∷ xs) = position_or_len_is p (x ∷ xs) (length (x ∷ xs)) x (omega arith) (λ k h. sym (passes_get p (x ∷ xs) k x h) ∙ none k h) (λ h. absurd (omega arith)) in
+    let first : position_or_len p (x ∷ xs) ≡ length (x ∷ xs) =
+    position_or_len_is p (x ∷ xs) (length (x ∷ xs)) x (omega arith) (λ k h. sym (passes_get p (x ∷ xs) k x h) ∙ none k h) (λ h. absurd (omega arith)) in
     let test : nat_lt (position_or_len p (x ∷ xs)) (length (x ∷ xs)) ≡ false = grind (arith, nat_tests) in
     rw test refl
 
@@ -50,11 +54,14 @@ abbrev pub NoneUpTo : CoreState → ℕ → ℕ → Type 0
 NoneUpTo c req high = (number : ℕ) → c.base ≤ number → number < high → passes (is_data_of c.who req) (entry_at c.log (number + 1)) ≡ false
 
 -- what the whole list has accepted above the base is what the end has
-kept_entries : (m : Node) (req : ℕ) (all : Log) → Stands all m.core → accepted_number (with_log m all) req ≡ option_map (λ k. m.core.base + 1 + k) (position (is_data_of m.core.who req) (take (m.core.acc - m.core.base) m.core.log.entries))
+kept_entries : (m : Node) (req : ℕ) (all : Log) → Stands all m.core
+    → accepted_number (with_log m all) req ≡ option_map (λ k. m.core.base + 1 + k)
+    (position (is_data_of m.core.who req) (take (m.core.acc - m.core.base) m.core.log.entries))
 kept_entries m req all s =
     let entries = (s.kept).entries in
     let at = s.base in
-    ap (λ (b : ℕ). option_map (λ k. m.core.base + 1 + k) (position (is_data_of m.core.who req) (take (m.core.acc - m.core.base) (drop (b - all.start) all.entries)))) at
+    ap (λ (b : ℕ). option_map (λ k. m.core.base + 1 + k) (position (is_data_of m.core.who req)
+    (take (m.core.acc - m.core.base) (drop (b - all.start) all.entries)))) at
     ∙ ap (λ (es : List Entry). option_map (λ k. m.core.base + 1 + k) (position (is_data_of m.core.who req) (take (m.core.acc - m.core.base) es))) (sym entries)
 
 passes_take : {A : Type 0} (p : A → Bool) (n : ℕ) (xs : List A) (k : ℕ) → k < n → n ≤ length xs → passes p (slice_get (take n xs) k) ≡ passes p (slice_get xs k)
@@ -67,7 +74,9 @@ pub some_entry : (p : Entry → Bool) (x : Option Entry) → passes p x ≡ true
 some_entry p None at = absurd (cc)
 some_entry p (Some e) at = (e, refl)
 
-pub number_found : (m : Node) (req before : ℕ) → IsInOrder m.core → m.core.base ≤ before → before < m.core.acc → passes (is_data_of m.core.who req) (entry_at m.core.log (before + 1)) ≡ true → NoneUpTo m.core req before → Tells (λ n. accepted_number n req) m (Some (before + 1))
+pub number_found : (m : Node) (req before : ℕ) → IsInOrder m.core → m.core.base ≤ before → before < m.core.acc
+    → passes (is_data_of m.core.who req) (entry_at m.core.log (before + 1)) ≡ true → NoneUpTo m.core req before
+    → Tells (λ n. accepted_number n req) m (Some (before + 1))
 number_found m req before order low high at none =
     let kept = order.kept in
     let top = order.accepted in
@@ -76,17 +85,20 @@ number_found m req before order low high at none =
     let xs = m.core.log.entries in
     let n = m.core.acc - m.core.base in
     let e = some_entry p (entry_at m.core.log (before + 1)) at in
-    let here : passes p (slice_get xs (before - m.core.base)) ≡ true = ap (λ k. passes p (slice_get xs (before - k))) kept ∙ ap (passes p) (sym (entry_get m.core.log before (omega arith))) ∙ at in
+    let here : passes p (slice_get xs (before - m.core.base)) ≡ true = ap (λ k. passes p (slice_get xs (before - k))) kept
+    ∙ ap (passes p) (sym (entry_get m.core.log before (omega arith))) ∙ at in
     let long = length-take n xs in
     let first : position p (take n xs) ≡ Some (before - m.core.base) = position_is p (take n xs) (before - m.core.base) e.0 (omega arith)
     (passes_take p n xs (before - m.core.base) (omega arith) (omega arith) ∙ here)
     (λ k h.
     let there : passes p (slice_get xs k) ≡ false =
     let back : m.core.base + k - m.core.log.start ≡ k = omega arith in
-    ap (λ j. passes p (slice_get xs j)) (sym back) ∙ ap (passes p) (sym (entry_get m.core.log (m.core.base + k) (omega arith))) ∙ none (m.core.base + k) (omega arith) (omega arith) in
+    ap (λ j. passes p (slice_get xs j)) (sym back) ∙ ap (passes p) (sym (entry_get m.core.log (m.core.base + k) (omega arith)))
+    ∙ none (m.core.base + k) (omega arith) (omega arith) in
     passes_take p n xs k (omega arith) (omega arith) ∙ there) in
     let sum : m.core.base + 1 + (before - m.core.base) ≡ before + 1 = omega arith in
-    tells (λ n. accepted_number n req) m (Some (before + 1)) (λ all s. ap Some (sym sum) ∙ ap (option_map (λ k. m.core.base + 1 + k)) (sym first) ∙ sym (kept_entries m req all s))
+    tells (λ n. accepted_number n req) m (Some (before + 1)) (λ all s. ap Some (sym sum) ∙ ap (option_map (λ k. m.core.base + 1 + k)) (sym first)
+    ∙ sym (kept_entries m req all s))
 
 pub number_none : (m : Node) (req : ℕ) → IsInOrder m.core → NoneUpTo m.core req m.core.acc → Tells (λ n. accepted_number n req) m None
 number_none m req order none =
@@ -101,7 +113,8 @@ number_none m req order none =
     let no : position p (take n xs) ≡ None = position_none p (take n xs) (λ k h.
     let there : passes p (slice_get xs k) ≡ false =
     let back : m.core.base + k - m.core.log.start ≡ k = omega arith in
-    ap (λ j. passes p (slice_get xs j)) (sym back) ∙ ap (passes p) (sym (entry_get m.core.log (m.core.base + k) (omega arith))) ∙ none (m.core.base + k) (omega arith) (omega arith) in
+    ap (λ j. passes p (slice_get xs j)) (sym back) ∙ ap (passes p) (sym (entry_get m.core.log (m.core.base + k) (omega arith)))
+    ∙ none (m.core.base + k) (omega arith) (omega arith) in
     passes_take p n xs k (omega arith) (omega arith) ∙ there) in
     tells (λ n. accepted_number n req) m None (λ all s. ap (option_map (λ k. m.core.base + 1 + k)) (sym no) ∙ sym (kept_entries m req all s))
 
@@ -115,19 +128,22 @@ at_none : (x : Node) (req : ℕ) (k : Option ℕ) → None ≡ option_map (λ (k
 at_none x req None is = refl
 at_none x req (Some k) is = absurd (cc)
 
-at_some : (x : Node) (req number : ℕ) (k : Option ℕ) → Some number ≡ option_map (λ (k : ℕ). x.core.base + 1 + k) k → settled_at x req k ≡ record x { sends = own.settle req number x.sends }
+at_some : (x : Node) (req number : ℕ) (k : Option ℕ) → Some number ≡ option_map (λ (k : ℕ). x.core.base + 1 + k) k
+    → settled_at x req k ≡ record x { sends = own.settle req number x.sends }
 at_some x req number None is = absurd (cc)
 at_some x req number (Some k) is =
     let same : x.core.base + 1 + k ≡ number = cc in
     ap (λ (n : ℕ). record x { sends = own.settle req n x.sends }) same
 
-settled_unaccepted : (x : Node) (w : Option OwnSend) (req : ℕ) → Some req ≡ option_map (λ (send : OwnSend). send.req) w → None ≡ accepted_number x req → settled x w ≡ x
+settled_unaccepted : (x : Node) (w : Option OwnSend) (req : ℕ) → Some req ≡ option_map (λ (send : OwnSend). send.req) w → None ≡ accepted_number x req
+    → settled x w ≡ x
 settled_unaccepted x None req is at = refl
 settled_unaccepted x (Some send) req is at =
     let same : send.req ≡ req = cc in
     ap (λ (r : ℕ). settled_at x r (accepted_at x r)) same ∙ at_none x req (accepted_at x req) at
 
-settled_accepted : (x : Node) (w : Option OwnSend) (req number : ℕ) → Some req ≡ option_map (λ (send : OwnSend). send.req) w → Some number ≡ accepted_number x req → settled x w ≡ record x { sends = own.settle req number x.sends }
+settled_accepted : (x : Node) (w : Option OwnSend) (req number : ℕ) → Some req ≡ option_map (λ (send : OwnSend). send.req) w
+    → Some number ≡ accepted_number x req → settled x w ≡ record x { sends = own.settle req number x.sends }
 settled_accepted x None req number is at = absurd (cc)
 settled_accepted x (Some send) req number is at =
     let same : send.req ≡ req = cc in
@@ -137,10 +153,22 @@ pub settle_idle : (m : Node) → None ≡ option_map (λ (send : OwnSend). send.
 unfolding settle
 settle_idle m is = changes settle m m (λ all s. (all, s, settled_none (with_log m all) (waiting m) is))
 
-pub settle_unaccepted : (m : Node) (req : ℕ) → Some req ≡ option_map (λ (send : OwnSend). send.req) (waiting m) → Tells (λ n. accepted_number n req) m None → Changes settle m m
+pub settle_unaccepted : (m : Node) (req : ℕ) → Some req ≡ option_map (λ (send : OwnSend). send.req) (waiting m) → Tells (λ n. accepted_number n req) m None
+    → Changes settle m m
 unfolding settle
-settle_unaccepted m req is at = changes settle m m (λ all s. (all, s, settled_unaccepted (with_log m all) (waiting m) req is (at (with_log m all) (record { stands = s; same = refl }))))
+settle_unaccepted m req is at = changes settle m m (λ all s. (
+  all,
+  s,
+  settled_unaccepted (with_log m all) (waiting m) req is (at (with_log m all) (record { stands = s; same = refl })),
+))
 
-pub settle_accepted : (m : Node) (req number : ℕ) (sends : own.Sends) → Some req ≡ option_map (λ (send : OwnSend). send.req) (waiting m) → Tells (λ n. accepted_number n req) m (Some number) → sends ≡ own.settle req number m.sends → Changes settle m (record m { sends = sends })
+pub settle_accepted : (m : Node) (req number : ℕ) (sends : own.Sends) → Some req ≡ option_map (λ (send : OwnSend). send.req) (waiting m)
+    → Tells (λ n. accepted_number n req) m (Some number) → sends ≡ own.settle req number m.sends → Changes settle m (record m { sends = sends })
 unfolding settle
-settle_accepted m req number sends is at new = changes settle m (record m { sends = sends }) (λ all s. (all, s, settled_accepted (with_log m all) (waiting m) req number is (at (with_log m all) (record { stands = s; same = refl })) ∙ ap (λ (x : own.Sends). record (with_log m all) { sends = x }) (sym new)))
+settle_accepted m req number sends is at new = changes settle m (record m { sends = sends })
+    (λ all s. (
+      all,
+      s,
+      settled_accepted (with_log m all) (waiting m) req number is (at (with_log m all) (record { stands = s; same = refl }))
+          ∙ ap (λ (x : own.Sends). record (with_log m all) { sends = x }) (sym new),
+    ))

@@ -11,22 +11,32 @@ use Rattle.am_model.specs.Emit.{hold_of, welcome_of}
 use Rattle.am_model.specs.Ballots.{vote_of}
 use Rattle.am_handlers.specs.Cores.{CoreTells}
 
-pub vote_told : (v c : CoreState) (view : Stamp) (high : ℕ) (members : List ℕ) → v ≡ c → view ≡ (told_by v.log).view → high ≡ top_of v.log → members ≡ members_at v.log high
+pub vote_told : (v c : CoreState) (view : Stamp) (high : ℕ) (members : List ℕ) → v ≡ c → view ≡ (told_by v.log).view → high ≡ top_of v.log
+    → members ≡ members_at v.log high
     → CoreTells vote_of c (packet.Vote v.who v.promise (record { view = view; top = high; taken = v.taken; members = members }))
 vote_told v c view high members is at top names = λ m all s.
     let told : members_at v.log high ≡ members_of (told_by v.log) = ap (members_at v.log) top ∙ ap members_of (image-top v.log) in
     (λ k. packet.Vote v.who v.promise (record { view = at k; top = top k; taken = v.taken; members = (names ∙ told) k }))
-    ∙ ap (λ (x : CoreState). packet.Vote x.who x.promise (record { view = (told_by x.log).view; top = top_of x.log; taken = x.taken; members = members_of (told_by x.log) })) is
-    ∙ (let t = end-told all c.log s.kept in let h = end-top all c.log s.kept in λ k. packet.Vote c.who c.promise (record { view = (t k).view; top = h k; taken = c.taken; members = members_of (t k) }))
+    ∙ ap (λ (x : CoreState). packet.Vote x.who x.promise (record {
+      view = (told_by x.log).view;
+      top = top_of x.log;
+      taken = x.taken;
+      members =
+          members_of (told_by x.log);
+    })) is
+    ∙ (let t = end-told all c.log s.kept in let h = end-top all c.log s.kept in
+    λ k. packet.Vote c.who c.promise (record { view = (t k).view; top = h k; taken = c.taken; members = members_of (t k) }))
 
-pub hold_told : (v c : CoreState) (base high req : ℕ) → v ≡ c → base ≡ v.log.start → high ≡ top_of v.log → v.base ≡ v.log.start → CoreTells (λ m. hold_of m req) c (packet.Hold v.who v.promise base high req)
+pub hold_told : (v c : CoreState) (base high req : ℕ) → v ≡ c → base ≡ v.log.start → high ≡ top_of v.log → v.base ≡ v.log.start
+    → CoreTells (λ m. hold_of m req) c (packet.Hold v.who v.promise base high req)
 hold_told v c base high req is from top kept = λ m all s.
     ap (λ b. packet.Hold v.who v.promise b high req) (from ∙ sym kept)
     ∙ ap (λ t. packet.Hold v.who v.promise v.base t req) top
     ∙ ap (λ (x : CoreState). packet.Hold x.who x.promise x.base (top_of x.log) req) is
     ∙ ap (λ t. packet.Hold c.who c.promise c.base t req) (end-top all c.log s.kept)
 
-pub welcome_told : (v c : CoreState) (base : ℕ) (r : Row) (image : Image) (name : ℕ) → v ≡ c → base ≡ v.log.start → r ≡ row_of (told_by v.log) name → image ≡ v.log.image → v.base ≡ v.log.start → CoreTells (λ m. welcome_of m name) c (packet.Welcome v.who v.promise base r.joined image)
+pub welcome_told : (v c : CoreState) (base : ℕ) (r : Row) (image : Image) (name : ℕ) → v ≡ c → base ≡ v.log.start → r ≡ row_of (told_by v.log) name
+    → image ≡ v.log.image → v.base ≡ v.log.start → CoreTells (λ m. welcome_of m name) c (packet.Welcome v.who v.promise base r.joined image)
 welcome_told v c base r image name is from row at kept = λ m all s.
     ap (λ b. packet.Welcome v.who v.promise b r.joined image) (from ∙ sym kept)
     ∙ ap (λ i. packet.Welcome v.who v.promise v.base r.joined i) at

@@ -15,7 +15,8 @@ use am_core::log::Log;
 /// Whether another entry may be numbered.
 pub fn has_room(parts: &Parts) -> bool
     ensures value { result ≡ has_room (node_of parts.now) }
-    ensures room { IsTrue result → length parts.now.core.log.entries < parts.now.core.rules.window + 15 }
+    ensures room { IsTrue result → length parts.now.core.log.entries < parts.now.core.rules.window
+        + 15 }
 {
     parts.core.log.top() + 1 - parts.core.log.base() <= u32::from(parts.core.rules.window())
 }

@@ -42,7 +42,8 @@ pub fn finish_asking(
     out: &mut OutBox,
 ) -> Outcome
     requires { out.old ≡ [] }
-    ensures { Done before (telling (node_of parts.old) answer (only_name to) nack_of) result out.new (node_of parts.new) }
+    ensures { Done before (telling (node_of parts.old) answer (only_name to) nack_of) result out.new
+        (node_of parts.new) }
 {
     let _before = parts.accepted();
     parts.end();

@@ -116,7 +116,8 @@ impl Parts {
     /// Takes in what the node knows by now: the sequencer all of it, another node what it was told.
     pub fn refresh(&mut self)
         ensures changes { Changes refresh (node_of self.old) (node_of self.new) }
-        ensures again { (all : Node) → IsEndOf all (node_of self.old) → refresh (refresh all) ≡ refresh all }
+        ensures again { (all : Node) → IsEndOf all (node_of self.old)
+            → refresh (refresh all) ≡ refresh all }
     {
         if self.is_sequencer() {
             self.fronts.refresh(&mut self.core);
@@ -162,7 +163,8 @@ impl Parts {
 
     /// Whether a send of the node's own stands at a number.
     fn stands_at(&self, number: u32, req: u32) -> bool
-        ensures { result ≡ passes (is_data_of self.now.core.who req) (entry_at self.now.core.log number) }
+        ensures { result ≡ passes (is_data_of self.now.core.who req)
+            (entry_at self.now.core.log number) }
     {
         match self.core.log.entry(number) {
             Some(entry) => is_data_of(entry, self.core.who, req),
@@ -180,7 +182,9 @@ impl Parts {
     /// The number at which a send of the node's own is accepted; None where it isn't, or is trimmed.
     fn accepted_number(&self, req: u32) -> Option<u32>
         ensures value { Tells (λ m. accepted_number m req) (node_of self.now) result }
-        ensures due { IfSome result (λ number. IsDue (at_place (told (node_of self.now)) self.now.core.who) (life_of self.now.core.who) (req + 1)) }
+        ensures due { IfSome result (λ number. IsDue
+            (at_place (told (node_of self.now)) self.now.core.who) (life_of self.now.core.who)
+            (req + 1)) }
         ensures some { IfSome result (λ number. 0 < top (node_of self.now)) }
     {
         let accepted = self.accepted();

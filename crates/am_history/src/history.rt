@@ -55,7 +55,8 @@ impl History {
     #[tactic(auto, using(crate::proofs::Rings::ring_laws))]
     pub fn new(alloc: Global, window: u16) -> Result<History, AllocError>
         requires { (1 ≤ window) × (window ≤ most_window) }
-        ensures list { IfOk result (λ history. history.list ≡ record { start = 0; image = blank; entries = [] }) }
+        ensures list { IfOk result (λ history. history.list
+            ≡ record { start = 0; image = blank; entries = [] }) }
         ensures capacity { IfOk result (λ history. history.capacity ≡ window + 15) }
     {
         let ring = HeapCircularBuffer::with_capacity(alloc, usize::from(window) + 15)?;

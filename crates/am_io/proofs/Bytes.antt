@@ -1,5 +1,6 @@
 -- Reads and writes one after the other.
-use Rattle.std.proofs.Common.{◌≡◌, ℕ, ◌+◌, ◌-◌, ◌<◌, ◌≤◌, List, ◌++◌, Option, Some, None, length, sym, ap, ◌∙◌, append_assoc, take, drop, subst, length-drop, take_all, arith}
+use Rattle.std.proofs.Common.{◌≡◌, ℕ, ◌+◌, ◌-◌, ◌<◌, ◌≤◌, List, ◌++◌, Option, Some, None, length, sym, ap, ◌∙◌, append_assoc, take, drop, subst, length-drop}
+use Rattle.std.proofs.Common.{take_all, arith}
 use Rattle.std.specs.Io.KnownBytes.{Consumes, Appends}
 use Rattle.std.proofs.Math.Seq.{take-add}
 use Rattle.std.proofs.lemmas.Grind.{common_steps}
@@ -17,17 +18,20 @@ appends_then (Some a) (Some b) None xs ys h k = k
 appends_then (Some a) None c xs ys h k = absurd h
 appends_then None b c xs ys h k = tt
 
-pub gave_more : (limit n : ℕ) (a b c : Option (List ℕ)) (xs into : List ℕ) → Consumes a b xs → Consumes b c (take n into) → n ≤ length into → limit - length xs < n → length xs ≤ limit → GaveMore limit a c
+pub gave_more : (limit n : ℕ) (a b c : Option (List ℕ)) (xs into : List ℕ) → Consumes a b xs → Consumes b c (take n into) → n ≤ length into
+    → limit - length xs < n → length xs ≤ limit → GaveMore limit a c
 gave_more limit n a b c xs into h k le over room = (xs ++ take n into, takes_then a b c xs (take n into) h k, grind (arith, common_steps))
 
-pub gave_at_most : (limit n : ℕ) (a b c : Option (List ℕ)) (xs into : List ℕ) → Consumes a b xs → Consumes b c (take n into) → n ≤ length into → n ≤ limit - length xs → length xs ≤ limit → GaveAtMost limit a c
+pub gave_at_most : (limit n : ℕ) (a b c : Option (List ℕ)) (xs into : List ℕ) → Consumes a b xs → Consumes b c (take n into) → n ≤ length into
+    → n ≤ limit - length xs → length xs ≤ limit → GaveAtMost limit a c
 gave_at_most limit n a b c xs into h k le fits room = (xs ++ take n into, takes_then a b c xs (take n into) h k, grind (arith, common_steps))
 
 pub gave_some : (n : ℕ) (a b c : Option (List ℕ)) (xs into : List ℕ) → Consumes a b xs → Consumes b c (take n into) → 0 < n → n ≤ length into → GaveMore 0 a c
 gave_some n a b c xs into h k some le = (xs ++ take n into, takes_then a b c xs (take n into) h k, grind (arith, common_steps))
 
 -- a write of what comes after the first `m`
-pub appends_more : (a b c : Option (List ℕ)) (xs : List ℕ) (m n : ℕ) → Appends a b (take m xs) → Appends b c (take n (take (length xs - m) (drop m xs))) → Appends a c (take (m + n) xs)
+pub appends_more : (a b c : Option (List ℕ)) (xs : List ℕ) (m n : ℕ) → Appends a b (take m xs) → Appends b c (take n (take (length xs - m) (drop m xs)))
+    → Appends a c (take (m + n) xs)
 appends_more a b c xs m n h k =
     let rest : take (length xs - m) (drop m xs) ≡ drop m xs = take_all _ _ (simp length-drop (omega arith)) in
     let then : Appends b c (take n (drop m xs)) = subst (λ (l : List ℕ). Appends b c (take n l)) rest k in

@@ -93,13 +93,16 @@ impl Source for MemSource<'_> {
     fn read(&mut self, into: &mut [u8]) -> Got
         requires { 0 < length into.old }
         ensures some { IfTook result (λ n. (0 < n) × (n ≤ length into.new)) }
-        ensures took { IfTook result (λ n. Consumes (Some self.old.left) (Some self.new.left) (take n into.new)) }
+        ensures took { IfTook result (λ n. Consumes (Some self.old.left) (Some self.new.left)
+            (take n into.new)) }
         ensures end { OnEnd result (ReadToEnd (Some self.old.left) (Some self.new.left) []) }
         ensures untouched { OnFailed result (Keeps (Some self.old.left) (Some self.new.left)) }
         ensures counts { self.new.faults ≡ faults_after result self.old.faults }
-        ensures amount { IfTook result (λ n. n ≡ min (min (length self.old.left) (length into.new)) self.old.most) }
+        ensures amount { IfTook result (λ n. n
+            ≡ min (min (length self.old.left) (length into.new)) self.old.most) }
         ensures fails { (result ≡ Got.Failed) ↔ Contains self.old.fail (next self.old.calls) }
-        ensures plan { self.new ≡ record self.old { left = self.new.left; calls = next self.old.calls; faults = self.new.faults } }
+        ensures plan { self.new ≡ record self.old
+            { left = self.new.left; calls = next self.old.calls; faults = self.new.faults } }
     {
         self.calls = self.calls.saturating_add(1);
         if self.fail.contains(&self.calls) {
@@ -182,12 +185,16 @@ impl Sink for MemSink<'_> {
     fn write(&mut self, piece: &[u8]) -> Put
         requires { 0 < length piece.now }
         ensures some { IfPut result (λ n. (0 < n) × (n ≤ length piece.now)) }
-        ensures took { IfPut result (λ n. Appends (Some self.old.held) (Some self.new.held) (take n piece.now)) }
+        ensures took { IfPut result (λ n. Appends (Some self.old.held) (Some self.new.held)
+            (take n piece.now)) }
         ensures untouched { OnRefused result (Keeps (Some self.old.held) (Some self.new.held)) }
         ensures counts { self.new.faults ≡ refusals_after result self.old.faults }
         ensures amount { IfPut result (λ n. n ≡ min (length piece.now) self.old.most) }
-        ensures fails { (result ≡ Put.Failed) ↔ (Contains self.old.fail (next self.old.calls) ⊎ (self.old.size < length self.old.held + min (length piece.now) self.old.most)) }
-        ensures plan { self.new ≡ record self.old { held = self.new.held; calls = next self.old.calls; faults = self.new.faults } }
+        ensures fails { (result ≡ Put.Failed)
+            ↔ (Contains self.old.fail (next self.old.calls)
+            ⊎ (self.old.size < length self.old.held + min (length piece.now) self.old.most)) }
+        ensures plan { self.new ≡ record self.old
+            { held = self.new.held; calls = next self.old.calls; faults = self.new.faults } }
     {
         self.calls = self.calls.saturating_add(1);
         let n = piece.len().min(self.most);

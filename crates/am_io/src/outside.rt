@@ -38,7 +38,8 @@ pub trait Source {
     fn read(&mut self, into: &mut [u8]) -> Got
         requires { 0 < length into.old }
         ensures some { IfTook result (λ n. (0 < n) × (n ≤ length into.new)) }
-        ensures took { IfTook result (λ n. Consumes (left self.old) (left self.new) (take n into.new)) }
+        ensures took { IfTook result (λ n. Consumes (left self.old) (left self.new)
+            (take n into.new)) }
         ensures end { OnEnd result (ReadToEnd (left self.old) (left self.new) []) }
         ensures untouched { OnFailed result (Keeps (left self.old) (left self.new)) }
         ensures counts { count self.new ≡ faults_after result (count self.old) };
@@ -60,7 +61,8 @@ pub trait Sink {
     fn write(&mut self, piece: &[u8]) -> Put
         requires { 0 < length piece.now }
         ensures some { IfPut result (λ n. (0 < n) × (n ≤ length piece.now)) }
-        ensures took { IfPut result (λ n. Appends (contents self.old) (contents self.new) (take n piece.now)) }
+        ensures took { IfPut result (λ n. Appends (contents self.old) (contents self.new)
+            (take n piece.now)) }
         ensures untouched { OnRefused result (Keeps (contents self.old) (contents self.new)) }
         ensures counts { count self.new ≡ refusals_after result (count self.old) };
 }

@@ -34,11 +34,15 @@ pub fn read_all<S: Source>(
     source: &mut S,
     limit: u32,
 ) -> Result<Vec<u8>, ReadRefusal>
-    ensures ok { IfOk result (λ bytes. ReadToEnd (S.left source.old) (S.left source.new) bytes.items) }
+    ensures ok { IfOk result (λ bytes. ReadToEnd (S.left source.old)
+        (S.left source.new) bytes.items) }
     ensures within { IfOk result (λ bytes. length bytes.items ≤ limit) }
-    ensures too_long { IfErr result (λ e. e ≡ ReadRefusal.TooLong → GaveMore limit (S.left source.old) (S.left source.new)) }
-    ensures else_within { IfErr result (λ e. e ≢ ReadRefusal.TooLong → GaveAtMost limit (S.left source.old) (S.left source.new)) }
-    ensures memory { IfErr result (λ e. e ≡ ReadRefusal.NoMemory → GaveMore 0 (S.left source.old) (S.left source.new)) }
+    ensures too_long { IfErr result (λ e. e ≡ ReadRefusal.TooLong
+        → GaveMore limit (S.left source.old) (S.left source.new)) }
+    ensures else_within { IfErr result (λ e. e ≢ ReadRefusal.TooLong
+        → GaveAtMost limit (S.left source.old) (S.left source.new)) }
+    ensures memory { IfErr result (λ e. e ≡ ReadRefusal.NoMemory
+        → GaveMore 0 (S.left source.old) (S.left source.new)) }
     ensures counts { S.count source.new ≡ faults_of_reading result (S.count source.old) }
 {
     let mut bytes = Vec::new(alloc);
@@ -62,7 +66,8 @@ pub fn read_all<S: Source>(
 /// Appends all bytes to a sink. Where a write failed, exactly the first `written` bytes were appended.
 pub fn write_all<K: Sink>(sink: &mut K, bytes: &[u8]) -> Result<(), WriteFault>
     ensures ok { OnOk result (Appends (K.contents sink.old) (K.contents sink.new) bytes.now) }
-    ensures part { IfErr result (λ e. Appends (K.contents sink.old) (K.contents sink.new) (take e.written bytes.now)) }
+    ensures part { IfErr result (λ e. Appends (K.contents sink.old) (K.contents sink.new)
+        (take e.written bytes.now)) }
     ensures short { IfErr result (λ e. e.written < length bytes.now) }
     ensures counts { K.count sink.new ≡ faults_of_writing result (K.count sink.old) }
 {

@@ -31,7 +31,8 @@ third false true c d h = absurd (cc)
 third false false true d h = absurd (cc)
 third false false false d h = refl
 
-pub begun_keeps : (m : Node) (v : Stamp) (base join : ℕ) (image : Image) → is_asking m.status ≡ true → v.by ≢ m.core.who → is_unfit m v base join image ≡ false → IsInOrder m.core → NodeKeeps m → NodeKeeps (begun m v base join image)
+pub begun_keeps : (m : Node) (v : Stamp) (base join : ℕ) (image : Image) → is_asking m.status ≡ true → v.by ≢ m.core.who → is_unfit m v base join image ≡ false
+    → IsInOrder m.core → NodeKeeps m → NodeKeeps (begun m v base join image)
 unfolding fold
 begun_keeps m v base join image asking other fit order keeps =
     let none = asking_log m.status asking in
@@ -66,26 +67,32 @@ begun_keeps m v base join image asking other fit order keeps =
 
 -- ---- the row
 
-pub welcome_known : (m : Node) (from : ℕ) (v : Stamp) (base join : ℕ) (image : Image) → is_member m.status ≡ true → welcome_row m from v base join image ≡ quiet m said.Known
+pub welcome_known : (m : Node) (from : ℕ) (v : Stamp) (base join : ℕ) (image : Image) → is_member m.status ≡ true
+    → welcome_row m from v base join image ≡ quiet m said.Known
 unfolding welcome_row
 welcome_known m from v base join image member = rw member refl
 
-pub welcome_elsewhere : (m : Node) (from : ℕ) (v : Stamp) (base join : ℕ) (image : Image) → is_member m.status ≡ false → stamp_lt v m.core.promise ≡ true → welcome_row m from v base join image ≡ quiet m said.Elsewhere
+pub welcome_elsewhere : (m : Node) (from : ℕ) (v : Stamp) (base join : ℕ) (image : Image) → is_member m.status ≡ false → stamp_lt v m.core.promise ≡ true
+    → welcome_row m from v base join image ≡ quiet m said.Elsewhere
 unfolding welcome_row
 welcome_elsewhere m from v base join image none below = rw (none, below) refl
 
-pub welcome_unfit : (m : Node) (from : ℕ) (v : Stamp) (base join : ℕ) (image : Image) → is_member m.status ≡ false → stamp_lt v m.core.promise ≡ false → is_unfit m v base join image ≡ true → welcome_row m from v base join image ≡ quiet m said.Unfit
+pub welcome_unfit : (m : Node) (from : ℕ) (v : Stamp) (base join : ℕ) (image : Image) → is_member m.status ≡ false → stamp_lt v m.core.promise ≡ false
+    → is_unfit m v base join image ≡ true → welcome_row m from v base join image ≡ quiet m said.Unfit
 unfolding welcome_row
 welcome_unfit m from v base join image none there unfit = rw (none, there, unfit) refl
 
-pub welcome_begins : (m : Node) (from : ℕ) (v : Stamp) (base join : ℕ) (image : Image) → is_member m.status ≡ false → stamp_lt v m.core.promise ≡ false → is_unfit m v base join image ≡ false → welcome_row m from v base join image ≡ welcomed (begun m v base join image) from v join
+pub welcome_begins : (m : Node) (from : ℕ) (v : Stamp) (base join : ℕ) (image : Image) → is_member m.status ≡ false → stamp_lt v m.core.promise ≡ false
+    → is_unfit m v base join image ≡ false → welcome_row m from v base join image ≡ welcomed (begun m v base join image) from v join
 unfolding welcome_row
 welcome_begins m from v base join image none there fit = rw (none, there, fit) refl
 
-pub asks_nack : (m : Node) (from : ℕ) (v : Stamp) (join : ℕ) → stamp_eq (view m) v ≡ true → welcomed m from v join ≡ telling m (said.Welcomed join) (only_name from) nack_of
+pub asks_nack : (m : Node) (from : ℕ) (v : Stamp) (join : ℕ) → stamp_eq (view m) v ≡ true
+    → welcomed m from v join ≡ telling m (said.Welcomed join) (only_name from) nack_of
 asks_nack m from v join same = rw same refl
 
-pub asks_fetch : (m : Node) (from : ℕ) (v : Stamp) (join : ℕ) → stamp_eq (view m) v ≡ false → welcomed m from v join ≡ telling m (said.Welcomed join) (only_name from) fetch_of
+pub asks_fetch : (m : Node) (from : ℕ) (v : Stamp) (join : ℕ) → stamp_eq (view m) v ≡ false
+    → welcomed m from v join ≡ telling m (said.Welcomed join) (only_name from) fetch_of
 asks_fetch m from v join other = rw other refl
 
 pub member_or_asks : (s : Status) → (is_member s || is_asking s) ≡ true → is_member s ≡ false → is_asking s ≡ true

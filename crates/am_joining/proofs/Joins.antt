@@ -1,5 +1,6 @@
 -- The row of a request to join, by what its tests say.
-use Rattle.std.proofs.Common.{◌≡◌, ◌≢◌, ℕ, ◌+◌, ◌≤◌, List, [], Bool, true, false, not, ◌&&◌, ◌||◌, ◌==◌, nat_lt, nat_le, if◌then◌else◌, Option, Some, None, refl, sym, ap, ◌∙◌, arith}
+use Rattle.std.proofs.Common.{◌≡◌, ◌≢◌, ℕ, ◌+◌, ◌≤◌, List, [], Bool, true, false, not, ◌&&◌, ◌||◌, ◌==◌, nat_lt, nat_le, if◌then◌else◌, Option, Some, None}
+use Rattle.std.proofs.Common.{refl, sym, ap, ◌∙◌, arith}
 use Rattle.std.proofs.lemmas.Bool.Decides.{nat_tests}
 use Rattle.am_base.specs.declared.image.Row.{Row}
 use Rattle.am_base.specs.declared.image.Report.{Report}
@@ -29,7 +30,9 @@ keeps_admitted m name base other keeps =
     let test : (m.core.who == name) ≡ false = grind (arith, nat_tests) in
     let same : admitted m.reports name base m.core.who ≡ m.reports m.core.who = rw test refl in
     let taken = ap (λ (r : Report). r.taken) same in
-    keeps_steady m (record m { reports = admitted m.reports name base }) (record { who = refl; promise = refl; told = refl; top = refl; status = refl; ballot = refl; leaving = refl; sends = refl }) keeps (let own = keeps.own in omega arith)
+    keeps_steady m (record m { reports = admitted m.reports name base })
+    (record { who = refl; promise = refl; told = refl; top = refl; status = refl; ballot = refl; leaving = refl; sends = refl }) keeps (let own =
+    keeps.own in omega arith)
 
 -- ---- the row
 
@@ -53,7 +56,8 @@ asks_by m s q = split (nat_lt (life_of s) q.life)
     (λ t. rw t refl)
     (λ f. rw f refl)))))
 
-pub join_by : (m : Node) (from accepted : ℕ) (r : Row) (answer : Option Outcome) → r ≡ at_place (told m) from → accepted ≡ m.core.acc → answer ≡ turned_down accepted from r → join_ask_row m from ≡ by_answer answer m (rest m from r)
+pub join_by : (m : Node) (from accepted : ℕ) (r : Row) (answer : Option Outcome) → r ≡ at_place (told m) from → accepted ≡ m.core.acc
+    → answer ≡ turned_down accepted from r → join_ask_row m from ≡ by_answer answer m (rest m from r)
 unfolding join_ask_row
 join_by m from accepted r answer row acc is =
     asks_by m from (at_place (told m) from)
@@ -64,7 +68,8 @@ join_by m from accepted r answer row acc is =
 pub rest_again : (m : Node) (from : ℕ) (r : Row) → fits (told m) (Join from) ≡ false → rest m from r ≡ welcome_again m from r.joined
 rest_again m from r fit = rw fit refl
 
-pub rest_held : (m : Node) (from : ℕ) (r : Row) → fits (told m) (Join from) ≡ true → has_room m ≡ false → rest m from r ≡ polling m (said.Held m.core.base (top m))
+pub rest_held : (m : Node) (from : ℕ) (r : Row) → fits (told m) (Join from) ≡ true → has_room m ≡ false
+    → rest m from r ≡ polling m (said.Held m.core.base (top m))
 rest_held m from r fit room = rw (fit, room) refl
 
 pub rest_number : (m : Node) (from : ℕ) (r : Row) → fits (told m) (Join from) ≡ true → has_room m ≡ true → rest m from r ≡ number_join m from
@@ -73,11 +78,13 @@ rest_number m from r fit room = rw (fit, room) refl
 pub again_none : (m : Node) (from joined : ℕ) → needs_none m from joined ≡ true → welcome_again m from joined ≡ quiet m said.Again
 again_none m from joined none = rw none refl
 
-pub again_welcome : (m : Node) (from joined : ℕ) → needs_none m from joined ≡ false → welcome_again m from joined ≡ telling m (said.Welcomed joined) (only_name from) (λ n. welcome_of n from)
+pub again_welcome : (m : Node) (from joined : ℕ) → needs_none m from joined ≡ false
+    → welcome_again m from joined ≡ telling m (said.Welcomed joined) (only_name from) (λ n. welcome_of n from)
 again_welcome m from joined due = rw due refl
 
 -- the letters of a Join that is numbered
-pub join_letters : (m new : Node) (from number : ℕ) (packet : Packet) (letters : List Letter) → number ≡ top m + 1 → CoreTells (λ n. bcast_of n number (Join from)) new.core packet
+pub join_letters : (m new : Node) (from number : ℕ) (packet : Packet) (letters : List Letter) → number ≡ top m + 1
+    → CoreTells (λ n. bcast_of n number (Join from)) new.core packet
     → CoreTells (and_welcome number from (with_letter (others m) packet [])) new.core letters → Tells (number_join m from).letters new letters
 join_letters m new from number packet letters is told welcomes = λ n end.
     core_tells (and_welcome number from (with_letter (others m) packet [])) new letters welcomes n end

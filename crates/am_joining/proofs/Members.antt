@@ -17,7 +17,8 @@ pub member_at : (image : Image) (place : ℕ) → slice_index (members_of image)
 member_at image place = get_or-map member_life image.rows place blank_row
 
 -- a row is set at another place
-other_place : (image : Image) (name place : ℕ) (r : Row) → place ≢ place_of name → slice_index (members_of (with_row image name r)) place ≡ slice_index (members_of image) place
+other_place : (image : Image) (name place : ℕ) (r : Row) → place ≢ place_of name
+    → slice_index (members_of (with_row image name r)) place ≡ slice_index (members_of image) place
 other_place image name place r other =
     member_at (with_row image name r) place ∙ ap member_life (get_or-set_other image.rows (place_of name) place r blank_row other) ∙ sym (member_at image place)
 
@@ -33,10 +34,12 @@ joins_elsewhere image from who fit member = λ same.
     let there = ap (slice_index (members_of image)) same ∙ none in
     grind (arith, nat_tests)
 
-pub stays_by_join : (image : Image) (number from who : ℕ) → fits image (Join from) ≡ true → has (members_of image) who ≡ true → has (members_of (after image number (Join from))) who ≡ true
+pub stays_by_join : (image : Image) (number from who : ℕ) → fits image (Join from) ≡ true → has (members_of image) who ≡ true
+    → has (members_of (after image number (Join from))) who ≡ true
 unfolding after
 stays_by_join image number from who fit member =
-    ap (λ k. k == life_of who) (other_place image from (place_of who) (record { life = life_of from; joined = number; left = 0; last = 0 }) (joins_elsewhere image from who fit member)) ∙ member
+    ap (λ k. k == life_of who) (other_place image from (place_of who) (record { life = life_of from; joined = number; left = 0; last = 0 })
+    (joins_elsewhere image from who fit member)) ∙ member
 
 -- ---- a Leave
 
@@ -59,10 +62,12 @@ leaves_elsewhere set from who other leaver member = λ same.
     let b : slice_index set (place_of who) ≡ life_of who = grind (arith, nat_tests) in
     other (omega arith)
 
-pub stays_by_leave : (image : Image) (number from who : ℕ) → from ≢ who → has (members_of image) from ≡ true → has (members_of image) who ≡ true → has (members_of (after image number (Leave from))) who ≡ true
+pub stays_by_leave : (image : Image) (number from who : ℕ) → from ≢ who → has (members_of image) from ≡ true → has (members_of image) who ≡ true
+    → has (members_of (after image number (Leave from))) who ≡ true
 unfolding after
 stays_by_leave image number from who other leaver member = split ((at_place image from).life == life_of from)
-    (λ t. rw t (ap (λ k. k == life_of who) (other_place image from (place_of who) (record (at_place image from) { left = number }) (leaves_elsewhere (members_of image) from who other leaver member)) ∙ member))
+    (λ t. rw t (ap (λ k. k == life_of who) (other_place image from (place_of who) (record (at_place image from) { left = number })
+    (leaves_elsewhere (members_of image) from who other leaver member)) ∙ member))
     (λ f. rw f member)
 
 pub fits_leave : (image : Image) (from : ℕ) → has (members_of image) from ≡ true → fits image (Leave from) ≡ true

@@ -23,7 +23,8 @@ abbrev pub turned_down : ℕ → ℕ → Row → Option Outcome
 turned_down accepted name row =
     if nat_lt (life_of name) row.life then Some said.Stranger
     else if (row.life == life_of name) && nat_lt 0 row.left then Some said.Stranger
-    else if nat_lt row.life (life_of name) && (nat_lt 0 row.life && ((row.left == 0) || nat_lt accepted row.left)) then Some (said.Occupied (name_at (place_of name) row.life))
+    else if nat_lt row.life (life_of name) && (nat_lt 0 row.life && ((row.left == 0) || nat_lt accepted row.left)) then Some
+    (said.Occupied (name_at (place_of name) row.life))
     else None
 
 -- a name whose Join has a number has begun already, or its Join isn't accepted

@@ -91,7 +91,8 @@ fn number_join(parts: &mut Parts, before: u32, from: Name, out: &mut OutBox) -> 
     requires room { length parts.old.core.log.entries < parts.old.core.rules.window + 15 }
     requires number { top (node_of parts.old) < most_number }
     requires empty { out.old ≡ [] }
-    ensures { Done before (number_join (node_of parts.old) from) result out.new (node_of parts.new) }
+    ensures { Done before (number_join (node_of parts.old) from) result out.new
+        (node_of parts.new) }
 {
     let _before = parts.accepted();
     let number = next_number(parts);
@@ -121,7 +122,8 @@ fn finish_welcoming(
     out: &mut OutBox,
 ) -> Outcome
     requires { out.old ≡ [] }
-    ensures { Done before (telling (node_of parts.old) answer (only_name to) (λ n. welcome_of n to)) result out.new (node_of parts.new) }
+    ensures { Done before (telling (node_of parts.old) answer (only_name to) (λ n. welcome_of n to))
+        result out.new (node_of parts.new) }
 {
     let _before = parts.accepted();
     parts.end();
@@ -139,7 +141,8 @@ fn welcome_again(
     out: &mut OutBox,
 ) -> Outcome
     requires { out.old ≡ [] }
-    ensures { Done before (welcome_again (node_of parts.old) from joined) result out.new (node_of parts.new) }
+    ensures { Done before (welcome_again (node_of parts.old) from joined) result out.new
+        (node_of parts.new) }
 {
     if needs_none(parts, from, joined) {
         return finish_quietly(parts, before, Outcome::Again, out);
@@ -162,7 +165,8 @@ pub fn on_join_ask(parts: &mut Parts, from: Name, out: &mut OutBox) -> Outcome
     requires other { from ≢ parts.old.core.who }
     requires number { top (node_of parts.old) < most_number }
     requires empty { out.old ≡ [] }
-    ensures { Does (λ m. join_ask_row m from) (node_of parts.old) result out.new (node_of parts.new) }
+    ensures { Does (λ m. join_ask_row m from) (node_of parts.old) result out.new
+        (node_of parts.new) }
 {
     let before = parts.accepted();
     let row = at_place(parts, from);

@@ -83,7 +83,8 @@ fn number_leave(parts: &mut Parts, before: u32, from: Name, out: &mut OutBox) ->
     requires room { length parts.old.core.log.entries < parts.old.core.rules.window + 15 }
     requires number { top (node_of parts.old) < most_number }
     requires empty { out.old ≡ [] }
-    ensures { Done before (number_leave (node_of parts.old) from) result out.new (node_of parts.new) }
+    ensures { Done before (number_leave (node_of parts.old) from) result out.new
+        (node_of parts.new) }
 {
     let _before = parts.accepted();
     let number = next_number(parts);
@@ -100,7 +101,8 @@ fn number_leave(parts: &mut Parts, before: u32, from: Name, out: &mut OutBox) ->
 #[tactic(auto, using(am_model::proofs::Letters::one_more))]
 fn leave_again(parts: &mut Parts, before: u32, from: Name, out: &mut OutBox) -> Outcome
     requires { out.old ≡ [] }
-    ensures { Done before (leave_again (node_of parts.old) from) result out.new (node_of parts.new) }
+    ensures { Done before (leave_again (node_of parts.old) from) result out.new
+        (node_of parts.new) }
 {
     let _before = parts.accepted();
     let row = row(parts, from);
@@ -120,7 +122,8 @@ fn asks_to_leave(parts: &mut Parts, before: u32, from: Name, out: &mut OutBox) -
     requires other { from ≢ parts.old.core.who }
     requires number { top (node_of parts.old) < most_number }
     requires empty { out.old ≡ [] }
-    ensures { Done before (asks_to_leave (node_of parts.old) from) result out.new (node_of parts.new) }
+    ensures { Done before (asks_to_leave (node_of parts.old) from) result out.new
+        (node_of parts.new) }
 {
     let row = row(parts, from);
     if 0 < row.left {
@@ -148,7 +151,8 @@ pub fn on_leave_ask(
     requires other { from ≢ parts.old.core.who }
     requires number { top (node_of parts.old) < most_number }
     requires empty { out.old ≡ [] }
-    ensures { Does (λ m. leave_ask_row m from stamp report) (node_of parts.old) result out.new (node_of parts.new) }
+    ensures { Does (λ m. leave_ask_row m from stamp report) (node_of parts.old) result out.new
+        (node_of parts.new) }
 {
     let before = parts.accepted();
     if is_unknown(parts, from) {

@@ -94,7 +94,8 @@ fn finish_fetching(
     out: &mut OutBox,
 ) -> Outcome
     requires { out.old ≡ [] }
-    ensures { Done before (telling (node_of parts.old) answer (only_name to) fetch_of) result out.new (node_of parts.new) }
+    ensures { Done before (telling (node_of parts.old) answer (only_name to) fetch_of) result
+        out.new (node_of parts.new) }
 {
     let _before = parts.accepted();
     parts.end();
@@ -121,7 +122,8 @@ fn ask_on(
     out: &mut OutBox,
 ) -> Outcome
     requires { out.old ≡ [] }
-    ensures { Done before (welcomed (node_of parts.old) from stamp join) result out.new (node_of parts.new) }
+    ensures { Done before (welcomed (node_of parts.old) from stamp join) result out.new
+        (node_of parts.new) }
 {
     let answer = Outcome::Welcomed { number: join };
     if has_view(parts, stamp) {
@@ -142,13 +144,15 @@ pub fn on_welcome(
     image: &Image,
     out: &mut OutBox,
 ) -> Outcome
-    requires hears { (is_member (node_of parts.old).status || is_asking (node_of parts.old).status) ≡ true }
+    requires hears { (is_member (node_of parts.old).status || is_asking (node_of parts.old).status)
+        ≡ true }
     requires other { stamp.by ≢ parts.old.core.who }
     requires stamp { IsStamp stamp }
     requires base { IsNumber base }
     requires image { IsImage image.now }
     requires empty { out.old ≡ [] }
-    ensures { Does (λ m. welcome_row m from stamp base join image.now) (node_of parts.old) result out.new (node_of parts.new) }
+    ensures { Does (λ m. welcome_row m from stamp base join image.now)
+        (node_of parts.old) result out.new (node_of parts.new) }
 {
     let before = parts.accepted();
     if is_member(parts) {

@@ -1,5 +1,6 @@
 -- What ballots add to the numbers that grow: one round where one begins, one entry where one is decided.
-use Rattle.std.proofs.Common.{◌≡◌, ℕ, ◌+◌, ◌≤◌, ◌==◌, nat_lt, max, min, Bool, true, false, if◌then◌else◌, List, Option, Some, None, option_map, unwrap_or, refl, ap, arith}
+use Rattle.std.proofs.Common.{◌≡◌, ℕ, ◌+◌, ◌≤◌, ◌==◌, nat_lt, max, min, Bool, true, false, if◌then◌else◌, List, Option, Some, None, option_map, unwrap_or, refl}
+use Rattle.std.proofs.Common.{ap, arith}
 use Rattle.am_base.specs.declared.image.Vote.{Vote}
 use Rattle.am_base.specs.declared.entry.Entry.TheVariants.{View}
 use Rattle.am_base.specs.declared.outcome.Outcome.{Outcome}
@@ -8,7 +9,8 @@ use Rattle.am_base.specs.Names.{names_of}
 use Rattle.am_fronts.specs.Reports as reports
 use Rattle.am_fronts.specs.Reports.{least_of}
 use Rattle.am_model.specs.Node.{Node, Ballot, top, told, pushed}
-use Rattle.am_model.specs.Ballots.{Verdict, promised, taken_by, goes_on, ends as ended, decide_view, trimmed_for, restarted, decide, next_stamp, new_ballot, begin, with_vote, keep_vote, without_voter, give_up}
+use Rattle.am_model.specs.Ballots.{Verdict, promised, taken_by, goes_on, ends as ended, decide_view, trimmed_for, restarted, decide, next_stamp, new_ballot}
+use Rattle.am_model.specs.Ballots.{begin, with_vote, keep_vote, without_voter, give_up}
 use Rattle.am_model.specs.Calls.{give_up_of, give_up_row, reset_row}
 use Rattle.am_model.proofs.Greatest.{split}
 use Rattle.am_laws.specs.Packets.{Bounds, up}
@@ -84,25 +86,31 @@ or_nought g None h = omega arith
 or_nought g (Some x) h = h x refl
 
 -- a View, where nothing is accepted that the group hasn't
-comes_view : (most : Bounds) (g : ℕ) (m : Node) (b : Ballot) (names : List ℕ) → top m ≤ most.lists → VotesKnown g (Some b) → Behind g m → Low (up most) g m → Comes most g (decide_view m b names)
+comes_view : (most : Bounds) (g : ℕ) (m : Node) (b : Ballot) (names : List ℕ) → top m ≤ most.lists → VotesKnown g (Some b) → Behind g m → Low (up most) g m
+    → Comes most g (decide_view m b names)
 comes_view most g m b names low votes k h =
     let e = View b.stamp names (max b.resilience (told m).resilience) in
     let n = low_viewed (up most) g m e (omega arith) k h in
     let over : Comes most g (ended m b (said.Crowded m.core.base (top m))) = comes_over most g m b (said.Crowded m.core.base (top m)) votes h in
-    let done : Comes most g (ended (restarted (pushed m e)) b (said.Decided (top m + 1) names)) = comes_over most g (restarted (pushed m e)) b (said.Decided (top m + 1) names) votes (with_restart (up most) g (pushed m e) n) in
+    let done : Comes most g (ended (restarted (pushed m e)) b (said.Decided (top m + 1) names)) =
+    comes_over most g (restarted (pushed m e)) b (said.Decided (top m + 1) names) votes (with_restart (up most) g (pushed m e) n) in
     search (comes_if, over, done)
 
-comes_trimmed : (most : Bounds) (g : ℕ) (m : Node) (b : Ballot) (names : List ℕ) → top m ≤ most.lists → VotesKnown g (Some b) → Behind g m → Low (up most) g m → Comes most g (decide_view (trimmed_for m b names) b names)
+comes_trimmed : (most : Bounds) (g : ℕ) (m : Node) (b : Ballot) (names : List ℕ) → top m ≤ most.lists → VotesKnown g (Some b) → Behind g m → Low (up most) g m
+    → Comes most g (decide_view (trimmed_for m b names) b names)
 comes_trimmed most g m b names low votes k h =
     let to = unwrap_or (least_of (taken_by m.core.who m.core.taken b) (names_of names)) 0 in
-    let taken : to ≤ g = or_nought g (least_of (taken_by m.core.who m.core.taken b) (names_of names)) (λ y is. least_low g (taken_by m.core.who m.core.taken b) (names_of names) (taken_low g m b h.took votes) y is) in
+    let taken : to ≤ g = or_nought g (least_of (taken_by m.core.who m.core.taken b) (names_of names))
+    (λ y is. least_low g (taken_by m.core.who m.core.taken b) (names_of names) (taken_low g m b h.took votes) y is) in
     comes_view most g (trimmed_for m b names) b names low votes (record { told = k.told; acc = k.acc }) (low_trimmed (up most) g m to taken h)
 
-comes_decide : (most : Bounds) (g : ℕ) (m : Node) (b : Ballot) → top m ≤ most.lists → VotesKnown g (Some b) → Behind g m → Low (up most) g m → Comes most g (decide m b)
+comes_decide : (most : Bounds) (g : ℕ) (m : Node) (b : Ballot) → top m ≤ most.lists → VotesKnown g (Some b) → Behind g m → Low (up most) g m
+    → Comes most g (decide m b)
 unfolding decide
 comes_decide most g m b low votes k h = search (comes_if, comes_on, comes_over, comes_trimmed)
 
-low_decide : (most : Bounds) (g : ℕ) (m : Node) (b : Ballot) → top m ≤ most.lists → VotesKnown g (Some b) → Behind g m → Low (up most) g m → Low (up most) g (decide m b).node
+low_decide : (most : Bounds) (g : ℕ) (m : Node) (b : Ballot) → top m ≤ most.lists → VotesKnown g (Some b) → Behind g m → Low (up most) g m
+    → Low (up most) g (decide m b).node
 low_decide most g m b low votes k h = (comes_decide most g m b low votes k h).node
 
 -- of a node that has no more yet
@@ -118,7 +126,8 @@ ends_begin most g m least resilience k h =
     let low = h.rounds in
     let n = low_promised (up most) g m stamp (omega arith) (low_more most g m h) in
     let votes : VotesKnown g (Some (new_ballot stamp least (min resilience 15))) = λ name vote is. absurd (cc) in
-    ends_next most g _ (low_decide most g (promised m stamp) (new_ballot stamp least (min resilience 15)) h.entries votes (record { told = k.told; acc = k.acc }) n)
+    ends_next most g _ (low_decide most g (promised m stamp) (new_ballot stamp least (min resilience 15)) h.entries votes
+    (record { told = k.told; acc = k.acc }) n)
 
 -- the votes with one more, or without one
 votes_more : (g : ℕ) (b : Ballot) (name : ℕ) (vote : Vote) → vote.taken ≤ g → VotesKnown g (Some b) → VotesKnown g (Some (with_vote b name vote))
@@ -131,7 +140,8 @@ votes_less g b name h other x is = split (other == name)
     (λ t. let now = rw t at is in absurd (cc))
     (λ f. h other x (rw f at is))
 
-pub ends_keep_vote : (most : Bounds) (g : ℕ) (m : Node) (b : Ballot) (name : ℕ) (vote : Vote) → vote.taken ≤ g → VotesKnown g (Some b) → Behind g m → Low most g m → Ends most g (keep_vote m b name vote)
+pub ends_keep_vote : (most : Bounds) (g : ℕ) (m : Node) (b : Ballot) (name : ℕ) (vote : Vote) → vote.taken ≤ g → VotesKnown g (Some b) → Behind g m
+    → Low most g m → Ends most g (keep_vote m b name vote)
 unfolding keep_vote
 ends_keep_vote most g m b name vote low votes k h = ends_next most g _ (low_look most g m (with_vote b name vote) (votes_more g b name vote low votes) k h)
 
@@ -143,7 +153,8 @@ pub ends_reset : (most : Bounds) (g : ℕ) (m : Node) (least resilience : ℕ) �
 unfolding reset_row
 ends_reset most g m least resilience k h = search (plans, ends_begin)
 
-ends_give_up_of : (most : Bounds) (g : ℕ) (m : Node) (name : ℕ) (b : Option Ballot) → VotesKnown g b → Behind g m → Low most g m → Ends most g (give_up_of m name b)
+ends_give_up_of : (most : Bounds) (g : ℕ) (m : Node) (name : ℕ) (b : Option Ballot) → VotesKnown g b → Behind g m → Low most g m
+    → Ends most g (give_up_of m name b)
 ends_give_up_of most g m name None votes k h = search plans
 ends_give_up_of most g m name (Some b) votes k h =
     let l = ends_give_up most g m b name votes k h in

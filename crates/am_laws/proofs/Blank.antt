@@ -14,7 +14,9 @@ use Rattle.am_model.specs.Group.{has_log}
 use Rattle.am_model.specs.World.{World, start, first_node, unchanged, stepped, run}
 use Rattle.am_model.proofs.Greatest.{split}
 use Rattle.am_effects.specs.Causes.{Cause}
-use Rattle.am_effects.specs.Changes.{Change, refreshes, settles, takes_report, admits, numbers, keeps_body, notes, stores, begins_list, departs, promises, opens, looks, fetches, stores_view, queues, collects, takes, asks_to_join, asks_to_leave, closes, Changes, unchanged as no_change, changed}
+use Rattle.am_effects.specs.Changes.{Change, refreshes, settles, takes_report, admits, numbers, keeps_body, notes, stores, begins_list, departs, promises}
+use Rattle.am_effects.specs.Changes.{opens, looks, fetches, stores_view, queues, collects, takes, asks_to_join, asks_to_leave, closes, Changes}
+use Rattle.am_effects.specs.Changes.{unchanged as no_change, changed}
 use Rattle.am_effects.specs.Events.{actor, idles, stops, returns, steps}
 use Rattle.am_effects.specs.Looks.{Looks, finds_itself_out, waits, fetches_from_best, finds_too_few, finds_no_room, decides}
 use Rattle.am_effects.proofs.Rests.{rests_refresh, settle_is}
@@ -110,7 +112,8 @@ each_blank rules w e v (steps c s runs cause effect) h =
     let name = actor w e in
     let few = few_names rules w e h.views.named in
     let kept = h.views.each name few in
-    let one : Blanked s.node = changes_blank (w.nodes name) s.node (heard_names rules w e c h.views cause) effect.changes kept.names kept.balloted (h.each name few) in
+    let one : Blanked s.node = changes_blank (w.nodes name) s.node (heard_names rules w e c h.views cause) effect.changes kept.names kept.balloted
+    (h.each name few) in
     record {
       views = each_views rules w e v (steps c s runs cause effect) h.views;
       each = λ other low. split (other == name) (λ t. rw t one) (λ f. rw f (h.each other low));
@@ -127,7 +130,8 @@ none_in log is = ap top_of is
 pub blank_holds : BlankHolds
 blank_holds rules events name may few none =
     let w = run rules events in
-    let h = runs_keep (AllBlank rules) (each_blank rules) (start rules) events (record { views = views_start rules may; each = λ other low. first_blank rules other }) in
+    let h = runs_keep (AllBlank rules) (each_blank rules) (start rules) events
+    (record { views = views_start rules may; each = λ other low. first_blank rules other }) in
     let k = h.each name few none in
     let n = (numbers_hold rules events).each name in
     let given = n.given in

@@ -1,5 +1,6 @@
 -- What the calls and the tick add to the numbers that grow.
-use Rattle.std.proofs.Common.{◌≡◌, ℕ, ◌+◌, ◌<◌, ◌≤◌, ◌==◌, ◌||◌, nat_lt, not, Bool, true, false, List, [], ◌∷◌, find, filter, Option, Some, None, refl, arith, length-append}
+use Rattle.std.proofs.Common.{◌≡◌, ℕ, ◌+◌, ◌<◌, ◌≤◌, ◌==◌, ◌||◌, nat_lt, not, Bool, true, false, List, [], ◌∷◌, find, filter, Option, Some, None, refl, arith}
+use Rattle.std.proofs.Common.{length-append}
 use Rattle.std.proofs.lemmas.Bool.Decides.{nat_tests}
 use Rattle.am_base.specs.declared.entry.Entry.{Entry}
 use Rattle.am_base.specs.declared.entry.Entry.TheVariants.{Data, Leave}
@@ -13,7 +14,8 @@ use Rattle.am_model.specs.declared.status.Status.{Status}
 use Rattle.am_model.specs.declared.status.Status.TheVariants as status
 use Rattle.am_model.specs.Node.{Node, Ballot, top, pushed, waiting, unsettled}
 use Rattle.am_model.specs.Emit.{Plan, quiet}
-use Rattle.am_model.specs.Calls.{number_send, emit, queued, queue, given, join_by, state_by, go, is_unfinished, leave_now, leave_by, ask_of, send_row, done_row, take_row, join_row, state_row, leave_row, ask_row}
+use Rattle.am_model.specs.Calls.{number_send, emit, queued, queue, given, join_by, state_by, go, is_unfinished, leave_now, leave_by, ask_of, send_row, done_row}
+use Rattle.am_model.specs.Calls.{take_row, join_row, state_row, leave_row, ask_row}
 use Rattle.am_model.specs.Receiving.{is_view}
 use Rattle.am_model.specs.Ticks.{tick_ballot, tick_member, put_off, and_result, tick_sequencer, tick_acting, tick_with, tick_by, tick_row}
 use Rattle.am_model.proofs.Greatest.{split}
@@ -31,7 +33,23 @@ ends_queued most g m (Some s) o low h =
   where
     low_sent : (most : Bounds) (g : ℕ) (m : Node) (e : Entry) → is_view e ≡ false → top m ≤ most.lists → Low (up most) g m → Low (up most) g (pushed m e)
     low_sent most g m e other low h = let p = low_pushed (up most) g m e other h in
-        record { entries = simp length-append (omega arith); rounds = h.rounds; sends = h.sends; quits = h.quits; given = h.given; accepted = p.accepted; kept = h.kept; listed = h.listed; began = h.began; took = h.took; trims = h.trims; reported = h.reported; votes = h.votes; known = p.known }
+        record {
+          entries = simp length-append (omega arith);
+          rounds = h.rounds;
+          sends = h.sends;
+          quits = h.quits;
+          given = h.given;
+          accepted = p.accepted;
+          kept =
+              h.kept;
+          listed = h.listed;
+          began = h.began;
+          took = h.took;
+          trims = h.trims;
+          reported = h.reported;
+          votes = h.votes;
+          known = p.known;
+        }
 
 ends_emit : (most : Bounds) (g : ℕ) (m : Node) (w : Option OwnSend) (o : Outcome) → Low most g m → Ends most g (emit m w o)
 ends_emit most g m None o h = ends_at most g _ h
@@ -78,7 +96,8 @@ fewer_wait test (s ∷ queue) h = split (own.is_unsettled s)
     (λ t. absurd (let x = rw t at h in cc))
     (λ f. let rest = fewer_wait test queue (rw f at h) in split (test s) (λ t. rw (t, f) rest) (λ g. rw g rest))
 
-collect_waits : (last : ℕ) (queue : List OwnSend) (req : ℕ) → find own.is_unsettled queue ≡ None → own.waiting (own.collect req (record { last = last; queue = queue })) ≡ None
+collect_waits : (last : ℕ) (queue : List OwnSend) (req : ℕ) → find own.is_unsettled queue ≡ None
+    → own.waiting (own.collect req (record { last = last; queue = queue })) ≡ None
 collect_waits last queue req h = split (own.is_settled req (record { last = last; queue = queue }))
     (λ t. rw t (fewer_wait (λ send. not (own.is_request req send)) queue h))
     (λ f. rw f h)
@@ -130,7 +149,8 @@ ends_given most g m (Some e) more k h =
 pub ends_take : (most : Bounds) (g : ℕ) (m : Node) → Behind g m → Low most g m → Ends most g (take_row m)
 unfolding take_row
 ends_take most g m k h =
-    let l : (m.core.taken == m.core.acc) ≡ false → Ends most g (given m (entry_at m.core.log (m.core.taken + 1))) = λ f. ends_given most g m (entry_at m.core.log (m.core.taken + 1)) f k h in
+    let l : (m.core.taken == m.core.acc) ≡ false → Ends most g (given m (entry_at m.core.log (m.core.taken + 1))) =
+    λ f. ends_given most g m (entry_at m.core.log (m.core.taken + 1)) f k h in
     search (ends, l)
 
 -- ---- joining and leaving

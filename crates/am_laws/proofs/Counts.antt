@@ -1,5 +1,6 @@
 -- How high the numbers of a node are: what a step raises by one at most, and what stays within what the group has accepted.
-use Rattle.std.proofs.Common.{◌≡◌, ◌⊎◌, inl, inr, ⊎_elim, ℕ, ◌+◌, ◌-◌, ◌<◌, ◌≤◌, ◌==◌, max, min, Bool, true, false, not, ◌&&◌, nat_le, nat_lt, if◌then◌else◌, List, [], ◌∷◌, find, Option, Some, None, refl, sym, ap, ◌∙◌, subst, arith, length-append}
+use Rattle.std.proofs.Common.{◌≡◌, ◌⊎◌, inl, inr, ⊎_elim, ℕ, ◌+◌, ◌-◌, ◌<◌, ◌≤◌, ◌==◌, max, min, Bool, true, false, not, ◌&&◌, nat_le, nat_lt, if◌then◌else◌}
+use Rattle.std.proofs.Common.{List, [], ◌∷◌, find, Option, Some, None, refl, sym, ap, ◌∙◌, subst, arith, length-append}
 use Rattle.std.proofs.lemmas.Bool.Decides.{nat_tests}
 use Rattle.std.specs.List.{count_by}
 use Rattle.std.proofs.lemmas.List.Sums.{sum_by-cons}
@@ -36,7 +37,8 @@ abbrev pub IsKnown : ℕ → ℕ → ℕ → Bool → Type 0
 IsKnown g told acc leads = ((told ≤ g) × (acc ≤ g)) ⊎ ((leads ≡ true) × (told ≤ max g acc))
 
 -- By the parts of a node, where a list has at most b entries, and the group has accepted g.
-pub record IsLow (b : Bounds) (g : ℕ) (first high round last told acc taken base start : ℕ) (leaving : Bool) (next : Option OwnSend) (reports : ℕ → Report) (ballot : Option Ballot) (leads : Bool) : Type 0 where
+pub record IsLow (b : Bounds) (g : ℕ) (first high round last told acc taken base start : ℕ) (leaving : Bool) (next : Option OwnSend) (reports : ℕ
+    → Report) (ballot : Option Ballot) (leads : Bool) : Type 0 where
   pub entries : high ≤ b.lists
   pub rounds : round ≤ b.rounds
   pub sends : last ≤ b.requests
@@ -57,7 +59,8 @@ abbrev pub leads : Node → Bool
 leads m = (view m).by == m.core.who
 
 abbrev pub Low : Bounds → ℕ → Node → Type 0
-Low b g m = IsLow b g m.core.log.start (top m) m.core.promise.round m.sends.last m.core.told m.core.acc m.core.taken m.core.base m.core.start m.leaving (waiting m) m.reports m.ballot (leads m)
+Low b g m = IsLow b g m.core.log.start (top m) m.core.promise.round m.sends.last m.core.told m.core.acc m.core.taken m.core.base m.core.start m.leaving
+    (waiting m) m.reports m.ballot (leads m)
 
 -- what it has accepted the group has accepted
 pub record Behind (g : ℕ) (m : Node) : Type 0 where
@@ -143,7 +146,8 @@ pub low_any : (b : Bounds) (g : ℕ) (m : Node) (e : Entry) → Behind g m → L
 low_any b g m e k h = let f = h.entries in low_viewed (up b) g m e (omega arith) k (low_more b g m h)
 
 -- an entry of a number that was there before
-pub low_within : (b : Bounds) (g : ℕ) (m : Node) (number : ℕ) (e : Entry) → nat_le number (top m) ≡ false → number ≤ b.lists → Behind g m → Low b g m → Low b g (pushed m e)
+pub low_within : (b : Bounds) (g : ℕ) (m : Node) (number : ℕ) (e : Entry) → nat_le number (top m) ≡ false → number ≤ b.lists → Behind g m → Low b g m
+    → Low b g (pushed m e)
 low_within b g m number e above low k h =
     let t : top m < number = grind (arith, nat_tests) in
     low_viewed b g m e (omega arith) k h
@@ -201,10 +205,12 @@ none_left : (queue : List OwnSend) → count_by is_unsettled queue ≡ 0 → fin
 none_left [] h = refl
 none_left (s ∷ queue) h = split (is_unsettled s)
     (λ t.
-    let e : count_by is_unsettled (s ∷ queue) ≡ 1 + count_by is_unsettled queue = unsettled_cons s queue ∙ ap (λ (b : Bool). (if b then 1 else 0) + count_by is_unsettled queue) t in
+    let e : count_by is_unsettled (s ∷ queue) ≡ 1 + count_by is_unsettled queue = unsettled_cons s queue
+    ∙ ap (λ (b : Bool). (if b then 1 else 0) + count_by is_unsettled queue) t in
     absurd (omega arith))
     (λ f.
-    let e : count_by is_unsettled (s ∷ queue) ≡ 0 + count_by is_unsettled queue = unsettled_cons s queue ∙ ap (λ (b : Bool). (if b then 1 else 0) + count_by is_unsettled queue) f in
+    let e : count_by is_unsettled (s ∷ queue) ≡ 0 + count_by is_unsettled queue = unsettled_cons s queue
+    ∙ ap (λ (b : Bool). (if b then 1 else 0) + count_by is_unsettled queue) f in
     rw f (none_left queue (omega arith)))
 
 pub none_waits : (m : Node) → unsettled m ≡ 0 → waiting m ≡ None
@@ -213,7 +219,8 @@ none_waits m h = none_left m.sends.queue h
 -- ---- reports
 
 -- one name's report more
-pub reported_more : (g : ℕ) (reports : ℕ → Report) (who : ℕ) (report : Report) → report.taken ≤ g → ((name : ℕ) → (reports name).taken ≤ g) → (name : ℕ) → (if name == who then record { stored = max (reports who).stored report.stored; taken = max (reports who).taken report.taken } else reports name).taken ≤ g
+pub reported_more : (g : ℕ) (reports : ℕ → Report) (who : ℕ) (report : Report) → report.taken ≤ g → ((name : ℕ) → (reports name).taken ≤ g) → (name : ℕ)
+    → (if name == who then record { stored = max (reports who).stored report.stored; taken = max (reports who).taken report.taken } else reports name).taken ≤ g
 reported_more g reports who report low h name = split (name == who)
     (λ t. rw t (let old = h who in omega arith))
     (λ f. rw f (h name))

@@ -34,11 +34,13 @@ more_unchanged : (b : Bounds) (g name : ℕ) (w : World) (e : Event) (o : Outcom
 unfolding unchanged
 more_unchanged b g name w e o h = record { node = low_more b g (w.nodes name) h }
 
-more_stops : (b : Bounds) (g name : ℕ) (w : World) (e : Event) (o : Outcome) (stopped : List ℕ) → Low b g (w.nodes name) → OneMore b g name (unchanged (record w { stopped = stopped }) e o)
+more_stops : (b : Bounds) (g name : ℕ) (w : World) (e : Event) (o : Outcome) (stopped : List ℕ) → Low b g (w.nodes name)
+    → OneMore b g name (unchanged (record w { stopped = stopped }) e o)
 unfolding unchanged
 more_stops b g name w e o stopped h = record { node = low_more b g (w.nodes name) h }
 
-more_lives : (b : Bounds) (g name : ℕ) (w : World) (e : Event) (o : Outcome) (place : ℕ) → Low b g (w.nodes name) → OneMore b g name (lives_on (unchanged w e o) place)
+more_lives : (b : Bounds) (g name : ℕ) (w : World) (e : Event) (o : Outcome) (place : ℕ) → Low b g (w.nodes name)
+    → OneMore b g name (lives_on (unchanged w e o) place)
 unfolding unchanged
 more_lives b g name w e o place h = record { node = low_more b g (w.nodes name) h }
 
@@ -51,7 +53,8 @@ more_stepped b g name w e s h = record { node = rw (is_itself name) h }
 
 ruleset mores = (more_if, more_unchanged, more_stops, more_lives)
 
-more_event : (b : Bounds) (g name : ℕ) (w : World) (e : Event) (event : NodeEvent) → IsDone event → Behind g (w.nodes name) → Low b g (w.nodes name) → OneMore b g name (stepped w e name (step (w.nodes name) event))
+more_event : (b : Bounds) (g name : ℕ) (w : World) (e : Event) (event : NodeEvent) → IsDone event → Behind g (w.nodes name) → Low b g (w.nodes name)
+    → OneMore b g name (stepped w e name (step (w.nodes name) event))
 more_event b g name w e event d k h = more_stepped b g name w e (step (w.nodes name) event) (low_step b g (w.nodes name) event d k h)
 
 low_cut : (b : Bounds) (g : ℕ) (m : Node) (keep : ℕ) (p : Packet) → UpTo b g p → Behind g m → Low b g m → Low (up b) g (hear_cut m keep p).node
@@ -62,7 +65,8 @@ low_cut b g m keep p u k h = one (nat_le (packet_length p) keep) (nat_lt keep 12
     one false true = low_refused b g m 1 h
     one false false = low_refused b g m 5 h
 
-more_heard : (b : Bounds) (g name : ℕ) (w : World) (e : Event) (hearing : Packet → Step) (l : Option Letter) → Low b g (w.nodes name) → ((letter : Letter) → l ≡ Some letter → Low (up b) g (hearing letter.packet).node) → OneMore b g name (heard w e name hearing l)
+more_heard : (b : Bounds) (g name : ℕ) (w : World) (e : Event) (hearing : Packet → Step) (l : Option Letter) → Low b g (w.nodes name)
+    → ((letter : Letter) → l ≡ Some letter → Low (up b) g (hearing letter.packet).node) → OneMore b g name (heard w e name hearing l)
 more_heard b g name w e hearing None h k = search mores
 more_heard b g name w e hearing (Some l) h k =
     more_if b g name (not (is_for l name)) _ _ (more_unchanged b g name w e said.NotAddressed h)
@@ -71,7 +75,9 @@ more_heard b g name w e hearing (Some l) h k =
 unit : Unit {0}
 unit = tt
 
-more_acts : (b : Bounds) (g name : ℕ) (w : World) (e : Event) (a : Act) → ((letter : Letter) → letter_at w.letters (heard_by a) ≡ Some letter → UpTo b g letter.packet) → Behind g (w.nodes name) → Low b g (w.nodes name) → OneMore b g name (acts_as w e name a)
+more_acts : (b : Bounds) (g name : ℕ) (w : World) (e : Event) (a : Act)
+    → ((letter : Letter) → letter_at w.letters (heard_by a) ≡ Some letter → UpTo b g letter.packet) → Behind g (w.nodes name) → Low b g (w.nodes name)
+    → OneMore b g name (acts_as w e name a)
 more_acts b g name w e (act.Send body) u k h = search (mores, more_event, unit)
 more_acts b g name w e (act.Done req) u k h = search (mores, more_event, unit)
 more_acts b g name w e act.Take u k h = search (mores, more_event, unit)
@@ -86,10 +92,12 @@ more_acts b g name w e act.Tick u k h = search (mores, more_event, unit)
 more_acts b g name w e (act.Hear number) u k h =
     more_heard b g name w e (hear (w.nodes name)) (letter_at w.letters number) h (λ letter is. low_hear b g (w.nodes name) letter.packet (u letter is) k h)
 more_acts b g name w e (act.Cut number keep) u k h =
-    more_heard b g name w e (hear_cut (w.nodes name) keep) (letter_at w.letters number) h (λ letter is. low_cut b g (w.nodes name) keep letter.packet (u letter is) k h)
+    more_heard b g name w e (hear_cut (w.nodes name) keep) (letter_at w.letters number) h
+    (λ letter is. low_cut b g (w.nodes name) keep letter.packet (u letter is) k h)
 more_acts b g name w e act.Return u k h = search mores
 
 -- whatever the bounds are that the node and the letter that it hears are within
-pub actor_low : (b : Bounds) (g : ℕ) (w : World) (e : Event) → ((letter : Letter) → letter_at w.letters (heard_by e.act) ≡ Some letter → UpTo b g letter.packet) → Behind g (w.nodes (actor w e)) → Low b g (w.nodes (actor w e)) → Low (up b) g ((happens w e).nodes (actor w e))
+pub actor_low : (b : Bounds) (g : ℕ) (w : World) (e : Event) → ((letter : Letter) → letter_at w.letters (heard_by e.act) ≡ Some letter → UpTo b g letter.packet)
+    → Behind g (w.nodes (actor w e)) → Low b g (w.nodes (actor w e)) → Low (up b) g ((happens w e).nodes (actor w e))
 unfolding happens
 actor_low b g w e u k h = (more_acts b g (actor w e) w e e.act u k h).node

@@ -6,7 +6,8 @@ use Rattle.am_base.specs.Names.{place_of, life_of, name_at, has, size, names_fro
 use Rattle.am_model.specs.Node.{lowest_or_first}
 
 -- the first name of a set that isn't empty, whose places count from one on
-first_is : (p : ℕ) (set : List ℕ) → 0 < size set → (k : ℕ) × (k < length set) × (0 < get_or set k 0) × (first_of (names_from p set) ≡ Some (name_at (p + k) (get_or set k 0)))
+first_is : (p : ℕ) (set : List ℕ) → 0 < size set → (k : ℕ) × (k < length set) × (0 < get_or set k 0)
+    × (first_of (names_from p set) ≡ Some (name_at (p + k) (get_or set k 0)))
 first_is p [] some = absurd (omega arith)
 first_is p (zero ∷ lives) some =
     let h = first_is (p + 1) lives some in
@@ -30,5 +31,6 @@ first_founder rules may =
     let is : lowest_or_first rules.founders ≡ h.0 = ap (λ o. unwrap_or o 0) (h.3 ∙ ap (λ l. Some (name_at (0 + h.0) l)) one) ∙ name in
     let place : place_of h.0 ≡ h.0 = omega arith in
     let mine : life_of h.0 ≡ 1 = omega arith in
-    let there : (get_or rules.founders (place_of h.0) 0 == life_of h.0) ≡ true = let e = ap (λ k. get_or rules.founders k 0) place ∙ one ∙ sym mine in grind (arith, nat_tests) in
+    let there : (get_or rules.founders (place_of h.0) 0 == life_of h.0) ≡ true = let e = ap (λ k. get_or rules.founders k 0) place ∙ one ∙ sym mine in
+    grind (arith, nat_tests) in
     record { few = omega arith; founds = subst (λ n. has rules.founders n ≡ true) (sym is) there }

@@ -19,8 +19,10 @@ use Rattle.am_model.specs.Refresh.{refresh, refresh_at_end}
 use Rattle.am_model.specs.World.{World, start, current, is_stopped, unchanged, stepped, run}
 use Rattle.am_model.proofs.Greatest.{split}
 use Rattle.am_effects.specs.Causes.{Cause, calls}
-use Rattle.am_effects.specs.Looks.{HasOpen, Balloting, with_more, without_one, as_it_is, Looks, finds_itself_out, waits, fetches_from_best, finds_too_few, finds_no_room, decides}
-use Rattle.am_effects.specs.Changes.{Change, refreshes, settles, takes_report, admits, numbers, keeps_body, notes, stores, begins_list, departs, promises, opens, looks, fetches, stores_view, queues, collects, takes, asks_to_join, asks_to_leave, closes}
+use Rattle.am_effects.specs.Looks.{HasOpen, Balloting, with_more, without_one, as_it_is, Looks, finds_itself_out, waits, fetches_from_best, finds_too_few}
+use Rattle.am_effects.specs.Looks.{finds_no_room, decides}
+use Rattle.am_effects.specs.Changes.{Change, refreshes, settles, takes_report, admits, numbers, keeps_body, notes, stores, begins_list, departs, promises}
+use Rattle.am_effects.specs.Changes.{opens, looks, fetches, stores_view, queues, collects, takes, asks_to_join, asks_to_leave, closes}
 use Rattle.am_effects.specs.Events.{actor, IsCall, IsCause, Happens, idles, stops, returns, steps}
 use Rattle.am_effects.specs.Events as event
 use Rattle.am_effects.proofs.Rests.{rests_refresh, rests_at_end, settle_is}
@@ -85,7 +87,8 @@ change_gives S called m n (collects req is) h = h
 change_gives S called m n (takes e is o member some there) h = h
 change_gives S called m n (asks_to_join is was) h = h
 change_gives S called m n (asks_to_leave is was stays done) h = h
-change_gives S called m n (closes leads leaves alone room) h = same_ballot S m (refresh_at_end (pushed m (Leave m.core.who))) (rests_at_end (pushed m (Leave m.core.who))).rests.ballot h
+change_gives S called m n (closes leads leaves alone room) h =
+    same_ballot S m (refresh_at_end (pushed m (Leave m.core.who))) (rests_at_end (pushed m (Leave m.core.who))).rests.ballot h
 
 -- ---- worlds
 
@@ -115,16 +118,21 @@ cause_stopped : (w : World) (e : Event) (c : Cause) → IsCause w (actor w e) e.
 cause_stopped w e c cause other is = call_stopped w e.act (does.GiveUp other) other refl (subst (IsCause w (actor w e) e.act) is cause)
 
 given_stopped : (w v : World) → v.nodes ≡ w.nodes → ((other : ℕ) → is_stopped w other ≡ true → is_stopped v other ≡ true) → AllGiven w → AllGiven v
-given_stopped w v nodes more h = record { each = rw nodes (λ name. weaker (λ other. is_stopped w other ≡ true) (λ other. is_stopped v other ≡ true) (w.nodes name).ballot more (h.each name)) }
+given_stopped w v nodes more h = record {
+  each = rw nodes (λ name. weaker (λ other. is_stopped w other ≡ true) (λ other. is_stopped v other
+      ≡ true) (w.nodes name).ballot more (h.each name));
+}
 
 each_gives : EachKeeps AllGiven
 unfolding unchanged stepped
 each_gives w e v (idles o idle) h = given_stopped w v refl (λ other s. s) h
 each_gives w e v (stops runs) h = given_stopped w v refl (λ other s. any_more (λ x. x == other) w.stopped _ s) h
-each_gives w e v (returns place is left more) h = given_stopped w v refl (λ other s. split (is_stopped w (current w place)) (λ t. rw t s) (λ f. rw f (any_more (λ x. x == other) w.stopped _ s))) h
+each_gives w e v (returns place is left more) h = given_stopped w v refl
+    (λ other s. split (is_stopped w (current w place)) (λ t. rw t s) (λ f. rw f (any_more (λ x. x == other) w.stopped _ s))) h
 each_gives w e v (steps c s runs cause effect) h = record {
   each = λ name. split (name == actor w e)
-      (λ t. rw t (along (NodeGives (λ other. is_stopped w other ≡ true)) (change_gives (λ other. is_stopped w other ≡ true) (cause_stopped w e c cause)) effect.changes (h.each (actor w e))))
+      (λ t. rw t (along (NodeGives (λ other. is_stopped w other ≡ true))
+      (change_gives (λ other. is_stopped w other ≡ true) (cause_stopped w e c cause)) effect.changes (h.each (actor w e))))
       (λ f. rw f (h.each name));
 }
 

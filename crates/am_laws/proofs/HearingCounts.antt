@@ -1,5 +1,6 @@
 -- What hearing adds to the numbers that grow, and a whole step.
-use Rattle.std.proofs.Common.{◌≡◌, inl, inr, ⊎_elim, ℕ, ◌≤◌, ◌==◌, ◌||◌, not, max, if◌then◌else◌, Bool, true, false, nat_le, List, [], ◌∷◌, Option, Some, None, refl, arith}
+use Rattle.std.proofs.Common.{◌≡◌, inl, inr, ⊎_elim, ℕ, ◌≤◌, ◌==◌, ◌||◌, not, max, if◌then◌else◌, Bool, true, false, nat_le, List, [], ◌∷◌, Option, Some, None}
+use Rattle.std.proofs.Common.{refl, arith}
 use Rattle.std.specs.Prelude.{All}
 use Rattle.std.proofs.lemmas.Bool.Decides.{nat_tests}
 use Rattle.std.proofs.lemmas.List.Elements.{All-head, All-tail}
@@ -24,13 +25,15 @@ use Rattle.am_model.specs.Sequencing.{reported, number_data, requested, request_
 use Rattle.am_model.specs.Receiving.{spread_row, is_view, stored, store, noted, received, bcast_row, data_of, body_of, order_row, accept_row, held_up, hold_row}
 use Rattle.am_model.specs.Joining.{admitted, number_join, asks_to_join, join_ask_row, begun, welcome_row, asks_to_leave, leave_ask_row, gone_row}
 use Rattle.am_model.specs.Ballots.{promised}
-use Rattle.am_model.specs.Resets.{invite_row, voted_for, vote_row, fetch_row, fetched, caught_up, fetched_for, piece_promised, piece_for, piece_row, hears_result, result_row, hand_over_row}
+use Rattle.am_model.specs.Resets.{invite_row, voted_for, vote_row, fetch_row, fetched, caught_up, fetched_for, piece_promised, piece_for, piece_row}
+use Rattle.am_model.specs.Resets.{hears_result, result_row, hand_over_row}
 use Rattle.am_model.specs.Hearing.{hear_row}
 use Rattle.am_model.specs.Step.{row, step, hear, refused, refuse}
 use Rattle.am_model.proofs.Greatest.{split}
 use Rattle.am_effects.proofs.Tests.{or_first}
 use Rattle.am_laws.specs.Packets.{Bounds, up, UpTo}
-use Rattle.am_laws.proofs.Counts.{IsKnown, VotesKnown, leads, Low, Behind, low_pushed, low_any, low_within, low_trimmed, low_report, low_promised, low_refresh, Ends, ends_if, ends_at, ends_next, ends, low_finish}
+use Rattle.am_laws.proofs.Counts.{IsKnown, VotesKnown, leads, Low, Behind, low_pushed, low_any, low_within, low_trimmed, low_report, low_promised, low_refresh}
+use Rattle.am_laws.proofs.Counts.{Ends, ends_if, ends_at, ends_next, ends, low_finish}
 use Rattle.am_laws.proofs.BallotCounts.{low_look, ends_keep_vote, ends_reset, ends_give_up_row}
 use Rattle.am_laws.proofs.CallCounts.{ends_send, ends_done, ends_take, ends_join, ends_state, ends_leave, ends_ask, ends_tick}
 
@@ -44,7 +47,8 @@ ends_requested most g m s req body by_order h =
     let k : Ends most g (number_data m s req body by_order) = ends_next most g _ (low_pushed most g m (Data s req body) refl h) in
     search (ends, k)
 
-ends_request : (most : Bounds) (g : ℕ) (m : Node) (s : ℕ) (report : Report) (req : ℕ) (body : List ℕ) (by_order : Bool) → report.taken ≤ g → Low most g m → Ends most g (request_row m s report req body by_order)
+ends_request : (most : Bounds) (g : ℕ) (m : Node) (s : ℕ) (report : Report) (req : ℕ) (body : List ℕ) (by_order : Bool) → report.taken ≤ g → Low most g m
+    → Ends most g (request_row m s report req body by_order)
 unfolding request_row
 ends_request most g m s report req body by_order taken h =
     let k = ends_requested most g (reported m s report) s req body by_order (low_reported most g m s report taken h) in
@@ -79,7 +83,8 @@ ends_store most g m s number (Some e) missing h =
     λ f. ends_next most g _ (low_pushed most g m e (or_first (is_view e) _ f) h) in
     search (ends, k)
 
-ends_received : (most : Bounds) (g : ℕ) (m : Node) (s base number : ℕ) (e : Option Entry) (missing : Outcome) → Low most g m → Ends most g (received m s base number e missing)
+ends_received : (most : Bounds) (g : ℕ) (m : Node) (s base number : ℕ) (e : Option Entry) (missing : Outcome) → Low most g m
+    → Ends most g (received m s base number e missing)
 ends_received most g m s base number e missing h =
     let k = ends_store most g m s number e missing h in
     search (ends, k)
@@ -90,7 +95,8 @@ low_noted most g m base acc low h =
     let to = if nat_le base m.core.taken then base else m.core.base in
     let taken = h.took in
     let trims = h.trims in
-    let most_base : to ≤ g = split (nat_le base m.core.taken) (λ t. let b : base ≤ m.core.taken = grind (arith, nat_tests) in rw t (omega arith)) (λ f. rw f trims) in
+    let most_base : to ≤ g = split (nat_le base m.core.taken) (λ t. let b : base ≤ m.core.taken = grind (arith, nat_tests) in
+    rw t (omega arith)) (λ f. rw f trims) in
     let known : IsKnown g (max m.core.told acc) m.core.acc (leads m) = ⊎_elim
     (λ (k : (m.core.told ≤ g) × (m.core.acc ≤ g)). let t = k.0 in inl (omega arith, k.1))
     (λ (k : (leads m ≡ true) × (m.core.told ≤ max g m.core.acc)). let t = k.1 in inr (k.0, omega arith))
@@ -119,7 +125,8 @@ ends_bcast most g m s base acc number e low h = ends_received most g (noted m ba
 
 ends_order : (most : Bounds) (g : ℕ) (m : Node) (s base acc number from req : ℕ) → acc ≤ g → Low most g m → Ends most g (order_row m s base acc number from req)
 unfolding order_row
-ends_order most g m s base acc number from req low h = ends_received most g (noted m base acc) s base number (data_of from req (body_of m from req)) (said.NoBody from req) (low_noted most g m base acc low h)
+ends_order most g m s base acc number from req low h = ends_received most g (noted m base acc) s base number (data_of from req (body_of m from req))
+    (said.NoBody from req) (low_noted most g m base acc low h)
 
 ends_accept : (most : Bounds) (g : ℕ) (m : Node) (s base acc high : ℕ) (poll : Bool) → acc ≤ g → Low most g m → Ends most g (accept_row m s base acc high poll)
 unfolding accept_row
@@ -166,7 +173,8 @@ unfolding join_ask_row
 ends_join_ask most g m s h = ends_asks_to_join most g m s (at_place (told m) s) h
 
 -- the list begins with nothing above the base
-low_begun : (most : Bounds) (g : ℕ) (m : Node) (v : Stamp) (base join : ℕ) (image : Image) → v.round ≤ most.rounds → base ≤ most.lists → base ≤ g → join ≤ g → Low most g m → Low most g (begun m v base join image)
+low_begun : (most : Bounds) (g : ℕ) (m : Node) (v : Stamp) (base join : ℕ) (image : Image) → v.round ≤ most.rounds → base ≤ most.lists → base ≤ g → join ≤ g
+    → Low most g m → Low most g (begun m v base join image)
 low_begun most g m v base join image round low from start h =
     record {
       entries = omega arith;
@@ -185,7 +193,8 @@ low_begun most g m v base join image round low from start h =
       known = inl (from, from);
     }
 
-ends_welcome : (most : Bounds) (g : ℕ) (m : Node) (s : ℕ) (v : Stamp) (base join : ℕ) (image : Image) → v.round ≤ most.rounds → base ≤ most.lists → base ≤ g → join ≤ g → Low most g m → Ends most g (welcome_row m s v base join image)
+ends_welcome : (most : Bounds) (g : ℕ) (m : Node) (s : ℕ) (v : Stamp) (base join : ℕ) (image : Image) → v.round ≤ most.rounds → base ≤ most.lists → base ≤ g
+    → join ≤ g → Low most g m → Ends most g (welcome_row m s v base join image)
 unfolding welcome_row
 ends_welcome most g m s v base join image round low from start h =
     let k = low_begun most g m v base join image round low from start h in
@@ -196,7 +205,8 @@ ends_asks_to_leave most g m s h =
     let k : Low (up most) g (pushed m (Leave s)) = low_pushed most g m (Leave s) refl h in
     search (ends, ends_next, k)
 
-ends_leave_ask : (most : Bounds) (g : ℕ) (m : Node) (s : ℕ) (v : Stamp) (report : Report) → report.taken ≤ g → Low most g m → Ends most g (leave_ask_row m s v report)
+ends_leave_ask : (most : Bounds) (g : ℕ) (m : Node) (s : ℕ) (v : Stamp) (report : Report) → report.taken ≤ g → Low most g m
+    → Ends most g (leave_ask_row m s v report)
 unfolding leave_ask_row
 ends_leave_ask most g m s v report taken h =
     let k = ends_asks_to_leave most g (reported m s report) s (low_reported most g m s report taken h) in
@@ -215,13 +225,15 @@ ends_invite most g m s v round h =
     let k = low_promised most g m v round h in
     search (ends, k)
 
-ends_voted_for : (most : Bounds) (g : ℕ) (m : Node) (s : ℕ) (v : Stamp) (vote : Vote) (b : Option Ballot) → vote.taken ≤ g → VotesKnown g b → Behind g m → Low most g m → Ends most g (voted_for m s v vote b)
+ends_voted_for : (most : Bounds) (g : ℕ) (m : Node) (s : ℕ) (v : Stamp) (vote : Vote) (b : Option Ballot) → vote.taken ≤ g → VotesKnown g b → Behind g m
+    → Low most g m → Ends most g (voted_for m s v vote b)
 ends_voted_for most g m s v vote None low votes k h = search ends
 ends_voted_for most g m s v vote (Some b) low votes k h =
     let l = ends_keep_vote most g m b s vote low votes k h in
     search (ends, l)
 
-ends_vote : (most : Bounds) (g : ℕ) (m : Node) (s : ℕ) (v : Stamp) (vote : Vote) → v.round ≤ most.rounds → vote.taken ≤ g → Behind g m → Low most g m → Ends most g (vote_row m s v vote)
+ends_vote : (most : Bounds) (g : ℕ) (m : Node) (s : ℕ) (v : Stamp) (vote : Vote) → v.round ≤ most.rounds → vote.taken ≤ g → Behind g m → Low most g m
+    → Ends most g (vote_row m s v vote)
 unfolding vote_row
 ends_vote most g m s v vote round low behind h =
     let k = low_promised most g m v round h in
@@ -233,18 +245,22 @@ unfolding fetch_row
 ends_fetch most g m s v k h = search ends
 
 -- the next fetched entry is pushed: it has a number that was there before
-ends_fetched : (most : Bounds) (g : ℕ) (m : Node) (v : Stamp) (base number : ℕ) (e : Entry) (in_ballot : Bool) (then_ : Node → Plan) → number ≤ most.lists → base ≤ g → (Low most g (pushed (trimmed m base) e) → Ends most g (then_ (pushed (trimmed m base) e))) → Behind g m → Low most g m → Ends most g (fetched m v base number e in_ballot then_)
+ends_fetched : (most : Bounds) (g : ℕ) (m : Node) (v : Stamp) (base number : ℕ) (e : Entry) (in_ballot : Bool) (then_ : Node → Plan) → number ≤ most.lists
+    → base ≤ g → (Low most g (pushed (trimmed m base) e) → Ends most g (then_ (pushed (trimmed m base) e))) → Behind g m → Low most g m
+    → Ends most g (fetched m v base number e in_ballot then_)
 ends_fetched most g m v base number e in_ballot then_ low from goes k h =
     let l : nat_le number (top m) ≡ false → Ends most g (then_ (pushed (trimmed m base) e)) =
     λ f. goes (low_within most g (trimmed m base) number e f low (record { told = k.told; acc = k.acc }) (low_trimmed most g m base from h)) in
     search (ends_if, ends_at, h, l) depth 8
 
-ends_piece_promised : (most : Bounds) (g : ℕ) (m : Node) (s : ℕ) (v : Stamp) (base number : ℕ) (e : Entry) → number ≤ most.lists → base ≤ g → Behind g m → Low most g m → Ends most g (piece_promised m s v base number e)
+ends_piece_promised : (most : Bounds) (g : ℕ) (m : Node) (s : ℕ) (v : Stamp) (base number : ℕ) (e : Entry) → number ≤ most.lists → base ≤ g → Behind g m
+    → Low most g m → Ends most g (piece_promised m s v base number e)
 ends_piece_promised most g m s v base number e low from k h =
     let l = ends_fetched most g m v base number e false (caught_up s v number) low from (λ n. ends_at most g _ n) k h in
     search (ends, l)
 
-ends_piece_for : (most : Bounds) (g : ℕ) (m : Node) (s : ℕ) (v : Stamp) (base number : ℕ) (e : Entry) (b : Option Ballot) → number ≤ most.lists → base ≤ g → VotesKnown g b → Behind g m → Low most g m → Ends most g (piece_for m s v base number e b)
+ends_piece_for : (most : Bounds) (g : ℕ) (m : Node) (s : ℕ) (v : Stamp) (base number : ℕ) (e : Entry) (b : Option Ballot) → number ≤ most.lists → base ≤ g
+    → VotesKnown g b → Behind g m → Low most g m → Ends most g (piece_for m s v base number e b)
 ends_piece_for most g m s v base number e None low from votes k h = ends_piece_promised most g m s v base number e low from k h
 ends_piece_for most g m s v base number e (Some b) low from votes k h =
     let goes : Low most g (pushed (trimmed m base) e) → Ends most g (fetched_for b (pushed (trimmed m base) e)) =
@@ -253,21 +269,26 @@ ends_piece_for most g m s v base number e (Some b) low from votes k h =
     let p = ends_piece_promised most g m s v base number e low from k h in
     search (ends_if, ends_at, h, l, p)
 
-ends_piece : (most : Bounds) (g : ℕ) (m : Node) (s : ℕ) (v : Stamp) (base number : ℕ) (e : Entry) → number ≤ most.lists → base ≤ g → Behind g m → Low most g m → Ends most g (piece_row m s v base number e)
+ends_piece : (most : Bounds) (g : ℕ) (m : Node) (s : ℕ) (v : Stamp) (base number : ℕ) (e : Entry) → number ≤ most.lists → base ≤ g → Behind g m → Low most g m
+    → Ends most g (piece_row m s v base number e)
 unfolding piece_row
 ends_piece most g m s v base number e low from k h =
     let l = ends_piece_for most g m s v base number e m.ballot low from h.votes k h in
     search (ends, l)
 
-ends_hears_result : (most : Bounds) (g : ℕ) (m : Node) (s : ℕ) (v : Stamp) (base number : ℕ) (names : List ℕ) (resilience : ℕ) → base ≤ g → Behind g m → Low most g m → Ends most g (hears_result m s v base number names resilience)
+ends_hears_result : (most : Bounds) (g : ℕ) (m : Node) (s : ℕ) (v : Stamp) (base number : ℕ) (names : List ℕ) (resilience : ℕ) → base ≤ g → Behind g m
+    → Low most g m → Ends most g (hears_result m s v base number names resilience)
 ends_hears_result most g m s v base number names resilience from k h =
-    let l : Low (up most) g (pushed (trimmed m base) (View v names resilience)) = low_any most g (trimmed m base) (View v names resilience) (record { told = k.told; acc = k.acc }) (low_trimmed most g m base from h) in
+    let l : Low (up most) g (pushed (trimmed m base) (View v names resilience)) =
+    low_any most g (trimmed m base) (View v names resilience) (record { told = k.told; acc = k.acc }) (low_trimmed most g m base from h) in
     search (ends_if, ends_at, ends_next, h, l) depth 8
 
-ends_result : (most : Bounds) (g : ℕ) (m : Node) (s : ℕ) (v : Stamp) (base number : ℕ) (names : List ℕ) (resilience : ℕ) → v.round ≤ most.rounds → base ≤ g → Behind g m → Low most g m → Ends most g (result_row m s v base number names resilience)
+ends_result : (most : Bounds) (g : ℕ) (m : Node) (s : ℕ) (v : Stamp) (base number : ℕ) (names : List ℕ) (resilience : ℕ) → v.round ≤ most.rounds → base ≤ g
+    → Behind g m → Low most g m → Ends most g (result_row m s v base number names resilience)
 unfolding result_row
 ends_result most g m s v base number names resilience round from k h =
-    let l = ends_hears_result most g (promised m v) s v base number names resilience from (record { told = k.told; acc = k.acc }) (low_promised most g m v round h) in
+    let l = ends_hears_result most g (promised m v) s v base number names resilience from (record { told = k.told; acc = k.acc })
+    (low_promised most g m v round h) in
     search (ends, l)
 
 ends_hand_over : (most : Bounds) (g : ℕ) (m : Node) → Behind g m → Low most g m → Ends most g (hand_over_row m)
@@ -295,7 +316,8 @@ ends_hear most g m (packet.Nack s v report) u k h = let a = first_low g report.t
 ends_hear most g m (packet.Hold s v base high req) u k h = search (ends, ends_hold)
 ends_hear most g m (packet.JoinAsk s v) u k h = search (ends, ends_join_ask)
 ends_hear most g m (packet.Welcome s v base join image) u k h =
-    let l = ends_welcome most g m s v base join image u.round (first_low most.lists base (join ∷ []) u.numbers) (first_low g base (join ∷ []) u.accepted) (second_low g base join [] u.accepted) h in
+    let l = ends_welcome most g m s v base join image u.round (first_low most.lists base (join ∷ []) u.numbers) (first_low g base (join ∷ []) u.accepted)
+    (second_low g base join [] u.accepted) h in
     search (ends, l)
 ends_hear most g m (packet.LeaveAsk s v report) u k h = let a = first_low g report.taken [] u.accepted in search (ends, ends_leave_ask)
 ends_hear most g m (packet.Gone s v number) u k h = search (ends, ends_gone)

@@ -1,5 +1,6 @@
 -- How high the numbers are that a list tells of, and which numbers a list has.
-use Rattle.std.proofs.Common.{◌≡◌, ℕ, zero, suc, ◌+◌, ◌-◌, ◌≤◌, ◌==◌, ◌&&◌, not, nat_lt, Bool, true, false, List, [], ◌∷◌, length, take, slice_index, slice_index_or, sym, subst, arith}
+use Rattle.std.proofs.Common.{◌≡◌, ℕ, zero, suc, ◌+◌, ◌-◌, ◌≤◌, ◌==◌, ◌&&◌, not, nat_lt, Bool, true, false, List, [], ◌∷◌, length, take, slice_index}
+use Rattle.std.proofs.Common.{slice_index_or, sym, subst, arith}
 use Rattle.std.specs.Prelude.{All}
 use Rattle.std.specs.List.{range_with_len}
 use Rattle.std.proofs.lemmas.List.{length-take}
@@ -54,20 +55,37 @@ after_up n image (Data from req body) h =
     let more = image_more n image h in
     let old = row_more n (at_place image from) (up_at n image.rows (place_of from) h.rows) in
     split ((at_place image from).life == life_of from)
-    (λ t. rw t (record { view = more.view; rows = All-set (RowUp (n + 1)) image.rows (place_of from) (record (at_place image from) { last = req }) (record { joined = old.joined; left = old.left }) more.rows }))
+    (λ t. rw t (record {
+      view = more.view;
+      rows = All-set (RowUp (n + 1)) image.rows (place_of from) (record (at_place image from) { last = req })
+          (record { joined = old.joined; left = old.left }) more.rows;
+    }))
     (λ f. rw f more)
 after_up n image (Join name) h =
     let more = image_more n image h in
-    record { view = more.view; rows = All-set (RowUp (n + 1)) image.rows (place_of name) (record { life = life_of name; joined = n + 1; left = 0; last = 0 }) (record { joined = omega arith; left = omega arith }) more.rows }
+    record {
+      view = more.view;
+      rows = All-set (RowUp (n + 1)) image.rows (place_of name) (record { life = life_of name; joined = n + 1; left = 0; last = 0 })
+          (record { joined = omega arith; left = omega arith }) more.rows;
+    }
 after_up n image (Leave name) h =
     let more = image_more n image h in
     let old = row_more n (at_place image name) (up_at n image.rows (place_of name) h.rows) in
     split ((at_place image name).life == life_of name)
-    (λ t. rw t (record { view = more.view; rows = All-set (RowUp (n + 1)) image.rows (place_of name) (record (at_place image name) { left = n + 1 }) (record { joined = old.joined; left = omega arith }) more.rows }))
+    (λ t. rw t (record {
+      view = more.view;
+      rows = All-set (RowUp (n + 1)) image.rows (place_of name) (record (at_place image name) { left = n + 1 })
+          (record { joined = old.joined; left = omega arith }) more.rows;
+    }))
     (λ f. rw f more)
 after_up n image (View stamp members resilience) h =
     let f : ℕ → Row = λ place. viewed (is_blank image) (n + 1) (slice_index members place) (slice_index_or image.rows place blank_row) in
-    record { view = omega arith; rows = All-map (RowUp (n + 1)) f (range_with_len 0 16) (all_places (RowUp (n + 1)) f (range_with_len 0 16) (λ place. viewed_up n (is_blank image) (slice_index members place) _ (up_at n image.rows place h.rows))) }
+    record {
+      view = omega arith;
+      rows = All-map (RowUp (n + 1)) f (range_with_len 0 16)
+          (all_places (RowUp (n + 1)) f (range_with_len 0 16) (λ place. viewed_up n (is_blank image) (slice_index members place) _
+          (up_at n image.rows place h.rows)));
+    }
 
 fold_up : (n : ℕ) (image : Image) (es : List Entry) → ImageUp n image → ImageUp (n + length es) (fold image (n + 1) es)
 unfolding fold

@@ -1,6 +1,7 @@
 -- The rows of a list in which each Join fits what stands before it: the lives of a place never fall, and who leads stays among those
 -- whose reports count.
-use Rattle.std.proofs.Common.{◌≡◌, ◌≢◌, ⊎_elim, ℕ, zero, suc, ◌+◌, ◌-◌, ◌<◌, ◌≤◌, ◌==◌, ◌&&◌, not, nat_lt, Bool, true, false, List, [], ◌∷◌, ◌++◌, length, take, Some, slice_index, refl, sym, ap, ◌∙◌, subst, arith}
+use Rattle.std.proofs.Common.{◌≡◌, ◌≢◌, ⊎_elim, ℕ, zero, suc, ◌+◌, ◌-◌, ◌<◌, ◌≤◌, ◌==◌, ◌&&◌, not, nat_lt, Bool, true, false, List, [], ◌∷◌, ◌++◌, length, take}
+use Rattle.std.proofs.Common.{Some, slice_index, refl, sym, ap, ◌∙◌, subst, arith}
 use Rattle.std.proofs.lemmas.Bool.Decides.{nat_tests}
 use Rattle.std.proofs.lemmas.List.{get_or-replicate}
 use Rattle.am_base.specs.declared.entry.Entry.{Entry}
@@ -10,7 +11,8 @@ use Rattle.am_base.specs.declared.image.Report.{Report}
 use Rattle.am_base.specs.declared.image.Row.{Row}
 use Rattle.am_base.specs.declared.image.Image.{Image}
 use Rattle.am_base.specs.Names.{place_of, life_of, name_at, has}
-use Rattle.am_base.specs.Lists.{blank_row, blank, is_blank, at_place, with_row, member_life, members_of, members_at, viewed, after, fold, fits, top_of, image_at, told_by}
+use Rattle.am_base.specs.Lists.{blank_row, blank, is_blank, at_place, with_row, member_life, members_of, members_at, viewed, after, fold, fits, top_of}
+use Rattle.am_base.specs.Lists.{image_at, told_by}
 use Rattle.am_core.specs.Cores.{CoreState, since_accepted}
 use Rattle.am_core.proofs.Lives.{IsUsed, row_at, used_after, used_fold, life_after, member_at, unions_most, unions_least, unions_long}
 use Rattle.am_chain_lists.proofs.Rows.{In, mod16, long_after, row_set, blank_joined, row_view}
@@ -118,18 +120,21 @@ data_keeps : (image : Image) (n from req : ℕ) (body : List ℕ) (name : ℕ) �
 unfolding after
 data_keeps image n from req body name long h = split ((at_place image from).life == life_of from)
     (λ t. rw t (⊎_elim
-    (λ (x : (place_of name ≡ place_of from) × (row_at (with_row image from (record (at_place image from) { last = req })) (place_of name) ≡ record (at_place image from) { last = req })).
+    (λ (x : (place_of name ≡ place_of from) × (row_at (with_row image from (record (at_place image from) { last = req })) (place_of name)
+    ≡ record (at_place image from) { last = req })).
     (let w : In (at_place image from) (life_of name) = subst (λ p. In (row_at image p) (life_of name)) x.0 h in
     let k : In (record (at_place image from) { last = req }) (life_of name) = record { joined = w.joined; left = w.left; is = w.is } in
     subst (λ (r : Row). In r (life_of name)) (sym x.1) k))
-    (λ (x : (place_of name ≢ place_of from) × (row_at (with_row image from (record (at_place image from) { last = req })) (place_of name) ≡ row_at image (place_of name))). subst (λ (r : Row). In r (life_of name)) (sym x.1) h)
+    (λ (x : (place_of name ≢ place_of from) × (row_at (with_row image from (record (at_place image from) { last = req })) (place_of name)
+    ≡ row_at image (place_of name))). subst (λ (r : Row). In r (life_of name)) (sym x.1) h)
     (row_set image from (place_of name) (record (at_place image from) { last = req }) long)))
     (λ f. rw f h)
 
 pub data_member : (image : Image) (n from req : ℕ) (body : List ℕ) (name : ℕ) → length image.rows ≡ 16
     → length (after image n (Data from req body)).rows ≡ 16 → has (members_of image) name ≡ true
     → has (members_of (after image n (Data from req body))) name ≡ true
-data_member image n from req body name long longer h = in_is (after image n (Data from req body)) name longer (data_keeps image n from req body name long (is_in image name long h))
+data_member image n from req body name long longer h = in_is (after image n (Data from req body)) name longer
+    (data_keeps image n from req body name long (is_in image name long h))
 
 -- a View keeps who is a member and in it
 viewed_keeps : (first : Bool) (n given life : ℕ) (r : Row) → 0 < life → given ≡ life → In r life → In (viewed first n given r) life
@@ -148,7 +153,8 @@ view_member image n stamp names resilience name long longer h given =
     let some : 0 < life_of name = omega arith in
     let is = row_view image n stamp names resilience (place_of name) (mod16 name) in
     in_is (after image n (View stamp names resilience)) name longer
-    (subst (λ (r : Row). In r (life_of name)) (sym is) (viewed_keeps (is_blank image) n (slice_index names (place_of name)) (life_of name) _ some given (is_in image name long h)))
+    (subst (λ (r : Row). In r (life_of name)) (sym is) (viewed_keeps (is_blank image) n (slice_index names (place_of name)) (life_of name) _ some given
+    (is_in image name long h)))
 
 -- and the first View has who is in it
 pub first_member : (stamp : Stamp) (names : List ℕ) (resilience name : ℕ) → slice_index names (place_of name) ≡ life_of name
@@ -157,7 +163,8 @@ first_member stamp names resilience name given =
     let e = View stamp names resilience in
     let some : (slice_index names (place_of name) == 0) ≡ false = grind (arith, nat_tests) in
     let is = row_view blank 1 stamp names resilience (place_of name) (mod16 name) in
-    let first : In (viewed true 1 (slice_index names (place_of name)) (row_at blank (place_of name))) (life_of name) = rw some (record { joined = omega arith; left = refl; is = given }) in
+    let first : In (viewed true 1 (slice_index names (place_of name)) (row_at blank (place_of name))) (life_of name) =
+    rw some (record { joined = omega arith; left = refl; is = given }) in
     in_is (after blank 1 e) name (long_after blank 1 e refl) (subst (λ (r : Row). In r (life_of name)) (sym is) first)
 
 pub used_blank : IsUsed blank

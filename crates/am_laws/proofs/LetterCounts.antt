@@ -11,7 +11,8 @@ use Rattle.am_model.specs.Sequencing.{row_at}
 use Rattle.am_model.specs.Joining.{may_go}
 use Rattle.am_model.proofs.Greatest.{split}
 use Rattle.am_effects.specs.Causes.{Cause}
-use Rattle.am_effects.specs.Letters.{MayWelcome, just_joined, asks_again, Says, request, spread, bcast, order, accept, ack, nack, hold, join_ask, welcome, leave_ask, gone, invite, vote, fetch, piece, result, hand_over}
+use Rattle.am_effects.specs.Letters.{MayWelcome, just_joined, asks_again, Says, request, spread, bcast, order, accept, ack, nack, hold, join_ask, welcome}
+use Rattle.am_effects.specs.Letters.{leave_ask, gone, invite, vote, fetch, piece, result, hand_over}
 use Rattle.am_laws.specs.Packets.{Bounds, UpTo}
 use Rattle.am_laws.proofs.Counts.{Low, Behind}
 use Rattle.am_laws.proofs.Images.{ImageUp, told_up, row_up}
@@ -61,7 +62,17 @@ told_of b g c m n h =
     let accepted = h.low.accepted in
     let trims = h.low.trims in
     let group = h.group in
-    record { round = h.low.rounds; high = high; taken = omega arith; acc = omega arith; base = omega arith; took = h.low.took; accepted = h.behind.acc; trims = trims }
+    record {
+      round = h.low.rounds;
+      high = high;
+      taken = omega arith;
+      acc = omega arith;
+      base = omega arith;
+      took = h.low.took;
+      accepted = h.behind.acc;
+      trims =
+          trims;
+    }
 
 pub says_low : (b : Bounds) (g : ℕ) (m n : Node) (c : Cause) (to : List ℕ) (p : Packet) → Sends b g c m n → Says m c n to p → UpTo b g p
 says_low b g m n c to p h (request _ req body a f s) =
@@ -130,7 +141,8 @@ says_low b g m n c to p h (hand_over _ l leaves) = record { round = h.low.rounds
 -- ---- who is welcomed
 
 -- a joiner's Join is accepted by the group
-pub welcome_low : (g : ℕ) (m n : Node) (s : ℕ) → m.core.acc ≤ g → n.core.acc ≤ g → ImageUp n.core.log.start n.core.log.image → MayWelcome m n s → (row_of (told n) s).joined ≤ g
+pub welcome_low : (g : ℕ) (m n : Node) (s : ℕ) → m.core.acc ≤ g → n.core.acc ≤ g → ImageUp n.core.log.start n.core.log.image → MayWelcome m n s
+    → (row_of (told n) s).joined ≤ g
 welcome_low g m n s old new image (just_joined number is high low at) =
     let all = (row_up (top n) (told n) s (told_up n.core.log image)).joined in
     omega arith

@@ -16,7 +16,8 @@ use Rattle.am_model.specs.Node.{Node, top, told}
 use Rattle.am_model.specs.Ticks.{viewed_by}
 use Rattle.am_model.proofs.Greatest.{split}
 use Rattle.am_effects.specs.Causes.{Cause, hears}
-use Rattle.am_effects.specs.Letters.{HasSend, Says, request, spread, bcast, order, accept, ack, nack, hold, join_ask, welcome, leave_ask, gone, invite, vote, fetch, piece, result, hand_over}
+use Rattle.am_effects.specs.Letters.{HasSend, Says, request, spread, bcast, order, accept, ack, nack, hold, join_ask, welcome, leave_ask, gone, invite, vote}
+use Rattle.am_effects.specs.Letters.{fetch, piece, result, hand_over}
 use Rattle.am_effects.proofs.Items.{all_get}
 use Rattle.am_laws.specs.Packets.{Bounds, UpTo, stamp_of}
 use Rattle.am_laws.proofs.Images.{told_up}
@@ -50,7 +51,8 @@ pub says_within : (b : Bounds) (m n : Node) (c : Cause) (to : List ℕ) (p : Pac
 says_within b m n c to p h up_ low heard (request _ req body a f s) = let k = own_send_within b n req body s h in (k.req, k.body)
 says_within b m n c to p h up_ low heard (spread _ req body a f s) = let k = own_send_within b n req body s h in (k.req, k.body)
 says_within b m n c to p h up_ low heard (bcast _ number e l s) = all_get (EntryWithin b) n.core.log.entries s.index e h.entries s.there
-says_within b m n c to p h up_ low heard (order _ number from req v report body is l s) = (all_get (EntryWithin b) n.core.log.entries s.index (Data from req body) h.entries s.there).0
+says_within b m n c to p h up_ low heard (order _ number from req v report body is l s) =
+    (all_get (EntryWithin b) n.core.log.entries s.index (Data from req body) h.entries s.there).0
 says_within b m n c to p h up_ low heard (accept _ poll l) = tt
 says_within b m n c to p h up_ low heard (ack _ a) = tt
 says_within b m n c to p h up_ low heard (nack _ a) = tt
@@ -136,7 +138,11 @@ is_packet b g (packet.JoinAsk s v) n h =
 is_packet b g (packet.Welcome s v base join image) n h =
     let round = is_round b g (packet.Welcome s v base join image) n h.up_to in
     let k = two_of b base join n h.up_to.numbers in
-    record { within = (round, k.0, k.1, is_image b base image n (All-head (λ n. n ≤ b.lists) base (join ∷ []) h.up_to.numbers) h.welcome h.within); parts = h.within.places }
+    record {
+      within = (round, k.0, k.1, is_image b base image n (All-head (λ n. n ≤ b.lists) base (join ∷ []) h.up_to.numbers) h.welcome h.within);
+      parts =
+          h.within.places;
+    }
 is_packet b g (packet.LeaveAsk s v report) n h =
     let round = is_round b g (packet.LeaveAsk s v report) n h.up_to in
     let report_ = is_report b report n h.up_to.numbers in

@@ -1,5 +1,6 @@
 -- Which rows, images and entries are within their limits.
-use Rattle.std.proofs.Common.{◌≡◌, ℕ, zero, suc, ◌+◌, ◌-◌, ◌<◌, ◌≤◌, ◌==◌, ◌&&◌, not, nat_lt, Bool, true, false, List, [], ◌∷◌, length, take, map, set, slice_index, slice_index_or, refl, ◌∙◌, arith}
+use Rattle.std.proofs.Common.{◌≡◌, ℕ, zero, suc, ◌+◌, ◌-◌, ◌<◌, ◌≤◌, ◌==◌, ◌&&◌, not, nat_lt, Bool, true, false, List, [], ◌∷◌, length, take, map, set}
+use Rattle.std.proofs.Common.{slice_index, slice_index_or, refl, ◌∙◌, arith}
 use Rattle.std.specs.Prelude.{All}
 use Rattle.std.specs.List.{range_with_len}
 use Rattle.std.proofs.lemmas.Bool.Decides.{nat_tests}
@@ -46,7 +47,8 @@ unfolding those by_place
 set_those test names h =
     let f : ℕ → ℕ = λ place. name_where test place (slice_index names place) in
     let low = lives_within names h in
-    set_of_lives (map f (range_with_len 0 16)) refl (All-map (λ life. life ≤ 16) f (range_with_len 0 16) (all_places (λ life. life ≤ 16) f (range_with_len 0 16) (λ place. life_where test place _ (life_at names place low))))
+    set_of_lives (map f (range_with_len 0 16)) refl (All-map (λ life. life ≤ 16) f (range_with_len 0 16)
+    (all_places (λ life. life ≤ 16) f (range_with_len 0 16) (λ place. life_where test place _ (life_at names place low))))
 
 -- ---- rows
 
@@ -72,7 +74,13 @@ row_more : (b : Bounds) (r : Row) → RowWithin b r → RowWithin (up b) r
 row_more b r h = let l = h.last in record { life = h.life; unused = h.unused; used = h.used; last = omega arith }
 
 pub image_more : (b : Bounds) (image : Image) → ImageWithin b image → ImageWithin (up b) image
-image_more b image h = let r = h.round in record { places = h.places; rows = All-weaker (RowWithin b) (RowWithin (up b)) (row_more b) image.rows h.rows; round = omega arith; resilience = h.resilience }
+image_more b image h = let r = h.round in record {
+  places = h.places;
+  rows = All-weaker (RowWithin b) (RowWithin (up b)) (row_more b) image.rows h.rows;
+  round =
+      omega arith;
+  resilience = h.resilience;
+}
 
 pub entry_more : (b : Bounds) (e : Entry) → EntryWithin b e → EntryWithin (up b) e
 entry_more b (Data from req body) h = let r = h.0 in (omega arith, h.1)
@@ -96,7 +104,8 @@ member_within b r h = split (nat_lt 0 r.joined && (r.left == 0)) (λ t. rw t h.l
 
 -- who an image says to be members
 pub members_within : (b : Bounds) (image : Image) → ImageWithin b image → IsSet (members_of image)
-members_within b image h = set_of_lives (members_of image) (length-map image.rows member_life ∙ h.places) (All-map (λ life. life ≤ 16) member_life image.rows (All-weaker (RowWithin b) (λ r. member_life r ≤ 16) (member_within b) image.rows h.rows))
+members_within b image h = set_of_lives (members_of image) (length-map image.rows member_life
+    ∙ h.places) (All-map (λ life. life ≤ 16) member_life image.rows (All-weaker (RowWithin b) (λ r. member_life r ≤ 16) (member_within b) image.rows h.rows))
 
 -- ---- an entry more
 
@@ -116,16 +125,19 @@ after_within : (b : Bounds) (image : Image) (number : ℕ) (e : Entry) → Entry
 unfolding after by_place
 after_within b image number (Data from req body) e h =
     let old = row_at_within b image.rows (place_of from) h.rows in
-    let k = with_row_within b image.rows (place_of from) (record (at_place image from) { last = req }) (record { life = old.life; unused = old.unused; used = old.used; last = e.0 }) h.rows h.places in
+    let k = with_row_within b image.rows (place_of from) (record (at_place image from) { last = req })
+    (record { life = old.life; unused = old.unused; used = old.used; last = e.0 }) h.rows h.places in
     split ((at_place image from).life == life_of from)
     (λ t. rw t (record { places = k.1; rows = k.0; round = h.round; resilience = h.resilience }))
     (λ f. rw f h)
 after_within b image number (Join name) e h =
-    let k = with_row_within b image.rows (place_of name) (record { life = life_of name; joined = number + 1; left = 0; last = 0 }) (record { life = omega arith; unused = λ z. absurd (omega arith); used = λ z. absurd (omega arith); last = omega arith }) h.rows h.places in
+    let k = with_row_within b image.rows (place_of name) (record { life = life_of name; joined = number + 1; left = 0; last = 0 })
+    (record { life = omega arith; unused = λ z. absurd (omega arith); used = λ z. absurd (omega arith); last = omega arith }) h.rows h.places in
     record { places = k.1; rows = k.0; round = h.round; resilience = h.resilience }
 after_within b image number (Leave name) e h =
     let old = row_at_within b image.rows (place_of name) h.rows in
-    let k = with_row_within b image.rows (place_of name) (record (at_place image name) { left = number + 1 }) (record { life = old.life; unused = old.unused; used = old.used; last = old.last }) h.rows h.places in
+    let k = with_row_within b image.rows (place_of name) (record (at_place image name) { left = number + 1 })
+    (record { life = old.life; unused = old.unused; used = old.used; last = old.last }) h.rows h.places in
     split ((at_place image name).life == life_of name)
     (λ t. rw t (record { places = k.1; rows = k.0; round = h.round; resilience = h.resilience }))
     (λ f. rw f h)
@@ -134,7 +146,9 @@ after_within b image number (View stamp names resilience) e h =
     let low = lives_within names e.1 in
     record {
       places = refl;
-      rows = All-map (RowWithin b) f (range_with_len 0 16) (all_places (RowWithin b) f (range_with_len 0 16) (λ place. viewed_within b (is_blank image) (number + 1) (slice_index names place) _ (life_at names place low) (row_at_within b image.rows place h.rows)));
+      rows = All-map (RowWithin b) f (range_with_len 0 16) (all_places (RowWithin b) f (range_with_len 0 16)
+          (λ place. viewed_within b (is_blank image) (number + 1) (slice_index names place) _ (life_at names place low)
+          (row_at_within b image.rows place h.rows)));
       round = e.0;
       resilience = e.2;
     }
@@ -143,13 +157,15 @@ pub fold_within : (b : Bounds) (image : Image) (number : ℕ) (es : List Entry) 
     → ImageWithin b (fold image (number + 1) es)
 unfolding fold
 fold_within b image number [] k h = h
-fold_within b image number (e ∷ es) k h = fold_within b (after image (number + 1) e) (number + 1) es (All-tail (EntryWithin b) e es k) (after_within b image number e (All-head (EntryWithin b) e es k) h)
+fold_within b image number (e ∷ es) k h = fold_within b (after image (number + 1) e) (number + 1) es (All-tail (EntryWithin b) e es k)
+    (after_within b image number e (All-head (EntryWithin b) e es k) h)
 
 pub told_within : (b : Bounds) (log : Log) → All (EntryWithin b) log.entries → ImageWithin b log.image → ImageWithin b (told_by log)
 told_within b log k h = fold_within b log.image log.start log.entries k h
 
 pub image_at_within : (b : Bounds) (log : Log) (number : ℕ) → All (EntryWithin b) log.entries → ImageWithin b log.image → ImageWithin b (image_at log number)
-image_at_within b log number k h = fold_within b log.image log.start (take (number - log.start) log.entries) (All-take (EntryWithin b) (number - log.start) log.entries k) h
+image_at_within b log number k h = fold_within b log.image log.start (take (number - log.start) log.entries)
+    (All-take (EntryWithin b) (number - log.start) log.entries k) h
 
 -- ---- the limits of packets' parts
 

@@ -10,7 +10,8 @@ use Rattle.am_model.specs.Ballots.{Verdict}
 use Rattle.am_model.specs.Refresh.{refresh, refresh_at_end}
 use Rattle.am_effects.specs.Causes.{Cause, hears}
 use Rattle.am_effects.specs.Looks.{Looks, finds_itself_out, waits, fetches_from_best, finds_too_few, finds_no_room, decides}
-use Rattle.am_effects.specs.Changes.{Change, refreshes, settles, takes_report, admits, numbers, keeps_body, notes, stores, begins_list, departs, promises, opens, looks, fetches, stores_view, queues, collects, takes, asks_to_join, asks_to_leave, closes, Changes}
+use Rattle.am_effects.specs.Changes.{Change, refreshes, settles, takes_report, admits, numbers, keeps_body, notes, stores, begins_list, departs, promises}
+use Rattle.am_effects.specs.Changes.{opens, looks, fetches, stores_view, queues, collects, takes, asks_to_join, asks_to_leave, closes, Changes}
 use Rattle.am_effects.proofs.Rests.{rests_refresh, rests_at_end, settle_is}
 use Rattle.am_effects.proofs.Runs.{along}
 use Rattle.am_laws.proofs.Images.{ImageUp}
@@ -60,7 +61,8 @@ change_list heard m n (collects req is) h = h
 change_list heard m n (takes e is o member some there) h = h
 change_list heard m n (asks_to_join is was) h = h
 change_list heard m n (asks_to_leave is was stays done) h = h
-change_list heard m n (closes leads leaves alone room) h = same_list (pushed m (Leave m.core.who)) (refresh_at_end (pushed m (Leave m.core.who))) (rests_at_end (pushed m (Leave m.core.who))).log h
+change_list heard m n (closes leads leaves alone room) h = same_list (pushed m (Leave m.core.who)) (refresh_at_end (pushed m (Leave m.core.who)))
+    (rests_at_end (pushed m (Leave m.core.who))).log h
 
 pub changes_list : {c : Cause} {o : Outcome} (m n : Node) → HeardUp c → Changes c o m n → ListUp m → ListUp n
 changes_list m n heard all h = along ListUp (change_list heard) all h

@@ -17,8 +17,10 @@ use Rattle.am_model.specs.World.{World, start, first_node, unchanged, stepped, r
 use Rattle.am_model.proofs.Greatest.{split}
 use Rattle.am_effects.specs.Causes.{Cause}
 use Rattle.am_effects.specs.Looks.{Looks, finds_itself_out, waits, fetches_from_best, finds_too_few, finds_no_room, decides}
-use Rattle.am_effects.specs.Letters.{Says, request, spread, bcast, order, accept, ack, nack, hold, join_ask, welcome, leave_ask, gone, invite, vote, fetch, piece, result, hand_over, LetterSays}
-use Rattle.am_effects.specs.Changes.{Change, refreshes, settles, takes_report, admits, numbers, keeps_body, notes, stores, begins_list, departs, promises, opens, looks, fetches, stores_view, queues, collects, takes, asks_to_join, asks_to_leave, closes}
+use Rattle.am_effects.specs.Letters.{Says, request, spread, bcast, order, accept, ack, nack, hold, join_ask, welcome, leave_ask, gone, invite, vote, fetch}
+use Rattle.am_effects.specs.Letters.{piece, result, hand_over, LetterSays}
+use Rattle.am_effects.specs.Changes.{Change, refreshes, settles, takes_report, admits, numbers, keeps_body, notes, stores, begins_list, departs, promises}
+use Rattle.am_effects.specs.Changes.{opens, looks, fetches, stores_view, queues, collects, takes, asks_to_join, asks_to_leave, closes}
 use Rattle.am_effects.specs.Effects.{Effect}
 use Rattle.am_effects.specs.Events.{actor, idles, stops, returns, steps}
 use Rattle.am_effects.proofs.Items.{all_item}
@@ -110,7 +112,8 @@ actor_born rules w e h low =
     let q : w.lives (place_of (actor w e)) ≡ life = ap w.lives p in
     omega arith
 
-named_step : (rules : Rules) (w : World) (e : Event) (c : Cause) (s : Step) → Effect (w.nodes (actor w e)) c s → AllNamed rules w → AllNamed rules (stepped w e (actor w e) s)
+named_step : (rules : Rules) (w : World) (e : Event) (c : Cause) (s : Step) → Effect (w.nodes (actor w e)) c s → AllNamed rules w
+    → AllNamed rules (stepped w e (actor w e) s)
 unfolding stepped
 named_step rules w e c s effect h =
     let name = actor w e in
@@ -124,20 +127,24 @@ named_step rules w e c s effect h =
       least = h.least;
       most = h.most;
       senders = All-append SentByName w.letters s.letters h.senders
-          (All-weaker (LetterSays (w.nodes name) c effect.sender) SentByName (λ l x. let is = says_named (w.nodes name) effect.sender c l.to l.packet x.says in omega arith) s.letters effect.letters);
+          (All-weaker (LetterSays (w.nodes name) c effect.sender) SentByName (λ l x. let is = says_named (w.nodes name) effect.sender c l.to l.packet x.says in
+          omega arith) s.letters effect.letters);
       unborn = λ other low. split (other == name)
           (λ t. absurd (let same : other ≡ name = grind (arith, nat_tests) in actor_born rules w e h (subst (λ n. w.lives (place_of n) < life_of n) same low)))
           (λ f. rw f (h.unborn other low));
     }
 
 -- one life more
-named_lives : (rules : Rules) (w : World) (place : ℕ) → (w.lives place == 16) ≡ false → (v : World) → v.nodes ≡ w.nodes → v.letters ≡ w.letters → v.lives ≡ set_at w.lives place (w.lives place + 1) → AllNamed rules w → AllNamed rules v
+named_lives : (rules : Rules) (w : World) (place : ℕ) → (w.lives place == 16) ≡ false → (v : World) → v.nodes ≡ w.nodes → v.letters ≡ w.letters
+    → v.lives ≡ set_at w.lives place (w.lives place + 1) → AllNamed rules w → AllNamed rules v
 named_lives rules w place more v nodes letters lives h =
     let old = h.most place in
     let few : w.lives place + 1 ≤ 16 = grind (arith, nat_tests) in
     let at : (k : ℕ) → v.lives k ≡ set_at w.lives place (w.lives place + 1) k = λ k. ap (λ f. f k) lives in
     let grows : (k : ℕ) → w.lives k ≤ v.lives k = λ k. split (k == place)
-    (λ t. let same : k ≡ place = grind (arith, nat_tests) in let e : v.lives k ≡ w.lives place + 1 = at k ∙ ap (λ (b : Bool). if b then w.lives place + 1 else w.lives k) t in let q = ap w.lives same in omega arith)
+    (λ t. let same : k ≡ place = grind (arith, nat_tests) in
+    let e : v.lives k ≡ w.lives place + 1 = at k ∙ ap (λ (b : Bool). if b then w.lives place + 1 else w.lives k) t in let q = ap w.lives same in
+    omega arith)
     (λ f. let e : v.lives k ≡ w.lives k = at k ∙ ap (λ (b : Bool). if b then w.lives place + 1 else w.lives k) f in omega arith) in
     record {
       who = rw nodes h.who;
@@ -187,4 +194,11 @@ run_named rules events may = runs_keep (AllNamed rules) (each_named rules) (star
 pub names_hold : NamesHold
 names_hold rules events may =
     let h = run_named rules events may in
-    record { who = h.who; least = h.least; most = h.most; senders = λ number letter at. all_item SentByName (run rules events).letters number letter h.senders at; unborn = h.unborn }
+    record {
+      who = h.who;
+      least = h.least;
+      most = h.most;
+      senders =
+          λ number letter at. all_item SentByName (run rules events).letters number letter h.senders at;
+      unborn = h.unborn;
+    }

@@ -1,5 +1,6 @@
 -- What a node has is within its limits, and each change keeps it so.
-use Rattle.std.proofs.Common.{◌≡◌, ℕ, ◌+◌, ◌<◌, ◌≤◌, ◌==◌, ◌&&◌, not, max, nat_le, false, if◌then◌else◌, List, [], ◌∷◌, length, drop, find, Option, Some, None, option_map, refl, sym, ap, subst, arith}
+use Rattle.std.proofs.Common.{◌≡◌, ℕ, ◌+◌, ◌<◌, ◌≤◌, ◌==◌, ◌&&◌, not, max, nat_le, false, if◌then◌else◌, List, [], ◌∷◌, length, drop, find, Option, Some, None}
+use Rattle.std.proofs.Common.{option_map, refl, sym, ap, subst, arith}
 use Rattle.std.specs.Prelude.{All}
 use Rattle.std.specs.List.{list_any}
 use Rattle.std.proofs.lemmas.Bool.Decides.{nat_tests}
@@ -27,8 +28,11 @@ use Rattle.am_model.specs.Receiving.{own_body, first_body, body_of, bodies_after
 use Rattle.am_model.specs.Refresh.{refresh, accepted_at, settled_at, settled, settle, refresh_at_end}
 use Rattle.am_model.proofs.Greatest.{split}
 use Rattle.am_effects.specs.Causes.{Cause, calls, hears, BringsSend, by_request, by_spread}
-use Rattle.am_effects.specs.Looks.{HasOpen, Balloting, with_more, without_one, as_it_is, Looks, finds_itself_out, waits, fetches_from_best, finds_too_few, finds_no_room, decides}
-use Rattle.am_effects.specs.Changes.{Numbers, asked_send, own_send, asked_join, asked_leave, Carries, whole_entry, by_number, Change, Changes, unchanged, changed, refreshes, settles, takes_report, admits, numbers, keeps_body, notes, stores, begins_list, departs, promises, opens, looks, fetches, stores_view, queues, collects, takes, asks_to_join, asks_to_leave, closes}
+use Rattle.am_effects.specs.Looks.{HasOpen, Balloting, with_more, without_one, as_it_is, Looks, finds_itself_out, waits, fetches_from_best, finds_too_few}
+use Rattle.am_effects.specs.Looks.{finds_no_room, decides}
+use Rattle.am_effects.specs.Changes.{Numbers, asked_send, own_send, asked_join, asked_leave, Carries, whole_entry, by_number, Change, Changes, unchanged}
+use Rattle.am_effects.specs.Changes.{changed, refreshes, settles, takes_report, admits, numbers, keeps_body, notes, stores, begins_list, departs, promises}
+use Rattle.am_effects.specs.Changes.{opens, looks, fetches, stores_view, queues, collects, takes, asks_to_join, asks_to_leave, closes}
 use Rattle.am_effects.proofs.Items.{all_find}
 use Rattle.am_effects.proofs.Rests.{with_fronts, refresh_is, rests_refresh, rests_at_end, settle_is}
 use Rattle.am_laws.specs.Packets.{Bounds, up, sender_of}
@@ -183,7 +187,8 @@ after_bodies bodies (Join name) h = h
 after_bodies bodies (Leave name) h = h
 after_bodies bodies (View stamp names resilience) h = h
 
-kept_within : (s req : ℕ) (body : List ℕ) (bodies : List KeptBody) → length body ≤ most_body → All KeptWithin bodies → All KeptWithin (keep_body s req body bodies)
+kept_within : (s req : ℕ) (body : List ℕ) (bodies : List KeptBody) → length body ≤ most_body → All KeptWithin bodies
+    → All KeptWithin (keep_body s req body bodies)
 kept_within s req body bodies low h = split (list_any (is_of s req) bodies)
     (λ t. rw t h)
     (λ f. rw f (All-append KeptWithin (if nat_le 16 (length bodies) then drop 1 bodies else bodies) _
@@ -202,7 +207,8 @@ settled_at_within b m req (Some k) h =
     record {
       image = h.image;
       entries = h.entries;
-      sends = All-map (SendWithin b) f m.sends.queue (All-weaker (SendWithin b) (λ s. SendWithin b (f s)) (settled_send b req (m.core.base + 1 + k)) m.sends.queue h.sends);
+      sends = All-map (SendWithin b) f m.sends.queue (All-weaker (SendWithin b) (λ s. SendWithin b (f s))
+          (settled_send b req (m.core.base + 1 + k)) m.sends.queue h.sends);
       bodies = h.bodies;
       ballot = h.ballot;
     }
@@ -251,7 +257,13 @@ vote_more votes name new f h i v = split (i == name) (λ t. rw t (f v)) (λ g. r
 looked_within : (b : Bounds) (c : Cause) (m : Node) (x : Ballot) → Balloting c m x → CauseWithin b c → Within b m → VotesWithin b x
 looked_within b c m x (with_more old s v shown is by low high open_ same stays) from h =
     let k = open_within b m old open_ h in
-    record { round = k.round; resilience = k.resilience; votes = vote_more old.votes s (Some shown) (λ u e. let r : shown ≡ u = cc in subst (λ (z : Vote). IsSet z.members) r ((from.heard (packet.Vote s v shown) is).0)) k.votes }
+    record {
+      round = k.round;
+      resilience = k.resilience;
+      votes =
+          vote_more old.votes s (Some shown) (λ u e. let r : shown ≡ u = cc in
+          subst (λ (z : Vote). IsSet z.members) r ((from.heard (packet.Vote s v shown) is).0)) k.votes;
+    }
 looked_within b c m x (without_one old name is open_ other) from h =
     let k = open_within b m old open_ h in
     record { round = k.round; resilience = k.resilience; votes = vote_more old.votes name None (λ u e. absurd (cc)) k.votes }
@@ -284,10 +296,12 @@ view_within b m x k h =
 
 look_within : (b : Bounds) (m : Node) (x : Ballot) (v : Verdict) → Looks m x v → VotesWithin b x → Within b m → Within b v.node
 look_within b m x v look k h =
-    let l : (y : Ballot) → y.stamp ≡ x.stamp → y.resilience ≡ x.resilience → y.votes ≡ x.votes → VotesWithin b y = λ y s r w. record { round = rw s k.round; resilience = rw r k.resilience; votes = rw w k.votes } in
+    let l : (y : Ballot) → y.stamp ≡ x.stamp → y.resilience ≡ x.resilience → y.votes ≡ x.votes
+    → VotesWithin b y = λ y s r w. record { round = rw s k.round; resilience = rw r k.resilience; votes = rw w k.votes } in
     looked l look
   where
-    looked : ((y : Ballot) → y.stamp ≡ x.stamp → y.resilience ≡ x.resilience → y.votes ≡ x.votes → VotesWithin b y) → {u : Verdict} → Looks m x u → Within b u.node
+    looked : ((y : Ballot) → y.stamp ≡ x.stamp → y.resilience ≡ x.resilience → y.votes ≡ x.votes → VotesWithin b y) → {u : Verdict} → Looks m x u
+        → Within b u.node
     looked l (finds_itself_out y) = record { image = h.image; entries = h.entries; sends = h.sends; bodies = h.bodies; ballot = l _ refl refl refl }
     looked l (waits y z) = record { image = h.image; entries = h.entries; sends = h.sends; bodies = h.bodies; ballot = l _ refl refl refl }
     looked l (fetches_from_best y z w) = record { image = h.image; entries = h.entries; sends = h.sends; bodies = h.bodies; ballot = l _ refl refl refl }
@@ -356,18 +370,47 @@ pub change_within : (b : Bounds) {c : Cause} {o : Outcome} (m n : Node) → Caus
     → Change c o m n → Within b m → Within b n
 change_within b m n from round last refreshes h = refresh_within b m h
 change_within b m n from round last settles h = settle_within b m h
-change_within b m n from round last (takes_report s v report by may) h = record { image = h.image; entries = h.entries; sends = h.sends; bodies = h.bodies; ballot = h.ballot }
-change_within b m n from round last (admits s v is leads fit) h = record { image = h.image; entries = h.entries; sends = h.sends; bodies = h.bodies; ballot = h.ballot }
+change_within b m n from round last (takes_report s v report by may) h =
+    record { image = h.image; entries = h.entries; sends = h.sends; bodies = h.bodies; ballot = h.ballot }
+change_within b m n from round last (admits s v is leads fit) h =
+    record { image = h.image; entries = h.entries; sends = h.sends; bodies = h.bodies; ballot = h.ballot }
 change_within b m n from round last (numbers e leads room why) h = pushed_within b m e (numbered_within b _ m e why from h) h
-change_within b m n from round last (keeps_body s v report req body is by) h = record { image = h.image; entries = h.entries; sends = h.sends; bodies = kept_within s req body m.bodies ((from.heard (packet.Spread s v report req body) is).1) h.bodies; ballot = h.ballot }
-change_within b m n from round last (notes s v base acc by seq) h = record { image = h.image; entries = h.entries; sends = h.sends; bodies = h.bodies; ballot = h.ballot }
+change_within b m n from round last (keeps_body s v report req body is by) h =
+    record {
+      image = h.image;
+      entries = h.entries;
+      sends = h.sends;
+      bodies =
+          kept_within s req body m.bodies ((from.heard (packet.Spread s v report req body) is).1) h.bodies;
+      ballot = h.ballot;
+    }
+change_within b m n from round last (notes s v base acc by seq) h =
+    record { image = h.image; entries = h.entries; sends = h.sends; bodies = h.bodies; ballot = h.ballot }
 change_within b m n from round last (stores s v base acc number e by seq plain may) h =
     let k = pushed_within b m e (carried_within b _ m s v base acc number e by from h) h in
     record { image = k.image; entries = k.entries; sends = k.sends; bodies = after_bodies m.bodies e h.bodies; ballot = k.ballot }
-change_within b m n from round last (begins_list s v base join image is o may) h = record { image = from.heard (packet.Welcome s v base join image) is; entries = All-nil (EntryWithin b); sends = h.sends; bodies = h.bodies; ballot = h.ballot }
-change_within b m n from round last (departs s v number is by leaves) h = record { image = h.image; entries = h.entries; sends = h.sends; bodies = h.bodies; ballot = h.ballot }
-change_within b m n from round last (promises v low why) h = record { image = h.image; entries = h.entries; sends = h.sends; bodies = h.bodies; ballot = overtaken_within b v m.ballot h.ballot }
-change_within b m n from round last (opens least resilience by may) h = record { image = h.image; entries = h.entries; sends = h.sends; bodies = h.bodies; ballot = record { round = round; resilience = omega arith; votes = λ name vote is. absurd (cc) } }
+change_within b m n from round last (begins_list s v base join image is o may) h =
+    record {
+      image = from.heard (packet.Welcome s v base join image) is;
+      entries = All-nil (EntryWithin b);
+      sends = h.sends;
+      bodies = h.bodies;
+      ballot =
+          h.ballot;
+    }
+change_within b m n from round last (departs s v number is by leaves) h =
+    record { image = h.image; entries = h.entries; sends = h.sends; bodies = h.bodies; ballot = h.ballot }
+change_within b m n from round last (promises v low why) h =
+    record { image = h.image; entries = h.entries; sends = h.sends; bodies = h.bodies; ballot = overtaken_within b v m.ballot h.ballot }
+change_within b m n from round last (opens least resilience by may) h =
+    record {
+      image = h.image;
+      entries = h.entries;
+      sends = h.sends;
+      bodies = h.bodies;
+      ballot =
+          record { round = round; resilience = omega arith; votes = λ name vote is. absurd (cc) };
+    }
 change_within b m n from round last (looks x verdict over why look is) h = look_within b m x verdict look (looked_within b _ m x why from h) h
 change_within b m n from round last (fetches s v base number e is by promise below who may) h =
     let k = pushed_within b m e (from.heard (packet.Piece s v base number e) is) h in
@@ -378,11 +421,27 @@ change_within b m n from round last (stores_view s v base number names resilienc
     let k = pushed_within b m (View v names resilience) (low, heard.1, heard.2) h in
     record { image = k.image; entries = k.entries; sends = k.sends; bodies = k.bodies; ballot = k.ballot }
 change_within b m n from round last (queues body is o member stays few) h =
-    record { image = h.image; entries = h.entries; sends = All-append (SendWithin b) m.sends.queue _ h.sends (All-cons (SendWithin b) _ [] (record { req = last; body = from.called body is }) (All-nil (SendWithin b))); bodies = h.bodies; ballot = h.ballot }
-change_within b m n from round last (collects req is) h = record { image = h.image; entries = h.entries; sends = collected_within b req m.sends h.sends; bodies = h.bodies; ballot = h.ballot }
-change_within b m n from round last (takes e is o member some there) h = record { image = h.image; entries = h.entries; sends = h.sends; bodies = h.bodies; ballot = h.ballot }
-change_within b m n from round last (asks_to_join is was) h = record { image = h.image; entries = h.entries; sends = h.sends; bodies = h.bodies; ballot = h.ballot }
-change_within b m n from round last (asks_to_leave is was stays done) h = record { image = h.image; entries = h.entries; sends = h.sends; bodies = h.bodies; ballot = h.ballot }
+    record {
+      image = h.image;
+      entries = h.entries;
+      sends = All-append (SendWithin b) m.sends.queue _ h.sends
+          (All-cons (SendWithin b) _ [] (record { req = last; body = from.called body is }) (All-nil (SendWithin b)));
+      bodies = h.bodies;
+      ballot = h.ballot;
+    }
+change_within b m n from round last (collects req is) h = record {
+  image = h.image;
+  entries = h.entries;
+  sends = collected_within b req m.sends h.sends;
+  bodies = h.bodies;
+  ballot = h.ballot;
+}
+change_within b m n from round last (takes e is o member some there) h =
+    record { image = h.image; entries = h.entries; sends = h.sends; bodies = h.bodies; ballot = h.ballot }
+change_within b m n from round last (asks_to_join is was) h =
+    record { image = h.image; entries = h.entries; sends = h.sends; bodies = h.bodies; ballot = h.ballot }
+change_within b m n from round last (asks_to_leave is was stays done) h =
+    record { image = h.image; entries = h.entries; sends = h.sends; bodies = h.bodies; ballot = h.ballot }
 change_within b m n from round last (closes leads leaves alone room) h =
     let k = at_end_within b (pushed m (Leave m.core.who)) (pushed_within b m (Leave m.core.who) tt h) in
     record { image = k.image; entries = k.entries; sends = k.sends; bodies = k.bodies; ballot = k.ballot }

@@ -1,5 +1,6 @@
 -- How high all numbers of a run are, event by event.
-use Rattle.std.proofs.Common.{◌≡◌, inl, inr, ⊎_elim, ℕ, ◌+◌, ◌-◌, ◌≤◌, ◌==◌, max, min, Bool, true, if◌then◌else◌, List, [], ◌∷◌, length, take, drop, Option, Some, None, refl, ap, ◌∙◌, subst, arith, length-append, length-drop}
+use Rattle.std.proofs.Common.{◌≡◌, inl, inr, ⊎_elim, ℕ, ◌+◌, ◌-◌, ◌≤◌, ◌==◌, max, min, Bool, true, if◌then◌else◌, List, [], ◌∷◌, length, take, drop, Option}
+use Rattle.std.proofs.Common.{Some, None, refl, ap, ◌∙◌, subst, arith, length-append, length-drop}
 use Rattle.std.specs.Prelude.{All}
 use Rattle.std.proofs.lemmas.Bool.Decides.{nat_tests}
 use Rattle.std.proofs.lemmas.List.{length-take}
@@ -18,7 +19,8 @@ use Rattle.am_model.specs.World.{World, start, first_node, grown, group_after, u
 use Rattle.am_model.specs.Claims.{heard_by}
 use Rattle.am_model.proofs.Greatest.{split}
 use Rattle.am_effects.specs.Causes.{Cause, hears}
-use Rattle.am_effects.specs.Letters.{MayWelcome, Says, request, spread, bcast, order, accept, ack, nack, hold, join_ask, welcome, leave_ask, gone, invite, vote, fetch, piece, result, hand_over, LetterSays}
+use Rattle.am_effects.specs.Letters.{MayWelcome, Says, request, spread, bcast, order, accept, ack, nack, hold, join_ask, welcome, leave_ask, gone, invite, vote}
+use Rattle.am_effects.specs.Letters.{fetch, piece, result, hand_over, LetterSays}
 use Rattle.am_effects.specs.Effects.{Effect}
 use Rattle.am_effects.specs.Events.{actor, WasSentTo, IsCause, Happens, idles, stops, returns, steps}
 use Rattle.am_effects.proofs.Items.{all_item}
@@ -85,18 +87,21 @@ record Grew (b : Bounds) (group : List Entry) (m : Node) : Type 0 where
 grown_long : (g acc start many : ℕ) → start ≤ g → acc ≤ start + many → g + min (acc - g) (many - (g - start)) ≡ max g acc
 grown_long g acc start many h k = omega arith
 
-long_grown : (group : List Entry) (m : Node) → m.core.log.start ≤ length group → m.core.acc ≤ top m → length (grown group m.core) ≡ max (length group) m.core.acc
+long_grown : (group : List Entry) (m : Node) → m.core.log.start ≤ length group → m.core.acc ≤ top m
+    → length (grown group m.core) ≡ max (length group) m.core.acc
 long_grown group m h k =
     let rest = drop (length group - m.core.log.start) m.core.log.entries in
     let a = length-append group (take (m.core.acc - length group) rest) in
     let c = length-take (m.core.acc - length group) rest in
     let d = length-drop (length group - m.core.log.start) m.core.log.entries in
-    a ∙ ap (λ x. length group + x) (c ∙ ap (min (m.core.acc - length group)) d) ∙ grown_long (length group) m.core.acc m.core.log.start (length m.core.log.entries) h k
+    a ∙ ap (λ x. length group + x) (c ∙ ap (min (m.core.acc - length group)) d)
+    ∙ grown_long (length group) m.core.acc m.core.log.start (length m.core.log.entries) h k
 
 grew : (b : Bounds) (group : List Entry) (m : Node) → length group ≤ b.lists → Low (up b) (length group) m → Grew b group m
 grew b group m few h = split (leads m)
     (λ t.
-    let long : length (group_after group m) ≡ max (length group) m.core.acc = ap (λ (x : Bool). length (if x then grown group m.core else group)) t ∙ long_grown group m h.listed h.accepted in
+    let long : length (group_after group m) ≡ max (length group) m.core.acc = ap (λ (x : Bool). length (if x then grown group m.core else group)) t
+    ∙ long_grown group m h.listed h.accepted in
     let a = h.accepted in
     let e = h.entries in
     let told : m.core.told ≤ max (length group) m.core.acc = ⊎_elim
@@ -132,7 +137,8 @@ low_same b w v nodes letters group h =
       each = rw (nodes, group) (λ name. low_more b (length w.group) (w.nodes name) (h.each name));
       behind = rw (nodes, group) h.behind;
       images = rw nodes h.images;
-      letters = rw (letters, group) (All-weaker (λ (l : Letter). UpTo b (length w.group) l.packet) (λ (l : Letter). UpTo (up b) (length w.group) l.packet) (λ l x. up_wider b (length w.group) (length w.group) l.packet (omega arith) x) w.letters h.letters);
+      letters = rw (letters, group) (All-weaker (λ (l : Letter). UpTo b (length w.group) l.packet) (λ (l : Letter). UpTo (up b) (length w.group) l.packet)
+          (λ l x. up_wider b (length w.group) (length w.group) l.packet (omega arith) x) w.letters h.letters);
       welcomes = rw letters h.welcomes;
       group = rw group (omega arith);
     }
@@ -161,7 +167,8 @@ welcomes_up m n c to p from h (hand_over _ l leaves) = tt
 
 -- ---- a step
 
-pub set_same : (P : Node → Type 0) (nodes : ℕ → Node) (name : ℕ) (n : Node) → ((other : ℕ) → P (nodes other)) → P n → (other : ℕ) → P (set_at nodes name n other)
+pub set_same : (P : Node → Type 0) (nodes : ℕ → Node) (name : ℕ) (n : Node) → ((other : ℕ) → P (nodes other)) → P n → (other : ℕ)
+    → P (set_at nodes name n other)
 set_same P nodes name n h k other = split (other == name) (λ t. rw t k) (λ f. rw f (h other))
 
 is_itself : (name : ℕ) → (name == name) ≡ true
@@ -169,7 +176,8 @@ is_itself name = grind (arith, nat_tests)
 
 -- the node of the acting name after the event, by any bounds that hold before it
 abbrev RaisedBy : World → World → ℕ → ℕ → Type 0
-RaisedBy w v name number = (b : Bounds) → ((letter : Letter) → letter_at w.letters number ≡ Some letter → UpTo b (length w.group) letter.packet) → Low b (length w.group) (w.nodes name) → Low (up b) (length w.group) (v.nodes name)
+RaisedBy w v name number = (b : Bounds) → ((letter : Letter) → letter_at w.letters number ≡ Some letter → UpTo b (length w.group) letter.packet)
+    → Low b (length w.group) (w.nodes name) → Low (up b) (length w.group) (v.nodes name)
 
 -- its sender is the node after the step, but for its status
 sender_low : (b : Bounds) (g : ℕ) (n sender : Node) → n ≡ record sender { status = n.status } → Low b g n → Low b g sender
@@ -190,7 +198,8 @@ heard_up b w e c h cause p is =
     let was = was_heard w e c p is cause in
     subst WelcomeUp was.is (all_item (λ (l : Letter). WelcomeUp l.packet) w.letters (heard_by e.act) was.letter h.welcomes was.there)
 
-low_stepped : (b : Bounds) (w : World) (e : Event) (c : Cause) (s : Step) → IsCause w (actor w e) e.act c → Effect (w.nodes (actor w e)) c s → RaisedBy w (stepped w e (actor w e) s) (actor w e) (heard_by e.act) → AllLow b w → AllLow (up b) (stepped w e (actor w e) s)
+low_stepped : (b : Bounds) (w : World) (e : Event) (c : Cause) (s : Step) → IsCause w (actor w e) e.act c → Effect (w.nodes (actor w e)) c s
+    → RaisedBy w (stepped w e (actor w e) s) (actor w e) (heard_by e.act) → AllLow b w → AllLow (up b) (stepped w e (actor w e) s)
 unfolding stepped
 low_stepped b w e c s cause effect raised h =
     let name = actor w e in
@@ -222,9 +231,11 @@ low_stepped b w e c s cause effect raised h =
       images = set_same ListUp w.nodes name n h.images list;
       letters = All-append (λ (l : Letter). UpTo (up b) k l.packet) w.letters s.letters
           (All-weaker (λ (l : Letter). UpTo b g l.packet) (λ (l : Letter). UpTo (up b) k l.packet) (λ l x. up_wider b g k l.packet more x) w.letters h.letters)
-          (All-weaker (LetterSays m c sender) (λ (l : Letter). UpTo (up b) k l.packet) (λ l x. says_low (up b) k m sender c l.to l.packet sends x.says) s.letters effect.letters);
+          (All-weaker (LetterSays m c sender) (λ (l : Letter). UpTo (up b) k l.packet)
+          (λ l x. says_low (up b) k m sender c l.to l.packet sends x.says) s.letters effect.letters);
       welcomes = All-append (λ (l : Letter). WelcomeUp l.packet) w.letters s.letters h.welcomes
-          (All-weaker (LetterSays m c sender) (λ (l : Letter). WelcomeUp l.packet) (λ l x. welcomes_up m sender c l.to l.packet sends.low.kept sends.image x.says) s.letters effect.letters);
+          (All-weaker (LetterSays m c sender) (λ (l : Letter). WelcomeUp l.packet)
+          (λ l x. welcomes_up m sender c l.to l.packet sends.low.kept sends.image x.says) s.letters effect.letters);
       group = grown.few;
     }
 
@@ -238,7 +249,8 @@ low_event b w e v (returns place is left more) raised h = low_same b w v refl re
 low_event b w e v (steps c s runs cause effect) raised h = low_stepped b w e c s cause effect raised h
 
 pub low_happens : (b : Bounds) (w : World) (e : Event) → AllLow b w → AllLow (up b) (happens w e)
-low_happens b w e h = low_event b w e (happens w e) (events_have_effects w e) (λ c letters low. actor_low c (length w.group) w e letters (h.behind (actor w e)) low) h
+low_happens b w e h = low_event b w e (happens w e) (events_have_effects w e)
+    (λ c letters low. actor_low c (length w.group) w e letters (h.behind (actor w e)) low) h
 
 -- ---- runs
 
@@ -256,7 +268,8 @@ low_happen b w [] h =
     same_bounds b _ w (λ i. record { lists = z b.lists i; rounds = z b.rounds i; requests = z b.requests i }) h
 low_happen b w (e ∷ es) h =
     let z : (n : ℕ) → n + 1 + length es ≡ n + length (e ∷ es) = λ n. omega arith in
-    same_bounds _ _ _ (λ i. record { lists = z b.lists i; rounds = z b.rounds i; requests = z b.requests i }) (low_happen (up b) (happens w e) es (low_happens b w e h))
+    same_bounds _ _ _ (λ i. record { lists = z b.lists i; rounds = z b.rounds i; requests = z b.requests i })
+    (low_happen (up b) (happens w e) es (low_happens b w e h))
 
 -- ---- the start
 
@@ -331,7 +344,8 @@ numbers_hold rules events =
         start = x.began;
       });
       group = let g = h.group in omega arith;
-      letters = λ number letter at. (let x : UpTo (bounds_after (length events) first) (length w.group) letter.packet = all_item (λ (l : Letter). UpTo (bounds_after (length events) first) (length w.group) l.packet) w.letters number letter h.letters at in
+      letters = λ number letter at. (let x : UpTo (bounds_after (length events) first) (length w.group) letter.packet =
+          all_item (λ (l : Letter). UpTo (bounds_after (length events) first) (length w.group) l.packet) w.letters number letter h.letters at in
           let r = x.round in
           record {
             round = omega arith;

@@ -52,7 +52,8 @@ pub record Limited (rules : Rules) (b : Bounds) (w : World) : Type 0 where
 within_same : (b : Bounds) (w v : World) → v.nodes ≡ w.nodes → v.letters ≡ w.letters → AllWithin b w → AllWithin (up b) v
 within_same b w v nodes letters h = record {
   each = rw nodes (λ name. within_more b (w.nodes name) (h.each name));
-  letters = rw letters (All-weaker (λ (l : Letter). PacketWithin b l.packet) (λ (l : Letter). PacketWithin (up b) l.packet) (λ l x. packet_more b l.packet x) w.letters h.letters);
+  letters = rw letters (All-weaker (λ (l : Letter). PacketWithin b l.packet) (λ (l : Letter). PacketWithin (up b) l.packet)
+      (λ l x. packet_more b l.packet x) w.letters h.letters);
 }
 
 -- ---- a step
@@ -67,15 +68,18 @@ cause_within : (rules : Rules) (b : Bounds) (w : World) (e : Event) (c : Cause) 
     → CauseWithin (up b) c
 cause_within rules b w e c body h cause = record {
   heard = λ p is. (let was = was_sent w e c p is cause in
-      packet_more b p (subst (PacketWithin b) was.is (all_item (λ (l : Letter). PacketWithin b l.packet) w.letters (heard_by e.act) was.letter h.within.letters was.there)));
+      packet_more b p (subst (PacketWithin b) was.is (all_item (λ (l : Letter). PacketWithin b l.packet) w.letters
+      (heard_by e.act) was.letter h.within.letters was.there)));
   senders = λ p is. (let was = was_sent w e c p is cause in
-      subst (λ (x : Packet). sender_of x < 256) was.is (all_item (λ (l : Letter). sender_of l.packet < 256) w.letters (heard_by e.act) was.letter h.named.senders was.there));
+      subst (λ (x : Packet). sender_of x < 256) was.is (all_item (λ (l : Letter). sender_of l.packet < 256) w.letters
+      (heard_by e.act) was.letter h.named.senders was.there));
   called = λ bytes is. called_within w e.act bytes body (subst (IsCause w (actor w e) e.act) is cause);
 }
 
 -- its sender is the node after the step, but for its status
 sender_within : (b : Bounds) (n sender : Node) → n ≡ record sender { status = n.status } → Within b n → Within b sender
-sender_within b n sender is h = let k : Within b (record sender { status = n.status }) = subst (Within b) is h in record { image = k.image; entries = k.entries; sends = k.sends; bodies = k.bodies; ballot = k.ballot }
+sender_within b n sender is h = let k : Within b (record sender { status = n.status }) = subst (Within b) is h in
+    record { image = k.image; entries = k.entries; sends = k.sends; bodies = k.bodies; ballot = k.ballot }
 
 is_itself : (name : ℕ) → (name == name) ≡ true
 is_itself name = grind (arith, nat_tests)
@@ -98,8 +102,11 @@ within_stepped rules b w e c s body cause effect low h =
     record {
       each = set_same (Within (up b)) w.nodes name n (λ other. within_more b (w.nodes other) (h.within.each other)) node;
       letters = All-append (λ (l : Letter). PacketWithin (up b) l.packet) w.letters s.letters
-          (All-weaker (λ (l : Letter). PacketWithin b l.packet) (λ (l : Letter). PacketWithin (up b) l.packet) (λ l x. packet_more b l.packet x) w.letters h.within.letters)
-          (All-weaker (LetterSays m c sender) (λ (l : Letter). PacketWithin (up b) l.packet) (λ l x. says_within (up b) m sender c l.to l.packet (sender_within (up b) n sender effect.is node) (sender_list n sender effect.is list) (omega arith) from.heard x.says) s.letters effect.letters);
+          (All-weaker (λ (l : Letter). PacketWithin b l.packet) (λ (l : Letter). PacketWithin (up b) l.packet)
+          (λ l x. packet_more b l.packet x) w.letters h.within.letters)
+          (All-weaker (LetterSays m c sender) (λ (l : Letter). PacketWithin (up b) l.packet)
+          (λ l x. says_within (up b) m sender c l.to l.packet (sender_within (up b) n sender effect.is node) (sender_list n sender effect.is list)
+          (omega arith) from.heard x.says) s.letters effect.letters);
     }
 
 -- ---- each event
@@ -115,21 +122,29 @@ within_event rules b w e v body (steps c s runs cause effect) low h = within_ste
 limited_happens : (rules : Rules) (b : Bounds) (w : World) (e : Event) → BodyWithin e.act → Limited rules b w → Limited rules (up b) (happens w e)
 limited_happens rules b w e body h =
     let low = low_happens b w e h.low in
-    record { low = low; named = each_named rules w e (happens w e) (events_have_effects w e) h.named; within = within_event rules b w e (happens w e) body (events_have_effects w e) low h }
+    record {
+      low = low;
+      named = each_named rules w e (happens w e) (events_have_effects w e) h.named;
+      within =
+          within_event rules b w e (happens w e) body (events_have_effects w e) low h;
+    }
 
 -- ---- a heard packet and its bytes
 
 by_letter : (w : World) (e : Event) (name : ℕ) (f g : Packet → Step) (found : Option Letter)
     → ((letter : Letter) → found ≡ Some letter → f letter.packet ≡ g letter.packet) → heard w e name f found ≡ heard w e name g found
 by_letter w e name f g None h = refl
-by_letter w e name f g (Some letter) h = ap (λ s. if not (is_for letter name) then unchanged w e said.NotAddressed else if is_stopped w name then unchanged w e said.IsStopped else stepped w e name s) (h letter refl)
+by_letter w e name f g (Some letter) h = ap (λ s. if not (is_for letter name) then unchanged w e said.NotAddressed else if is_stopped w name then unchanged w e
+    said.IsStopped else stepped w e name s) (h letter refl)
 
 abbrev HoldsPackets : World → Type 0
 HoldsPackets w = (number : ℕ) (letter : Letter) → letter_at w.letters number ≡ Some letter → IsPacket letter.packet
 
 acts_same : (w : World) (e : Event) (name : ℕ) (a : Act) → HoldsPackets w → acts_by_bytes w e name a ≡ acts_as w e name a
-acts_same w e name (act.Hear number) h = by_letter w e name _ _ (letter_at w.letters number) (λ letter is. spelling_is_heard (w.nodes name) letter.packet (h number letter is))
-acts_same w e name (act.Cut number keep) h = by_letter w e name _ _ (letter_at w.letters number) (λ letter is. cut_is_heard (w.nodes name) letter.packet keep (h number letter is))
+acts_same w e name (act.Hear number) h = by_letter w e name _ _ (letter_at w.letters number)
+    (λ letter is. spelling_is_heard (w.nodes name) letter.packet (h number letter is))
+acts_same w e name (act.Cut number keep) h = by_letter w e name _ _ (letter_at w.letters number)
+    (λ letter is. cut_is_heard (w.nodes name) letter.packet keep (h number letter is))
 acts_same w e name (act.Send body) h = refl
 acts_same w e name (act.Done req) h = refl
 acts_same w e name act.Take h = refl
@@ -165,7 +180,8 @@ limited_happen rules b w [] bodies h =
 limited_happen rules b w (e ∷ es) bodies h =
     let z : (n : ℕ) → n + 1 + length es ≡ n + length (e ∷ es) = λ n. omega arith in
     subst (λ x. Limited rules x (happen (happens w e) es)) (λ i. record { lists = z b.lists i; rounds = z b.rounds i; requests = z b.requests i })
-    (limited_happen rules (up b) (happens w e) es (All-tail (λ (x : Event). BodyWithin x.act) e es bodies) (limited_happens rules b w e (All-head (λ (x : Event). BodyWithin x.act) e es bodies) h))
+    (limited_happen rules (up b) (happens w e) es (All-tail (λ (x : Event). BodyWithin x.act) e es bodies)
+    (limited_happens rules b w e (All-head (λ (x : Event). BodyWithin x.act) e es bodies) h))
 
 same_happen : (rules : Rules) (b : Bounds) (w : World) (events : List Event) → AreNumbers (bounds_after (length events) b)
     → All (λ (e : Event). BodyWithin e.act) events → Limited rules b w → happen_by_bytes w events ≡ happen w events
@@ -176,7 +192,8 @@ same_happen rules b w (e ∷ es) small bodies h =
     let left : AreNumbers (bounds_after (length es) (up b)) = record { lists = omega arith; rounds = omega arith; requests = omega arith } in
     let one = acts_same w e (actor w e) e.act (limited_packets rules b w (fewer b (length (e ∷ es)) small) h) in
     ap (λ x. happen_by_bytes x es) one
-    ∙ same_happen rules (up b) (happens w e) es left (All-tail (λ (x : Event). BodyWithin x.act) e es bodies) (limited_happens rules b w e (All-head (λ (x : Event). BodyWithin x.act) e es bodies) h)
+    ∙ same_happen rules (up b) (happens w e) es left (All-tail (λ (x : Event). BodyWithin x.act) e es bodies)
+    (limited_happens rules b w e (All-head (λ (x : Event). BodyWithin x.act) e es bodies) h)
 
 -- ---- the start
 
@@ -220,10 +237,12 @@ unfolding first_bounds
 small_run rules events short = let few = short.few in record { lists = omega arith; rounds = omega arith; requests = omega arith }
 
 pub letters_are_packets : LettersArePackets
-letters_are_packets rules events short = limited_packets rules (bounds_after (length events) first_bounds) (run rules events) (small_run rules events short) (limited_happen rules first_bounds (start rules) events short.bodies (limited_start rules short.founds))
+letters_are_packets rules events short = limited_packets rules (bounds_after (length events) first_bounds) (run rules events) (small_run rules events short)
+    (limited_happen rules first_bounds (start rules) events short.bodies (limited_start rules short.founds))
 
 pub letters_are_read : LettersAreRead
 letters_are_read rules events short number letter at = spelling_again letter.packet (letters_are_packets rules events short number letter at)
 
 pub runs_are_of_bytes : RunsAreOfBytes
-runs_are_of_bytes rules events short = same_happen rules first_bounds (start rules) events (small_run rules events short) short.bodies (limited_start rules short.founds)
+runs_are_of_bytes rules events short = same_happen rules first_bounds (start rules) events (small_run rules events short) short.bodies
+    (limited_start rules short.founds)

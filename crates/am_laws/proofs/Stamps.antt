@@ -111,10 +111,12 @@ pub equal_stamps : (a b : Stamp) → a.by < 256 → b.by < 256 → stamp_lt a b 
 equal_stamps a b h k not_below not_over =
     let x = rank_of a.by in let y = rank_of b.by in
     ⊎_elim
-    (λ (p : b.round < a.round). absurd (⊎_elim (λ (q : a.round < b.round). omega arith) (λ (q : (b.round ≡ a.round) × (x ≤ y)). let e = q.0 in omega arith) (not_lower b.round y a.round x not_over)))
+    (λ (p : b.round < a.round). absurd (⊎_elim (λ (q : a.round < b.round). omega arith) (λ (q : (b.round ≡ a.round) × (x ≤ y)). let e = q.0 in
+    omega arith) (not_lower b.round y a.round x not_over)))
     (λ (p : (a.round ≡ b.round) × (y ≤ x)).
     let r = p.0 in let l = p.1 in
-    let u : x ≤ y = ⊎_elim (λ (q : a.round < b.round). absurd (omega arith)) (λ (q : (b.round ≡ a.round) × (x ≤ y)). q.1) (not_lower b.round y a.round x not_over) in
+    let u : x ≤ y = ⊎_elim (λ (q : a.round < b.round). absurd (omega arith)) (λ (q : (b.round ≡ a.round) × (x ≤ y)). q.1)
+    (not_lower b.round y a.round x not_over) in
     let n : a.by ≡ b.by = rank_is a.by b.by h k (omega arith) in
     λ i. record { round = r i; by = n i })
     (not_lower a.round x b.round y not_below)
@@ -132,7 +134,9 @@ pub at_most_below : (a b c : Stamp) → stamp_lt b a ≡ false → stamp_lt b c 
 at_most_below a b c h k =
     let x = rank_of a.by in let y = rank_of b.by in let z = rank_of c.by in
     is_lower a.round x c.round z (⊎_elim
-    (λ (p : a.round < b.round). ⊎_elim (λ (q : b.round < c.round). inl (omega arith)) (λ (q : (b.round ≡ c.round) × (y < z)). let e = q.0 in inl (omega arith)) (lower b.round y c.round z k))
+    (λ (p : a.round < b.round). ⊎_elim (λ (q : b.round < c.round). inl (omega arith)) (λ (q : (b.round ≡ c.round) × (y < z)). let e = q.0 in
+    inl (omega arith)) (lower b.round y c.round z k))
     (λ (p : (b.round ≡ a.round) × (x ≤ y)). let e = p.0 in let l = p.1 in
-    ⊎_elim (λ (q : b.round < c.round). inl (omega arith)) (λ (q : (b.round ≡ c.round) × (y < z)). let d = q.0 in let m = q.1 in inr (omega arith, omega arith)) (lower b.round y c.round z k))
+    ⊎_elim (λ (q : b.round < c.round). inl (omega arith)) (λ (q : (b.round ≡ c.round) × (y < z)). let d = q.0 in let m = q.1 in
+    inr (omega arith, omega arith)) (lower b.round y c.round z k))
     (not_lower b.round y a.round x h))

@@ -1,5 +1,6 @@
 -- A node trims no more than its own application has taken: who leads is a member of its own list, so its own report counts.
-use Rattle.std.proofs.Common.{◌≡◌, ◌≢◌, ℕ, ◌+◌, ◌≤◌, ◌==◌, ◌&&◌, ◌||◌, not, max, nat_lt, nat_le, Bool, true, false, if◌then◌else◌, List, [], ◌∷◌, length, Option, Some, None, slice_index, unwrap_or, refl, sym, ap, ◌∙◌, subst, arith}
+use Rattle.std.proofs.Common.{◌≡◌, ◌≢◌, ℕ, ◌+◌, ◌≤◌, ◌==◌, ◌&&◌, ◌||◌, not, max, nat_lt, nat_le, Bool, true, false, if◌then◌else◌, List, [], ◌∷◌, length}
+use Rattle.std.proofs.Common.{Option, Some, None, slice_index, unwrap_or, refl, sym, ap, ◌∙◌, subst, arith}
 use Rattle.std.proofs.lemmas.Bool.Decides.{nat_tests}
 use Rattle.am_base.specs.declared.entry.Entry.{Entry}
 use Rattle.am_base.specs.declared.entry.Entry.TheVariants.{Data, Join, Leave, View}
@@ -28,8 +29,12 @@ use Rattle.am_model.specs.Hearing.{hears_member, hears_asking, hears_sequencer, 
 use Rattle.am_model.specs.Group.{has_log}
 use Rattle.am_model.proofs.Greatest.{split, and_both}
 use Rattle.am_effects.specs.Causes.{Cause, hears}
-use Rattle.am_effects.specs.Looks.{HasOpen, Balloting, with_more, without_one, as_it_is, Looks, finds_itself_out, waits, fetches_from_best, finds_too_few, finds_no_room, decides}
-use Rattle.am_effects.specs.Changes.{Promises, invited, overtaken as overtaken_by, told_result, Numbers, asked_send, own_send, asked_join, asked_leave, Fetches, without_ballot, for_ballot, Change, refreshes, settles, takes_report, admits, numbers, keeps_body, notes, stores, begins_list, departs, promises, opens, looks, fetches, stores_view, queues, collects, takes, asks_to_join, asks_to_leave, closes}
+use Rattle.am_effects.specs.Looks.{HasOpen, Balloting, with_more, without_one, as_it_is, Looks, finds_itself_out, waits, fetches_from_best, finds_too_few}
+use Rattle.am_effects.specs.Looks.{finds_no_room, decides}
+use Rattle.am_effects.specs.Changes.{Promises, invited, overtaken as overtaken_by, told_result, Numbers, asked_send, own_send, asked_join, asked_leave, Fetches}
+use Rattle.am_effects.specs.Changes.{without_ballot, for_ballot, Change, refreshes, settles, takes_report, admits, numbers, keeps_body, notes, stores}
+use Rattle.am_effects.specs.Changes.{begins_list, departs, promises, opens, looks, fetches, stores_view, queues, collects, takes, asks_to_join, asks_to_leave}
+use Rattle.am_effects.specs.Changes.{closes}
 use Rattle.am_effects.proofs.Rests.{rests_refresh, rests_at_end, settle_is}
 use Rattle.am_effects.proofs.Statuses.{asking_log}
 use Rattle.am_effects.proofs.Says.{told_pushed, view_pushed}
@@ -41,7 +46,8 @@ use Rattle.am_laws.proofs.ViewSteps.{view_last}
 use Rattle.am_laws.proofs.ViewChanges.{Balloted, next_above}
 use Rattle.am_laws.proofs.Views.{same_is_equal}
 use Rattle.am_laws.proofs.Blank.{Blanked}
-use Rattle.am_laws.proofs.Trims.{Fronts, NoOwnVote, Owned, WelcomeUsed, told_used, pushed_fronts, trimmed_fronts, member_leads, refresh_fronts, closed_fronts, closed_leads}
+use Rattle.am_laws.proofs.Trims.{Fronts, NoOwnVote, Owned, WelcomeUsed, told_used, pushed_fronts, trimmed_fronts, member_leads, refresh_fronts, closed_fronts}
+use Rattle.am_laws.proofs.Trims.{closed_leads}
 
 -- ---- what a sequencer numbers
 
@@ -71,7 +77,8 @@ sent_member : (m : Node) (from req : ℕ) (body : List ℕ) (name : ℕ) → Fro
 sent_member m from req body name h member =
     let used = told_used m h in
     let e = Data from req body in
-    ap (λ (i : Image). has (members_of i) name) (told_pushed m e) ∙ data_member (told m) (top m + 1) from req body name used.places (long_after (told m) (top m + 1) e used.places) member
+    ap (λ (i : Image). has (members_of i) name) (told_pushed m e)
+    ∙ data_member (told m) (top m + 1) from req body name used.places (long_after (told m) (top m + 1) e used.places) member
 
 record Numbered (m : Node) (e : Entry) : Type 0 where
   plain : is_view e ≡ false
@@ -79,7 +86,8 @@ record Numbered (m : Node) (e : Entry) : Type 0 where
   member : has (members (pushed m e)) m.core.who ≡ true
 
 numbered : (c : Cause) (m : Node) (e : Entry) → Numbers c m e → Fronts m → has (members m) m.core.who ≡ true → Numbered m e
-numbered c m e (asked_send s v report req body by known stays next) h member = record { plain = refl; fit = tt; member = sent_member m s req body m.core.who h member }
+numbered c m e (asked_send s v report req body by known stays next) h member =
+    record { plain = refl; fit = tt; member = sent_member m s req body m.core.who h member }
 numbered c m e (own_send s is last) h member = record { plain = refl; fit = tt; member = sent_member m m.core.who s.req s.body m.core.who h member }
 numbered c m e (asked_join s v is other fit) h member = record { plain = refl; fit = fit; member = spared m (Join s) m.core.who h fit tt member }
 numbered c m e (asked_leave s v report is other known stays) h member =
@@ -121,7 +129,8 @@ own_best : (votes : ℕ → Option Vote) (own : ℕ) (vote : Vote) (best : Shown
     → OwnBest own vote (best_from votes best names)
 unfolding best_from
 own_best votes own vote best [] h none = h
-own_best votes own vote best (name ∷ names) h none = own_best votes own vote (better_of best name (votes name)) names (own_better own vote best name (votes name) h (λ same. ap votes same ∙ none)) none
+own_best votes own vote best (name ∷ names) h none = own_best votes own vote (better_of best name (votes name)) names
+    (own_better own vote best name (votes name) h (λ same. ap votes same ∙ none)) none
 
 pub own_need : (m : Node) (b : Ballot) → ((best_of m b).by == m.core.who) ≡ true → b.votes m.core.who ≡ None → need_of m b ≡ members m
 unfolding best_of OwnBest
@@ -172,7 +181,16 @@ restarted_own m base low = split (nat_lt m.core.who 256) (λ t. rw t low) (λ f.
 -- another answer, or an end
 answered_own : (m : Node) (ballot : Option Ballot) → NoOwnVote m.core.who ballot → Owned m → Owned (record m { ballot = ballot })
 answered_own m ballot none h = record {
-  fronts = record { used = h.fronts.used; joins = h.fronts.joins; kept = h.fronts.kept; base = h.fronts.base; given = h.fronts.given; accepted = h.fronts.accepted; reported = h.fronts.reported };
+  fronts = record {
+    used = h.fronts.used;
+    joins = h.fronts.joins;
+    kept = h.fronts.kept;
+    base = h.fronts.base;
+    given = h.fronts.given;
+    accepted =
+        h.fronts.accepted;
+    reported = h.fronts.reported;
+  };
   leads = h.leads;
   vote = none;
 }
@@ -199,9 +217,19 @@ look_own m b v (decides may) none stays h =
     let g = pushed_fronts before e tt f in
     let used = told_used m h.fronts in
     let member : has (members m) m.core.who ≡ true = subst (λ set. has set m.core.who ≡ true) (own_need m b may.learned.own none) needed in
-    let after_ = view_member (told m) (top m + 1) b.stamp names r m.core.who used.places (long_after (told m) (top m + 1) e used.places) member (in_view m b needed stays) in
+    let after_ = view_member (told m) (top m + 1) b.stamp names r m.core.who used.places (long_after (told m) (top m + 1) e used.places) member
+    (in_view m b needed stays) in
     record {
-      fronts = record { used = g.used; joins = g.joins; kept = g.kept; base = g.base; given = g.given; accepted = g.accepted; reported = restarted_own m before.core.base f.base };
+      fronts = record {
+        used = g.used;
+        joins = g.joins;
+        kept = g.kept;
+        base = g.base;
+        given = g.given;
+        accepted = g.accepted;
+        reported =
+            restarted_own m before.core.base f.base;
+      };
       leads = λ t. ap (λ (i : Image). has (members_of i) m.core.who) (told_pushed before e) ∙ after_;
       vote = none;
     }
@@ -245,7 +273,8 @@ same_owned : (m n : Node) → n.core.who ≡ m.core.who → n.core.log ≡ m.cor
     → NoOwnVote n.core.who n.ballot → Owned m → Owned n
 same_owned m n who log promise stays f none h = record {
   fronts = f;
-  leads = λ t. (let same : is_sequencer n ≡ is_sequencer m = λ i. (is_member (stays i) && stamp_eq (promise i) (told_by (log i)).view) && ((told_by (log i)).view.by == who i) in
+  leads = λ t. (let same : is_sequencer n ≡ is_sequencer m =
+      λ i. (is_member (stays i) && stamp_eq (promise i) (told_by (log i)).view) && ((told_by (log i)).view.by == who i) in
       (λ i. has (members_of (told_by (log i))) (who i)) ∙ h.leads (sym same ∙ t));
   vote = none;
 }
@@ -266,7 +295,8 @@ stamp_by v s h = grind (arith, nat_tests)
 -- a fetched View is of another name
 fetched_view : (m : Node) (s : ℕ) (v : Stamp) (stamp : Stamp) (names : List ℕ) (resilience : ℕ) → Fetches m s v (View stamp names resilience)
     → (s == m.core.who) ≡ false → stamp ≡ v → (stamp.by == m.core.who) ≡ false
-fetched_view m s v stamp names resilience (without_ballot none own past) other same = let a = stamp_by v s own in let b = ap (λ (x : Stamp). x.by) same in grind (arith, nat_tests)
+fetched_view m s v stamp names resilience (without_ballot none own past) other same = let a = stamp_by v s own in let b = ap (λ (x : Stamp). x.by) same in
+    grind (arith, nat_tests)
 fetched_view m s v stamp names resilience (for_ballot b open_ from past) other same = absurd (
     let t : stamp_eq stamp v ≡ true = subst (λ x. stamp_eq stamp x ≡ true) same (same_is_equal stamp) in
     split (stamp_lt v stamp) (λ u. let p = rw u at past in cc) (λ u. let p = rw (u, t) at past in cc))
@@ -276,15 +306,18 @@ fetch_follows : (m : Node) (s : ℕ) (v : Stamp) (base : ℕ) (e : Entry) → Fe
     → stamp_eq (view m) v ≡ false → is_sequencer (pushed (trimmed m base) e) ≡ true → ⊥
 fetch_follows m s v base (Data from req body) why other same below t =
     let p = promise_is (pushed (trimmed m base) (Data from req body)) t ∙ view_pushed (trimmed m base) (Data from req body) refl in
-    let z : stamp_eq (view m) v ≡ true = subst (λ x. stamp_eq x v ≡ true) p (subst (λ x. stamp_eq m.core.promise x ≡ true) (sym (same_stamp v m.core.promise same)) (same_is_equal m.core.promise)) in
+    let z : stamp_eq (view m) v ≡ true = subst (λ x. stamp_eq x v
+    ≡ true) p (subst (λ x. stamp_eq m.core.promise x ≡ true) (sym (same_stamp v m.core.promise same)) (same_is_equal m.core.promise)) in
     cc
 fetch_follows m s v base (Join name) why other same below t =
     let p = promise_is (pushed (trimmed m base) (Join name)) t ∙ view_pushed (trimmed m base) (Join name) refl in
-    let z : stamp_eq (view m) v ≡ true = subst (λ x. stamp_eq x v ≡ true) p (subst (λ x. stamp_eq m.core.promise x ≡ true) (sym (same_stamp v m.core.promise same)) (same_is_equal m.core.promise)) in
+    let z : stamp_eq (view m) v ≡ true = subst (λ x. stamp_eq x v
+    ≡ true) p (subst (λ x. stamp_eq m.core.promise x ≡ true) (sym (same_stamp v m.core.promise same)) (same_is_equal m.core.promise)) in
     cc
 fetch_follows m s v base (Leave name) why other same below t =
     let p = promise_is (pushed (trimmed m base) (Leave name)) t ∙ view_pushed (trimmed m base) (Leave name) refl in
-    let z : stamp_eq (view m) v ≡ true = subst (λ x. stamp_eq x v ≡ true) p (subst (λ x. stamp_eq m.core.promise x ≡ true) (sym (same_stamp v m.core.promise same)) (same_is_equal m.core.promise)) in
+    let z : stamp_eq (view m) v ≡ true = subst (λ x. stamp_eq x v
+    ≡ true) p (subst (λ x. stamp_eq m.core.promise x ≡ true) (sym (same_stamp v m.core.promise same)) (same_is_equal m.core.promise)) in
     cc
 fetch_follows m s v base (View stamp names resilience) why other same below t =
     let n = pushed (trimmed m base) (View stamp names resilience) in
@@ -323,7 +356,16 @@ change_owned c o m n heard own k blanked refreshes h =
     (refresh_fronts m (λ t. member_leads m h.fronts (h.leads t)) h.fronts)
     (subst (NoOwnVote (refresh m).core.who) (sym r.rests.ballot) (subst (λ w. NoOwnVote w m.ballot) (sym r.rests.who) h.vote)) h
 change_owned c o m n heard own k blanked settles h = subst Owned (sym (settle_is m)) (record {
-  fronts = record { used = h.fronts.used; joins = h.fronts.joins; kept = h.fronts.kept; base = h.fronts.base; given = h.fronts.given; accepted = h.fronts.accepted; reported = h.fronts.reported };
+  fronts = record {
+    used = h.fronts.used;
+    joins = h.fronts.joins;
+    kept = h.fronts.kept;
+    base = h.fronts.base;
+    given = h.fronts.given;
+    accepted =
+        h.fronts.accepted;
+    reported = h.fronts.reported;
+  };
   leads = h.leads;
   vote = h.vote;
 })
@@ -332,14 +374,32 @@ change_owned c o m n heard own k blanked (takes_report s v report by may) h =
     let other = may.other in
     let flipped : (m.core.who == s) ≡ false = grind (arith, nat_tests) in
     record {
-      fronts = record { used = f.used; joins = f.joins; kept = f.kept; base = f.base; given = f.given; accepted = f.accepted; reported = rw flipped f.reported };
+      fronts = record {
+        used = f.used;
+        joins = f.joins;
+        kept = f.kept;
+        base = f.base;
+        given = f.given;
+        accepted = f.accepted;
+        reported =
+            rw flipped f.reported;
+      };
       leads = h.leads;
       vote = h.vote;
     }
 change_owned c o m n heard own k blanked (admits s v is leads fit) h =
     let f = h.fronts in
     record {
-      fronts = record { used = f.used; joins = f.joins; kept = f.kept; base = f.base; given = f.given; accepted = f.accepted; reported = split (m.core.who == s) (λ t. rw t f.base) (λ u. rw u f.reported) };
+      fronts = record {
+        used = f.used;
+        joins = f.joins;
+        kept = f.kept;
+        base = f.base;
+        given = f.given;
+        accepted = f.accepted;
+        reported =
+            split (m.core.who == s) (λ t. rw t f.base) (λ u. rw u f.reported);
+      };
       leads = h.leads;
       vote = h.vote;
     }
@@ -348,14 +408,23 @@ change_owned c o m n heard own k blanked (numbers e leads room why) h =
     record { fronts = pushed_fronts m e z.fit h.fronts; leads = λ t. z.member; vote = h.vote }
 change_owned c o m n heard own k blanked (keeps_body s v report req body is by) h =
     let f = h.fronts in
-    record { fronts = record { used = f.used; joins = f.joins; kept = f.kept; base = f.base; given = f.given; accepted = f.accepted; reported = f.reported }; leads = h.leads; vote = h.vote }
+    record {
+      fronts = record { used = f.used; joins = f.joins; kept = f.kept; base = f.base; given = f.given; accepted = f.accepted; reported = f.reported };
+      leads = h.leads;
+      vote = h.vote;
+    }
 change_owned c o m n heard own k blanked (notes s v base acc by from) h =
     let f = h.fronts in
     let kept = f.kept in
     let low = f.base in
-    let within : (if nat_le base m.core.taken then base else m.core.base) ≤ m.core.taken = split (nat_le base m.core.taken) (λ t. rw t (grind (arith, nat_tests))) (λ u. rw u low) in
+    let within : (if nat_le base m.core.taken then base else m.core.base) ≤ m.core.taken =
+    split (nat_le base m.core.taken) (λ t. rw t (grind (arith, nat_tests))) (λ u. rw u low) in
     let g = trimmed_fronts m _ within f in
-    record { fronts = record { used = f.used; joins = f.joins; kept = g.kept; base = g.base; given = f.given; accepted = f.accepted; reported = f.reported }; leads = h.leads; vote = h.vote }
+    record {
+      fronts = record { used = f.used; joins = f.joins; kept = g.kept; base = g.base; given = f.given; accepted = f.accepted; reported = f.reported };
+      leads = h.leads;
+      vote = h.vote;
+    }
 change_owned c o m n heard own k blanked (stores s v base acc number e by from plain may) h =
     let other = heard_other m s v from in
     let g = pushed_fronts m e (any_fits (told m) e may.fits) h.fronts in
@@ -370,13 +439,25 @@ change_owned c o m n heard own k blanked (begins_list s v base join image is say
     let taken = none_taken m none blanked h.fronts in
     let reported = h.fronts.reported in
     record {
-      fronts = record { used = heard (packet.Welcome s v base join image) is; joins = tt; kept = omega arith; base = omega arith; given = omega arith; accepted = omega arith; reported = omega arith };
+      fronts = record {
+        used = heard (packet.Welcome s v base join image) is;
+        joins = tt;
+        kept = omega arith;
+        base = omega arith;
+        given = omega arith;
+        accepted = omega arith;
+        reported = omega arith;
+      };
       leads = λ t. absurd (let p = promise_is n t in not_own n s (ap (λ (x : Stamp). x.by) (sym p) ∙ stamp_by v s may.own) (other_asks m s may.asks) t);
       vote = h.vote;
     }
 change_owned c o m n heard own k blanked (departs s v number is by leaves) h =
     let f = h.fronts in
-    record { fronts = record { used = f.used; joins = f.joins; kept = f.kept; base = f.base; given = f.given; accepted = f.accepted; reported = f.reported }; leads = λ t. absurd (cc); vote = h.vote }
+    record {
+      fronts = record { used = f.used; joins = f.joins; kept = f.kept; base = f.base; given = f.given; accepted = f.accepted; reported = f.reported };
+      leads = λ t. absurd (cc);
+      vote = h.vote;
+    }
 change_owned c o m n heard own k blanked (promises v low why) h =
     let f = h.fronts in
     record {
@@ -391,7 +472,8 @@ change_owned c o m n heard own k blanked (opens least resilience by may) h =
       leads = λ t. absurd (not_above_view n (at_most_below (view m) m.core.promise (next_stamp m) k.high (next_above m.core.promise m.core.who)) t);
       vote = refl;
     }
-change_owned c o m n heard own k blanked (looks b verdict over why look is) h = look_own m b verdict look (looked_vote c m b why h.vote) (itself c m b why own) h
+change_owned c o m n heard own k blanked (looks b verdict over why look is) h =
+    look_own m b verdict look (looked_vote c m b why h.vote) (itself c m b why own) h
 change_owned c o m n heard own k blanked (fetches s v base number e is by promise below why may) h =
     let f = trimmed_fronts m base may.taken h.fronts in
     record {
@@ -409,23 +491,52 @@ change_owned c o m n heard own k blanked (stores_view s v base number names resi
     }
 change_owned c o m n heard own k blanked (queues body is says member stays few) h =
     let f = h.fronts in
-    record { fronts = record { used = f.used; joins = f.joins; kept = f.kept; base = f.base; given = f.given; accepted = f.accepted; reported = f.reported }; leads = h.leads; vote = h.vote }
+    record {
+      fronts = record { used = f.used; joins = f.joins; kept = f.kept; base = f.base; given = f.given; accepted = f.accepted; reported = f.reported };
+      leads = h.leads;
+      vote = h.vote;
+    }
 change_owned c o m n heard own k blanked (collects req is) h =
     let f = h.fronts in
-    record { fronts = record { used = f.used; joins = f.joins; kept = f.kept; base = f.base; given = f.given; accepted = f.accepted; reported = f.reported }; leads = h.leads; vote = h.vote }
+    record {
+      fronts = record { used = f.used; joins = f.joins; kept = f.kept; base = f.base; given = f.given; accepted = f.accepted; reported = f.reported };
+      leads = h.leads;
+      vote = h.vote;
+    }
 change_owned c o m n heard own k blanked (takes e is says member some there) h =
     let f = h.fronts in
     let low = f.base in
     let given = f.given in
     let reported = f.reported in
     let more : m.core.taken ≢ m.core.acc = λ same. (let t : (m.core.taken == m.core.acc) ≡ true = grind (arith, nat_tests) in cc) in
-    record { fronts = record { used = f.used; joins = f.joins; kept = f.kept; base = omega arith; given = omega arith; accepted = f.accepted; reported = omega arith }; leads = h.leads; vote = h.vote }
+    record {
+      fronts = record {
+        used = f.used;
+        joins = f.joins;
+        kept = f.kept;
+        base = omega arith;
+        given = omega arith;
+        accepted = f.accepted;
+        reported =
+            omega arith;
+      };
+      leads = h.leads;
+      vote = h.vote;
+    }
 change_owned c o m n heard own k blanked (asks_to_join is was) h =
     let f = h.fronts in
-    record { fronts = record { used = f.used; joins = f.joins; kept = f.kept; base = f.base; given = f.given; accepted = f.accepted; reported = f.reported }; leads = λ t. absurd (cc); vote = h.vote }
+    record {
+      fronts = record { used = f.used; joins = f.joins; kept = f.kept; base = f.base; given = f.given; accepted = f.accepted; reported = f.reported };
+      leads = λ t. absurd (cc);
+      vote = h.vote;
+    }
 change_owned c o m n heard own k blanked (asks_to_leave is was stays done) h =
     let f = h.fronts in
-    record { fronts = record { used = f.used; joins = f.joins; kept = f.kept; base = f.base; given = f.given; accepted = f.accepted; reported = f.reported }; leads = h.leads; vote = h.vote }
+    record {
+      fronts = record { used = f.used; joins = f.joins; kept = f.kept; base = f.base; given = f.given; accepted = f.accepted; reported = f.reported };
+      leads = h.leads;
+      vote = h.vote;
+    }
 change_owned c o m n heard own k blanked (closes leads leaves alone room) h =
     let e = Leave m.core.who in
     let p = pushed m e in

@@ -17,7 +17,8 @@ use Rattle.am_model.specs.World.{World, start, unchanged, stepped, run}
 use Rattle.am_model.specs.Claims.{heard_by}
 use Rattle.am_model.proofs.Greatest.{split}
 use Rattle.am_effects.specs.Causes.{Cause}
-use Rattle.am_effects.specs.Letters.{Says, request, spread, bcast, order, accept, ack, nack, hold, join_ask, welcome, leave_ask, gone, invite, vote, fetch, piece, result, hand_over, LetterSays}
+use Rattle.am_effects.specs.Letters.{Says, request, spread, bcast, order, accept, ack, nack, hold, join_ask, welcome, leave_ask, gone, invite, vote, fetch}
+use Rattle.am_effects.specs.Letters.{piece, result, hand_over, LetterSays}
 use Rattle.am_effects.specs.Changes.{Changes, unchanged as no_change, changed}
 use Rattle.am_effects.specs.Effects.{Effect}
 use Rattle.am_effects.specs.Events.{actor, WasSentTo, IsCause, idles, stops, returns, steps}
@@ -107,9 +108,11 @@ owned_step rules w e c s cause effect blanks h =
     let m = w.nodes name in
     let n = s.node in
     let few = few_names rules w e h.blanks.views.named in
-    let a = along_changes rules m n (heard_names rules w e c h.blanks.views cause) (heard_used rules w e c h cause) effect.changes (each_along rules w name few h) in
+    let a = along_changes rules m n (heard_names rules w e c h.blanks.views cause) (heard_used rules w e c h cause) effect.changes
+    (each_along rules w name few h) in
     let sender = effect.sender in
-    let fronts : Fronts sender = (let k = subst Fronts effect.is a.owned.fronts in record { used = k.used; joins = k.joins; kept = k.kept; base = k.base; given = k.given; accepted = k.accepted; reported = k.reported }) in
+    let fronts : Fronts sender = (let k = subst Fronts effect.is a.owned.fronts in
+    record { used = k.used; joins = k.joins; kept = k.kept; base = k.base; given = k.given; accepted = k.accepted; reported = k.reported }) in
     record {
       blanks = blanks;
       kept = λ other. split (other == name) (λ t. rw t a.kept) (λ f. rw f (h.kept other));
@@ -135,7 +138,16 @@ unfolding JoinsFit fold
 founder_owned rules name there =
     let given : slice_index rules.founders (place_of name) ≡ life_of name = grind (arith, nat_tests) in
     record {
-      fronts = record { used = used_blank; joins = (tt, tt); kept = omega arith; base = omega arith; given = omega arith; accepted = omega arith; reported = rw there (omega arith) };
+      fronts = record {
+        used = used_blank;
+        joins = (tt, tt);
+        kept = omega arith;
+        base = omega arith;
+        given = omega arith;
+        accepted = omega arith;
+        reported =
+            rw there (omega arith);
+      };
       leads = λ t. first_member (founding_stamp rules) rules.founders rules.resilience name given;
       vote = tt;
     }
@@ -143,7 +155,16 @@ founder_owned rules name there =
 stranger_owned : (rules : Rules) (name : ℕ) → Owned (stranger rules name)
 unfolding JoinsFit
 stranger_owned rules name = record {
-  fronts = record { used = used_blank; joins = tt; kept = omega arith; base = omega arith; given = omega arith; accepted = omega arith; reported = omega arith };
+  fronts = record {
+    used = used_blank;
+    joins = tt;
+    kept = omega arith;
+    base = omega arith;
+    given = omega arith;
+    accepted = omega arith;
+    reported =
+        omega arith;
+  };
   leads = λ t. absurd (cc);
   vote = tt;
 }

@@ -1,5 +1,6 @@
 -- What a node keeps of its numbers and its list: it trims no more than its own application has taken, through a refresh and through its end.
-use Rattle.std.proofs.Common.{◌≡◌, ⊎_elim, ℕ, zero, suc, ◌+◌, ◌-◌, ◌<◌, ◌≤◌, ◌==◌, max, min, nat_lt, Bool, true, false, if◌then◌else◌, List, [], ◌∷◌, length, set, Option, Some, None, refl, sym, ap, ◌∙◌, subst, arith, length-append}
+use Rattle.std.proofs.Common.{◌≡◌, ⊎_elim, ℕ, zero, suc, ◌+◌, ◌-◌, ◌<◌, ◌≤◌, ◌==◌, max, min, nat_lt, Bool, true, false, if◌then◌else◌, List, [], ◌∷◌, length}
+use Rattle.std.proofs.Common.{set, Option, Some, None, refl, sym, ap, ◌∙◌, subst, arith, length-append}
 use Rattle.std.proofs.lemmas.Bool.{cases_lt}
 use Rattle.std.proofs.lemmas.Bool.Decides.{nat_tests}
 use Rattle.std.proofs.lemmas.List.{map-set}
@@ -79,14 +80,16 @@ trimmed_fronts m base low h =
 
 -- its own membership, or its own Leave last
 pub record MayLead (m : Node) : Type 0 where
-  pub least : (reports : ℕ → Report) (c : CoreState) (to : ℕ) → c.log ≡ m.core.log → c.who ≡ m.core.who → c.log.start ≤ c.acc → c.acc ≤ top_of c.log → (reports c.who).taken ≤ c.taken → least_taken reports (since_accepted c) ≡ Some to → to ≤ c.taken
+  pub least : (reports : ℕ → Report) (c : CoreState) (to : ℕ) → c.log ≡ m.core.log → c.who ≡ m.core.who → c.log.start ≤ c.acc → c.acc ≤ top_of c.log
+      → (reports c.who).taken ≤ c.taken → least_taken reports (since_accepted c) ≡ Some to → to ≤ c.taken
 
 pub member_leads : (m : Node) → Fronts m → has (members m) m.core.who ≡ true → MayLead m
 member_leads m h member = record {
   least = λ reports c to log who low high own least.
       (let used : IsUsed c.log.image = subst (λ (l : Log). IsUsed l.image) (sym log) h.used in
       let joins : JoinsFit c.log.image (c.log.start + 1) c.log.entries = subst (λ (l : Log). JoinsFit l.image (l.start + 1) l.entries) (sym log) h.joins in
-      let here : has (members_of (told_by c.log)) c.who ≡ true = subst (λ (l : Log). has (members_of (told_by l)) c.who ≡ true) (sym log) (subst (λ w. has (members m) w ≡ true) (sym who) member) in
+      let here : has (members_of (told_by c.log)) c.who ≡ true =
+      subst (λ (l : Log). has (members_of (told_by l)) c.who ≡ true) (sym log) (subst (λ w. has (members m) w ≡ true) (sym who) member) in
       let at : has (members_at c.log (top_of c.log)) c.who ≡ true = ap (λ i. has (members_of i) c.who) (image-top c.log) ∙ here in
       let told_is = used_fold c.log.image (c.log.start + 1) c.log.entries (omega arith) used in
       least_within reports c (top_of c.log) to used joins low high (omega arith) at (member_row (told_by c.log) c.who told_is here) own least);
@@ -124,7 +127,8 @@ lead_fronts m leads h =
       used = h.used;
       joins = h.joins;
       kept = base_up m.core.log.start m.core.base _ h.kept;
-      base = base_within c.taken m.core.base _ (omega arith) (λ to is. leads.least (lead m).reports (record c { base = m.core.base }) to refl refl (omega arith) (omega arith) second is);
+      base = base_within c.taken m.core.base _ (omega arith)
+          (λ to is. leads.least (lead m).reports (record c { base = m.core.base }) to refl refl (omega arith) (omega arith) second is);
       given = low;
       accepted = omega arith;
       reported = second;
@@ -151,7 +155,16 @@ unfolding refresh
 refresh_fronts m leads h = split (is_sequencer m) (λ t. rw t (lead_fronts m (leads t) h)) (λ f. rw f (advance_fronts m h))
 
 settle_fronts : (m : Node) → Fronts m → Fronts (settle m)
-settle_fronts m h = subst Fronts (sym (settle_is m)) (record { used = h.used; joins = h.joins; kept = h.kept; base = h.base; given = h.given; accepted = h.accepted; reported = h.reported })
+settle_fronts m h = subst Fronts (sym (settle_is m)) (record {
+  used = h.used;
+  joins = h.joins;
+  kept = h.kept;
+  base = h.base;
+  given = h.given;
+  accepted =
+      h.accepted;
+  reported = h.reported;
+})
 
 pub closed_fronts : (m : Node) → MayLead m → Fronts m → Fronts (refresh_at_end m)
 unfolding refresh_at_end
@@ -192,22 +205,31 @@ closed_leads m h member alone =
     let used = told_used m h in
     let used_p = pushed_fronts m e tt h in
     let high_p : top p ≡ n = simp length-append (omega arith) in
-    let members_p : members p ≡ others m = ap members_of told_is ∙ closed_row (told m) n who (omega arith) used.places member ∙ sym (ap (λ (b : Bool). if b then set (members m) (place_of who) 0 else members m) member) in
+    let members_p : members p ≡ others m = ap members_of told_is ∙ closed_row (told m) n who (omega arith) used.places member
+    ∙ sym (ap (λ (b : Bool). if b then set (members m) (place_of who) 0 else members m) member) in
     let nobody : size (members p) ≡ 0 = ap size members_p ∙ (let z : size (others m) ≡ 0 = grind (arith, nat_tests) in z) in
-    let before : has (members_at p.core.log (top m)) who ≡ true = ap (λ (i : Image). has (members_of i) who) (image-push m.core.log e (top m) (omega arith) ∙ image-top m.core.log) ∙ member in
-    let life : (row_at (told p) (place_of who)).life ≡ life_of who = ap (λ (i : Image). (row_at i (place_of who)).life) told_is ∙ leave_life (told m) n who (place_of who) (mod16 who) used ∙ member_row (told m) who used member in
+    let before : has (members_at p.core.log (top m)) who ≡ true =
+    ap (λ (i : Image). has (members_of i) who) (image-push m.core.log e (top m) (omega arith) ∙ image-top m.core.log) ∙ member in
+    let life : (row_at (told p) (place_of who)).life ≡ life_of who = ap (λ (i : Image). (row_at i (place_of who)).life) told_is
+    ∙ leave_life (told m) n who (place_of who) (mod16 who) used ∙ member_row (told m) who used member in
     record {
       least = λ reports c to log is low high own least. (let used_c : IsUsed c.log.image = subst (λ (l : Log). IsUsed l.image) (sym log) used_p.used in
-          let joins : JoinsFit c.log.image (c.log.start + 1) c.log.entries = subst (λ (l : Log). JoinsFit l.image (l.start + 1) l.entries) (sym log) used_p.joins in
+          let joins : JoinsFit c.log.image (c.log.start + 1) c.log.entries =
+          subst (λ (l : Log). JoinsFit l.image (l.start + 1) l.entries) (sym log) used_p.joins in
           let top_c = ap top_of log in
-          let there : has (members_at c.log (top m)) c.who ≡ true = subst (λ (l : Log). has (members_at l (top m)) c.who ≡ true) (sym log) (subst (λ w. has (members_at p.core.log (top m)) w ≡ true) (sym is) before) in
-          let row : (row_at (told_by c.log) (place_of c.who)).life ≡ life_of c.who = subst (λ (l : Log). (row_at (told_by l) (place_of c.who)).life ≡ life_of c.who) (sym log) (subst (λ w. (row_at (told p) (place_of w)).life ≡ life_of w) (sym is) life) in
+          let there : has (members_at c.log (top m)) c.who ≡ true =
+          subst (λ (l : Log). has (members_at l (top m)) c.who
+          ≡ true) (sym log) (subst (λ w. has (members_at p.core.log (top m)) w ≡ true) (sym is) before) in
+          let row : (row_at (told_by c.log) (place_of c.who)).life ≡ life_of c.who =
+          subst (λ (l : Log). (row_at (told_by l) (place_of c.who)).life
+          ≡ life_of c.who) (sym log) (subst (λ w. (row_at (told p) (place_of w)).life ≡ life_of w) (sym is) life) in
           ⊎_elim
           (λ (below : c.acc < n). least_within reports c (top m) to used_c joins low (omega arith) (omega arith) there row own least)
           (λ (all : n ≤ c.acc).
           let none : top_of c.log - c.acc ≡ 0 = omega arith in
           let at : c.acc ≡ top_of c.log = omega arith in
-          let since : since_accepted c ≡ members p = ap (unions c.log c.acc) none ∙ ap (members_at c.log) at ∙ ap members_of (image-top c.log) ∙ ap (λ (l : Log). members_of (told_by l)) log in
+          let since : since_accepted c ≡ members p = ap (unions c.log c.acc) none ∙ ap (members_at c.log) at ∙ ap members_of (image-top c.log)
+          ∙ ap (λ (l : Log). members_of (told_by l)) log in
           let z : size (since_accepted c) ≡ 0 = ap size since ∙ nobody in
           absurd (none_least (λ name. (reports name).taken) (since_accepted c) to z least))
           (cases_lt c.acc n));

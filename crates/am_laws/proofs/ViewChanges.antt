@@ -1,5 +1,6 @@
 -- What changes do to views, to lists and to ballots: an open ballot is above the view, and is what was promised.
-use Rattle.std.proofs.Common.{◌≡◌, ℕ, ◌+◌, ◌<◌, ◌==◌, ◌&&◌, ◌||◌, not, max, nat_lt, Bool, true, false, List, Option, Some, None, refl, sym, ap, ◌∙◌, subst, arith}
+use Rattle.std.proofs.Common.{◌≡◌, ℕ, ◌+◌, ◌<◌, ◌==◌, ◌&&◌, ◌||◌, not, max, nat_lt, Bool, true, false, List, Option, Some, None, refl, sym, ap, ◌∙◌, subst}
+use Rattle.std.proofs.Common.{arith}
 use Rattle.std.proofs.lemmas.Bool.Decides.{nat_tests}
 use Rattle.am_base.specs.declared.outcome.Outcome.{Outcome}
 use Rattle.am_base.specs.declared.name.Stamp.{Stamp}
@@ -20,8 +21,11 @@ use Rattle.am_model.specs.Hearing.{hears_member, hears_in_view, hears_sequencer}
 use Rattle.am_model.specs.Group.{has_log}
 use Rattle.am_model.proofs.Greatest.{split}
 use Rattle.am_effects.specs.Causes.{Cause}
-use Rattle.am_effects.specs.Looks.{HasOpen, Balloting, with_more, without_one, as_it_is, Looks, finds_itself_out, waits, fetches_from_best, finds_too_few, finds_no_room, decides}
-use Rattle.am_effects.specs.Changes.{Numbers, asked_send, own_send, asked_join, asked_leave, Fetches, without_ballot, for_ballot, MayBeWelcomed, Change, refreshes, settles, takes_report, admits, numbers, keeps_body, notes, stores, begins_list, departs, promises, opens, looks, fetches, stores_view, queues, collects, takes, asks_to_join, asks_to_leave, closes, Changes, unchanged, changed}
+use Rattle.am_effects.specs.Looks.{HasOpen, Balloting, with_more, without_one, as_it_is, Looks, finds_itself_out, waits, fetches_from_best, finds_too_few}
+use Rattle.am_effects.specs.Looks.{finds_no_room, decides}
+use Rattle.am_effects.specs.Changes.{Numbers, asked_send, own_send, asked_join, asked_leave, Fetches, without_ballot, for_ballot, MayBeWelcomed, Change}
+use Rattle.am_effects.specs.Changes.{refreshes, settles, takes_report, admits, numbers, keeps_body, notes, stores, begins_list, departs, promises, opens, looks}
+use Rattle.am_effects.specs.Changes.{fetches, stores_view, queues, collects, takes, asks_to_join, asks_to_leave, closes, Changes, unchanged, changed}
 use Rattle.am_effects.proofs.Tests.{or_first, or_second}
 use Rattle.am_effects.proofs.Says.{view_pushed}
 use Rattle.am_effects.proofs.Rests.{rests_refresh, rests_at_end, settle_is}
@@ -56,7 +60,8 @@ pub record Does (m n : Node) : Type 0 where
   pub balloted : Balloted n
 
 -- nothing of that changes
-does_same : (m n : Node) → n.core.who ≡ m.core.who → n.status ≡ m.status → n.core.promise ≡ m.core.promise → n.core.log ≡ m.core.log → n.ballot ≡ m.ballot → Balloted m → Does m n
+does_same : (m n : Node) → n.core.who ≡ m.core.who → n.status ≡ m.status → n.core.promise ≡ m.core.promise → n.core.log ≡ m.core.log → n.ballot ≡ m.ballot
+    → Balloted m → Does m n
 does_same m n who stays promise log ballot h = record {
   goes = λ t. goes_to m.core.log n.core.log log;
   log_ = λ t. ap has_log stays ∙ t;
@@ -64,7 +69,8 @@ does_same m n who stays promise log ballot h = record {
 }
 
 -- an entry that is no View
-does_plain : (m n : Node) (e : Entry) → is_view e ≡ false → n.core.who ≡ m.core.who → has_log n.status ≡ true → n.core.promise ≡ m.core.promise → n.core.log ≡ (pushed m e).core.log → n.ballot ≡ m.ballot → Balloted m → Does m n
+does_plain : (m n : Node) (e : Entry) → is_view e ≡ false → n.core.who ≡ m.core.who → has_log n.status ≡ true → n.core.promise ≡ m.core.promise
+    → n.core.log ≡ (pushed m e).core.log → n.ballot ≡ m.ballot → Balloted m → Does m n
 does_plain m n e plain who stays promise log ballot h =
     let v : view n ≡ view m = ap (λ (l : Log). (told_by l).view) log ∙ view_pushed m e plain in
     record {
@@ -73,7 +79,10 @@ does_plain m n e plain who stays promise log ballot h =
       balloted = record {
         high = (λ i. stamp_lt (promise i) (v i)) ∙ h.high;
         none = λ f. absurd (cc);
-        opened = subst (OpenBallot n.core.who n.core.promise (view n)) (sym ballot) (subst (λ (x : Stamp). OpenBallot n.core.who n.core.promise x m.ballot) (sym v) (subst (λ (p : Stamp). OpenBallot n.core.who p (view m) m.ballot) (sym promise) (subst (λ (k : ℕ). OpenBallot k m.core.promise (view m) m.ballot) (sym who) h.opened)));
+        opened = subst (OpenBallot n.core.who n.core.promise (view n)) (sym ballot)
+            (subst (λ (x : Stamp). OpenBallot n.core.who n.core.promise x m.ballot) (sym v)
+            (subst (λ (p : Stamp). OpenBallot n.core.who p (view m) m.ballot) (sym promise)
+            (subst (λ (k : ℕ). OpenBallot k m.core.promise (view m) m.ballot) (sym who) h.opened)));
       };
     }
 
@@ -103,7 +112,8 @@ second false b h = absurd (cc)
 
 -- who is welcomed has no list, and no ballot
 welcomed_none : (m : Node) (s : ℕ) (v : Stamp) (base join : ℕ) (image : Image) → MayBeWelcomed m s v base join image → has_log m.status ≡ false
-welcomed_none m s v base join image may = none_of_asking m.status may.no_member (second (not (s == m.core.who)) (is_member m.status || is_asking m.status) may.asks)
+welcomed_none m s v base join image may = none_of_asking m.status may.no_member
+    (second (not (s == m.core.who)) (is_member m.status || is_asking m.status) may.asks)
 
 -- whoever has a ballot has a list
 ballot_log : (m : Node) (b : Ballot) → m.ballot ≡ Some b → Balloted m → has_log m.status ≡ true
@@ -111,7 +121,8 @@ ballot_log m b is h = split (has_log m.status) (λ t. t) (λ f. absurd (let none
 
 -- ---- promises
 
-overtaken_open : (who : ℕ) (promise v by : Stamp) (ballot : Option Ballot) → (by.by < 256) → promise.by < 256 → stamp_lt by promise ≡ false → OpenBallot who promise v ballot → OpenBallot who by v (overtaken by ballot)
+overtaken_open : (who : ℕ) (promise v by : Stamp) (ballot : Option Ballot) → (by.by < 256) → promise.by < 256 → stamp_lt by promise ≡ false
+    → OpenBallot who promise v ballot → OpenBallot who by v (overtaken by ballot)
 overtaken_open who promise v by None k l low h = tt
 overtaken_open who promise v by (Some b) k l low h = split (not b.is_over && stamp_lt b.stamp by)
     (λ t. rw t (λ over. absurd (cc)))
@@ -148,7 +159,8 @@ looked_at m b (without_one old name is open_ other) h =
 looked_at m b (as_it_is old open_ on) h = record { has_list = ballot_log m old open_.last h; open_ = of_open m old open_ h }
 
 -- another answer, or an end
-does_look : (m : Node) (b : Ballot) (o : Outcome) (over : Bool) → LooksAt m b → Balloted m → Does m (record m { ballot = Some (record b { answer = o; is_over = over }) })
+does_look : (m : Node) (b : Ballot) (o : Outcome) (over : Bool) → LooksAt m b → Balloted m
+    → Does m (record m { ballot = Some (record b { answer = o; is_over = over }) })
 does_look m b o over l h = record {
   goes = λ t. goes_to m.core.log m.core.log refl;
   log_ = λ t. t;
@@ -165,7 +177,12 @@ look_does m b v (waits x y) l h = does_look m b _ false l h
 look_does m b v (fetches_from_best x y z) l h = does_look m b _ false l h
 look_does m b v (finds_too_few x y) l h = does_look m b _ true l h
 look_does m b v (finds_no_room x) l h =
-    record { goes = λ t. goes_to m.core.log m.core.log refl; log_ = λ t. t; balloted = record { high = h.high; none = λ f. absurd (let t = l.has_list in cc); opened = λ x. absurd (cc) } }
+    record {
+      goes = λ t. goes_to m.core.log m.core.log refl;
+      log_ = λ t. t;
+      balloted =
+          record { high = h.high; none = λ f. absurd (let t = l.has_list in cc); opened = λ x. absurd (cc) };
+    }
 look_does m b v (decides may) l h =
     let names = left_in b (need_of m b) in
     let before = trimmed_for m b names in
@@ -177,7 +194,8 @@ look_does m b v (decides may) l h =
       goes = λ t. goes_view before b.stamp names r o.above;
       log_ = λ t. t;
       balloted = record {
-        high = subst (λ (s : Stamp). stamp_lt m.core.promise s ≡ false) (sym same) (subst (λ (p : Stamp). stamp_lt p b.stamp ≡ false) (sym o.promised) (not_above_itself b.stamp));
+        high = subst (λ (s : Stamp). stamp_lt m.core.promise s
+            ≡ false) (sym same) (subst (λ (p : Stamp). stamp_lt p b.stamp ≡ false) (sym o.promised) (not_above_itself b.stamp));
         none = λ f. absurd (let t = l.has_list in cc);
         opened = λ x. absurd (cc);
       };
@@ -190,7 +208,8 @@ unfinished_none who promise v w None f = tt
 unfinished_none who promise v w (Some b) f = λ over. absurd (let g = rw over at f in cc)
 
 -- a View up to the promise, below an open ballot
-fetched_high : (m : Node) (s : ℕ) (v stamp : Stamp) (names : List ℕ) (resilience : ℕ) → m.core.promise ≡ v → stamp.by < 256 → HasNames m → Fetches m s v (View stamp names resilience) → Balloted m → (stamp_lt m.core.promise stamp ≡ false) × OpenBallot m.core.who m.core.promise stamp m.ballot
+fetched_high : (m : Node) (s : ℕ) (v stamp : Stamp) (names : List ℕ) (resilience : ℕ) → m.core.promise ≡ v → stamp.by < 256 → HasNames m
+    → Fetches m s v (View stamp names resilience) → Balloted m → (stamp_lt m.core.promise stamp ≡ false) × OpenBallot m.core.who m.core.promise stamp m.ballot
 fetched_high m s v stamp names resilience is few named (without_ballot none own past) h =
     let low : stamp_lt v stamp ≡ false = or_first (stamp_lt v stamp) _ past in
     (subst (λ (p : Stamp). stamp_lt p stamp ≡ false) (sym is) low, unfinished_none m.core.who m.core.promise stamp stamp m.ballot none)
@@ -201,10 +220,13 @@ fetched_high m s v stamp names resilience is few named (for_ballot b open_ from 
     let strict : stamp_lt stamp v ≡ true = strictly stamp v few mine low differs in
     let o = of_open m b open_ h in
     let above : stamp_lt stamp b.stamp ≡ true = subst (λ (x : Stamp). stamp_lt stamp x ≡ true) (sym is ∙ o.promised) strict in
-    let P : Option Ballot → Type 0 = OpenBallot m.core.who m.core.promise stamp in
-    (subst (λ (p : Stamp). stamp_lt p stamp ≡ false) (sym is) low, subst P (sym open_.last) (λ over. record { above = above; promised = o.promised; own = o.own }))
+    let P : Option Ballot → Type 0 = OpenBallot m.core.who m.core.promise stamp in (
+      subst (λ (p : Stamp). stamp_lt p stamp ≡ false) (sym is) low,
+      subst P (sym open_.last) (λ over. record { above = above; promised = o.promised; own = o.own }),
+    )
 
-does_fetch : (m : Node) (s : ℕ) (v : Stamp) (base : ℕ) (e : Entry) → m.core.promise ≡ v → ViewNamed e → HasNames m → has_log m.status ≡ true → Fetches m s v e → fits (told m) e ≡ true → Balloted m → Does m (pushed (trimmed m base) e)
+does_fetch : (m : Node) (s : ℕ) (v : Stamp) (base : ℕ) (e : Entry) → m.core.promise ≡ v → ViewNamed e → HasNames m → has_log m.status ≡ true → Fetches m s v e
+    → fits (told m) e ≡ true → Balloted m → Does m (pushed (trimmed m base) e)
 does_fetch m s v base (View stamp names resilience) is few named log from fit h =
     let k = fetched_high m s v stamp names resilience is few named from h in
     let same : view (pushed (trimmed m base) (View stamp names resilience)) ≡ stamp = view_last (trimmed m base) stamp names resilience in
@@ -218,14 +240,18 @@ does_fetch m s v base (View stamp names resilience) is few named log from fit h 
       };
     }
 does_fetch m s v base (Data from_ req body) is few named log from fit h =
-    let d = does_plain (trimmed m base) (pushed (trimmed m base) (Data from_ req body)) (Data from_ req body) refl refl log refl refl refl h in record { goes = d.goes; log_ = d.log_; balloted = d.balloted }
+    let d = does_plain (trimmed m base) (pushed (trimmed m base) (Data from_ req body)) (Data from_ req body) refl refl log refl refl refl h in
+    record { goes = d.goes; log_ = d.log_; balloted = d.balloted }
 does_fetch m s v base (Join name) is few named log from fit h =
-    let d = does_plain (trimmed m base) (pushed (trimmed m base) (Join name)) (Join name) refl refl log refl refl refl h in record { goes = d.goes; log_ = d.log_; balloted = d.balloted }
+    let d = does_plain (trimmed m base) (pushed (trimmed m base) (Join name)) (Join name) refl refl log refl refl refl h in
+    record { goes = d.goes; log_ = d.log_; balloted = d.balloted }
 does_fetch m s v base (Leave name) is few named log from fit h =
-    let d = does_plain (trimmed m base) (pushed (trimmed m base) (Leave name)) (Leave name) refl refl log refl refl refl h in record { goes = d.goes; log_ = d.log_; balloted = d.balloted }
+    let d = does_plain (trimmed m base) (pushed (trimmed m base) (Leave name)) (Leave name) refl refl log refl refl refl h in
+    record { goes = d.goes; log_ = d.log_; balloted = d.balloted }
 
 -- the View of a Result is of another name
-other_open : (who : ℕ) (promise w v : Stamp) (ballot : Option Ballot) → promise ≡ v → (v.by == who) ≡ false → OpenBallot who promise w ballot → OpenBallot who promise v ballot
+other_open : (who : ℕ) (promise w v : Stamp) (ballot : Option Ballot) → promise ≡ v → (v.by == who) ≡ false → OpenBallot who promise w ballot
+    → OpenBallot who promise v ballot
 other_open who promise w v None is other h = tt
 other_open who promise w v (Some b) is other h = λ over. absurd (
     let o = h over in
@@ -233,7 +259,8 @@ other_open who promise w v (Some b) is other h = λ over. absurd (
     let t : (v.by == who) ≡ true = grind (arith, nat_tests) in
     cc)
 
-does_result : (m : Node) (v : Stamp) (base : ℕ) (names : List ℕ) (resilience : ℕ) → m.core.promise ≡ v → (v.by == m.core.who) ≡ false → fits (told m) (View v names resilience) ≡ true → Balloted m → Does m (pushed (trimmed m base) (View v names resilience))
+does_result : (m : Node) (v : Stamp) (base : ℕ) (names : List ℕ) (resilience : ℕ) → m.core.promise ≡ v → (v.by == m.core.who) ≡ false
+    → fits (told m) (View v names resilience) ≡ true → Balloted m → Does m (pushed (trimmed m base) (View v names resilience))
 does_result m v base names resilience is other fit h =
     let same : view (pushed (trimmed m base) (View v names resilience)) ≡ v = view_last (trimmed m base) v names resilience in
     record {
@@ -242,7 +269,8 @@ does_result m v base names resilience is other fit h =
       balloted = record {
         high = subst (λ (x : Stamp). stamp_lt m.core.promise x ≡ false) (sym same) (subst (λ (p : Stamp). stamp_lt p v ≡ false) (sym is) (not_above_itself v));
         none = h.none;
-        opened = subst (λ (x : Stamp). OpenBallot m.core.who m.core.promise x m.ballot) (sym same) (other_open m.core.who m.core.promise (view m) v m.ballot is other h.opened);
+        opened = subst (λ (x : Stamp). OpenBallot m.core.who m.core.promise x m.ballot) (sym same)
+            (other_open m.core.who m.core.promise (view m) v m.ballot is other h.opened);
       };
     }
 
@@ -268,7 +296,8 @@ change_does heard m n refreshes k h = let r = rests_refresh m in does_same m (re
 change_does heard m n settles k h = subst (Does m) (sym (settle_is m)) (does_same m _ refl refl refl refl refl h)
 change_does heard m n (takes_report s v report by may) k h = does_same m n refl refl refl refl refl h
 change_does heard m n (admits s v is leads fit) k h = does_same m n refl refl refl refl refl h
-change_does heard m n (numbers e leads room why) k h = does_plain m n e (numbers_plain _ m e why) refl (log_of_member m.status (leads_member m leads)) refl refl refl h
+change_does heard m n (numbers e leads room why) k h = does_plain m n e (numbers_plain _ m e why) refl
+    (log_of_member m.status (leads_member m leads)) refl refl refl h
 change_does heard m n (keeps_body s v report req body is by) k h = does_same m n refl refl refl refl refl h
 change_does heard m n (notes s v base acc by from) k h = does_same m n refl refl refl refl refl h
 change_does heard m n (stores s v base acc number e by from plain may) k h = does_plain m n e plain refl (in_view_log m s v from) refl refl refl h
@@ -312,7 +341,8 @@ change_does heard m n (opens least resilience by may) k h =
 change_does heard m n (looks b verdict over why look is) k h = look_does m b verdict look (looked_at m b why h) h
 change_does heard m n (fetches s v base number e is by promise below from may) k h =
     does_fetch m s v base e (sym (same_stamp v m.core.promise promise)) (heard.pieces (packet.Piece s v base number e) is) k (member_of m s by) from may.fits h
-change_does heard m n (stores_view s v base number names resilience is by own other promise below may) k h = does_result m v base names resilience promise other may.fits h
+change_does heard m n (stores_view s v base number names resilience is by own other promise below may) k h =
+    does_result m v base names resilience promise other may.fits h
 change_does heard m n (queues body is o member stays few) k h = does_same m n refl refl refl refl refl h
 change_does heard m n (collects req is) k h = does_same m n refl refl refl refl refl h
 change_does heard m n (takes e is o member some there) k h = does_same m n refl refl refl refl refl h

@@ -1,5 +1,6 @@
 -- The members after a send, and after a View of some of them.
-use Rattle.std.proofs.Common.{◌≡◌, ◌⊎◌, inl, inr, ⊎_elim, ℕ, ◌<◌, ◌==◌, ◌&&◌, not, nat_lt, Bool, true, false, List, length, set, get_or, slice_index, refl, sym, ap, ◌∙◌, arith}
+use Rattle.std.proofs.Common.{◌≡◌, ◌⊎◌, inl, inr, ⊎_elim, ℕ, ◌<◌, ◌==◌, ◌&&◌, not, nat_lt, Bool, true, false, List, length, set, get_or, slice_index, refl, sym}
+use Rattle.std.proofs.Common.{ap, ◌∙◌, arith}
 use Rattle.std.proofs.lemmas.Bool.Decides.{nat_tests}
 use Rattle.std.proofs.lemmas.List.{map-set, set-get_or, ext_get_or, length-map}
 use Rattle.am_base.specs.declared.entry.Entry.TheVariants.{Data, View}
@@ -30,7 +31,8 @@ data_members image n from req body long = split ((at_place image from).life == l
     (λ t.
     let low = mod16 from in
     let same : member_life (at_place image from) ≡ get_or (members_of image) (place_of from) 0 = sym (members_at image (place_of from) long low) in
-    rw t (map-set member_life image.rows (place_of from) (record (at_place image from) { last = req }) ∙ ap (set (members_of image) (place_of from)) same ∙ set-get_or (members_of image) (place_of from) 0))
+    rw t (map-set member_life image.rows (place_of from) (record (at_place image from) { last = req }) ∙ ap (set (members_of image) (place_of from)) same
+    ∙ set-get_or (members_of image) (place_of from) 0))
     (λ f. rw f refl)
 
 -- a View of some of the members makes them the members
@@ -68,8 +70,10 @@ viewed_members image n stamp names resilience long up sixteen some =
     (let few : place < 16 = omega arith in
     let is = row_view image n stamp names resilience place few in
     let why : (slice_index names place ≡ 0) ⊎ (slice_index names place ≡ member_life (row_at image place)) =
-    ⊎_elim (λ (z : slice_index names place ≡ 0). inl z) (λ (z : slice_index names place ≡ slice_index (members_of image) place). inr (z ∙ members_at image place long few)) (some place few) in
-    members_at next place longer few ∙ ap member_life is ∙ any_life (is_blank image) n (slice_index names place) (row_at image place) up (λ t. blank_joined image place t) why))
+    ⊎_elim (λ (z : slice_index names place ≡ 0). inl z) (λ (z : slice_index names place ≡ slice_index (members_of image) place). inr (z
+    ∙ members_at image place long few)) (some place few) in
+    members_at next place longer few ∙ ap member_life is ∙ any_life (is_blank image) n (slice_index names place) (row_at image place) up
+    (λ t. blank_joined image place t) why))
 
 -- those that pass are some of the set
 pub those_some : (test : ℕ → Bool) (names : List ℕ) (place : ℕ) → place < 16

@@ -16,9 +16,13 @@ use Rattle.am_model.specs.Receiving.{is_view}
 use Rattle.am_model.specs.Refresh.{refresh, refresh_at_end}
 use Rattle.am_model.proofs.Greatest.{split}
 use Rattle.am_effects.specs.Causes.{Cause, hears}
-use Rattle.am_effects.specs.Looks.{HasOpen, Balloting, with_more, without_one, as_it_is, Looks, finds_itself_out, waits, fetches_from_best, finds_too_few, finds_no_room, decides}
-use Rattle.am_effects.specs.Letters.{Says, request, spread, bcast, order, accept, ack, nack, hold, join_ask, welcome, leave_ask, gone, invite, vote, fetch, piece, result, hand_over}
-use Rattle.am_effects.specs.Changes.{Promises, invited, overtaken as overtaken_by, told_result, Numbers, asked_send, own_send, asked_join, asked_leave, Change, refreshes, settles, takes_report, admits, numbers, keeps_body, notes, stores, begins_list, departs, promises, opens, looks, fetches, stores_view, queues, collects, takes, asks_to_join, asks_to_leave, closes}
+use Rattle.am_effects.specs.Looks.{HasOpen, Balloting, with_more, without_one, as_it_is, Looks, finds_itself_out, waits, fetches_from_best, finds_too_few}
+use Rattle.am_effects.specs.Looks.{finds_no_room, decides}
+use Rattle.am_effects.specs.Letters.{Says, request, spread, bcast, order, accept, ack, nack, hold, join_ask, welcome, leave_ask, gone, invite, vote, fetch}
+use Rattle.am_effects.specs.Letters.{piece, result, hand_over}
+use Rattle.am_effects.specs.Changes.{Promises, invited, overtaken as overtaken_by, told_result, Numbers, asked_send, own_send, asked_join, asked_leave, Change}
+use Rattle.am_effects.specs.Changes.{refreshes, settles, takes_report, admits, numbers, keeps_body, notes, stores, begins_list, departs, promises, opens, looks}
+use Rattle.am_effects.specs.Changes.{fetches, stores_view, queues, collects, takes, asks_to_join, asks_to_leave, closes}
 use Rattle.am_effects.proofs.Items.{all_get}
 use Rattle.am_effects.proofs.Rests.{rests_refresh, rests_at_end, settle_is}
 use Rattle.am_laws.specs.Packets.{sender_of, stamp_of}
@@ -111,13 +115,22 @@ change_names heard m n (admits s v is leads fit) h = h
 change_names heard m n (numbers e leads room why) h = names_pushed m e (numbers_no_view _ m e why) h
 change_names heard m n (keeps_body s v report req body is by) h = h
 change_names heard m n (notes s v base acc by from) h = h
-change_names heard m n (stores s v base acc number e by from plain may) h = record { who_ = h.who_; promise_ = h.promise_; entries_ = one_more m e (no_view e plain) h.entries_; ballot_ = h.ballot_ }
-change_names heard m n (begins_list s v base join image is o may) h = record { who_ = h.who_; promise_ = heard.stamps (packet.Welcome s v base join image) is; entries_ = All-nil ViewNamed; ballot_ = h.ballot_ }
+change_names heard m n (stores s v base acc number e by from plain may) h =
+    record { who_ = h.who_; promise_ = h.promise_; entries_ = one_more m e (no_view e plain) h.entries_; ballot_ = h.ballot_ }
+change_names heard m n (begins_list s v base join image is o may) h =
+    record { who_ = h.who_; promise_ = heard.stamps (packet.Welcome s v base join image) is; entries_ = All-nil ViewNamed; ballot_ = h.ballot_ }
 change_names heard m n (departs s v number is by leaves) h = h
-change_names heard m n (promises v low why) h = record { who_ = h.who_; promise_ = promised_named _ m v why heard; entries_ = h.entries_; ballot_ = ballot_overtaken v m.ballot h.ballot_ }
+change_names heard m n (promises v low why) h = record {
+  who_ = h.who_;
+  promise_ = promised_named _ m v why heard;
+  entries_ = h.entries_;
+  ballot_ =
+      ballot_overtaken v m.ballot h.ballot_;
+}
 change_names heard m n (opens least resilience by may) h = record { who_ = h.who_; promise_ = h.who_; entries_ = h.entries_; ballot_ = h.who_ }
 change_names heard m n (looks b verdict over why look is) h = look_names m b verdict look (looked_named m b why h) h
-change_names heard m n (fetches s v base number e is by promise below from may) h = record { who_ = h.who_; promise_ = h.promise_; entries_ = one_more m e (heard.pieces (packet.Piece s v base number e) is) h.entries_; ballot_ = h.ballot_ }
+change_names heard m n (fetches s v base number e is by promise below from may) h =
+    record { who_ = h.who_; promise_ = h.promise_; entries_ = one_more m e (heard.pieces (packet.Piece s v base number e) is) h.entries_; ballot_ = h.ballot_ }
 change_names heard m n (stores_view s v base number names resilience is by own other promise below may) h =
     let few = heard.senders (packet.Result s v base number names resilience) is in
     let same : v.by ≡ s = grind (arith, nat_tests) in

@@ -1,5 +1,6 @@
 -- What one change of a node does to its view and to the entries of its list.
-use Rattle.std.proofs.Common.{◌≡◌, ◌⊎◌, inl, inr, ⊎_elim, ℕ, zero, suc, ◌+◌, ◌-◌, ◌==◌, nat_le, true, false, List, [], ◌∷◌, length, Some, refl, sym, ap, ◌∙◌, subst, arith}
+use Rattle.std.proofs.Common.{◌≡◌, ◌⊎◌, inl, inr, ⊎_elim, ℕ, zero, suc, ◌+◌, ◌-◌, ◌==◌, nat_le, true, false, List, [], ◌∷◌, length, Some, refl, sym, ap, ◌∙◌}
+use Rattle.std.proofs.Common.{subst, arith}
 use Rattle.am_base.specs.declared.name.Stamp.{Stamp}
 use Rattle.am_base.specs.declared.image.Image.{Image}
 use Rattle.am_base.specs.declared.entry.Entry.{Entry}
@@ -47,7 +48,8 @@ after_same image number (Leave name) f = split ((at_place image name).life == li
 after_same image number (View stamp names resilience) f = absurd (cc)
 
 pub after_view : (image : Image) (number : ℕ) (stamp : Stamp) (names : List ℕ) (resilience : ℕ)
-    → ((after image number (View stamp names resilience)).view ≡ stamp) × ((after image number (View stamp names resilience)).view_number ≡ number) × ((after image number (View stamp names resilience)).resilience ≡ resilience)
+    → ((after image number (View stamp names resilience)).view ≡ stamp) × ((after image number (View stamp names resilience)).view_number ≡ number)
+    × ((after image number (View stamp names resilience)).resilience ≡ resilience)
 unfolding after
 after_view image number stamp names resilience = (refl, refl, refl)
 
@@ -67,7 +69,8 @@ goes_same log = record { stays = λ number x h. h; view = inl (record { view = r
 pub goes_to : (old new : Log) → new ≡ old → Goes old new
 goes_to old new is = subst (Goes old) (sym is) (goes_same old)
 
-stood_on : (old new : Log) → ((number : ℕ) (x : Entry) → entry_at old number ≡ Some x → entry_at new number ≡ Some x) → SameView (told_by new) (told_by old) → Stood old → Stood new
+stood_on : (old new : Log) → ((number : ℕ) (x : Entry) → entry_at old number ≡ Some x → entry_at new number ≡ Some x) → SameView (told_by new) (told_by old)
+    → Stood old → Stood new
 stood_on old new stays same h = record {
   names = h.names;
   there = ap (entry_at new) same.number ∙ stays (told_by old).view_number _ h.there ∙ (λ i. Some (View (sym same.view i) h.names (sym same.resilience i)));
@@ -78,12 +81,19 @@ goes_then a b c h k = record {
   stays = λ number x at. k.stays number x (h.stays number x at);
   view = ⊎_elim
       (λ (s : SameView (told_by c) (told_by b)). ⊎_elim
-      (λ (r : SameView (told_by b) (told_by a)). inl (record { view = s.view ∙ r.view; number = s.number ∙ r.number; resilience = s.resilience ∙ r.resilience }))
-      (λ (r : (stamp_lt (told_by a).view (told_by b).view ≡ true) × Stood b). inr (subst (λ (v : Stamp). stamp_lt (told_by a).view v ≡ true) (sym s.view) r.0, stood_on b c k.stays s r.1))
+      (λ (r : SameView (told_by b) (told_by a)). inl (record {
+        view = s.view ∙ r.view;
+        number = s.number ∙ r.number;
+        resilience = s.resilience
+            ∙ r.resilience;
+      }))
+      (λ (r : (stamp_lt (told_by a).view (told_by b).view ≡ true)
+      × Stood b). inr (subst (λ (v : Stamp). stamp_lt (told_by a).view v ≡ true) (sym s.view) r.0, stood_on b c k.stays s r.1))
       h.view)
       (λ (s : (stamp_lt (told_by b).view (told_by c).view ≡ true) × Stood c). ⊎_elim
       (λ (r : SameView (told_by b) (told_by a)). inr (subst (λ (v : Stamp). stamp_lt v (told_by c).view ≡ true) r.view s.0, s.1))
-      (λ (r : (stamp_lt (told_by a).view (told_by b).view ≡ true) × Stood b). inr (below (told_by a).view (told_by b).view (told_by c).view r.0 (not_above (told_by b).view (told_by c).view s.0), s.1))
+      (λ (r : (stamp_lt (told_by a).view (told_by b).view ≡ true)
+      × Stood b). inr (below (told_by a).view (told_by b).view (told_by c).view r.0 (not_above (told_by b).view (told_by c).view s.0), s.1))
       h.view)
       k.view;
 }
@@ -105,9 +115,11 @@ goes_other m e plain =
 
 -- the view that a View makes
 pub view_last : (m : Node) (stamp : Stamp) (names : List ℕ) (resilience : ℕ) → view (pushed m (View stamp names resilience)) ≡ stamp
-view_last m stamp names resilience = ap (λ (i : Image). i.view) (told_pushed m (View stamp names resilience)) ∙ (after_view (told m) (top m + 1) stamp names resilience).0
+view_last m stamp names resilience = ap (λ (i : Image). i.view) (told_pushed m (View stamp names resilience))
+    ∙ (after_view (told m) (top m + 1) stamp names resilience).0
 
-pub goes_view : (m : Node) (stamp : Stamp) (names : List ℕ) (resilience : ℕ) → stamp_lt (view m) stamp ≡ true → Goes m.core.log (pushed m (View stamp names resilience)).core.log
+pub goes_view : (m : Node) (stamp : Stamp) (names : List ℕ) (resilience : ℕ) → stamp_lt (view m) stamp ≡ true
+    → Goes m.core.log (pushed m (View stamp names resilience)).core.log
 goes_view m stamp names resilience above =
     let e = View stamp names resilience in
     let is = told_pushed m e in
@@ -132,7 +144,8 @@ unfolding fits
 goes_fit m (Data from req body) fit = goes_other m (Data from req body) refl
 goes_fit m (Join name) fit = goes_other m (Join name) refl
 goes_fit m (Leave name) fit = goes_other m (Leave name) refl
-goes_fit m (View stamp names resilience) fit = goes_view m stamp names resilience (split (stamp_lt (view m) stamp) (λ t. t) (λ f. absurd (let g = rw f at fit in cc)))
+goes_fit m (View stamp names resilience) fit = goes_view m stamp names resilience
+    (split (stamp_lt (view m) stamp) (λ t. t) (λ f. absurd (let g = rw f at fit in cc)))
 
 pub goes_plain : (m : Node) (e : Entry) → is_view e ≡ false → Goes m.core.log (pushed m e).core.log
 goes_plain m e plain = goes_other m e plain

@@ -1,5 +1,6 @@
 -- A view is noted once, and its View stands at its number.
-use Rattle.std.proofs.Common.{◌≡◌, ◌⊎◌, inl, inr, ⊎_elim, ℕ, zero, suc, ◌<◌, ◌==◌, ◌&&◌, not, Bool, true, false, if◌then◌else◌, List, [], ◌∷◌, ◌++◌, length, Some, slice_get, refl, sym, ap, ◌∙◌, subst, arith}
+use Rattle.std.proofs.Common.{◌≡◌, ◌⊎◌, inl, inr, ⊎_elim, ℕ, zero, suc, ◌<◌, ◌==◌, ◌&&◌, not, Bool, true, false, if◌then◌else◌, List, [], ◌∷◌, ◌++◌, length}
+use Rattle.std.proofs.Common.{Some, slice_get, refl, sym, ap, ◌∙◌, subst, arith}
 use Rattle.std.specs.Prelude.{All}
 use Rattle.std.proofs.lemmas.Bool.Decides.{nat_tests}
 use Rattle.std.proofs.lemmas.List.Elements.{All-nil, All-cons, All-append, All-weaker}
@@ -19,7 +20,8 @@ use Rattle.am_model.specs.World.{Decided, World, start, first_node, founders_dec
 use Rattle.am_model.specs.Claims.{heard_by}
 use Rattle.am_model.proofs.Greatest.{split}
 use Rattle.am_effects.specs.Causes.{Cause}
-use Rattle.am_effects.specs.Letters.{Says, request, spread, bcast, order, accept, ack, nack, hold, join_ask, welcome, leave_ask, gone, invite, vote, fetch, piece, result, hand_over, LetterSays}
+use Rattle.am_effects.specs.Letters.{Says, request, spread, bcast, order, accept, ack, nack, hold, join_ask, welcome, leave_ask, gone, invite, vote, fetch}
+use Rattle.am_effects.specs.Letters.{piece, result, hand_over, LetterSays}
 use Rattle.am_effects.specs.Effects.{Effect}
 use Rattle.am_effects.specs.Events.{actor, WasSentTo, IsCause, idles, stops, returns, steps}
 use Rattle.am_effects.proofs.Items.{all_get, all_item}
@@ -69,7 +71,8 @@ heard_names rules w e c h cause = record {
   pieces = λ p is. (let was : WasSentTo w (actor w e) e.act p = subst (IsCause w (actor w e) e.act) is cause in
       subst PieceNamed was.is (all_item PieceLetter w.letters (heard_by e.act) was.letter h.pieces was.there));
   senders = λ p is. (let was : WasSentTo w (actor w e) e.act p = subst (IsCause w (actor w e) e.act) is cause in
-      subst (λ (x : Packet). sender_of x < 256) was.is (all_item (λ (l : Letter). sender_of l.packet < 256) w.letters (heard_by e.act) was.letter h.named.senders was.there));
+      subst (λ (x : Packet). sender_of x < 256) was.is (all_item (λ (l : Letter). sender_of l.packet < 256) w.letters
+      (heard_by e.act) was.letter h.named.senders was.there));
   stamps = λ p is. (let was : WasSentTo w (actor w e) e.act p = subst (IsCause w (actor w e) e.act) is cause in
       subst (λ (x : Packet). (stamp_of x).by < 256) was.is (all_item StampLetter w.letters (heard_by e.act) was.letter h.stamps was.there));
 }
@@ -89,7 +92,8 @@ still_noted nodes name n v d h = split (v.stamp.by == name)
     let same : v.stamp.by ≡ name = grind (arith, nat_tests) in
     let log_m : has_log m.status ≡ true = subst (λ k. has_log (nodes k).status ≡ true) same h.log_ in
     let low_m : stamp_lt (view m) v.stamp ≡ false = subst (λ k. stamp_lt (view (nodes k)) v.stamp ≡ false) same h.low in
-    let there_m : entry_at m.core.log v.number ≡ Some (View v.stamp h.names v.resilience) = subst (λ k. entry_at (nodes k).core.log v.number ≡ Some (View v.stamp h.names v.resilience)) same h.there in
+    let there_m : entry_at m.core.log v.number ≡ Some (View v.stamp h.names v.resilience) =
+    subst (λ k. entry_at (nodes k).core.log v.number ≡ Some (View v.stamp h.names v.resilience)) same h.there in
     let g = d.goes log_m in
     record {
       by = h.by;
@@ -143,7 +147,8 @@ abbrev Once : List Decided → Type 0
 Once views = (i j : ℕ) (u v : Decided) → slice_get views i ≡ Some u → slice_get views j ≡ Some v → u.stamp ≡ v.stamp → i ≡ j
 
 -- one more, of a stamp that no other has
-once_more : (views : List Decided) (new : Decided) → ((k : ℕ) (u : Decided) → slice_get views k ≡ Some u → u.stamp ≡ new.stamp → ⊥) → Once views → Once (views ++ new ∷ [])
+once_more : (views : List Decided) (new : Decided) → ((k : ℕ) (u : Decided) → slice_get views k ≡ Some u → u.stamp ≡ new.stamp → ⊥) → Once views
+    → Once (views ++ new ∷ [])
 once_more views new differs h i j u v a b e = ⊎_elim
     (λ (p : slice_get views i ≡ Some u). ⊎_elim
     (λ (q : slice_get views j ≡ Some v). h i j u v p q e)
@@ -165,7 +170,8 @@ record Noted (nodes : ℕ → Node) (views : List Decided) : Type 0 where
   noted : All (IsNoted nodes) views
   once : Once views
 
-noted_after : (nodes : ℕ → Node) (name : ℕ) (n : Node) (views : List Decided) → name < 256 → n.core.who ≡ name → Does (nodes name) n → All (IsNoted nodes) views → Once views → Noted (set_at nodes name n) (views_after views (nodes name) n)
+noted_after : (nodes : ℕ → Node) (name : ℕ) (n : Node) (views : List Decided) → name < 256 → n.core.who ≡ name → Does (nodes name) n → All (IsNoted nodes) views
+    → Once views → Noted (set_at nodes name n) (views_after views (nodes name) n)
 noted_after nodes name n views few who d h once =
     let m = nodes name in
     let old = All-weaker (IsNoted nodes) (IsNoted (set_at nodes name n)) (λ v x. still_noted nodes name n v d x) views h in
@@ -189,7 +195,8 @@ noted_after nodes name n views few who d h once =
     let above = new.above in
     cc) in
     rw t (record {
-      noted = All-append (IsNoted (set_at nodes name n)) views (last_view n ∷ []) old (All-cons (IsNoted (set_at nodes name n)) (last_view n) [] there (All-nil _));
+      noted = All-append (IsNoted (set_at nodes name n)) views (last_view n ∷ []) old
+          (All-cons (IsNoted (set_at nodes name n)) (last_view n) [] there (All-nil _));
       once = once_more views (last_view n) differs once;
     }))
     (λ f. rw f (record { noted = old; once = once }))
@@ -218,7 +225,8 @@ says_stamp m n c to p (piece s v stored number e is may at) = refl
 says_stamp m n c to p (result _ number names is viewed may) = refl
 says_stamp m n c to p (hand_over _ l leaves) = refl
 
-views_step : (rules : Rules) (w : World) (e : Event) (c : Cause) (s : Step) → IsCause w (actor w e) e.act c → Effect (w.nodes (actor w e)) c s → AllNamed rules (stepped w e (actor w e) s) → AllViews rules w → AllViews rules (stepped w e (actor w e) s)
+views_step : (rules : Rules) (w : World) (e : Event) (c : Cause) (s : Step) → IsCause w (actor w e) e.act c → Effect (w.nodes (actor w e)) c s
+    → AllNamed rules (stepped w e (actor w e) s) → AllViews rules w → AllViews rules (stepped w e (actor w e) s)
 unfolding stepped
 views_step rules w e c s cause effect named h =
     let name = actor w e in
@@ -239,12 +247,14 @@ views_step rules w e c s cause effect named h =
       pieces = All-append PieceLetter w.letters s.letters h.pieces
           (All-weaker (LetterSays m c sender) PieceLetter (λ l x. pieces_named m sender c l.to l.packet names x.says) s.letters effect.letters);
       stamps = All-append StampLetter w.letters s.letters h.stamps
-          (All-weaker (LetterSays m c sender) StampLetter (λ l x. subst (λ (v : Stamp). v.by < 256) (sym (says_stamp m sender c l.to l.packet x.says)) names.promise_) s.letters effect.letters);
+          (All-weaker (LetterSays m c sender) StampLetter (λ l x. subst (λ (v : Stamp). v.by < 256)
+          (sym (says_stamp m sender c l.to l.packet x.says)) names.promise_) s.letters effect.letters);
       noted = after.noted;
       once = after.once;
     }
 
-views_same : (rules : Rules) (w v : World) → v.nodes ≡ w.nodes → v.letters ≡ w.letters → v.views ≡ w.views → AllNamed rules v → AllViews rules w → AllViews rules v
+views_same : (rules : Rules) (w v : World) → v.nodes ≡ w.nodes → v.letters ≡ w.letters → v.views ≡ w.views → AllNamed rules v → AllViews rules w
+    → AllViews rules v
 views_same rules w v nodes letters views named h = record {
   named = named;
   each = rw nodes h.each;
@@ -269,7 +279,13 @@ kept_founder rules name few may =
     let first = first_founder rules may in
     let low = first.few in
     record {
-      names = record { who_ = few; promise_ = omega arith; entries_ = All-cons ViewNamed (founders_view rules) [] (omega arith) (All-nil ViewNamed); ballot_ = tt };
+      names = record {
+        who_ = few;
+        promise_ = omega arith;
+        entries_ = All-cons ViewNamed (founders_view rules) [] (omega arith) (All-nil ViewNamed);
+        ballot_ =
+            tt;
+      };
       balloted = record { high = not_above_itself (record { round = 1; by = lowest_or_first rules.founders }); none = λ f. refl; opened = tt };
     }
 

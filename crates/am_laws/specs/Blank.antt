@@ -19,4 +19,5 @@ pub record IsBlank (m : Node) : Type 0 where
 
 -- a node that is neither a Member nor has departed
 abbrev pub BlankHolds : Type 0
-BlankHolds = (rules : Rules) (events : List Event) (name : ℕ) → MayFound rules → name < 256 → has_log ((run rules events).nodes name).status ≡ false → IsBlank ((run rules events).nodes name)
+BlankHolds = (rules : Rules) (events : List Event) (name : ℕ) → MayFound rules → name < 256 → has_log ((run rules events).nodes name).status ≡ false
+    → IsBlank ((run rules events).nodes name)

@@ -28,11 +28,13 @@ pub record IsShort (rules : Rules) (events : List Event) : Type 0 where
 
 -- each letter of such a run holds a packet within a packet's limits
 abbrev pub LettersArePackets : Type 0
-LettersArePackets = (rules : Rules) (events : List Event) → IsShort rules events → (number : ℕ) (letter : Letter) → letter_at (run rules events).letters number ≡ Some letter → IsPacket letter.packet
+LettersArePackets = (rules : Rules) (events : List Event) → IsShort rules events → (number : ℕ) (letter : Letter)
+    → letter_at (run rules events).letters number ≡ Some letter → IsPacket letter.packet
 
 -- so its bytes are read as it
 abbrev pub LettersAreRead : Type 0
-LettersAreRead = (rules : Rules) (events : List Event) → IsShort rules events → (number : ℕ) (letter : Letter) → letter_at (run rules events).letters number ≡ Some letter → reading (spelling letter.packet) ≡ Ok letter.packet
+LettersAreRead = (rules : Rules) (events : List Event) → IsShort rules events → (number : ℕ) (letter : Letter)
+    → letter_at (run rules events).letters number ≡ Some letter → reading (spelling letter.packet) ≡ Ok letter.packet
 
 -- ---- runs in which a node hears the bytes of a letter, or the first of them
 

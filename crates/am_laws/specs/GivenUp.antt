@@ -7,4 +7,5 @@ use Rattle.am_model.specs.World.{is_stopped, run}
 
 -- who is given up has stopped
 abbrev pub OnlyStoppedGivenUp : Type 0
-OnlyStoppedGivenUp = (rules : Rules) (events : List Event) (name other : ℕ) (b : Ballot) → ((run rules events).nodes name).ballot ≡ Some b → b.given_up other ≡ true → is_stopped (run rules events) other ≡ true
+OnlyStoppedGivenUp = (rules : Rules) (events : List Event) (name other : ℕ) (b : Ballot) → ((run rules events).nodes name).ballot ≡ Some b
+    → b.given_up other ≡ true → is_stopped (run rules events) other ≡ true

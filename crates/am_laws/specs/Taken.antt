@@ -5,4 +5,5 @@ use Rattle.am_group.specs.declared.event.Event.{Event}
 use Rattle.am_model.specs.World.{run}
 
 abbrev pub TakenHolds : Type 0
-TakenHolds = (rules : Rules) (events : List Event) (name : ℕ) → MayFound rules → name < 256 → ((run rules events).nodes name).core.base ≤ ((run rules events).nodes name).core.taken
+TakenHolds = (rules : Rules) (events : List Event) (name : ℕ) → MayFound rules → name < 256
+    → ((run rules events).nodes name).core.base ≤ ((run rules events).nodes name).core.taken

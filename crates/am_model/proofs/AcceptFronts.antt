@@ -34,12 +34,14 @@ accept_front_is reports log acc = front_from reports log acc (accept_front repor
 
 -- ---- what satisfies
 
-pub above_view : (reports : ℕ → Report) (log : Log) (front number : ℕ) → (told_by log).view_number ≤ number → is_satisfied reports log front number ≡ is_held reports log number
+pub above_view : (reports : ℕ → Report) (log : Log) (front number : ℕ) → (told_by log).view_number ≤ number
+    → is_satisfied reports log front number ≡ is_held reports log number
 above_view reports log front number h =
     let t : nat_le (told_by log).view_number number ≡ true = grind (arith, nat_tests) in
     rw t refl
 
-pub below_view : (reports : ℕ → Report) (log : Log) (front number : ℕ) → number < (told_by log).view_number → is_satisfied reports log front number ≡ (nat_le (told_by log).view_number front && is_held reports log (told_by log).view_number)
+pub below_view : (reports : ℕ → Report) (log : Log) (front number : ℕ) → number < (told_by log).view_number
+    → is_satisfied reports log front number ≡ (nat_le (told_by log).view_number front && is_held reports log (told_by log).view_number)
 below_view reports log front number h =
     let t : nat_le (told_by log).view_number number ≡ false = grind (arith, nat_tests) in
     rw t refl
@@ -56,7 +58,8 @@ one_front reports log acc f g h k =
 
 -- ---- the walk
 
-climb_from : (reports : ℕ → Report) (log : Log) (acc c : ℕ) → (told_by log).view_number ≤ acc → IsClimb (is_held reports log) acc (top_of log - acc) c → IsGreatestFront reports log acc c
+climb_from : (reports : ℕ → Report) (log : Log) (acc c : ℕ) → (told_by log).view_number ≤ acc → IsClimb (is_held reports log) acc (top_of log - acc) c
+    → IsGreatestFront reports log acc c
 climb_from reports log acc c reached h = record {
   least = h.least;
   most = (let m = h.most in omega arith);
@@ -70,7 +73,8 @@ climb_from reports log acc c reached h = record {
 }
 
 -- the View above what is accepted is reached
-view_reached : (reports : ℕ → Report) (log : Log) (acc m c : ℕ) → (told_by log).view_number ≡ m → acc < m → m ≤ c → IsClimb (is_held reports log) (m - 1) (top_of log - (m - 1)) c → IsGreatestFront reports log acc c
+view_reached : (reports : ℕ → Report) (log : Log) (acc m c : ℕ) → (told_by log).view_number ≡ m → acc < m → m ≤ c
+    → IsClimb (is_held reports log) (m - 1) (top_of log - (m - 1)) c → IsGreatestFront reports log acc c
 view_reached reports log acc m c is under reached h = record {
   least = (let l = h.least in omega arith);
   most = (let p = h.most in omega arith);
@@ -89,7 +93,8 @@ view_reached reports log acc m c is under reached h = record {
 }
 
 -- it isn't
-view_missed : (reports : ℕ → Report) (log : Log) (acc m c : ℕ) → (told_by log).view_number ≡ m → acc < m → c < m → IsClimb (is_held reports log) (m - 1) (top_of log - (m - 1)) c → IsGreatestFront reports log acc acc
+view_missed : (reports : ℕ → Report) (log : Log) (acc m c : ℕ) → (told_by log).view_number ≡ m → acc < m → c < m
+    → IsClimb (is_held reports log) (m - 1) (top_of log - (m - 1)) c → IsGreatestFront reports log acc acc
 view_missed reports log acc m c is under missed h = record {
   least = omega arith;
   most = omega arith;
@@ -107,7 +112,8 @@ view_missed reports log acc m c is under missed h = record {
   ];
 }
 
-walk_over : (reports : ℕ → Report) (log : Log) (acc m : ℕ) → (told_by log).view_number ≡ m → acc < m → IsGreatestFront reports log acc (climb_over (is_held reports log) m acc (top_of log))
+walk_over : (reports : ℕ → Report) (log : Log) (acc m : ℕ) → (told_by log).view_number ≡ m → acc < m
+    → IsGreatestFront reports log acc (climb_over (is_held reports log) m acc (top_of log))
 walk_over reports log acc m is under =
     let h = climb_is (is_held reports log) (m - 1) (top_of log - (m - 1)) in
     split (nat_le m (climb (is_held reports log) (m - 1) (top_of log - (m - 1))))
@@ -116,8 +122,10 @@ walk_over reports log acc m is under =
 
 walk_is : (reports : ℕ → Report) (log : Log) (acc : ℕ) → IsGreatestFront reports log acc (walk reports log acc)
 walk_is reports log acc = split (nat_le (told_by log).view_number acc)
-    (λ t. rw t (climb_from reports log acc (climb (is_held reports log) acc (top_of log - acc)) (grind (arith, nat_tests)) (climb_is (is_held reports log) acc (top_of log - acc))))
+    (λ t. rw t (climb_from reports log acc (climb (is_held reports log) acc (top_of log - acc)) (grind (arith, nat_tests))
+    (climb_is (is_held reports log) acc (top_of log - acc))))
     (λ f. rw f (walk_over reports log acc (told_by log).view_number refl (grind (arith, nat_tests))))
 
 pub accept_front_walks : AcceptFrontByWalking
-accept_front_walks reports log acc = one_front reports log acc (accept_front reports log acc) (walk reports log acc) (accept_front_is reports log acc) (walk_is reports log acc)
+accept_front_walks reports log acc = one_front reports log acc (accept_front reports log acc) (walk reports log acc) (accept_front_is reports log acc)
+    (walk_is reports log acc)

@@ -1,5 +1,6 @@
 -- What a run has so far stays: its records, its letters and its group list only get more.
-use Rattle.std.proofs.Common.{◌≡◌, ℕ, ◌-◌, Bool, true, false, not, ◌==◌, ◌||◌, if◌then◌else◌, List, [], ◌∷◌, ◌++◌, length, take, drop, Option, Some, None, refl, sym, ap, ◌∙◌, append_assoc}
+use Rattle.std.proofs.Common.{◌≡◌, ℕ, ◌-◌, Bool, true, false, not, ◌==◌, ◌||◌, if◌then◌else◌, List, [], ◌∷◌, ◌++◌, length, take, drop, Option, Some, None, refl}
+use Rattle.std.proofs.Common.{sym, ap, ◌∙◌, append_assoc}
 use Rattle.std.proofs.lemmas.List.{append-nil, take-append-drop}
 use Rattle.am_base.specs.declared.entry.Entry.{Entry}
 use Rattle.am_base.specs.declared.outcome.Outcome.{Outcome}
@@ -102,5 +103,6 @@ happen_begins w (e ∷ es) = begins_then w (happens w e) _ (happens_begins w e) 
 -- a run up to some event begins the run
 pub runs_begin : (rules : Rules) (events : List Event) (k : ℕ) → Begins (run rules (take k events)) (run rules events)
 runs_begin rules events k =
-    let whole : happen (start rules) events ≡ happen (run rules (take k events)) (drop k events) = ap (happen (start rules)) (sym (take-append-drop k events)) ∙ runs_go_on (start rules) (take k events) (drop k events) in
+    let whole : happen (start rules) events ≡ happen (run rules (take k events)) (drop k events) = ap (happen (start rules)) (sym (take-append-drop k events))
+    ∙ runs_go_on (start rules) (take k events) (drop k events) in
     rw whole (happen_begins (run rules (take k events)) (drop k events))

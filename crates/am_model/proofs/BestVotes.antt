@@ -1,5 +1,6 @@
 -- The best vote is the greatest.
-use Rattle.std.proofs.Common.{◌≡◌, ℕ, zero, suc, ◌+◌, ◌*◌, ◌/◌, ◌%◌, ◌<◌, ◌≤◌, ◌⊎◌, Bool, true, false, ◌&&◌, ◌||◌, ◌==◌, nat_lt, Option, Some, None, refl, sym, ap, subst, map, ◌∙◌, inl, inr, arith}
+use Rattle.std.proofs.Common.{◌≡◌, ℕ, zero, suc, ◌+◌, ◌*◌, ◌/◌, ◌%◌, ◌<◌, ◌≤◌, ◌⊎◌, Bool, true, false, ◌&&◌, ◌||◌, ◌==◌, nat_lt, Option, Some, None, refl, sym}
+use Rattle.std.proofs.Common.{ap, subst, map, ◌∙◌, inl, inr, arith}
 use Rattle.std.specs.List.{range_with_len}
 use Rattle.std.proofs.lemmas.Bool.{cases_lt}
 use Rattle.std.proofs.lemmas.Bool.Decides.{nat_tests}
@@ -92,24 +93,28 @@ number_less : (n m : ℕ) → n < m → nat_lt n m ≡ true
 number_less n m h = grind (arith, nat_tests)
 
 vote_lower : (a b : Vote) → vote_lt a b ≡ true → LowerVote a b
-vote_lower a b h = elim (tests_true (nat_lt a.view.round b.view.round) (a.view.round == b.view.round) (name_lt a.view.by b.view.by) (a.view.by == b.view.by) (nat_lt a.top b.top) h) [
-  | inl p ↦ inl (less_number a.view.round b.view.round p)
-  | inr q ↦ inr (
-    same_number a.view.round b.view.round q.0,
-    elim q.1 [
-      | inl p ↦ inl (less_number (rank_of a.view.by) (rank_of b.view.by) p)
-      | inr x ↦ inr (ap (λ n. rank_of n) (same_number a.view.by b.view.by x.0), less_number a.top b.top x.1)
-    ],
-  )
-]
+vote_lower a b h = elim (tests_true (nat_lt a.view.round b.view.round) (a.view.round == b.view.round) (name_lt a.view.by b.view.by) (a.view.by == b.view.by)
+    (nat_lt a.top b.top) h) [
+      | inl p ↦ inl (less_number a.view.round b.view.round p)
+      | inr q ↦ inr (
+        same_number a.view.round b.view.round q.0,
+        elim q.1 [
+          | inl p ↦ inl (less_number (rank_of a.view.by) (rank_of b.view.by) p)
+          | inr x ↦ inr (ap (λ n. rank_of n) (same_number a.view.by b.view.by x.0), less_number a.top b.top x.1)
+        ],
+      )
+    ]
 
-later_vote : (a b : Vote) → a.view.by < 256 → b.view.by < 256 → Later (rank_of a.view.by) a.top (rank_of b.view.by) b.top → (name_lt a.view.by b.view.by ≡ true) ⊎ (((a.view.by == b.view.by) ≡ true) × (nat_lt a.top b.top ≡ true))
+later_vote : (a b : Vote) → a.view.by < 256 → b.view.by < 256 → Later (rank_of a.view.by) a.top (rank_of b.view.by) b.top
+    → (name_lt a.view.by b.view.by ≡ true) ⊎ (((a.view.by == b.view.by) ≡ true) × (nat_lt a.top b.top ≡ true))
 later_vote a b x y (inl h) = inl (number_less (rank_of a.view.by) (rank_of b.view.by) h)
 later_vote a b x y (inr h) = inr (number_same a.view.by b.view.by (rank_one a.view.by b.view.by x y h.0), number_less a.top b.top h.1)
 
 lower_vote : (a b : Vote) → a.view.by < 256 → b.view.by < 256 → LowerVote a b → vote_lt a b ≡ true
-lower_vote a b x y (inl h) = true_tests (nat_lt a.view.round b.view.round) (a.view.round == b.view.round) (name_lt a.view.by b.view.by) (a.view.by == b.view.by) (nat_lt a.top b.top) (inl (number_less a.view.round b.view.round h))
-lower_vote a b x y (inr h) = true_tests (nat_lt a.view.round b.view.round) (a.view.round == b.view.round) (name_lt a.view.by b.view.by) (a.view.by == b.view.by) (nat_lt a.top b.top) (inr (number_same a.view.round b.view.round h.0, later_vote a b x y h.1))
+lower_vote a b x y (inl h) = true_tests (nat_lt a.view.round b.view.round) (a.view.round == b.view.round) (name_lt a.view.by b.view.by) (a.view.by == b.view.by)
+    (nat_lt a.top b.top) (inl (number_less a.view.round b.view.round h))
+lower_vote a b x y (inr h) = true_tests (nat_lt a.view.round b.view.round) (a.view.round == b.view.round) (name_lt a.view.by b.view.by) (a.view.by == b.view.by)
+    (nat_lt a.top b.top) (inr (number_same a.view.round b.view.round h.0, later_vote a b x y h.1))
 
 not_lower : (a b : Vote) → ¬ (LowerVote a b) → vote_lt a b ≡ false
 not_lower a b h = split (vote_lt a b) (λ t. absurd (h (vote_lower a b t))) (λ f. f)
@@ -158,12 +163,14 @@ shown_by name v = record { by = name; vote = v }
 
 -- what one more name makes of the best
 abbrev Looked : (ℕ → Option Vote) → ℕ → Shown → Shown → Type 0
-Looked votes name best new = ((new ≡ best) × ((v : Vote) → votes name ≡ Some v → ¬ (LowerVote best.vote v))) ⊎ ((v : Vote) × (votes name ≡ Some v) × (new ≡ shown_by name v) × LowerVote best.vote v)
+Looked votes name best new = ((new ≡ best) × ((v : Vote) → votes name ≡ Some v → ¬ (LowerVote best.vote v)))
+    ⊎ ((v : Vote) × (votes name ≡ Some v) × (new ≡ shown_by name v) × LowerVote best.vote v)
 
 some_is : (v w : Vote) → Some v ≡ Some w → v ≡ w
 some_is v w h = cc
 
-looked_at : (votes : ℕ → Option Vote) (name : ℕ) (best : Shown) (o : Option Vote) → votes name ≡ o → ((v : Vote) → o ≡ Some v → (vote_lt best.vote v ≡ false) → ¬ (LowerVote best.vote v)) → Looked votes name best (better_of best name o)
+looked_at : (votes : ℕ → Option Vote) (name : ℕ) (best : Shown) (o : Option Vote) → votes name ≡ o
+    → ((v : Vote) → o ≡ Some v → (vote_lt best.vote v ≡ false) → ¬ (LowerVote best.vote v)) → Looked votes name best (better_of best name o)
 looked_at votes name best None is h = inl (refl, λ v e. absurd (cc))
 looked_at votes name best (Some v) is h = split (vote_lt best.vote v)
     (λ t. rw t (inr (v, is, refl, vote_lower best.vote v t)))
@@ -174,7 +181,8 @@ at_first : {G : Type 0} (a other : ℕ) → a ≤ other → (other ≡ a → G) 
 at_first a other h f g = elim (cases_lt a other) [ inl up ↦ g (omega arith) | inr same ↦ f (omega arith) ]
 
 -- it stayed the best
-found_kept : (votes : ℕ → Option Vote) (a k : ℕ) (best r : Shown) → ((v : Vote) → votes (name_of a) ≡ Some v → ¬ (LowerVote best.vote v)) → Found votes (a + 1) k best r → Found votes a (suc k) best r
+found_kept : (votes : ℕ → Option Vote) (a k : ℕ) (best r : Shown) → ((v : Vote) → votes (name_of a) ≡ Some v → ¬ (LowerVote best.vote v))
+    → Found votes (a + 1) k best r → Found votes a (suc k) best r
 found_kept votes a k best r under h = record {
   from = elim h.from [
     | inl same ↦ inl same
@@ -201,7 +209,8 @@ found_kept votes a k best r under h = record {
 }
 
 -- this name's vote became the best
-found_taken : (votes : ℕ → Option Vote) (a k : ℕ) (best r : Shown) (mine : Vote) → votes (name_of a) ≡ Some mine → LowerVote best.vote mine → Found votes (a + 1) k (shown_by (name_of a) mine) r → Found votes a (suc k) best r
+found_taken : (votes : ℕ → Option Vote) (a k : ℕ) (best r : Shown) (mine : Vote) → votes (name_of a) ≡ Some mine → LowerVote best.vote mine
+    → Found votes (a + 1) k (shown_by (name_of a) mine) r → Found votes a (suc k) best r
 found_taken votes a k best r mine is low h = record {
   from = elim h.from [
     | inl same ↦ inr (
@@ -230,7 +239,8 @@ found_taken votes a k best r mine is low h = record {
     ))
   ];
   above = λ other v l m e. at_first a other l
-      (λ z. let same_vote = some_is mine v (sym is ∙ (ap (λ n. votes (name_of n)) (sym z) ∙ e)) in subst (λ (x : Vote). ¬ (LowerVote r.vote x)) same_vote (elim h.from [
+      (λ z. let same_vote = some_is mine v (sym is ∙ (ap (λ n. votes (name_of n)) (sym z) ∙ e)) in
+      subst (λ (x : Vote). ¬ (LowerVote r.vote x)) same_vote (elim h.from [
         | inl same ↦ (λ u. lower_irrefl mine (subst (λ (x : Shown). LowerVote x.vote mine) same u))
         | inr w ↦ (λ u. lower_irrefl mine (votes_trans mine r.vote mine w.1.greater u))
       ]))
@@ -243,31 +253,37 @@ Named votes = (name : ℕ) (v : Vote) → votes name ≡ Some v → v.view.by < 
 looked : (votes : ℕ → Option Vote) (name : ℕ) (best : Shown) → Named votes → best.vote.view.by < 256 → Looked votes name best (better_of best name (votes name))
 looked votes name best named h = looked_at votes name best (votes name) refl (λ v e f low. let t = lower_vote best.vote v h (named name v e) low in absurd (cc))
 
-named_after : (votes : ℕ → Option Vote) (name : ℕ) (best new : Shown) → Named votes → best.vote.view.by < 256 → Looked votes name best new → new.vote.view.by < 256
+named_after : (votes : ℕ → Option Vote) (name : ℕ) (best new : Shown) → Named votes → best.vote.view.by < 256 → Looked votes name best new
+    → new.vote.view.by < 256
 named_after votes name best new named h (inl k) = subst (λ (x : Shown). x.vote.view.by < 256) (sym k.0) h
 named_after votes name best new named h (inr k) = subst (λ (x : Shown). x.vote.view.by < 256) (sym k.2) (named name k.0 k.1)
 
-found_more : (votes : ℕ → Option Vote) (a k : ℕ) (best new r : Shown) → Looked votes (name_of a) best new → Found votes (a + 1) k new r → Found votes a (suc k) best r
+found_more : (votes : ℕ → Option Vote) (a k : ℕ) (best new r : Shown) → Looked votes (name_of a) best new → Found votes (a + 1) k new r
+    → Found votes a (suc k) best r
 found_more votes a k best new r (inl l) h = found_kept votes a k best r l.1 (subst (λ (x : Shown). Found votes (a + 1) k x r) l.0 h)
 found_more votes a k best new r (inr l) h = found_taken votes a k best r l.0 l.1 l.3 (subst (λ (x : Shown). Found votes (a + 1) k x r) l.2 h)
 
-found : (votes : ℕ → Option Vote) (a k : ℕ) (best : Shown) → Named votes → best.vote.view.by < 256 → Found votes a k best (best_from votes best (map (λ rank. name_of rank) (range_with_len a k)))
+found : (votes : ℕ → Option Vote) (a k : ℕ) (best : Shown) → Named votes → best.vote.view.by < 256
+    → Found votes a k best (best_from votes best (map (λ rank. name_of rank) (range_with_len a k)))
 unfolding best_from
 found votes a zero best named h = record { from = inl refl; above = λ other v l m e. absurd (omega arith) }
 found votes a (suc k) best named h =
     let new = better_of best (name_of a) (votes (name_of a)) in
     let l = looked votes (name_of a) best named h in
-    found_more votes a k best new (best_from votes new (map (λ rank. name_of rank) (range_with_len (a + 1) k))) l (found votes (a + 1) k new named (named_after votes (name_of a) best new named h l))
+    found_more votes a k best new (best_from votes new (map (λ rank. name_of rank) (range_with_len (a + 1) k))) l
+    (found votes (a + 1) k new named (named_after votes (name_of a) best new named h l))
 
 -- ---- the best vote
 
-above_each : (votes : ℕ → Option Vote) (own : ℕ) (vote : Vote) (r : Shown) → Found votes 0 256 (shown_by own vote) r → (name : ℕ) (v : Vote) → name < 256 → votes name ≡ Some v → vote_lt r.vote v ≡ false
+above_each : (votes : ℕ → Option Vote) (own : ℕ) (vote : Vote) (r : Shown) → Found votes 0 256 (shown_by own vote) r → (name : ℕ) (v : Vote) → name < 256
+    → votes name ≡ Some v → vote_lt r.vote v ≡ false
 above_each votes own vote r f name v l e = not_lower r.vote v (f.above (rank_of name) v (omega arith) (rank_below name l) (ap votes (name_rank name l) ∙ e))
 
 below_rank : (name by rank : ℕ) → rank < 0 + 256 → by ≡ name_of rank → name_lt name by ≡ true → rank_of name < rank
 below_rank name by rank h e lt = let z = less_number (rank_of name) (rank_of by) lt in let y = rank_name rank h in let x = ap (λ n. rank_of n) e in omega arith
 
-best_is : (votes : ℕ → Option Vote) (own : ℕ) (vote : Vote) (r : Shown) → vote.view.by < 256 → Named votes → Found votes 0 256 (shown_by own vote) r → IsBestVote votes own vote r
+best_is : (votes : ℕ → Option Vote) (own : ℕ) (vote : Vote) (r : Shown) → vote.view.by < 256 → Named votes → Found votes 0 256 (shown_by own vote) r
+    → IsBestVote votes own vote r
 best_is votes own vote r h named f = elim f.from [
   | inl same ↦ record {
     shown = inl (ap (λ (x : Shown). x.by) same, ap (λ (x : Shown). x.vote) same);

@@ -16,7 +16,8 @@ use Rattle.am_model.specs.Refresh.{refresh, lead, advance, accepted_at, settled_
 use Rattle.am_model.specs.Sequencing.{row_at, is_unknown, reported, number_data, requested, request_row}
 use Rattle.am_model.specs.Hearing.{hears_in_view, hears_as_sequencer, hear_row}
 use Rattle.am_model.specs.Step.{hear}
-use Rattle.am_model.specs.Laws.{send_packet, IsNextSend, IsHeld, HeldExactly, IsTurnedDown, elsewhere, stranger, unfit, again, early, IsAnswered, numbered, held, turned_down, SendsAnswered}
+use Rattle.am_model.specs.Laws.{send_packet, IsNextSend, IsHeld, HeldExactly, IsTurnedDown, elsewhere, stranger, unfit, again, early, IsAnswered, numbered}
+use Rattle.am_model.specs.Laws.{held, turned_down, SendsAnswered}
 use Rattle.am_model.proofs.Greatest.{split}
 use Rattle.am_model.proofs.Refreshes.{refresh_twice}
 
@@ -61,7 +62,8 @@ held_requested m n s req body by_order h =
     let c : nat_lt ((row_at m s).last + 1) req ≡ false = grind (arith, nat_tests) in
     rw (a, b, c, h.full) (m.core.base, top m, refl)
 
-request_held : (m n : Node) (s : ℕ) (report : Report) (req : ℕ) (body : List ℕ) (by_order : Bool) → IsHeld ((request_row m s report req body by_order).outcome n) → IsNextSend m s report req × (has_room (reported m s report) ≡ false)
+request_held : (m n : Node) (s : ℕ) (report : Report) (req : ℕ) (body : List ℕ) (by_order : Bool)
+    → IsHeld ((request_row m s report req body by_order).outcome n) → IsNextSend m s report req × (has_room (reported m s report) ≡ false)
 unfolding request_row
 request_held m n s report req body by_order h = split (is_unknown m s)
     (λ a. let x : IsHeld said.Stranger = rw a at h in let y = x.2 in absurd (cc))
@@ -72,13 +74,15 @@ request_held m n s report req body by_order h = split (is_unknown m s)
     (record { known = grind (arith, nat_tests); fits = b; stays = ap (λ r. r.left) (sym row) ∙ r.stays; next = r.next ∙ ap (λ r. r.last + 1) row }, r.full))
     (λ b. let x : IsHeld said.Unfit = rw b at h1 in let y = x.2 in absurd (cc)))
 
-held_request : (m n : Node) (s : ℕ) (report : Report) (req : ℕ) (body : List ℕ) (by_order : Bool) → IsNextSend m s report req × (has_room (reported m s report) ≡ false) → IsHeld ((request_row m s report req body by_order).outcome n)
+held_request : (m n : Node) (s : ℕ) (report : Report) (req : ℕ) (body : List ℕ) (by_order : Bool) → IsNextSend m s report req
+    × (has_room (reported m s report) ≡ false) → IsHeld ((request_row m s report req body by_order).outcome n)
 unfolding request_row
 held_request m n s report req body by_order h =
     let k = h.0.known in
     let a : is_unknown m s ≡ false = grind (arith, nat_tests) in
     let row = same_row m s report in
-    rw (a, h.0.fits) (held_requested (reported m s report) n s req body by_order (record { stays = ap (λ r. r.left) row ∙ h.0.stays; next = h.0.next ∙ ap (λ r. r.last + 1) (sym row); full = h.1 }))
+    rw (a, h.0.fits) (held_requested (reported m s report) n s req body by_order
+    (record { stays = ap (λ r. r.left) row ∙ h.0.stays; next = h.0.next ∙ ap (λ r. r.last + 1) (sym row); full = h.1 }))
 
 -- ---- heard
 
@@ -87,7 +91,8 @@ both true b h = (refl, h)
 both false b h = absurd (cc)
 
 -- behind the gate it is the row of a request
-heard_row : (m : Node) (s : ℕ) (v : Stamp) (report : Report) (req : ℕ) (body : List ℕ) (spread : Bool) → hears_as_sequencer m s v ≡ true → hear_row m (send_packet spread s v report req body) ≡ request_row m s report req body spread
+heard_row : (m : Node) (s : ℕ) (v : Stamp) (report : Report) (req : ℕ) (body : List ℕ) (spread : Bool) → hears_as_sequencer m s v ≡ true
+    → hear_row m (send_packet spread s v report req body) ≡ request_row m s report req body spread
 unfolding hear_row
 heard_row m s v report req body true gate = let h = both (hears_in_view m s v) (is_sequencer m) gate in rw (h.0, h.1) refl
 heard_row m s v report req body false gate = rw gate refl
@@ -120,16 +125,19 @@ end_log m = ap (λ (c : CoreState). c.log) (end_core m) ∙ refresh_log m
 end_again : (m : Node) → (refresh_at_end (refresh m)).core ≡ (refresh m).core
 end_again m = end_core (refresh m) ∙ ap (λ (n : Node). n.core) (refresh_twice m)
 
-turned_down_at : (m n : Node) (s req : ℕ) (body : List ℕ) (o : Outcome) → IsTurnedDown o → n.core.log ≡ m.core.log → IsAnswered m s req body (finish m (quiet n o))
+turned_down_at : (m n : Node) (s req : ℕ) (body : List ℕ) (o : Outcome) → IsTurnedDown o → n.core.log ≡ m.core.log
+    → IsAnswered m s req body (finish m (quiet n o))
 unfolding finish
 turned_down_at m n s req body o h same = turned_down h (end_log n ∙ same)
 
 -- by what a test says
-answered_if : (m : Node) (s req : ℕ) (body : List ℕ) (b : Bool) (p q : Plan) → IsAnswered m s req body (finish m p) → IsAnswered m s req body (finish m q) → IsAnswered m s req body (finish m (if b then p else q))
+answered_if : (m : Node) (s req : ℕ) (body : List ℕ) (b : Bool) (p q : Plan) → IsAnswered m s req body (finish m p) → IsAnswered m s req body (finish m q)
+    → IsAnswered m s req body (finish m (if b then p else q))
 answered_if m s req body true p q f g = f
 answered_if m s req body false p q f g = g
 
-requested_answered : (m n : Node) (s req : ℕ) (body : List ℕ) (spread : Bool) → n.core.log ≡ m.core.log → IsAnswered m s req body (finish m (requested (refresh n) s req body spread))
+requested_answered : (m n : Node) (s req : ℕ) (body : List ℕ) (spread : Bool) → n.core.log ≡ m.core.log
+    → IsAnswered m s req body (finish m (requested (refresh n) s req body spread))
 unfolding finish
 requested_answered m n s req body spread was =
     let r = refresh n in
@@ -146,7 +154,8 @@ requested_answered m n s req body spread was =
     (answered_if m s req body (nat_lt ((row_at r s).last + 1) req) _ _ (down (said.Early (row_at r s).last) (early (row_at r s).last))
     (answered_if m s req body (not (has_room r)) _ _ put_off next)))
 
-request_answered : (m : Node) (s : ℕ) (report : Report) (req : ℕ) (body : List ℕ) (spread : Bool) → IsAnswered m s req body (finish m (request_row m s report req body spread))
+request_answered : (m : Node) (s : ℕ) (report : Report) (req : ℕ) (body : List ℕ) (spread : Bool)
+    → IsAnswered m s req body (finish m (request_row m s report req body spread))
 unfolding request_row
 request_answered m s report req body spread =
     answered_if m s req body (is_unknown m s) _ _ (turned_down_at m m s req body said.Stranger stranger refl)
@@ -156,6 +165,8 @@ request_answered m s report req body spread =
 pub sends_answered : SendsAnswered
 unfolding hear hear_row
 sends_answered m s v report req body true leads =
-    rw leads (answered_if m s req body (hears_in_view m s v) _ _ (request_answered m s report req body true) (turned_down_at m m s req body said.Elsewhere elsewhere refl))
+    rw leads (answered_if m s req body (hears_in_view m s v) _ _ (request_answered m s report req body true)
+    (turned_down_at m m s req body said.Elsewhere elsewhere refl))
 sends_answered m s v report req body false leads =
-    answered_if m s req body (hears_as_sequencer m s v) _ _ (request_answered m s report req body false) (turned_down_at m m s req body said.Elsewhere elsewhere refl)
+    answered_if m s req body (hears_as_sequencer m s v) _ _ (request_answered m s report req body false)
+    (turned_down_at m m s req body said.Elsewhere elsewhere refl)

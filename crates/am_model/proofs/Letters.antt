@@ -1,5 +1,6 @@
 -- How many letters a step sends.
-use Rattle.std.proofs.Common.{◌≡◌, ℕ, zero, suc, ◌+◌, ◌-◌, ◌<◌, ◌≤◌, min, Bool, true, false, ◌&&◌, ◌||◌, ◌==◌, not, if◌then◌else◌, nat_lt, nat_le, List, [], ◌∷◌, length, take, Option, Some, None, find, refl, sym, ap, ◌∙◌, arith}
+use Rattle.std.proofs.Common.{◌≡◌, ℕ, zero, suc, ◌+◌, ◌-◌, ◌<◌, ◌≤◌, min, Bool, true, false, ◌&&◌, ◌||◌, ◌==◌, not, if◌then◌else◌, nat_lt, nat_le, List, []}
+use Rattle.std.proofs.Common.{◌∷◌, length, take, Option, Some, None, find, refl, sym, ap, ◌∙◌, arith}
 use Rattle.std.proofs.lemmas.List.{length-take}
 use Rattle.std.proofs.lemmas.List.Edits.{length-insert}
 use Rattle.am_base.specs.declared.image.Vote.{Vote}
@@ -16,10 +17,14 @@ use Rattle.am_packet.specs.Kinds.{kind_of}
 use Rattle.am_packet.specs.Boxes.{letter_to, place_for, with_letter}
 use Rattle.am_sender.specs.declared.OwnSend.{OwnSend}
 use Rattle.am_model.specs.Node.{Node, Ballot, told, others, only_name, lowest_or_first, waiting, is_sequencer, has_room}
-use Rattle.am_model.specs.Emit.{Plan, quiet, telling, and_telling, and_where, numbering, polling, leave_ask_of, hand_over_of, invite_of, fetch_of, result_of, put_all}
-use Rattle.am_model.specs.Ballots.{Verdict, promised, next_stamp, new_ballot, decide, answered, with_result, with_fetch, begin, with_vote, newly_needed, keep_vote, without_voter, give_up}
-use Rattle.am_model.specs.Ticks.{tick_ballot, tick_member, put_off, behind_view, viewed_by, and_result, tick_sequencer, tick_acting, tick_with, tick_by, tick_row}
-use Rattle.am_model.specs.Calls.{emit, given, join_by, state_by, go, leave_now, leave_by, ask_of, give_up_of, send_row, done_row, take_row, join_row, state_row, leave_row, reset_row, ask_row, give_up_row}
+use Rattle.am_model.specs.Emit.{Plan, quiet, telling, and_telling, and_where, numbering, polling, leave_ask_of, hand_over_of, invite_of, fetch_of, result_of}
+use Rattle.am_model.specs.Emit.{put_all}
+use Rattle.am_model.specs.Ballots.{Verdict, promised, next_stamp, new_ballot, decide, answered, with_result, with_fetch, begin, with_vote, newly_needed}
+use Rattle.am_model.specs.Ballots.{keep_vote, without_voter, give_up}
+use Rattle.am_model.specs.Ticks.{tick_ballot, tick_member, put_off, behind_view, viewed_by, and_result, tick_sequencer, tick_acting, tick_with, tick_by}
+use Rattle.am_model.specs.Ticks.{tick_row}
+use Rattle.am_model.specs.Calls.{emit, given, join_by, state_by, go, leave_now, leave_by, ask_of, give_up_of, send_row, done_row, take_row, join_row, state_row}
+use Rattle.am_model.specs.Calls.{leave_row, reset_row, ask_row, give_up_row}
 use Rattle.am_model.proofs.Greatest.{split}
 
 -- one more at most
@@ -28,7 +33,8 @@ one_more to p letters = split (size to == 0)
     (λ t. rw t (omega arith))
     (λ f. rw f (let e = length-insert letters (place_for (kind_of p) letters) (letter_to to p) (simp length-take (omega arith)) in omega arith))
 
-pub all_more : (f : ℕ → Entry → Packet) (to : List ℕ) (number : ℕ) (es : List Entry) (letters : List Letter) → length (put_all f to number es letters) ≤ length letters + length es
+pub all_more : (f : ℕ → Entry → Packet) (to : List ℕ) (number : ℕ) (es : List Entry) (letters : List Letter)
+    → length (put_all f to number es letters) ≤ length letters + length es
 unfolding put_all
 all_more f to number [] letters = omega arith
 all_more f to number (e ∷ es) letters =
@@ -59,7 +65,10 @@ pub few_and : (most less : ℕ) (p : Plan) (to : List ℕ) (f : Node → Packet)
 few_and most less p to f low h = record { each = λ n. (let k = one_more to (f n) (p.letters n) in let l = h.each n in omega arith) }
 
 pub few_where : (most less : ℕ) (test : Node → Bool) (p : Plan) (to : List ℕ) (f : Node → Packet) → less < most → Few less p → Few most (and_where test p to f)
-few_where most less test p to f low h = record { each = λ n. (let k = one_more to (f n) (p.letters n) in let l = h.each n in split (test n) (λ t. rw t (omega arith)) (λ u. rw u (omega arith))) }
+few_where most less test p to f low h = record {
+  each = λ n. (let k = one_more to (f n) (p.letters n) in let l = h.each n in
+      split (test n) (λ t. rw t (omega arith)) (λ u. rw u (omega arith)));
+}
 
 pub ruleset few = (few_if, few_quiet, few_telling, few_numbering, few_polling, arith)
 
@@ -140,12 +149,14 @@ with_fetch_more : (o : Outcome) (n : Node) (letters : List Letter) → length (w
 with_fetch_more (said.Fetching from want) n letters = one_more (only_name from) (fetch_of n) letters
 with_fetch_more _ n letters = omega arith
 
-pub few_answered : (most less : ℕ) (v : Verdict) (letters : Node → List Letter) → less < most → ((n : Node) → length (letters n) ≤ less) → Few most (answered v letters)
+pub few_answered : (most less : ℕ) (v : Verdict) (letters : Node → List Letter) → less < most → ((n : Node) → length (letters n) ≤ less)
+    → Few most (answered v letters)
 few_answered most less v letters low h = record { each = λ n. (let k = h n in let l = with_result_more v.outcome n (letters n) in omega arith) }
 
 pub few_begin : (m : Node) (least resilience : ℕ) → Few 8 (begin m least resilience)
 unfolding begin
-few_begin m least resilience = few_answered 8 1 (decide (promised m (next_stamp m)) (new_ballot (next_stamp m) least (min resilience 15))) (λ n. with_letter (others m) (invite_of n) []) (omega arith) (λ n. one_more (others m) (invite_of n) [])
+few_begin m least resilience = few_answered 8 1 (decide (promised m (next_stamp m)) (new_ballot (next_stamp m) least (min resilience 15)))
+    (λ n. with_letter (others m) (invite_of n) []) (omega arith) (λ n. one_more (others m) (invite_of n) [])
 
 pub few_keep_vote : (m : Node) (b : Ballot) (name : ℕ) (vote : Vote) → Few 8 (keep_vote m b name vote)
 unfolding keep_vote
@@ -153,7 +164,8 @@ few_keep_vote m b name vote =
     let new = with_vote b name vote in
     let verdict = decide m new in
     few_answered 8 2 verdict (λ n. with_fetch verdict.outcome n (with_letter (newly_needed m b new) (invite_of n) [])) (omega arith)
-    (λ n. (let k = one_more (newly_needed m b new) (invite_of n) [] in let l = with_fetch_more verdict.outcome n (with_letter (newly_needed m b new) (invite_of n) []) in omega arith))
+    (λ n. (let k = one_more (newly_needed m b new) (invite_of n) [] in
+    let l = with_fetch_more verdict.outcome n (with_letter (newly_needed m b new) (invite_of n) []) in omega arith))
 
 pub few_give_up : (m : Node) (b : Ballot) (name : ℕ) → Few 8 (give_up m b name)
 unfolding give_up
@@ -192,13 +204,19 @@ pub few_tick_member : (m : Node) → Few 8 (tick_member m)
 few_tick_member m = let h = few_go 8 7 (quiet m said.Ticked) (omega arith) (few_quiet 7 m said.Ticked) in search (few, few_emit, h)
 
 pub few_result : (most less : ℕ) (p : Plan) → less < most → Few less p → Few most (and_result p)
-few_result most less p low h = record { each = λ n. (let k = h.each n in let l = one_more (behind_view n) (result_of n (told n).view_number (viewed_by (entry_at n.core.log (told n).view_number)) (told n).resilience) (p.letters n) in omega arith) }
+few_result most less p low h = record {
+  each = λ n. (let k = h.each n in
+      let l = one_more (behind_view n) (result_of n (told n).view_number (viewed_by (entry_at n.core.log (told n).view_number)) (told n).resilience)
+      (p.letters n) in omega arith);
+}
 
 pub few_tick_sequencer : (m : Node) → Few 8 (tick_sequencer m)
 few_tick_sequencer m =
     let p = record (emit m (waiting m) (put_off m (waiting m))) { polls = true } in
-    let h = few_result 7 6 p (omega arith) (few_same 6 6 (emit m (waiting m) (put_off m (waiting m))) p (omega arith) refl (few_emit 6 m (waiting m) (put_off m (waiting m)) (omega arith))) in
-    few_if 8 m.leaving (go (and_result p)) (and_result p) (few_go 8 7 (and_result p) (omega arith) h) (few_same 8 7 (and_result p) (and_result p) (omega arith) refl h)
+    let h = few_result 7 6 p (omega arith) (few_same 6 6 (emit m (waiting m) (put_off m (waiting m))) p (omega arith) refl
+    (few_emit 6 m (waiting m) (put_off m (waiting m)) (omega arith))) in
+    few_if 8 m.leaving (go (and_result p)) (and_result p) (few_go 8 7 (and_result p) (omega arith) h)
+    (few_same 8 7 (and_result p) (and_result p) (omega arith) refl h)
 
 pub few_tick_acting : (m : Node) → Few 8 (tick_acting m)
 few_tick_acting m = search (few, few_tick_sequencer, few_tick_member)

@@ -20,17 +20,22 @@ use Rattle.am_codec.specs.Reading.{Read, reading}
 use Rattle.am_sender.specs.declared.OwnSend.{OwnSend}
 use Rattle.am_model.specs.Node.{Node, Ballot, top, told, others, only_name, pushed, trimmed, waiting}
 use Rattle.am_model.specs.Refresh.{refresh_at_end}
-use Rattle.am_model.specs.Emit.{Plan, quiet, polling, numbering, tells_accepted, accept_of, ack_of, bcast_of, hold_of, piece_of, welcome_of, gone_of, served, put_all, with_accept, finish}
+use Rattle.am_model.specs.Emit.{Plan, quiet, polling, numbering, tells_accepted, accept_of, ack_of, bcast_of, hold_of, piece_of, welcome_of, gone_of, served}
+use Rattle.am_model.specs.Emit.{put_all, with_accept, finish}
 use Rattle.am_model.specs.Sequencing.{row_at, number_data, requested, request_row, risen, ack_row, asked_again, nack_row}
-use Rattle.am_model.specs.Receiving.{spread_row, acknowledges, bodies_after, stored, store, noted, received, bcast_row, data_of, body_of, order_row, accepted_to, accept_row, held_up, hold_row}
-use Rattle.am_model.specs.Joining.{admitted, number_join, asks_to_join, join_ask_row, welcomed, welcome_row, may_go, let_go, and_gone, asks_to_leave, leave_ask_row, gone_row}
+use Rattle.am_model.specs.Receiving.{spread_row, acknowledges, bodies_after, stored, store, noted, received, bcast_row, data_of, body_of, order_row}
+use Rattle.am_model.specs.Receiving.{accepted_to, accept_row, held_up, hold_row}
+use Rattle.am_model.specs.Joining.{admitted, number_join, asks_to_join, join_ask_row, welcomed, welcome_row, may_go, let_go, and_gone, asks_to_leave}
+use Rattle.am_model.specs.Joining.{leave_ask_row, gone_row}
 use Rattle.am_model.specs.Ballots.{decide}
-use Rattle.am_model.specs.Resets.{invite_row, voted_for, vote_row, fetch_row, fetched, caught_up, fetched_for, piece_promised, piece_for, piece_row, hears_result, result_row, hand_over_row}
+use Rattle.am_model.specs.Resets.{invite_row, voted_for, vote_row, fetch_row, fetched, caught_up, fetched_for, piece_promised, piece_for, piece_row}
+use Rattle.am_model.specs.Resets.{hears_result, result_row, hand_over_row}
 use Rattle.am_model.specs.Hearing.{hear_row}
 use Rattle.am_model.specs.Step.{row, step, read_row}
 use Rattle.am_model.specs.Laws.{FewLetters}
 use Rattle.am_model.proofs.Greatest.{split}
-use Rattle.am_model.proofs.Letters.{one_more, all_more, Few, few_quiet, few_numbering, few_polling, few_and, few_where, few, few_answered, few_keep_vote, few_reset, few_send, few_done, few_take, few_join, few_state, few_leave, few_ask, few_give_up_row, few_tick}
+use Rattle.am_model.proofs.Letters.{one_more, all_more, Few, few_quiet, few_numbering, few_polling, few_and, few_where, few, few_answered, few_keep_vote}
+use Rattle.am_model.proofs.Letters.{few_reset, few_send, few_done, few_take, few_join, few_state, few_leave, few_ask, few_give_up_row, few_tick}
 
 few_saying : (most : ℕ) (m : Node) (o : Outcome) (f : Node → Outcome) → Few most (record (quiet m o) { outcome = f })
 few_saying most m o f = record { each = λ n. omega arith }
@@ -42,7 +47,8 @@ few_number m s req body by_order = search few
 
 few_requested : (m : Node) (s req : ℕ) (body : List ℕ) (by_order : Bool) → Few 8 (requested m s req body by_order)
 few_requested m s req body by_order =
-    let h = few_and 8 1 (polling m (said.Held m.core.base (top m))) (only_name s) (λ n. hold_of n req) (omega arith) (few_polling 1 m (said.Held m.core.base (top m))) in
+    let h = few_and 8 1 (polling m (said.Held m.core.base (top m))) (only_name s) (λ n. hold_of n req) (omega arith)
+    (few_polling 1 m (said.Held m.core.base (top m))) in
     search (few, few_number, h)
 
 few_request : (m : Node) (s : ℕ) (report : Report) (req : ℕ) (body : List ℕ) (by_order : Bool) → Few 8 (request_row m s report req body by_order)
@@ -57,7 +63,8 @@ few_ack m s report = search (few, few_saying)
 served_few : (m : Node) (k : ℕ) → length (served m k) ≤ 8
 served_few m k = simp length-take (omega arith)
 
-few_served : (m k : Node) (o : Outcome) (f : Node → ℕ → Entry → Packet) (to : List ℕ) (number : ℕ) (es : List Entry) → length es ≤ 8 → Few 8 (record (quiet m o) { letters = λ n. put_all (f n) to number es [] })
+few_served : (m k : Node) (o : Outcome) (f : Node → ℕ → Entry → Packet) (to : List ℕ) (number : ℕ) (es : List Entry) → length es ≤ 8
+    → Few 8 (record (quiet m o) { letters = λ n. put_all (f n) to number es [] })
 few_served m k o f to number es h = record { each = λ n. (let l = all_more (f n) to number es [] in omega arith) }
 
 few_asked_again : (m : Node) (s k : ℕ) → Few 8 (asked_again m s k)
@@ -75,7 +82,8 @@ unfolding spread_row
 few_spread m s req body = search few
 
 few_stored : (m : Node) (s number : ℕ) (e : Entry) → Few 8 (stored m s number e)
-few_stored m s number e = few_where 8 1 (acknowledges (pushed m e) s) (quiet (record (pushed m e) { bodies = bodies_after m.bodies e }) (said.Stored number)) (only_name s) ack_of (omega arith) (few_quiet 1 (record (pushed m e) { bodies = bodies_after m.bodies e }) (said.Stored number))
+few_stored m s number e = few_where 8 1 (acknowledges (pushed m e) s) (quiet (record (pushed m e) { bodies = bodies_after m.bodies e }) (said.Stored number))
+    (only_name s) ack_of (omega arith) (few_quiet 1 (record (pushed m e) { bodies = bodies_after m.bodies e }) (said.Stored number))
 
 few_store : (m : Node) (s number : ℕ) (e : Option Entry) (missing : Outcome) → Few 8 (store m s number e missing)
 few_store m s number None missing = search few
@@ -93,7 +101,8 @@ unfolding order_row
 few_order m s base acc number from req = few_received (noted m base acc) s base number (data_of from req (body_of m from req)) (said.NoBody from req)
 
 few_accepted_to : (m old : Node) (s : ℕ) (poll : Bool) → Few 8 (accepted_to m old s poll)
-few_accepted_to m old s poll = few_where 8 1 (λ n. poll) (record (quiet m said.Known) { outcome = risen old said.Known (λ n. said.Advanced n.core.acc) }) (only_name s) ack_of (omega arith) (few_saying 1 m said.Known (risen old said.Known (λ n. said.Advanced n.core.acc)))
+few_accepted_to m old s poll = few_where 8 1 (λ n. poll) (record (quiet m said.Known) { outcome = risen old said.Known (λ n. said.Advanced n.core.acc) })
+    (only_name s) ack_of (omega arith) (few_saying 1 m said.Known (risen old said.Known (λ n. said.Advanced n.core.acc)))
 
 few_accept : (m : Node) (s base acc high : ℕ) (poll : Bool) → Few 8 (accept_row m s base acc high poll)
 unfolding accept_row
@@ -110,7 +119,8 @@ few_hold m base high req = few_held_up m base high req (waiting m)
 -- ---- joining and leaving
 
 few_number_join : (m : Node) (s : ℕ) → Few 8 (number_join m s)
-few_number_join m s = few_where 8 1 (λ n. nat_le (top m + 1) n.core.acc) (numbering (admitted m s) (Join s) (said.Numbered (top m + 1)) (λ n. bcast_of n (top m + 1) (Join s))) (only_name s) (λ n. welcome_of n s) (omega arith)
+few_number_join m s = few_where 8 1 (λ n. nat_le (top m + 1) n.core.acc)
+    (numbering (admitted m s) (Join s) (said.Numbered (top m + 1)) (λ n. bcast_of n (top m + 1) (Join s))) (only_name s) (λ n. welcome_of n s) (omega arith)
     (few_numbering 1 (admitted m s) (Join s) (said.Numbered (top m + 1)) (λ n. bcast_of n (top m + 1) (Join s)) (omega arith))
 
 few_asks_to_join : (m : Node) (s : ℕ) (q : Row) → Few 8 (asks_to_join m s q)
@@ -132,7 +142,8 @@ few_gone p s h = few_where 8 1 (λ n. may_go n s) p (only_name s) (λ n. gone_of
 
 few_asks_to_leave : (m : Node) (s : ℕ) → Few 8 (asks_to_leave m s)
 few_asks_to_leave m s =
-    let h = few_gone (numbering m (Leave s) (said.Numbered (top m + 1)) (λ n. bcast_of n (top m + 1) (Leave s))) s (few_numbering 1 m (Leave s) (said.Numbered (top m + 1)) (λ n. bcast_of n (top m + 1) (Leave s)) (omega arith)) in
+    let h = few_gone (numbering m (Leave s) (said.Numbered (top m + 1)) (λ n. bcast_of n (top m + 1) (Leave s))) s
+    (few_numbering 1 m (Leave s) (said.Numbered (top m + 1)) (λ n. bcast_of n (top m + 1) (Leave s)) (omega arith)) in
     let k = few_gone (record (quiet m said.Again) { outcome = let_go m s }) s (few_saying 1 m said.Again (let_go m s)) in
     search (few, h, k)
 
@@ -163,7 +174,8 @@ unfolding fetch_row
 few_fetch m s v k =
     let h = few_served m m (said.Served (length (served m k))) piece_of (only_name s) (k + 1) (served m k) (served_few m k) in search (few, h)
 
-few_fetched : (m : Node) (v : Stamp) (base number : ℕ) (e : Entry) (in_ballot : Bool) (then_ : Node → Plan) → Few 8 (then_ (pushed (trimmed m base) e)) → Few 8 (fetched m v base number e in_ballot then_)
+few_fetched : (m : Node) (v : Stamp) (base number : ℕ) (e : Entry) (in_ballot : Bool) (then_ : Node → Plan) → Few 8 (then_ (pushed (trimmed m base) e))
+    → Few 8 (fetched m v base number e in_ballot then_)
 few_fetched m v base number e in_ballot then_ h = search (few, h)
 
 few_caught_up : (s : ℕ) (v : Stamp) (number : ℕ) (m : Node) → Few 8 (caught_up s v number m)
@@ -173,11 +185,13 @@ few_fetched_for : (b : Ballot) (m : Node) → Few 8 (fetched_for b m)
 few_fetched_for b m = few_answered 8 1 (decide m b) (λ n. []) (omega arith) (λ n. omega arith)
 
 few_piece_promised : (m : Node) (s : ℕ) (v : Stamp) (base number : ℕ) (e : Entry) → Few 8 (piece_promised m s v base number e)
-few_piece_promised m s v base number e = let h = few_fetched m v base number e false (caught_up s v number) (few_caught_up s v number (pushed (trimmed m base) e)) in search (few, h)
+few_piece_promised m s v base number e = let h = few_fetched m v base number e false (caught_up s v number)
+    (few_caught_up s v number (pushed (trimmed m base) e)) in search (few, h)
 
 few_piece_for : (m : Node) (s : ℕ) (v : Stamp) (base number : ℕ) (e : Entry) (b : Option Ballot) → Few 8 (piece_for m s v base number e b)
 few_piece_for m s v base number e None = few_piece_promised m s v base number e
-few_piece_for m s v base number e (Some b) = let h = few_fetched m v base number e true (fetched_for b) (few_fetched_for b (pushed (trimmed m base) e)) in search (few, few_piece_promised, h)
+few_piece_for m s v base number e (Some b) = let h = few_fetched m v base number e true (fetched_for b) (few_fetched_for b (pushed (trimmed m base) e)) in
+    search (few, few_piece_promised, h)
 
 few_piece : (m : Node) (s : ℕ) (v : Stamp) (base number : ℕ) (e : Entry) → Few 8 (piece_row m s v base number e)
 unfolding piece_row

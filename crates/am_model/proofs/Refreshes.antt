@@ -1,5 +1,6 @@
 -- A second refresh in a row changes nothing.
-use Rattle.std.proofs.Common.{◌≡◌, ℕ, ◌-◌, ◌≤◌, max, min, true, ◌==◌, nat_lt, nat_le, if◌then◌else◌, Option, Some, None, refl, sym, ap, subst, ◌∙◌, inl, inr, arith}
+use Rattle.std.proofs.Common.{◌≡◌, ℕ, ◌-◌, ◌≤◌, max, min, true, ◌==◌, nat_lt, nat_le, if◌then◌else◌, Option, Some, None, refl, sym, ap, subst, ◌∙◌, inl, inr}
+use Rattle.std.proofs.Common.{arith}
 use Rattle.std.proofs.lemmas.Bool.{cases_lt}
 use Rattle.std.proofs.lemmas.Bool.Decides.{nat_tests}
 use Rattle.am_base.specs.declared.image.Report.{Report}
@@ -92,7 +93,8 @@ same_front f g log acc e = λ i. stored_front (λ j. e j i) log acc
 
 satisfied_on : (reports : ℕ → Report) (log : Log) (f g n : ℕ) → f ≤ g → is_satisfied reports log f n ≡ true → is_satisfied reports log g n ≡ true
 satisfied_on reports log f g n up h = elim (cases_lt n (told_by log).view_number) [
-  | inl below ↦ (let b = and_both (nat_le (told_by log).view_number f) (is_held reports log (told_by log).view_number) (sym (below_view reports log f n below) ∙ h) in
+  | inl below ↦ (let b = and_both (nat_le (told_by log).view_number f) (is_held reports log (told_by log).view_number) (sym (below_view reports log f n below)
+      ∙ h) in
       let v = b.0 in
       let w : nat_le (told_by log).view_number g ≡ true = grind (arith, nat_tests) in
       below_view reports log g n below ∙ (rw (w, b.1) refl))
@@ -115,7 +117,8 @@ later_front reports log acc t h =
       ];
     }
 
-front_again : (f g : ℕ → Report) (log : Log) (acc : ℕ) → ((j : ℕ) → (g j).stored ≡ (f j).stored) → accept_front g log (max acc (min (accept_front f log acc) (top_of log))) ≡ accept_front f log acc
+front_again : (f g : ℕ → Report) (log : Log) (acc : ℕ) → ((j : ℕ) → (g j).stored ≡ (f j).stored)
+    → accept_front g log (max acc (min (accept_front f log acc) (top_of log))) ≡ accept_front f log acc
 front_again f g log acc e =
     let t = accept_front f log acc in
     let a = max acc (min t (top_of log)) in
@@ -165,7 +168,8 @@ leads_fresh m =
     let kept = ap (λ (x : Report). max x.stored (top m)) same ∙ stored ∙ sym (ap (λ (x : Report). x.stored) same) in
     record {
       self = ap (λ (x : Report). raised x (report_of n)) again ∙ raise_again (first m.core.who) (report_of n) ∙ sym again;
-      told = front_again first (set_at first m.core.who (raised (first m.core.who) (report_of n))) m.core.log m.core.acc (set_stored first m.core.who (raised (first m.core.who) (report_of n)) kept);
+      told = front_again first (set_at first m.core.who (raised (first m.core.who) (report_of n))) m.core.log m.core.acc
+          (set_stored first m.core.who (raised (first m.core.who) (report_of n)) kept);
       known = known_again m.core.acc (accept_front first m.core.log m.core.acc) (top m);
       passed = pass_again m.core.taken (max m.core.acc (min (accept_front first m.core.log m.core.acc) (top m))) m.core.start;
       base = trim_again (least_taken (report_self n).reports (concerned (report_self n))) m.core.base;

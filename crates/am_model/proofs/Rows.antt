@@ -1,5 +1,6 @@
 -- What becomes of a row.
-use Rattle.std.proofs.Common.{◌≡◌, ◌≢◌, ℕ, ◌+◌, ◌<◌, Bool, true, false, ◌&&◌, ◌||◌, ◌==◌, not, nat_lt, List, [], ◌∷◌, length, get_or, refl, sym, ap, subst, ◌∙◌, inl, inr, arith}
+use Rattle.std.proofs.Common.{◌≡◌, ◌≢◌, ℕ, ◌+◌, ◌<◌, Bool, true, false, ◌&&◌, ◌||◌, ◌==◌, not, nat_lt, List, [], ◌∷◌, length, get_or, refl, sym, ap, subst, ◌∙◌}
+use Rattle.std.proofs.Common.{inl, inr, arith}
 use Rattle.std.specs.Prelude.{slice_index, slice_index_or}
 use Rattle.std.specs.List.{list_all}
 use Rattle.std.proofs.lemmas.List.Folds.{list_all_at}
@@ -81,18 +82,21 @@ own_row_is image name m = rw (life_test image name m) refl
 abbrev sent_row : Row → ℕ → Row
 sent_row r req = record r { last = req }
 
-after_data : (image : Image) (number from req : ℕ) (body : List ℕ) → IsMember image from → after image number (Data from req body) ≡ with_row image from (sent_row (at_place image from) req)
+after_data : (image : Image) (number from req : ℕ) (body : List ℕ) → IsMember image from
+    → after image number (Data from req body) ≡ with_row image from (sent_row (at_place image from) req)
 unfolding after
 after_data image number from req body m = rw (life_test image from m) refl
 
-next_request : (image : Image) (from req : ℕ) (body : List ℕ) → fits image (Data from req body) ≡ true → IsMember image from × (req ≡ (at_place image from).last + 1)
+next_request : (image : Image) (from req : ℕ) (body : List ℕ) → fits image (Data from req body) ≡ true → IsMember image from
+    × (req ≡ (at_place image from).last + 1)
 unfolding fits
 next_request image from req body h =
     let b = and_both (has (members_of image) from) (req == (row_of image from).last + 1) h in
     let m = member_is image from b.0 in
     (m, test_same req ((row_of image from).last + 1) b.1 ∙ ap (λ (r : Row). r.last + 1) (own_row_is image from m))
 
-data_row : (image : Image) (number from req : ℕ) (body : List ℕ) (name : ℕ) → fits image (Data from req body) ≡ true → RowStep number (at_place image name) (at_place (after image number (Data from req body)) name)
+data_row : (image : Image) (number from req : ℕ) (body : List ℕ) (name : ℕ) → fits image (Data from req body) ≡ true
+    → RowStep number (at_place image name) (at_place (after image number (Data from req body)) name)
 data_row image number from req body name h =
     let n = next_request image from req body h in
     let e = after_data image number from req body n.0 in
@@ -101,7 +105,8 @@ data_row image number from req body name h =
     let s = same_place image name from p in
     inl (inr (ap (λ (i : Image). at_place i name) e ∙ row_here image from (sent_row (at_place image from) req) name (in_range image from n.0.joined) p
     ∙ (λ i. sent_row (sym s i) (n.1 i)) ∙ (λ i. sent_row (at_place image name) ((sym s i).last + 1)))))
-    (λ f. inl (inl (ap (λ (i : Image). at_place i name) e ∙ row_elsewhere image from (sent_row (at_place image from) req) name (test_other (place_of name) (place_of from) f))))
+    (λ f. inl (inl (ap (λ (i : Image). at_place i name) e ∙ row_elsewhere image from (sent_row (at_place image from) req) name
+    (test_other (place_of name) (place_of from) f))))
 
 pub data_goes_on : DataGoesOn
 data_goes_on image number from req body h =
@@ -110,12 +115,14 @@ data_goes_on image number from req body h =
     let e = after_data image number from req body m in
     let here = ap (λ (i : Image). at_place i from) e ∙ row_here image from (sent_row (at_place image from) req) from (in_range image from m.joined) refl in
     let life : (at_place (after image number (Data from req body)) from).life ≡ life_of from = ap (λ (r : Row). r.life) here ∙ m.life in
-    let own : row_of (after image number (Data from req body)) from ≡ at_place (after image number (Data from req body)) from = rw (same_test (at_place (after image number (Data from req body)) from).life (life_of from) life) refl in
+    let own : row_of (after image number (Data from req body)) from ≡ at_place (after image number (Data from req body)) from =
+    rw (same_test (at_place (after image number (Data from req body)) from).life (life_of from) life) refl in
     (n.1 ∙ ap (λ (r : Row). r.last + 1) (sym (own_row_is image from m)), ap (λ (r : Row). r.last) own ∙ ap (λ (r : Row). r.last) here)
 
 -- ---- a Leave
 
-leave_row : (image : Image) (number leaver name : ℕ) → fits image (Leave leaver) ≡ true → RowStep number (at_place image name) (at_place (after image number (Leave leaver)) name)
+leave_row : (image : Image) (number leaver name : ℕ) → fits image (Leave leaver) ≡ true
+    → RowStep number (at_place image name) (at_place (after image number (Leave leaver)) name)
 unfolding fits after
 leave_row image number leaver name h =
     let m = member_is image leaver h in
@@ -124,7 +131,8 @@ leave_row image number leaver name h =
     let s = same_place image name leaver p in
     inr (inl (
       ap (λ (r : Row). r.left) s ∙ m.left,
-      row_here image leaver (record (at_place image leaver) { left = number }) name (in_range image leaver m.joined) p ∙ (λ i. record (sym s i) { left = number }),
+      row_here image leaver (record (at_place image leaver) { left = number }) name (in_range image leaver m.joined) p
+          ∙ (λ i. record (sym s i) { left = number }),
     )))
     (λ f. inl (inl (row_elsewhere image leaver (record (at_place image leaver) { left = number }) name (test_other (place_of name) (place_of leaver) f)))))
 
@@ -139,7 +147,8 @@ free_place r life j h =
     let b = and_both (nat_lt 0 r.left) (nat_lt r.life life) (rw f at h) in
     (test_less r.life life b.1, test_less 0 r.left b.0)
 
-join_row : (image : Image) (number joiner name : ℕ) → fits image (Join joiner) ≡ true → 0 < (at_place image name).joined → RowStep number (at_place image name) (at_place (after image number (Join joiner)) name)
+join_row : (image : Image) (number joiner name : ℕ) → fits image (Join joiner) ≡ true → 0 < (at_place image name).joined
+    → RowStep number (at_place image name) (at_place (after image number (Join joiner)) name)
 unfolding fits after
 join_row image number joiner name h j = split (place_of name == place_of joiner)
     (λ t. let p = test_same (place_of name) (place_of joiner) t in
@@ -179,7 +188,8 @@ not_blank image name j =
     last_false (stamp_eq image.view no_stamp) (image.view_number == 0) (image.resilience == 0) (list_all is_blank_row image.rows)
     (list_all_at is_blank_row image.rows (place_of name) blank_row (in_range image name j) row)
 
-view_row : (image : Image) (number : ℕ) (v : Stamp) (names : List ℕ) (resilience name : ℕ) → 0 < (at_place image name).joined → RowStep number (at_place image name) (at_place (after image number (View v names resilience)) name)
+view_row : (image : Image) (number : ℕ) (v : Stamp) (names : List ℕ) (resilience name : ℕ) → 0 < (at_place image name).joined
+    → RowStep number (at_place image name) (at_place (after image number (View v names resilience)) name)
 unfolding after
 view_row image number v names resilience name j =
     let f = λ (place : ℕ). viewed (is_blank image) number (slice_index names place) (slice_index_or image.rows place blank_row) in
@@ -202,9 +212,27 @@ still_joined number r s n j (inr (inl e)) = subst (λ (x : Row). 0 < x.joined) (
 still_joined number r s n j (inr (inr e)) = subst (λ (x : Row). 0 < x.joined) (sym e.3) n
 
 step_goes_on : (number : ℕ) (r s : Row) → RowStep number r s → GoesOn r s
-step_goes_on number r s (inl (inl e)) = inl (record { life = ap (λ (x : Row). x.life) e; joined = ap (λ (x : Row). x.joined) e; last = (let l = ap (λ (x : Row). x.last) e in omega arith); left = λ h. ap (λ (x : Row). x.left) e })
-step_goes_on number r s (inl (inr e)) = inl (record { life = ap (λ (x : Row). x.life) e; joined = ap (λ (x : Row). x.joined) e; last = (let l = ap (λ (x : Row). x.last) e in omega arith); left = λ h. ap (λ (x : Row). x.left) e })
-step_goes_on number r s (inr (inl e)) = inl (record { life = ap (λ (x : Row). x.life) e.1; joined = ap (λ (x : Row). x.joined) e.1; last = (let l = ap (λ (x : Row). x.last) e.1 in omega arith); left = λ h. (let z = e.0 in absurd (omega arith)) })
+step_goes_on number r s (inl (inl e)) = inl (record {
+  life = ap (λ (x : Row). x.life) e;
+  joined = ap (λ (x : Row). x.joined) e;
+  last =
+      (let l = ap (λ (x : Row). x.last) e in omega arith);
+  left = λ h. ap (λ (x : Row). x.left) e;
+})
+step_goes_on number r s (inl (inr e)) = inl (record {
+  life = ap (λ (x : Row). x.life) e;
+  joined = ap (λ (x : Row). x.joined) e;
+  last =
+      (let l = ap (λ (x : Row). x.last) e in omega arith);
+  left = λ h. ap (λ (x : Row). x.left) e;
+})
+step_goes_on number r s (inr (inl e)) = inl (record {
+  life = ap (λ (x : Row). x.life) e.1;
+  joined = ap (λ (x : Row). x.joined) e.1;
+  last =
+      (let l = ap (λ (x : Row). x.last) e.1 in omega arith);
+  left = λ h. (let z = e.0 in absurd (omega arith));
+})
 step_goes_on number r s (inr (inr e)) = inr (let l = ap (λ (x : Row). x.life) e.3 in let b = e.1 in omega arith)
 
 goes_on_trans : (q r s : Row) → GoesOn q r → GoesOn r s → GoesOn q s

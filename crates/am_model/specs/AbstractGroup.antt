@@ -23,7 +23,8 @@ next_of g name = above g.entries (slice_index_or g.fronts name None)
 -- the list gets an entry; or a name that has no front yet is admitted at a number
 pub data Move : Group → Group → Type 0 where
   append : {g : Group} (e : Entry) → Move g (record g { entries = appended g.entries e })
-  admit : {g : Group} (name number : ℕ) → slice_get g.fronts name ≡ Some None → 0 < number → number ≤ length g.entries + 1 → Move g (record g { fronts = admitted g.fronts name number })
+  admit : {g : Group} (name number : ℕ) → slice_get g.fronts name ≡ Some None → 0 < number → number ≤ length g.entries + 1
+      → Move g (record g { fronts = admitted g.fronts name number })
 
 -- some of these in turn: no front that is there moves
 pub data Grows : Group → Group → Type 0 where

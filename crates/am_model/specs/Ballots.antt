@@ -1,5 +1,6 @@
 -- Ballots: a coordinator asks for votes, fetches what the best vote has, and decides a view.
-use Rattle.std.specs.Prelude.{ℕ, ◌+◌, ◌-◌, max, min, List, [], Option, Some, None, Bool, true, false, not, ◌&&◌, ◌||◌, ◌==◌, nat_lt, if◌then◌else◌, unwrap_or, option_map, is_some}
+use Rattle.std.specs.Prelude.{ℕ, ◌+◌, ◌-◌, max, min, List, [], Option, Some, None, Bool, true, false, not, ◌&&◌, ◌||◌, ◌==◌, nat_lt, if◌then◌else◌, unwrap_or}
+use Rattle.std.specs.Prelude.{option_map, is_some}
 use Rattle.am_base.specs.declared.image.Vote.{Vote}
 use Rattle.am_base.specs.declared.name.Stamp.{Stamp}
 use Rattle.am_base.specs.declared.entry.Entry.TheVariants.{View}
@@ -96,7 +97,8 @@ trimmed_for m b names = trimmed m (unwrap_or (least_of (taken_by m.core.who m.co
 unfoldable pub decide : Node → Ballot → Verdict
 decide m b =
     if not (has (need_of m b) m.core.who) then ends m b (said.NotIn (best_of m b).vote.view)
-    else if nat_lt 0 (size (those (is_waited_for m.core.who b) (need_of m b))) then goes_on m b (said.Waiting (those (is_waited_for m.core.who b) (need_of m b)))
+    else if nat_lt 0 (size (those (is_waited_for m.core.who b) (need_of m b))) then goes_on m b
+    (said.Waiting (those (is_waited_for m.core.who b) (need_of m b)))
     else if not ((best_of m b).by == m.core.who) then goes_on m b (said.Fetching (best_of m b).by (top m + 1))
     else if nat_lt (size (left_in b (need_of m b))) b.least then ends m b (said.TooFew (size (left_in b (need_of m b))) b.least)
     else decide_view (trimmed_for m b (left_in b (need_of m b))) b (left_in b (need_of m b))
@@ -135,7 +137,8 @@ new_ballot stamp least resilience = record {
 
 -- a ballot begins, with a resilience of at most 15
 unfoldable pub begin : Node → ℕ → ℕ → Plan
-begin m least resilience = answered (decide (promised m (next_stamp m)) (new_ballot (next_stamp m) least (min resilience 15))) (λ n. with_letter (others m) (invite_of n) [])
+begin m least resilience = answered (decide (promised m (next_stamp m)) (new_ballot (next_stamp m) least (min resilience 15)))
+    (λ n. with_letter (others m) (invite_of n) [])
 
 abbrev pub with_vote : Ballot → ℕ → Vote → Ballot
 with_vote b name vote = record b { votes = set_at b.votes name (Some vote) }

@@ -1,5 +1,6 @@
 -- The calls of an application, and the tick.
-use Rattle.std.specs.Prelude.{ℕ, ◌+◌, List, [], ◌∷◌, ◌++◌, length, filter, find, Option, Some, None, Bool, true, false, not, ◌&&◌, ◌||◌, ◌==◌, nat_lt, nat_le, if◌then◌else◌, is_some}
+use Rattle.std.specs.Prelude.{ℕ, ◌+◌, List, [], ◌∷◌, ◌++◌, length, filter, find, Option, Some, None, Bool, true, false, not, ◌&&◌, ◌||◌, ◌==◌, nat_lt, nat_le}
+use Rattle.std.specs.Prelude.{if◌then◌else◌, is_some}
 use Rattle.am_base.specs.declared.entry.Entry.{Entry}
 use Rattle.am_base.specs.declared.entry.Entry.TheVariants.{Data, Leave}
 use Rattle.am_base.specs.declared.outcome.Outcome.{Outcome}
@@ -10,7 +11,8 @@ use Rattle.am_sender.specs.declared.OwnSend.{OwnSend}
 use Rattle.am_sender.specs.Sends as own
 use Rattle.am_model.specs.declared.status.Status.{Status}
 use Rattle.am_model.specs.declared.status.Status.TheVariants as status
-use Rattle.am_model.specs.Node.{Node, Ballot, top, view, members, own_row, others, only_name, lowest_or_first, acts, is_sequencer, is_member, has_room, waiting, unsettled, pushed}
+use Rattle.am_model.specs.Node.{Node, Ballot, top, view, members, own_row, others, only_name, lowest_or_first, acts, is_sequencer, is_member, has_room, waiting}
+use Rattle.am_model.specs.Node.{unsettled, pushed}
 use Rattle.am_model.specs.Emit.{Plan, quiet, telling, and_telling, numbering, request_of, spread_of, bcast_of, join_ask_of, leave_ask_of, hand_over_of}
 use Rattle.am_model.specs.Ballots.{begin, give_up}
 

@@ -1,5 +1,6 @@
 -- What is claimed of runs.
-use Rattle.std.specs.Prelude.{◌≡◌, ◌≢◌, ℕ, ◌+◌, ◌-◌, ◌<◌, ◌≤◌, List, [], ◌∷◌, ◌++◌, length, take, Option, Some, None, Bool, true, false, ◌&&◌, ◌==◌, if◌then◌else◌, slice_get, Contains}
+use Rattle.std.specs.Prelude.{◌≡◌, ◌≢◌, ℕ, ◌+◌, ◌-◌, ◌<◌, ◌≤◌, List, [], ◌∷◌, ◌++◌, length, take, Option, Some, None, Bool, true, false, ◌&&◌, ◌==◌}
+use Rattle.std.specs.Prelude.{if◌then◌else◌, slice_get, Contains}
 use Rattle.std.specs.List.{range_with_len, flat_map}
 use Rattle.am_base.specs.declared.name.Stamp.{Stamp}
 use Rattle.am_base.specs.declared.entry.Entry.{Entry}
@@ -179,7 +180,8 @@ pub record MovesOn (w v : World) : Type 0 where
   pub moves : EventMoves done (group_of w) (group_of v)
 
 abbrev pub UnballotedMoves : Type 0
-UnballotedMoves = (rules : Rules) (events : List Event) (e : Event) → MayFound rules → NoBallot (happens (run rules events) e) → MovesOn (run rules events) (happens (run rules events) e)
+UnballotedMoves = (rules : Rules) (events : List Event) (e : Event) → MayFound rules → NoBallot (happens (run rules events) e)
+    → MovesOn (run rules events) (happens (run rules events) e)
 
 -- ---- up to where a run is lawful a View that leaves somebody out always fits
 
@@ -196,7 +198,8 @@ pub record MayRepair (w : World) (place : ℕ) : Type 0 where
   pub leads : is_sequencer (w.nodes (current w place)) ≡ true
   pub nobody_stopped : (name : ℕ) → is_stopped w name ≡ true → has_departed (w.nodes name).status ≡ true
   pub nobody_leaves : (name : ℕ) → (w.nodes name).leaving ≡ true → has_departed (w.nodes name).status ≡ true
-  pub all_act : (name : ℕ) → has (members (w.nodes (current w place))) name ≡ true → (acts (w.nodes name) ≡ true) × (view (w.nodes name) ≡ view (w.nodes (current w place)))
+  pub all_act : (name : ℕ) → has (members (w.nodes (current w place))) name ≡ true → (acts (w.nodes name) ≡ true)
+      × (view (w.nodes name) ≡ view (w.nodes (current w place)))
 
 -- a member has stored and accepted all up to a number
 pub record HasCaughtUp (m : Node) (number : ℕ) : Type 0 where
@@ -206,4 +209,5 @@ pub record HasCaughtUp (m : Node) (number : ℕ) : Type 0 where
 abbrev pub Repairs : Type 0
 Repairs = (rules : Rules) (events : List Event) (place : ℕ) → MayFound rules → place < 16 → MayRepair (run rules events) place
     → (name : ℕ) → has (members ((run rules events).nodes (current (run rules events) place))) name ≡ true
-    → HasCaughtUp ((happen (run rules events) (settle_events rules (run rules events))).nodes name) (top ((run rules events).nodes (current (run rules events) place)))
+    → HasCaughtUp ((happen (run rules events) (settle_events rules (run rules events))).nodes name)
+    (top ((run rules events).nodes (current (run rules events) place)))

@@ -4,7 +4,8 @@ use Rattle.am_base.specs.declared.name.Stamp.{Stamp}
 use Rattle.am_base.specs.declared.outcome.Outcome.TheVariants as said
 use Rattle.am_base.specs.Stamps.{stamp_eq}
 use Rattle.am_packet.specs.declared.packet.Packet.{Packet}
-use Rattle.am_packet.specs.declared.packet.Packet.TheVariants.{Request, Spread, Bcast, Order, Accept, Ack, Nack, Hold, JoinAsk, Welcome, LeaveAsk, Gone, Invite, Vote, Fetch, Piece, Result, HandOver}
+use Rattle.am_packet.specs.declared.packet.Packet.TheVariants.{Request, Spread, Bcast, Order, Accept, Ack, Nack, Hold, JoinAsk, Welcome, LeaveAsk, Gone, Invite}
+use Rattle.am_packet.specs.declared.packet.Packet.TheVariants.{Vote, Fetch, Piece, Result, HandOver}
 use Rattle.am_model.specs.Node.{Node, view, acts, is_asking, is_member, is_sequencer}
 use Rattle.am_model.specs.Emit.{Plan, quiet}
 use Rattle.am_model.specs.Sequencing.{request_row, ack_row, nack_row}
@@ -38,7 +39,8 @@ where_heard heard m plan = if heard then plan else quiet m said.Elsewhere
 
 unfoldable pub hear_row : Node → Packet → Plan
 hear_row m (Request s v report req body) = where_heard (hears_as_sequencer m s v) m (request_row m s report req body false)
-hear_row m (Spread s v report req body) = where_heard (hears_in_view m s v) m (if is_sequencer m then request_row m s report req body true else spread_row m s req body)
+hear_row m (Spread s v report req body) = where_heard (hears_in_view m s v) m
+    (if is_sequencer m then request_row m s report req body true else spread_row m s req body)
 hear_row m (Bcast s v base acc number e) = where_heard (hears_sequencer m s v) m (bcast_row m s base acc number e)
 hear_row m (Order s v base acc number from req) = where_heard (hears_sequencer m s v) m (order_row m s base acc number from req)
 hear_row m (Accept s v base acc high poll) = where_heard (hears_sequencer m s v) m (accept_row m s base acc high poll)

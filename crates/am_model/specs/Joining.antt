@@ -26,14 +26,16 @@ admitted m s = record m { reports = reports.admitted m.reports s m.core.base }
 -- the Join is numbered, and the joiner welcomed once that is accepted
 abbrev pub number_join : Node → ℕ → Plan
 number_join m s =
-    and_where (λ n. nat_le (top m + 1) n.core.acc) (numbering (admitted m s) (Join s) (said.Numbered (top m + 1)) (λ n. bcast_of n (top m + 1) (Join s))) (only_name s) (λ n. welcome_of n s)
+    and_where (λ n. nat_le (top m + 1) n.core.acc) (numbering (admitted m s) (Join s) (said.Numbered (top m + 1)) (λ n. bcast_of n (top m + 1) (Join s)))
+    (only_name s) (λ n. welcome_of n s)
 
 -- a request to join, where the row of its place is q
 abbrev pub asks_to_join : Node → ℕ → Row → Plan
 asks_to_join m s q =
     if nat_lt (life_of s) q.life then quiet m said.Stranger
     else if (q.life == life_of s) && nat_lt 0 q.left then quiet m said.Stranger
-    else if nat_lt q.life (life_of s) && (nat_lt 0 q.life && ((q.left == 0) || nat_lt m.core.acc q.left)) then quiet m (said.Occupied (name_at (place_of s) q.life))
+    else if nat_lt q.life (life_of s) && (nat_lt 0 q.life && ((q.left == 0) || nat_lt m.core.acc q.left)) then quiet m
+    (said.Occupied (name_at (place_of s) q.life))
     else if fits (told m) (Join s) && not (has_room m) then polling m (said.Held m.core.base (top m))
     else if fits (told m) (Join s) then number_join m s
     else if nat_le q.joined (m.reports s).stored || nat_lt m.core.acc q.joined then quiet m said.Again
@@ -67,7 +69,8 @@ unfoldable pub welcome_row : Node → ℕ → Stamp → ℕ → ℕ → Image �
 welcome_row m s v base join image =
     if is_member m.status then quiet m said.Known
     else if stamp_lt v m.core.promise then quiet m said.Elsewhere
-    else if nat_le join base || (not (is_within_bound m base join) || (stamp_lt v image.view || nat_lt 0 (row_of image m.core.who).joined)) then quiet m said.Unfit
+    else if nat_le join base || (not (is_within_bound m base join)
+    || (stamp_lt v image.view || nat_lt 0 (row_of image m.core.who).joined)) then quiet m said.Unfit
     else welcomed (begun m v base join image) s v join
 
 -- ---- leaving

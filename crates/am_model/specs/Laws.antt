@@ -1,5 +1,6 @@
 -- That the definitions mean what they say.
-use Rattle.std.specs.Prelude.{◌≡◌, ◌≢◌, ◌⊎◌, ℕ, zero, suc, ◌+◌, ◌-◌, ◌<◌, ◌≤◌, max, List, ◌++◌, length, take, Option, Some, None, Bool, true, false, nat_le, if◌then◌else◌, ◌↔◌}
+use Rattle.std.specs.Prelude.{◌≡◌, ◌≢◌, ◌⊎◌, ℕ, zero, suc, ◌+◌, ◌-◌, ◌<◌, ◌≤◌, max, List, ◌++◌, length, take, Option, Some, None, Bool, true, false, nat_le}
+use Rattle.std.specs.Prelude.{if◌then◌else◌, ◌↔◌}
 use Rattle.am_base.specs.declared.image.Image.{Image}
 use Rattle.am_base.specs.declared.image.Report.{Report}
 use Rattle.am_base.specs.declared.image.Vote.{Vote}
@@ -100,7 +101,8 @@ pub record IsBestVote (votes : ℕ → Option Vote) (own : ℕ) (vote : Vote) (b
 
 -- of votes whose views' names are names
 abbrev pub BestVoteIsGreatest : Type 0
-BestVoteIsGreatest = (votes : ℕ → Option Vote) (own : ℕ) (vote : Vote) → vote.view.by < 256 → ((name : ℕ) (v : Vote) → votes name ≡ Some v → v.view.by < 256) → IsBestVote votes own vote (best_vote votes own vote)
+BestVoteIsGreatest = (votes : ℕ → Option Vote) (own : ℕ) (vote : Vote) → vote.view.by < 256 → ((name : ℕ) (v : Vote) → votes name ≡ Some v → v.view.by < 256)
+    → IsBestVote votes own vote (best_vote votes own vote)
 
 -- ---- rows
 
@@ -122,11 +124,13 @@ abbrev pub RowStep : ℕ → Row → Row → Type 0
 RowStep number before after_ = (IsSame before after_ ⊎ HasSent before after_) ⊎ (HasLeft number before after_ ⊎ HasJoined number before after_)
 
 abbrev pub RowsGoOn : Type 0
-RowsGoOn = (image : Image) (number : ℕ) (e : Entry) (name : ℕ) → fits image e ≡ true → 0 < (at_place image name).joined → RowStep number (at_place image name) (at_place (after image number e) name)
+RowsGoOn = (image : Image) (number : ℕ) (e : Entry) (name : ℕ) → fits image e ≡ true → 0 < (at_place image name).joined
+    → RowStep number (at_place image name) (at_place (after image number e) name)
 
 -- a Data has the request after its sender's last, which it becomes
 abbrev pub DataGoesOn : Type 0
-DataGoesOn = (image : Image) (number from req : ℕ) (body : List ℕ) → fits image (Data from req body) ≡ true → (req ≡ (row_of image from).last + 1) × ((row_of (after image number (Data from req body)) from).last ≡ req)
+DataGoesOn = (image : Image) (number from req : ℕ) (body : List ℕ) → fits image (Data from req body) ≡ true → (req ≡ (row_of image from).last + 1)
+    × ((row_of (after image number (Data from req body)) from).last ≡ req)
 
 -- the same membership, or a later one of the place
 pub record IsSameMembership (before after_ : Row) : Type 0 where
@@ -140,7 +144,8 @@ GoesOn before after_ = IsSameMembership before after_ ⊎ (before.life < after_.
 
 -- along a list a name's number of joining never changes, nor does its last request fall, until a greater life takes its place
 abbrev pub MembershipsGoOn : Type 0
-MembershipsGoOn = (image : Image) (number : ℕ) (es : List Entry) (name : ℕ) → 0 < number → AllFit image number es → 0 < (at_place image name).joined → GoesOn (at_place image name) (at_place (fold image number es) name)
+MembershipsGoOn = (image : Image) (number : ℕ) (es : List Entry) (name : ℕ) → 0 < number → AllFit image number es → 0 < (at_place image name).joined
+    → GoesOn (at_place image name) (at_place (fold image number es) name)
 
 -- ---- runs
 

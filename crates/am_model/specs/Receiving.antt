@@ -1,5 +1,6 @@
 -- What a member does with the sequencer's packets, and with bodies that are spread.
-use Rattle.std.specs.Prelude.{ℕ, ◌+◌, max, List, [], ◌∷◌, ◌++◌, length, drop, take, filter, Option, Some, None, Bool, true, false, not, ◌&&◌, ◌||◌, ◌==◌, nat_lt, nat_le, if◌then◌else◌}
+use Rattle.std.specs.Prelude.{ℕ, ◌+◌, max, List, [], ◌∷◌, ◌++◌, length, drop, take, filter, Option, Some, None, Bool, true, false, not, ◌&&◌, ◌||◌, ◌==◌}
+use Rattle.std.specs.Prelude.{nat_lt, nat_le, if◌then◌else◌}
 use Rattle.std.specs.List.{list_any}
 use Rattle.am_base.specs.declared.entry.Entry.{Entry}
 use Rattle.am_base.specs.declared.entry.Entry.TheVariants.{Data, Join, Leave, View}
@@ -90,7 +91,8 @@ order_row m s base acc number from req = received (noted m base acc) s base numb
 
 -- how far the list is accepted, and with a poll a report
 abbrev pub accepted_to : Node → Node → ℕ → Bool → Plan
-accepted_to m old s poll = and_where (λ n. poll) (record (quiet m said.Known) { outcome = risen old said.Known (λ n. said.Advanced n.core.acc) }) (only_name s) ack_of
+accepted_to m old s poll = and_where (λ n. poll) (record (quiet m said.Known) { outcome = risen old said.Known (λ n. said.Advanced n.core.acc) })
+    (only_name s) ack_of
 
 unfoldable pub accept_row : Node → ℕ → ℕ → ℕ → ℕ → Bool → Plan
 accept_row m s base acc high poll =

@@ -43,7 +43,10 @@ abbrev pub may_fetch : Node → ℕ → Stamp → Bool
 may_fetch m s v = stamp_eq v m.core.promise && ((v.by == s) || ((v.by == m.core.who) && stamp_eq (view m) v))
 
 abbrev pub serve_pieces : Node → ℕ → ℕ → Plan
-serve_pieces m s stored = record (quiet m (said.Served (length (served m stored)))) { letters = λ n. put_all (piece_of n) (only_name s) (stored + 1) (served m stored) [] }
+serve_pieces m s stored = record (quiet m (said.Served (length (served m stored)))) {
+  letters =
+      λ n. put_all (piece_of n) (only_name s) (stored + 1) (served m stored) [];
+}
 
 unfoldable pub fetch_row : Node → ℕ → Stamp → ℕ → Plan
 fetch_row m s v stored =

@@ -54,7 +54,10 @@ ack_row m s report =
 
 -- the entries above what is stored, one packet each
 abbrev pub serve : Node → ℕ → ℕ → Plan
-serve m s stored = record (quiet m (said.Served (length (served m stored)))) { letters = λ n. put_all (bcast_of n) (only_name s) (stored + 1) (served m stored) [] }
+serve m s stored = record (quiet m (said.Served (length (served m stored)))) {
+  letters =
+      λ n. put_all (bcast_of n) (only_name s) (stored + 1) (served m stored) [];
+}
 
 abbrev pub asked_again : Node → ℕ → ℕ → Plan
 asked_again m s stored = if nat_lt stored m.core.base then quiet m said.Behind else serve m s stored

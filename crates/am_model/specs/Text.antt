@@ -1,5 +1,6 @@
 -- What is printed of a run: events, letters, the group's list, deliveries and the closing mark, as lists of bytes.
-use Rattle.std.specs.Prelude.{ℕ, ◌+◌, ◌/◌, ◌%◌, ◌==◌, ◌&&◌, ◌||◌, nat_le, Bool, false, if◌then◌else◌, List, [], ◌∷◌, ◌++◌, length, Option, Some, None, codes, decimal, slice_index}
+use Rattle.std.specs.Prelude.{ℕ, ◌+◌, ◌/◌, ◌%◌, ◌==◌, ◌&&◌, ◌||◌, nat_le, Bool, false, if◌then◌else◌, List, [], ◌∷◌, ◌++◌, length, Option, Some, None, codes}
+use Rattle.std.specs.Prelude.{decimal, slice_index}
 use Rattle.std.specs.List.{flat_map, list_all}
 use Rattle.std.specs.Fmt.{digit_glyph}
 use Rattle.am_base.specs.Founding.{Rules}
@@ -55,7 +56,8 @@ unfoldable pub entry_text : Rules → Entry → List ℕ
 entry_text rules (entries.Data from req body) = codes "data " ++ (name_text from ++ (codes " " ++ (decimal req ++ (codes " " ++ body_text body))))
 entry_text rules (entries.Join name) = codes "join " ++ name_text name
 entry_text rules (entries.Leave name) = codes "leave " ++ name_text name
-entry_text rules (entries.View stamp members resilience) = codes "view " ++ (stamp_text stamp ++ (codes " " ++ (names_text members ++ resilience_text rules resilience)))
+entry_text rules (entries.View stamp members resilience) = codes "view "
+    ++ (stamp_text stamp ++ (codes " " ++ (names_text members ++ resilience_text rules resilience)))
 
 -- an outcome's word
 unfoldable pub outcome_word : Outcome → List ℕ
@@ -239,12 +241,15 @@ letters_text place number (letter ∷ letters) = letter_text place number letter
 
 -- the line of an event of this number, before which so many letters were sent
 unfoldable pub record_line : Rules → ℕ → ℕ → Record → List ℕ
-record_line rules number before happened = decimal number ++ (codes " " ++ (event_text rules happened.event ++ (codes " : " ++ (outcome_text rules happened.outcome ++ (letters_text (place_of happened.event.node) (before + 1) happened.packets ++ newline)))))
+record_line rules number before happened = decimal number ++ (codes " "
+    ++ (event_text rules happened.event ++ (codes " : " ++ (outcome_text rules happened.outcome
+    ++ (letters_text (place_of happened.event.node) (before + 1) happened.packets ++ newline)))))
 
 -- the lines of events, the first of which has this number
 abbrev pub lines_from : Rules → ℕ → ℕ → List Record → List ℕ
 lines_from rules number before [] = []
-lines_from rules number before (happened ∷ later) = record_line rules number before happened ++ lines_from rules (number + 1) (before + length happened.packets) later
+lines_from rules number before (happened ∷ later) = record_line rules number before happened
+    ++ lines_from rules (number + 1) (before + length happened.packets) later
 
 -- the lines of a run's events, which are counted from 1, as its letters are
 unfoldable pub records_text : Rules → List Record → List ℕ

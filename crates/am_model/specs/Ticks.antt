@@ -54,7 +54,10 @@ viewed_by (Some (View stamp names resilience)) = names
 
 -- the last View, told again to those
 abbrev pub and_result : Plan → Plan
-and_result p = record p { letters = λ n. with_letter (behind_view n) (result_of n (told n).view_number (viewed_by (entry_at n.core.log (told n).view_number)) (told n).resilience) (p.letters n) }
+and_result p = record p {
+  letters = λ n. with_letter (behind_view n)
+      (result_of n (told n).view_number (viewed_by (entry_at n.core.log (told n).view_number)) (told n).resilience) (p.letters n);
+}
 
 abbrev pub going : Node → Plan → Plan
 going m p = if m.leaving then go p else p

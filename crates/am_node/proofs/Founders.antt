@@ -1,5 +1,6 @@
 -- How a node begins.
-use Rattle.std.proofs.Common.{◌≡◌, ℕ, zero, suc, ◌+◌, ◌<◌, ◌≤◌, ◌==◌, ◌&&◌, List, [], ◌∷◌, length, map, get_or, slice_index, unwrap_or, Option, Some, None, Bool, true, false, nat_lt, nat_le, refl, sym, ◌∙◌, ap, subst, arith, if◌then◌else◌}
+use Rattle.std.proofs.Common.{◌≡◌, ℕ, zero, suc, ◌+◌, ◌<◌, ◌≤◌, ◌==◌, ◌&&◌, List, [], ◌∷◌, length, map, get_or, slice_index, unwrap_or, Option, Some, None}
+use Rattle.std.proofs.Common.{Bool, true, false, nat_lt, nat_le, refl, sym, ◌∙◌, ap, subst, arith, if◌then◌else◌}
 use Rattle.std.specs.Prelude.{EachIndex, slice_index_or, replicate}
 use Rattle.std.proofs.lemmas.Bool.Decides.{nat_tests}
 use Rattle.std.proofs.lemmas.List.{get_or-replicate, get_or_past, length-map}
@@ -37,7 +38,8 @@ stranger_keeps rules who = record {
 -- ---- founders
 
 -- the first name of a set that isn't empty, whose places count from one on
-lowest_is : (p : ℕ) (set : List ℕ) → 0 < size set → (k : ℕ) × (k < length set) × (0 < get_or set k 0) × (first_of (names_from p set) ≡ Some (name_at (p + k) (get_or set k 0)))
+lowest_is : (p : ℕ) (set : List ℕ) → 0 < size set → (k : ℕ) × (k < length set) × (0 < get_or set k 0)
+    × (first_of (names_from p set) ≡ Some (name_at (p + k) (get_or set k 0)))
 lowest_is p [] some = absurd (omega arith)
 lowest_is p (zero ∷ lives) some =
     let h = lowest_is (p + 1) lives some in
@@ -58,7 +60,8 @@ lowest_founds rules may =
     let is : lowest_or_first rules.founders ≡ h.0 = ap (λ o. unwrap_or o 0) (h.3 ∙ ap (λ l. Some (name_at (0 + h.0) l)) one) ∙ name in
     let place : place_of h.0 ≡ h.0 = omega arith in
     let life : life_of h.0 ≡ 1 = omega arith in
-    let there : (get_or rules.founders (place_of h.0) 0 == life_of h.0) ≡ true = let e = ap (λ k. get_or rules.founders k 0) place ∙ one ∙ sym life in grind (arith, nat_tests) in
+    let there : (get_or rules.founders (place_of h.0) 0 == life_of h.0) ≡ true = let e = ap (λ k. get_or rules.founders k 0) place ∙ one ∙ sym life in
+    grind (arith, nat_tests) in
     subst (λ n. has rules.founders n ≡ true) (sym is) there
 
 -- the founders' View fits where nothing stands
@@ -85,7 +88,8 @@ pub founders_members : (rules : Rules) (who : ℕ) → MayFound rules → member
 unfolding fold after
 founders_members rules who may =
     let g : ℕ → Row = λ place. viewed true 1 (slice_index rules.founders place) blank_row in
-    let rows : members (founder rules who) ≡ map member_life (by_place g) = λ i. map member_life (by_place (λ place. viewed true 1 (slice_index rules.founders place) (blank_at place i))) in
+    let rows : members (founder rules who) ≡ map member_life (by_place g) =
+    λ i. map member_life (by_place (λ place. viewed true 1 (slice_index rules.founders place) (blank_at place i))) in
     rows
     ∙ by_place_all (slice_index rules.founders) (map member_life (by_place g)) 0 (length-map (by_place g) member_life ∙ length-by_place g)
     (λ k low. get_or-map member_life (by_place g) k blank_row ∙ ap member_life (get_or-by_place g k blank_row low) ∙ life_back (slice_index rules.founders k))
@@ -105,7 +109,8 @@ founder_keeps rules who may there = record {
 }
 
 -- parts with the core, the reports, the status, the sends and the ballot of a node
-pub keeps_as : (m n : Node) → n.core ≡ m.core → (n.reports n.core.who).taken ≤ n.core.taken → n.status ≡ m.status → n.ballot ≡ m.ballot → n.leaving ≡ m.leaving → n.sends ≡ m.sends → NodeKeeps m → NodeKeeps n
+pub keeps_as : (m n : Node) → n.core ≡ m.core → (n.reports n.core.who).taken ≤ n.core.taken → n.status ≡ m.status → n.ballot ≡ m.ballot → n.leaving ≡ m.leaving
+    → n.sends ≡ m.sends → NodeKeeps m → NodeKeeps n
 keeps_as m n core own status ballot leaving sends keeps =
     keeps_steady m n (record {
       who = ap (λ (c : CoreState). c.who) core;
@@ -131,7 +136,8 @@ first_none founders reports is = λ name.
     let low : nat_lt name 0 ≡ false = grind (arith, nat_tests) in
     ap (λ (r : ℕ → Report). r name) is ∙ rw low refl
 
-pub first_more : (founders : List ℕ) (reports new : ℕ → Report) (high : ℕ) → FirstReports founders reports high → new ≡ (if has founders high then reported reports high (record { stored = 1; taken = 0 }) else reports) → FirstReports founders new (high + 1)
+pub first_more : (founders : List ℕ) (reports new : ℕ → Report) (high : ℕ) → FirstReports founders reports high
+    → new ≡ (if has founders high then reported reports high (record { stored = 1; taken = 0 }) else reports) → FirstReports founders new (high + 1)
 first_more founders reports new high before is = λ name.
     let past : nat_lt high high ≡ false = grind (arith, nat_tests) in
     let zero : reports high ≡ no_report = before high ∙ rw past refl in
@@ -139,12 +145,14 @@ first_more founders reports new high before is = λ name.
     ap (λ (r : ℕ → Report). r name) is ∙ split (name == high)
     (λ e.
     let same : name ≡ high = grind (arith, nat_tests) in
-    subst (λ n. (if has founders high then reported reports high (record { stored = 1; taken = 0 }) else reports) n ≡ (if nat_lt n (high + 1) && has founders n then record { stored = 1; taken = 0 } else no_report)) (sym same)
+    subst (λ n. (if has founders high then reported reports high (record { stored = 1; taken = 0 }) else reports) n
+    ≡ (if nat_lt n (high + 1) && has founders n then record { stored = 1; taken = 0 } else no_report)) (sym same)
     (split (has founders high)
     (λ t. let own : (high == high) ≡ true = grind (arith, nat_tests) in rw (t, next, own, zero) refl)
     (λ f. rw (f, next) zero)))
     (λ f.
-    let same : nat_lt name high ≡ nat_lt name (high + 1) = split (nat_lt name high) (λ t. let u : nat_lt name (high + 1) ≡ true = grind (arith, nat_tests) in rw (t, u) refl) (λ n. let u : nat_lt name (high + 1) ≡ false = grind (arith, nat_tests) in rw (n, u) refl) in
+    let same : nat_lt name high ≡ nat_lt name (high + 1) = split (nat_lt name high) (λ t. let u : nat_lt name (high + 1) ≡ true = grind (arith, nat_tests) in
+    rw (t, u) refl) (λ n. let u : nat_lt name (high + 1) ≡ false = grind (arith, nat_tests) in rw (n, u) refl) in
     split (has founders high)
     (λ t. rw (t, f) (before name ∙ ap (λ b. if b && has founders name then record { stored = 1; taken = 0 } else no_report) same))
     (λ n. rw n (before name ∙ ap (λ b. if b && has founders name then record { stored = 1; taken = 0 } else no_report) same)))
@@ -154,7 +162,8 @@ none_above founders name lives high = split (nat_lt (place_of name) (length foun
     (λ t. let low : slice_index founders (place_of name) ≤ 1 = lives (place_of name) (grind (arith, nat_tests)) in grind (arith, nat_tests))
     (λ f. let past : slice_index founders (place_of name) ≡ 0 = get_or_past founders (place_of name) 0 (grind (arith, nat_tests)) in grind (arith, nat_tests))
 
-pub first_all : (founders : List ℕ) (reports : ℕ → Report) (high : ℕ) → high ≡ 256 → EachIndex founders (λ place. slice_index founders place ≤ 1) → FirstReports founders reports high → reports ≡ (λ name. if has founders name then record { stored = 1; taken = 0 } else no_report)
+pub first_all : (founders : List ℕ) (reports : ℕ → Report) (high : ℕ) → high ≡ 256 → EachIndex founders (λ place. slice_index founders place ≤ 1)
+    → FirstReports founders reports high → reports ≡ (λ name. if has founders name then record { stored = 1; taken = 0 } else no_report)
 first_all founders reports high all lives each =
     let at : (name : ℕ) → reports name ≡ (if has founders name then record { stored = 1; taken = 0 } else no_report) = λ name.
     split (nat_lt name high)
@@ -162,7 +171,8 @@ first_all founders reports high all lives each =
     (λ f. let no = none_above founders name lives (grind (arith, nat_tests)) in each name ∙ rw (f, no) refl) in
     λ k name. at name k
 
-pub own_first : (founders : List ℕ) (reports : ℕ → Report) (who taken : ℕ) → reports ≡ (λ name. if has founders name then record { stored = 1; taken = 0 } else no_report) → (reports who).taken ≤ taken
+pub own_first : (founders : List ℕ) (reports : ℕ → Report) (who taken : ℕ)
+    → reports ≡ (λ name. if has founders name then record { stored = 1; taken = 0 } else no_report) → (reports who).taken ≤ taken
 own_first founders reports who taken is =
     let zero : (reports who).taken ≡ 0 = ap (λ (r : ℕ → Report). (r who).taken) is ∙ split (has founders who) (λ t. rw t refl) (λ f. rw f refl) in
     omega arith

@@ -25,7 +25,8 @@ pub order_number : (s : ℕ) (v : Stamp) (base acc number from req : ℕ) → Is
 unfolding IsWithin
 order_number s v base acc number from req is = (is.3, is.4)
 
-pub welcome_numbers : (s : ℕ) (v : Stamp) (base join : ℕ) (image : Image) → IsWithin (packets.Welcome s v base join image) → IsNumber v.round × IsNumber base × IsImage image
+pub welcome_numbers : (s : ℕ) (v : Stamp) (base join : ℕ) (image : Image) → IsWithin (packets.Welcome s v base join image) → IsNumber v.round × IsNumber base
+    × IsImage image
 unfolding IsWithin
 welcome_numbers s v base join image is = (is.0, is.1, is.3)
 
@@ -41,6 +42,7 @@ pub piece_entry : (s : ℕ) (v : Stamp) (base number : ℕ) (e : Entry) → IsWi
 unfolding IsWithin
 piece_entry s v base number e is = is.3
 
-pub result_numbers : (s : ℕ) (v : Stamp) (base number : ℕ) (names : List ℕ) (resilience : ℕ) → IsWithin (packets.Result s v base number names resilience) → IsNumber v.round × (resilience ≤ 15)
+pub result_numbers : (s : ℕ) (v : Stamp) (base number : ℕ) (names : List ℕ) (resilience : ℕ) → IsWithin (packets.Result s v base number names resilience)
+    → IsNumber v.round × (resilience ≤ 15)
 unfolding IsWithin
 result_numbers s v base number names resilience is = (is.0, is.3)

@@ -2,7 +2,8 @@
 use Rattle.std.specs.Prelude.{ℕ, List, Bool, true, false, ◌&&◌, ◌==◌, if◌then◌else◌}
 use Rattle.am_base.specs.declared.image.Report.{Report}
 use Rattle.am_packet.specs.declared.packet.Packet.{Packet}
-use Rattle.am_packet.specs.declared.packet.Packet.TheVariants.{Request, Spread, Bcast, Order, Accept, Ack, Nack, Hold, JoinAsk, Welcome, LeaveAsk, Gone, Invite, Vote, Fetch, Piece, Result, HandOver}
+use Rattle.am_packet.specs.declared.packet.Packet.TheVariants.{Request, Spread, Bcast, Order, Accept, Ack, Nack, Hold, JoinAsk, Welcome, LeaveAsk, Gone, Invite}
+use Rattle.am_packet.specs.declared.packet.Packet.TheVariants.{Vote, Fetch, Piece, Result, HandOver}
 use Rattle.am_model.specs.Node.{Node, is_sequencer}
 use Rattle.am_model.specs.Emit.{Plan}
 use Rattle.am_model.specs.Hearing.{hears_member, hears_asking, hears_in_view, hears_as_sequencer, hears_sequencer}

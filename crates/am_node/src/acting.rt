@@ -25,7 +25,8 @@ use am_reset::voting::{on_ask, on_give_up, on_reset};
 fn sends(parts: &mut Parts, body: &Body, out: &mut OutBox) -> Outcome
     requires numbers { HasNumbersLeft (node_of parts.old) }
     requires empty { out.old ≡ [] }
-    ensures { Does (λ m. send_row m body.now) (node_of parts.old) result out.new (node_of parts.new) }
+    ensures { Does (λ m. send_row m body.now) (node_of parts.old) result out.new
+        (node_of parts.new) }
 {
     on_send(parts, body.copied(), out)
 }
@@ -60,7 +61,8 @@ pub fn on_event(
 ) -> Outcome
     requires numbers { HasNumbersLeft (node_of parts.old) }
     requires empty { out.old ≡ [] }
-    ensures does { Does (λ m. row m event.now) (node_of parts.old) result out.new (node_of parts.new) }
+    ensures does { Does (λ m. row m event.now) (node_of parts.old) result out.new
+        (node_of parts.new) }
     ensures few { length out.new ≤ 9 }
 {
     by_event(parts, event, spare, out)

@@ -78,7 +78,9 @@ pub fn stranger(alloc: Global, name: Name, founding: &Founding) -> Result<Parts,
 
 /// A founder has stored the founders' View.
 fn report_first(fronts: &mut Fronts, founders: Names, name: Name)
-    ensures { reports_of fronts.new ≡ (if has founders name then reported (reports_of fronts.old) name (record { stored = 1; taken = 0 }) else reports_of fronts.old) }
+    ensures { reports_of fronts.new ≡ (if has founders name then reported
+        (reports_of fronts.old) name (record { stored = 1; taken = 0 }) else
+        reports_of fronts.old) }
 {
     if founders.has(name) {
         let report = Report {
@@ -92,7 +94,8 @@ fn report_first(fronts: &mut Fronts, founders: Names, name: Name)
 /// What is reported at first: each founder has stored the founders' View.
 fn first_reports(founders: Names) -> Fronts
     requires { EachIndex founders (λ place. slice_index founders place ≤ 1) }
-    ensures { reports_of result ≡ (λ name. if has founders name then record { stored = 1; taken = 0 } else no_report) }
+    ensures { reports_of result ≡ (λ name. if has founders name
+        then record { stored = 1; taken = 0 } else no_report) }
 {
     let mut fronts = Fronts::new();
     for byte in 0..256u16 {

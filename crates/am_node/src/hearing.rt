@@ -42,7 +42,8 @@ fn on_body(
     requires req { IsNumber req }
     requires numbers { HasNumbersLeft (node_of parts.old) }
     requires empty { out.old ≡ [] }
-    ensures { Does (λ m. spread_at m from report req body.now) (node_of parts.old) result out.new (node_of parts.new) }
+    ensures { Does (λ m. spread_at m from report req body.now) (node_of parts.old) result out.new
+        (node_of parts.new) }
 {
     if parts.is_sequencer() {
         return on_request(parts, from, report, req, body, true, out);
@@ -56,7 +57,8 @@ fn heard(parts: &mut Parts, packet: &Packet, out: &mut OutBox) -> Outcome
     requires within { IsWithin packet.now }
     requires numbers { HasNumbersLeft (node_of parts.old) }
     requires empty { out.old ≡ [] }
-    ensures { Does (λ m. heard_row m packet.now) (node_of parts.old) result out.new (node_of parts.new) }
+    ensures { Does (λ m. heard_row m packet.now) (node_of parts.old) result out.new
+        (node_of parts.new) }
 {
     match packet {
         Packet::Request {
@@ -159,7 +161,8 @@ pub fn on_packet(parts: &mut Parts, packet: &Packet, out: &mut OutBox) -> Outcom
     requires within { IsWithin packet.now }
     requires numbers { HasNumbersLeft (node_of parts.old) }
     requires empty { out.old ≡ [] }
-    ensures { Does (λ m. hear_row m packet.now) (node_of parts.old) result out.new (node_of parts.new) }
+    ensures { Does (λ m. hear_row m packet.now) (node_of parts.old) result out.new
+        (node_of parts.new) }
 {
     if is_heard(parts, packet) {
         return heard(parts, packet, out);
@@ -173,7 +176,8 @@ pub fn on_packet(parts: &mut Parts, packet: &Packet, out: &mut OutBox) -> Outcom
 pub fn on_bytes(parts: &mut Parts, bytes: &[u8], out: &mut OutBox) -> Outcome
     requires numbers { HasNumbersLeft (node_of parts.old) }
     requires empty { out.old ≡ [] }
-    ensures { Does (λ m. read_row m (reading bytes.now)) (node_of parts.old) result out.new (node_of parts.new) }
+    ensures { Does (λ m. read_row m (reading bytes.now)) (node_of parts.old) result out.new
+        (node_of parts.new) }
 {
     match decode(bytes) {
         Ok(packet) => on_packet(parts, &packet, out),

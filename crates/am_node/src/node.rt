@@ -44,7 +44,8 @@ impl Node {
     pub fn step(&mut self, event: &NodeEvent, spare: Boxed<Entry>, out: &mut OutBox) -> Outcome
         requires numbers { HasNumbersLeft (state_of self.old) }
         requires empty { out.old ≡ [] }
-        ensures does { Does (λ m. row m event.now) (state_of self.old) result out.new (state_of self.new) }
+        ensures does { Does (λ m. row m event.now) (state_of self.old) result out.new
+            (state_of self.new) }
         ensures few { length out.new ≤ 9 }
     {
         on_event(&mut self.parts, event, spare, out)

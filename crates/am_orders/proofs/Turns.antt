@@ -1,5 +1,6 @@
 -- The requests of a name along a list.
-use Rattle.std.proofs.Common.{◌≡◌, ◌⊎◌, ⊎_elim, inl, inr, ℕ, zero, suc, ◌+◌, ◌<◌, ◌≤◌, ◌==◌, List, [], ◌∷◌, ◌++◌, length, Some, slice_get, refl, sym, ap, ◌∙◌, subst, arith}
+use Rattle.std.proofs.Common.{◌≡◌, ◌⊎◌, ⊎_elim, inl, inr, ℕ, zero, suc, ◌+◌, ◌<◌, ◌≤◌, ◌==◌, List, [], ◌∷◌, ◌++◌, length, Some, slice_get, refl, sym, ap, ◌∙◌}
+use Rattle.std.proofs.Common.{subst, arith}
 use Rattle.std.specs.List.{range_with_len}
 use Rattle.am_base.specs.declared.image.Image.{Image}
 use Rattle.am_base.specs.declared.entry.Entry.{Entry}
@@ -17,19 +18,23 @@ before_none : (name next : ℕ) (e : Entry) (es : List Entry) → request_in nam
 before_none name next e es none h = subst (λ found. found ++ requests_of name es ≡ range_with_len next (length (found ++ requests_of name es))) (sym none) h
 
 before_next : (name next : ℕ) (e : Entry) (es : List Entry) → request_in name e ≡ next ∷ [] → InTurn name (next + 1) es → InTurn name next (e ∷ es)
-before_next name next e es one h = subst (λ found. found ++ requests_of name es ≡ range_with_len next (length (found ++ requests_of name es))) (sym one) (ap (λ found. next ∷ found) h)
+before_next name next e es one h = subst (λ found. found ++ requests_of name es
+    ≡ range_with_len next (length (found ++ requests_of name es))) (sym one) (ap (λ found. next ∷ found) h)
 
 -- ---- in turn
 
-fit_in_turn : (image : Image) (n : ℕ) (es : List Entry) (name next : ℕ) → length image.rows ≡ 16 → 0 < n → AllFit image n es → IsNext (row_at image (place_of name)) (life_of name) next → InTurn name next es
+fit_in_turn : (image : Image) (n : ℕ) (es : List Entry) (name next : ℕ) → length image.rows ≡ 16 → 0 < n → AllFit image n es
+    → IsNext (row_at image (place_of name)) (life_of name) next → InTurn name next es
 unfolding AllFit
 fit_in_turn image n [] name next long up fit h = refl
 fit_in_turn image n (e ∷ es) name next long up fit h =
     let then_long = long_after image n e long in
     let then_up : 0 < n + 1 = omega arith in
     ⊎_elim
-    (λ (x : (request_in name e ≡ []) × IsNext (row_at (after image n e) (place_of name)) (life_of name) next). before_none name next e es x.0 (fit_in_turn (after image n e) (n + 1) es name next then_long then_up fit.1 x.1))
-    (λ (x : (request_in name e ≡ next ∷ []) × IsNext (row_at (after image n e) (place_of name)) (life_of name) (next + 1)). before_next name next e es x.0 (fit_in_turn (after image n e) (n + 1) es name (next + 1) then_long then_up fit.1 x.1))
+    (λ (x : (request_in name e ≡ []) × IsNext (row_at (after image n e) (place_of name)) (life_of name) next). before_none name next e es x.0
+    (fit_in_turn (after image n e) (n + 1) es name next then_long then_up fit.1 x.1))
+    (λ (x : (request_in name e ≡ next ∷ []) × IsNext (row_at (after image n e) (place_of name)) (life_of name) (next + 1)). before_next name next e es x.0
+    (fit_in_turn (after image n e) (n + 1) es name (next + 1) then_long then_up fit.1 x.1))
     (entry_goes_on image n e name next long up fit.0 h)
 
 pub requests_in_turn : RequestsInTurn
@@ -52,7 +57,8 @@ rest_of name next (Leave leaver) es h = inl (refl, h)
 rest_of name next (View stamp members resilience) es h = inl (refl, h)
 
 -- where the first entry is a send of the name, that is the next request
-first_is_next : (name next req : ℕ) (body : List ℕ) (e : Entry) (es : List Entry) → InTurn name next (e ∷ es) → Some e ≡ Some (Data name req body) → (req ≡ next) × InTurn name (next + 1) es
+first_is_next : (name next req : ℕ) (body : List ℕ) (e : Entry) (es : List Entry) → InTurn name next (e ∷ es) → Some e ≡ Some (Data name req body)
+    → (req ≡ next) × InTurn name (next + 1) es
 first_is_next name next req body e es h is =
     let same : e ≡ Data name req body = cc in
     let found : request_in name e ≡ req ∷ [] = ap (request_in name) same ∙ own_request name req body in
@@ -62,7 +68,8 @@ first_is_next name next req body e es h is =
     (rest_of name next e es h)
 
 -- how many more come, so many requests there are
-none_above : (name next req : ℕ) (body : List ℕ) (list : List Entry) (k : ℕ) → InTurn name next list → slice_get list k ≡ Some (Data name req body) → req < next + length (requests_of name list)
+none_above : (name next req : ℕ) (body : List ℕ) (list : List Entry) (k : ℕ) → InTurn name next list → slice_get list k ≡ Some (Data name req body)
+    → req < next + length (requests_of name list)
 none_above name next req body [] k h is = absurd (cc)
 none_above name next req body (e ∷ es) zero h is =
     let same : e ≡ Data name req body = cc in
@@ -82,12 +89,15 @@ none_above name next req body (e ∷ es) (suc k) h is = ⊎_elim
     (rest_of name next e es h)
 
 -- a request that stands in a whole list is one of so many
-pub request_within : (list : List Entry) (name req : ℕ) (body : List ℕ) (k : ℕ) → AllFit blank 1 list → slice_get list k ≡ Some (Data name req body) → req ≤ length (requests_of name list)
+pub request_within : (list : List Entry) (name req : ℕ) (body : List ℕ) (k : ℕ) → AllFit blank 1 list → slice_get list k ≡ Some (Data name req body)
+    → req ≤ length (requests_of name list)
 request_within list name req body k fit is = let low = none_above name 1 req body list k (requests_in_turn list fit name) is in omega arith
 
 -- ---- the row at the end
 
-next_fold : (image : Image) (n : ℕ) (es : List Entry) (name next : ℕ) → length image.rows ≡ 16 → 0 < n → AllFit image n es → IsNext (row_at image (place_of name)) (life_of name) next → IsNext (row_at (fold image n es) (place_of name)) (life_of name) (next + length (requests_of name es))
+next_fold : (image : Image) (n : ℕ) (es : List Entry) (name next : ℕ) → length image.rows ≡ 16 → 0 < n → AllFit image n es
+    → IsNext (row_at image (place_of name)) (life_of name) next
+    → IsNext (row_at (fold image n es) (place_of name)) (life_of name) (next + length (requests_of name es))
 unfolding AllFit fold
 next_fold image n [] name next long up fit h = let z : next ≡ next + 0 = omega arith in subst (IsNext (row_at image (place_of name)) (life_of name)) z h
 next_fold image n (e ∷ es) name next long up fit h =
@@ -105,7 +115,8 @@ next_fold image n (e ∷ es) name next long up fit h =
     (entry_goes_on image n e name next long up fit.0 h)
 
 -- at the end of a whole list a name's next request is the one after so many
-pub next_in : (list : List Entry) (name : ℕ) → AllFit blank 1 list → IsNext (row_at (fold blank 1 list) (place_of name)) (life_of name) (1 + length (requests_of name list))
+pub next_in : (list : List Entry) (name : ℕ) → AllFit blank 1 list
+    → IsNext (row_at (fold blank 1 list) (place_of name)) (life_of name) (1 + length (requests_of name list))
 next_in list name fit = let one : 0 < 1 = omega arith in next_fold blank 1 list name 1 refl one fit (next_at_first name)
 
 -- no request below the next
@@ -118,14 +129,16 @@ none_below name next req body (e ∷ es) (suc k) h is = ⊎_elim
     (rest_of name next e es h)
 
 -- after a send of the name stands no other with its request
-none_after : (name next req : ℕ) (body other : List ℕ) (e : Entry) (es : List Entry) (k : ℕ) → InTurn name next (e ∷ es) → Some e ≡ Some (Data name req body) → slice_get es k ≡ Some (Data name req other) → ⊥
+none_after : (name next req : ℕ) (body other : List ℕ) (e : Entry) (es : List Entry) (k : ℕ) → InTurn name next (e ∷ es) → Some e ≡ Some (Data name req body)
+    → slice_get es k ≡ Some (Data name req other) → ⊥
 none_after name next req body other e es k h is also =
     let first = first_is_next name next req body e es h is in
     let same = first.0 in
     let above = none_below name (next + 1) req other es k first.1 also in
     omega arith
 
-one_place : (name next req : ℕ) (body other : List ℕ) (list : List Entry) (k l : ℕ) → InTurn name next list → slice_get list k ≡ Some (Data name req body) → slice_get list l ≡ Some (Data name req other) → k ≡ l
+one_place : (name next req : ℕ) (body other : List ℕ) (list : List Entry) (k l : ℕ) → InTurn name next list → slice_get list k ≡ Some (Data name req body)
+    → slice_get list l ≡ Some (Data name req other) → k ≡ l
 one_place name next req body other [] k l h is also = absurd (cc)
 one_place name next req body other (e ∷ es) zero zero h is also = refl
 one_place name next req body other (e ∷ es) zero (suc l) h is also = absurd (none_after name next req body other e es l h is also)

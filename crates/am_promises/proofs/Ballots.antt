@@ -17,8 +17,10 @@ use Rattle.am_model.specs.World.{World, start, current, is_stopped, unchanged, s
 use Rattle.am_model.specs.Group.{has_log}
 use Rattle.am_model.proofs.Greatest.{split, and_both}
 use Rattle.am_effects.specs.Causes.{Cause, calls, hears, refuses}
-use Rattle.am_effects.specs.Looks.{Looks, finds_itself_out, waits, fetches_from_best, finds_too_few, finds_no_room, decides, HasOpen, Balloting, with_more, without_one, as_it_is}
-use Rattle.am_effects.specs.Changes.{Change, refreshes, settles, takes_report, admits, numbers, keeps_body, notes, stores, begins_list, departs, promises, opens, looks, fetches, stores_view, queues, collects, takes, asks_to_join, asks_to_leave, closes}
+use Rattle.am_effects.specs.Looks.{Looks, finds_itself_out, waits, fetches_from_best, finds_too_few, finds_no_room, decides, HasOpen, Balloting, with_more}
+use Rattle.am_effects.specs.Looks.{without_one, as_it_is}
+use Rattle.am_effects.specs.Changes.{Change, refreshes, settles, takes_report, admits, numbers, keeps_body, notes, stores, begins_list, departs, promises}
+use Rattle.am_effects.specs.Changes.{opens, looks, fetches, stores_view, queues, collects, takes, asks_to_join, asks_to_leave, closes}
 use Rattle.am_effects.specs.Events as event
 use Rattle.am_effects.specs.Events.{actor, IsCall, IsCause, idles, stops, returns, steps}
 use Rattle.am_effects.proofs.Statuses.{logged, asking_log}
@@ -36,7 +38,8 @@ record NodeOk (w : World) (i : ℕ) (x : Node) : Type 0 where
   last : LastOk w i x.core.promise x.ballot
   blank : has_log x.status ≡ false → x.ballot ≡ None
 
-same_ballot : (w : World) (i : ℕ) (x y : Node) → y.core.who ≡ x.core.who → y.core.promise ≡ x.core.promise → y.ballot ≡ x.ballot → has_log y.status ≡ has_log x.status → NodeOk w i x → NodeOk w i y
+same_ballot : (w : World) (i : ℕ) (x y : Node) → y.core.who ≡ x.core.who → y.core.promise ≡ x.core.promise → y.ballot ≡ x.ballot
+    → has_log y.status ≡ has_log x.status → NodeOk w i x → NodeOk w i y
 same_ballot w i x y a b d e h = record {
   who = a ∙ h.who;
   last = subst (λ t. LastOk w i y.core.promise t) (sym d) (subst (λ v. LastOk w i v x.ballot) (sym b) h.last);
@@ -53,7 +56,8 @@ open_ok w i m b o h = subst (LastOk w i m.core.promise) o.last h.last
 
 -- the ballot that is looked at
 looked_ok : (w : World) (i : ℕ) (c : Cause) (m : Node) (b : Ballot) → Balloting c m b → MayGive w c → NodeOk w i m → BallotOk w i m.core.promise b
-looked_ok w i c m b (with_more old s v vote is heard low high o same stays) g h = let k = open_ok w i m old o h in record { own = k.own; low = k.low; high = k.high; given = k.given; answer = k.answer }
+looked_ok w i c m b (with_more old s v vote is heard low high o same stays) g h = let k = open_ok w i m old o h in
+    record { own = k.own; low = k.low; high = k.high; given = k.given; answer = k.answer }
 looked_ok w i c m b (as_it_is old o on) g h = open_ok w i m old o h
 looked_ok w i c m b (without_one old name is o other) g h =
     let k = open_ok w i m old o h in
@@ -62,17 +66,21 @@ looked_ok w i c m b (without_one old name is o other) g h =
       own = k.own;
       low = k.low;
       high = k.high;
-      given = λ n t. split (n == name) (λ e. let same : name ≡ n = grind (arith, nat_tests) in subst (λ x. is_stopped w x ≡ true) same stopped) (λ f. k.given n (rw f at t));
+      given = λ n t. split (n == name) (λ e. let same : name ≡ n = grind (arith, nat_tests) in
+          subst (λ x. is_stopped w x ≡ true) same stopped) (λ f. k.given n (rw f at t));
       answer = k.answer;
     }
 
-ended : (w : World) (i : ℕ) (promise : Stamp) (b : Ballot) (o : Outcome) → IsOfBallot o → BallotOk w i promise b → BallotOk w i promise (record b { answer = o; is_over = true })
+ended : (w : World) (i : ℕ) (promise : Stamp) (b : Ballot) (o : Outcome) → IsOfBallot o → BallotOk w i promise b
+    → BallotOk w i promise (record b { answer = o; is_over = true })
 ended w i promise b o a h = record { own = h.own; low = λ f. absurd (cc); high = λ f. absurd (cc); given = h.given; answer = a }
 
-going : (w : World) (i : ℕ) (promise : Stamp) (b : Ballot) (o : Outcome) → b.is_over ≡ false → IsOfBallot o → BallotOk w i promise b → BallotOk w i promise (record b { answer = o; is_over = false })
+going : (w : World) (i : ℕ) (promise : Stamp) (b : Ballot) (o : Outcome) → b.is_over ≡ false → IsOfBallot o → BallotOk w i promise b
+    → BallotOk w i promise (record b { answer = o; is_over = false })
 going w i promise b o over a h = record { own = h.own; low = λ f. h.low over; high = λ f. h.high over; given = h.given; answer = a }
 
-verdict_ok : (w : World) (i : ℕ) (m : Node) (b : Ballot) (v : Verdict) → Looks m b v → b.is_over ≡ false → has_log m.status ≡ true → BallotOk w i m.core.promise b → m.core.who ≡ i → NodeOk w i v.node
+verdict_ok : (w : World) (i : ℕ) (m : Node) (b : Ballot) (v : Verdict) → Looks m b v → b.is_over ≡ false → has_log m.status ≡ true
+    → BallotOk w i m.core.promise b → m.core.who ≡ i → NodeOk w i v.node
 verdict_ok w i m b v (finds_itself_out x) over log h who = record { who = who; last = ended w i m.core.promise b _ tt h; blank = λ f. absurd (cc) }
 verdict_ok w i m b v (waits x y) over log h who = record { who = who; last = going w i m.core.promise b _ over tt h; blank = λ f. absurd (cc) }
 verdict_ok w i m b v (fetches_from_best x y z) over log h who = record { who = who; last = going w i m.core.promise b _ over tt h; blank = λ f. absurd (cc) }
@@ -116,14 +124,21 @@ ballot_change w i c o m n g (stores s v base a number e by heard plain may) h = 
 ballot_change w i c o m n g (begins_list s v base join image is says may) h =
     let none = h.blank (asking_log m.status (asking m s v base join image may)) in
     record { who = h.who; last = subst (LastOk w i v) (sym none) tt; blank = λ f. absurd (cc) }
-ballot_change w i c o m n g (departs s v number is heard leaves) h = same_ballot w i m n refl refl refl (sym (logged m.status (and_both (not (s == m.core.who)) (is_member m.status) heard).1)) h
-ballot_change w i c o m n g (promises v low why) h = record { who = h.who; last = overtaken_ok w i m.core.promise v m.ballot low h.last; blank = λ f. overtaken_none v m.ballot (h.blank f) }
+ballot_change w i c o m n g (departs s v number is heard leaves) h =
+    same_ballot w i m n refl refl refl (sym (logged m.status (and_both (not (s == m.core.who)) (is_member m.status) heard).1)) h
+ballot_change w i c o m n g (promises v low why) h = record {
+  who = h.who;
+  last = overtaken_ok w i m.core.promise v m.ballot low h.last;
+  blank =
+      λ f. overtaken_none v m.ballot (h.blank f);
+}
 ballot_change w i c o m n g (opens least resilience by may) h = record {
   who = h.who;
   last = record { own = h.who; low = λ f. most_same n.core.promise; high = λ f. most_same n.core.promise; given = λ name t. absurd (cc); answer = tt };
   blank = λ f. (let t = logged m.status may.member in absurd (cc));
 }
-ballot_change w i c o m n g (looks b verdict over why look is) h = verdict_ok w i m b verdict look over (balloting_log w i c m b why h) (looked_ok w i c m b why g h) h.who
+ballot_change w i c o m n g (looks b verdict over why look is) h =
+    verdict_ok w i m b verdict look over (balloting_log w i c m b why h) (looked_ok w i c m b why g h) h.who
 ballot_change w i c o m n g (fetches s v base number e is heard promise below from may) h = same_ballot w i m n refl refl refl refl h
 ballot_change w i c o m n g (stores_view s v base number names resilience is heard own other promise below may) h = same_ballot w i m n refl refl refl refl h
 ballot_change w i c o m n g (queues body is says member stays few) h = same_ballot w i m n refl refl refl refl h
@@ -173,7 +188,8 @@ unfolding unchanged stepped
 each_keeps w e v (idles o idle) h = record { each = λ i. more_stopped w v i (w.nodes i) (λ name t. t) (h.each i) }
 each_keeps w e v (stops runs) h = record { each = λ i. more_stopped w v i (w.nodes i) (λ name t. still_stopped w.stopped (actor w e) name t) (h.each i) }
 each_keeps w e v (returns place is gone more) h = record {
-  each = λ i. more_stopped w v i (w.nodes i) (λ name t. split (is_stopped w (current w place)) (λ a. rw a t) (λ a. rw a (still_stopped w.stopped (current w place) name t))) (h.each i);
+  each = λ i. more_stopped w v i (w.nodes i) (λ name t. split (is_stopped w (current w place)) (λ a. rw a t)
+      (λ a. rw a (still_stopped w.stopped (current w place) name t))) (h.each i);
 }
 each_keeps w e v (steps c s runs cause effect) h =
     let i = actor w e in
@@ -185,7 +201,10 @@ each_keeps w e v (steps c s runs cause effect) h =
     }
 
 start_ok : (rules : Rules) → AllOk (start rules)
-start_ok rules = record { each = λ i. split (has rules.founders i) (λ t. rw t (record { who = refl; last = tt; blank = λ f. refl })) (λ f. rw f (record { who = refl; last = tt; blank = λ g. refl })) }
+start_ok rules = record {
+  each = λ i. split (has rules.founders i) (λ t. rw t (record { who = refl; last = tt; blank = λ f. refl }))
+      (λ f. rw f (record { who = refl; last = tt; blank = λ g. refl }));
+}
 
 pub ballots_are_own : BallotsAreOwn
 ballots_are_own rules events may =

@@ -8,8 +8,11 @@ use Rattle.am_model.specs.Node.{Node, Ballot}
 use Rattle.am_model.specs.Ballots.{Verdict}
 use Rattle.am_effects.specs.Causes.{Cause, hears}
 use Rattle.am_effects.specs.Looks.{Looks, finds_itself_out, waits, fetches_from_best, finds_too_few, finds_no_room, decides}
-use Rattle.am_effects.specs.Changes.{Promises, invited, overtaken, told_result, Change, refreshes, settles, takes_report, admits, numbers, keeps_body, notes, stores, begins_list, departs, promises, opens, looks, fetches, stores_view, queues, collects, takes, asks_to_join, asks_to_leave, closes}
-use Rattle.am_effects.specs.Letters.{Says, request, spread, bcast, order, accept, ack, nack, hold, join_ask, welcome, leave_ask, gone, invite, vote, fetch, piece, result, hand_over}
+use Rattle.am_effects.specs.Changes.{Promises, invited, overtaken, told_result, Change, refreshes, settles, takes_report, admits, numbers, keeps_body, notes}
+use Rattle.am_effects.specs.Changes.{stores, begins_list, departs, promises, opens, looks, fetches, stores_view, queues, collects, takes, asks_to_join}
+use Rattle.am_effects.specs.Changes.{asks_to_leave, closes}
+use Rattle.am_effects.specs.Letters.{Says, request, spread, bcast, order, accept, ack, nack, hold, join_ask, welcome, leave_ask, gone, invite, vote, fetch}
+use Rattle.am_effects.specs.Letters.{piece, result, hand_over}
 use Rattle.am_effects.proofs.Rests.{rests_refresh, rests_closed, settle_is}
 use Rattle.am_promises.specs.Claim.{AtMost, IsBegun}
 use Rattle.am_promises.proofs.Stamps.{most_through, most_next}
@@ -32,7 +35,8 @@ same_promise nodes i x y a b h = record {
   begun = subst (λ (v : Stamp). (v.by ≡ i) ⊎ IsBegun nodes v) (sym b) h.begun;
 }
 
-new_promise : (nodes : ℕ → Node) (i : ℕ) (x y : Node) (v : Stamp) → y.core.who ≡ x.core.who → y.core.promise ≡ v → AtMost x.core.promise v → (v.by ≡ i) ⊎ IsBegun nodes v → Promised nodes i x → Promised nodes i y
+new_promise : (nodes : ℕ → Node) (i : ℕ) (x y : Node) (v : Stamp) → y.core.who ≡ x.core.who → y.core.promise ≡ v → AtMost x.core.promise v
+    → (v.by ≡ i) ⊎ IsBegun nodes v → Promised nodes i x → Promised nodes i y
 new_promise nodes i x y v a b low begun h = record {
   who = a ∙ h.who;
   up = subst (AtMost (nodes i).core.promise) (sym b) (most_through (nodes i).core.promise x.core.promise v h.up low);
@@ -52,16 +56,19 @@ raised nodes c m v (invited s w is heard own) h = subst (CauseBegun nodes) is h
 raised nodes c m v (overtaken s w shown is heard above) h = subst (CauseBegun nodes) is h
 raised nodes c m v (told_result s w base number names resilience is heard own other) h = subst (CauseBegun nodes) is h
 
-pub promise_change : (nodes : ℕ → Node) (i : ℕ) (c : Cause) (o : Outcome) (m n : Node) → CauseBegun nodes c → Change c o m n → Promised nodes i m → Promised nodes i n
+pub promise_change : (nodes : ℕ → Node) (i : ℕ) (c : Cause) (o : Outcome) (m n : Node) → CauseBegun nodes c → Change c o m n → Promised nodes i m
+    → Promised nodes i n
 promise_change nodes i c o m n w refreshes h = let r = (rests_refresh m).rests in same_promise nodes i m n r.who r.promise h
-promise_change nodes i c o m n w settles h = same_promise nodes i m n (ap (λ (x : Node). x.core.who) (settle_is m)) (ap (λ (x : Node). x.core.promise) (settle_is m)) h
+promise_change nodes i c o m n w settles h = same_promise nodes i m n (ap (λ (x : Node). x.core.who) (settle_is m))
+    (ap (λ (x : Node). x.core.promise) (settle_is m)) h
 promise_change nodes i c o m n w (takes_report s v report by may) h = same_promise nodes i m n refl refl h
 promise_change nodes i c o m n w (admits s v is leads fit) h = same_promise nodes i m n refl refl h
 promise_change nodes i c o m n w (numbers e leads room why) h = same_promise nodes i m n refl refl h
 promise_change nodes i c o m n w (keeps_body s v report req body is heard) h = same_promise nodes i m n refl refl h
 promise_change nodes i c o m n w (notes s v base a by heard) h = same_promise nodes i m n refl refl h
 promise_change nodes i c o m n w (stores s v base a number e by heard plain may) h = same_promise nodes i m n refl refl h
-promise_change nodes i c o m n w (begins_list s v base join image is says may) h = new_promise nodes i m n v refl refl may.promise (inr (subst (CauseBegun nodes) is w)) h
+promise_change nodes i c o m n w (begins_list s v base join image is says may) h =
+    new_promise nodes i m n v refl refl may.promise (inr (subst (CauseBegun nodes) is w)) h
 promise_change nodes i c o m n w (departs s v number is heard leaves) h = same_promise nodes i m n refl refl h
 promise_change nodes i c o m n w (promises v low why) h = new_promise nodes i m n v refl refl low (inr (raised nodes c m v why w)) h
 promise_change nodes i c o m n w (opens least resilience by may) h = new_promise nodes i m n _ refl refl (most_next m.core.promise m.core.who) (inl h.who) h

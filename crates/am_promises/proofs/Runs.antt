@@ -30,20 +30,27 @@ pub record AllBegun (w : World) : Type 0 where
   pub letters : All (StampOk w.nodes) w.letters
 
 -- a name's promise rises
-most_up : (nodes : ℕ → Node) (i : ℕ) (n : Node) (v : Stamp) (name : ℕ) → AtMost (nodes i).core.promise n.core.promise → AtMost v (nodes name).core.promise → AtMost v (set_at nodes i n name).core.promise
+most_up : (nodes : ℕ → Node) (i : ℕ) (n : Node) (v : Stamp) (name : ℕ) → AtMost (nodes i).core.promise n.core.promise → AtMost v (nodes name).core.promise
+    → AtMost v (set_at nodes i n name).core.promise
 most_up nodes i n v name up h = split (name == i)
-    (λ t. let e : name ≡ i = grind (arith, nat_tests) in rw t (most_through v (nodes i).core.promise n.core.promise (subst (λ x. AtMost v (nodes x).core.promise) e h) up))
+    (λ t. let e : name ≡ i = grind (arith, nat_tests) in rw t
+    (most_through v (nodes i).core.promise n.core.promise (subst (λ x. AtMost v (nodes x).core.promise) e h) up))
     (λ f. rw f h)
 
 begun_up : (nodes : ℕ → Node) (i : ℕ) (n : Node) (v : Stamp) → AtMost (nodes i).core.promise n.core.promise → IsBegun nodes v → IsBegun (set_at nodes i n) v
 begun_up nodes i n v up h = ⊎_elim (λ (x : v ≡ no_stamp). inl x) (λ (x : AtMost v (nodes v.by).core.promise). inr (most_up nodes i n v v.by up x)) h
 
 stamp_up : (nodes : ℕ → Node) (i : ℕ) (n : Node) (l : Letter) → AtMost (nodes i).core.promise n.core.promise → StampOk nodes l → StampOk (set_at nodes i n) l
-stamp_up nodes i n l up h = record { sender = most_up nodes i n (stamp_of l.packet) (sender_of l.packet) up h.sender; begun = begun_up nodes i n (stamp_of l.packet) up h.begun }
+stamp_up nodes i n l up h = record {
+  sender = most_up nodes i n (stamp_of l.packet) (sender_of l.packet) up h.sender;
+  begun =
+      begun_up nodes i n (stamp_of l.packet) up h.begun;
+}
 
 pub cause_begun : (w : World) (i : ℕ) (a : Act) (c : Cause) → All (StampOk w.nodes) w.letters → IsCause w i a c → CauseBegun w.nodes c
 cause_begun w i a (calls ev) h is = tt
-cause_begun w i a (hears p) h is = subst (λ x. IsBegun w.nodes (stamp_of x)) is.is (all_item (StampOk w.nodes) w.letters (heard_by a) is.letter h is.there).begun
+cause_begun w i a (hears p) h is = subst (λ x. IsBegun w.nodes (stamp_of x)) is.is
+    (all_item (StampOk w.nodes) w.letters (heard_by a) is.letter h is.there).begun
 cause_begun w i a refuses h is = tt
 
 own_begun : (nodes : ℕ → Node) (i : ℕ) (n : Node) → Promised nodes i n → IsBegun (set_at nodes i n) n.core.promise
@@ -61,7 +68,8 @@ each_keeps w e v (steps c s runs cause effect) h =
     let i = actor w e in
     let n = s.node in
     let ok = cause_begun w i e.act c h.letters cause in
-    let p = along (Promised w.nodes i) (λ x y. promise_change w.nodes i c s.outcome x y ok) effect.changes (record { who = h.who i; up = most_same (w.nodes i).core.promise; begun = inr (h.each i) }) in
+    let p = along (Promised w.nodes i) (λ x y. promise_change w.nodes i c s.outcome x y ok) effect.changes
+    (record { who = h.who i; up = most_same (w.nodes i).core.promise; begun = inr (h.each i) }) in
     let begun = own_begun w.nodes i n p in
     let self : (i == i) ≡ true = grind (arith, nat_tests) in
     let here : AtMost n.core.promise (set_at w.nodes i n i).core.promise = rw self (most_same n.core.promise) in
@@ -72,7 +80,8 @@ each_keeps w e v (steps c s runs cause effect) h =
     let sender : sender_of l.packet ≡ i = b.0 ∙ sym who ∙ p.who in
     let stamp : stamp_of l.packet ≡ n.core.promise = b.1 ∙ sym promise in
     record {
-      sender = subst (λ k. AtMost (stamp_of l.packet) (set_at w.nodes i n k).core.promise) (sym sender) (subst (λ u. AtMost u (set_at w.nodes i n i).core.promise) (sym stamp) here);
+      sender = subst (λ k. AtMost (stamp_of l.packet) (set_at w.nodes i n k).core.promise) (sym sender)
+          (subst (λ u. AtMost u (set_at w.nodes i n i).core.promise) (sym stamp) here);
       begun = subst (IsBegun (set_at w.nodes i n)) (sym stamp) begun;
     }) in
     record {

@@ -17,9 +17,11 @@ end_who : (mid new : Node) → IsEndOf (refresh_at_end mid) new → (n : Node) �
 end_who mid new end n is = sym (ap (λ (x : Node). x.core.who) is.same) ∙ ap (λ (x : Node). x.core.who) end.same ∙ at_end_who mid
 
 pub stored_letters : (m : Node) (e : Entry) (to : ℕ) (is_due : Bool) (mid new : Node) (letters : List Letter)
-    → is_due ≡ acknowledges (pushed m e) to (pushed m e) → mid ≡ record (pushed m e) { bodies = bodies_after m.bodies e } → IsEndOf (refresh_at_end mid) new → Tells (ack_where is_due to) new letters
+    → is_due ≡ acknowledges (pushed m e) to (pushed m e) → mid ≡ record (pushed m e) { bodies = bodies_after m.bodies e } → IsEndOf (refresh_at_end mid) new
+    → Tells (ack_where is_due to) new letters
     → Tells (stored m to 0 e).letters new letters
 stored_letters m e to is_due mid new letters due node end tells = λ n is.
     let who = end_who mid new end n is ∙ ap (λ (x : Node). x.core.who) node in
-    let same : is_due ≡ acknowledges (pushed m e) to n = due ∙ ap (λ w. list_any (λ name. name == w) (take (told (pushed m e)).resilience (names_of (without_name (members (pushed m e)) to)))) (sym who) in
+    let same : is_due ≡ acknowledges (pushed m e) to n = due
+    ∙ ap (λ w. list_any (λ name. name == w) (take (told (pushed m e)).resilience (names_of (without_name (members (pushed m e)) to)))) (sym who) in
     tells n is ∙ ap (λ b. if b then with_letter (only_name to) (ack_of n) [] else []) same

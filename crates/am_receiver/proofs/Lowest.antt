@@ -1,5 +1,6 @@
 -- Whether a name is among so many lowest of a set.
-use Rattle.std.proofs.Common.{◌≡◌, ℕ, zero, suc, ◌+◌, ◌<◌, ◌≤◌, List, [], ◌∷◌, length, take, slice_index, refl, sym, ◌∙◌, ap, Bool, true, false, ◌&&◌, ◌==◌, if◌then◌else◌, nat_lt, count_by, arith}
+use Rattle.std.proofs.Common.{◌≡◌, ℕ, zero, suc, ◌+◌, ◌<◌, ◌≤◌, List, [], ◌∷◌, length, take, slice_index, refl, sym, ◌∙◌, ap, Bool, true, false, ◌&&◌, ◌==◌}
+use Rattle.std.proofs.Common.{if◌then◌else◌, nat_lt, count_by, arith}
 use Rattle.std.specs.List.{list_any}
 use Rattle.std.proofs.lemmas.Bool.Decides.{nat_tests}
 use Rattle.am_fronts.proofs.ReportLaws.{count_cons}
@@ -34,7 +35,8 @@ none_above (suc b ∷ lives) who p (suc r) h past =
     let rest = none_above lives who (p + 1) r (omega arith) (omega arith) in
     rw (here, rest) refl
 
-among : (lives : List ℕ) (who p i r : ℕ) → p + length lives ≤ 16 → place_of who ≡ p + i → list_any (λ name. name == who) (take r (names_from p lives)) ≡ ((slice_index lives i == life_of who) && nat_lt (lives_in (take i lives)) r)
+among : (lives : List ℕ) (who p i r : ℕ) → p + length lives ≤ 16 → place_of who ≡ p + i
+    → list_any (λ name. name == who) (take r (names_from p lives)) ≡ ((slice_index lives i == life_of who) && nat_lt (lives_in (take i lives)) r)
 among [] who p i zero h at = grind (arith, nat_tests)
 among [] who p i (suc r) h at = grind (arith, nat_tests)
 among (zero ∷ lives) who p zero r h at =
@@ -50,7 +52,9 @@ among (suc b ∷ lives) who p zero (suc r) h at =
 among (suc b ∷ lives) who p (suc j) (suc r) h at =
     let here = other_place who p b (omega arith) (λ e. omega arith) in
     let rest = among lives who (p + 1) j r (omega arith) (omega arith) in
-    rw (here, rest) (ap (λ t. (slice_index lives j == life_of who) && t) (one_more (lives_in (take j lives)) r ∙ ap (λ k. nat_lt k (suc r)) (sym (life_more b (take j lives)))))
+    rw (here, rest) (ap (λ t. (slice_index lives j == life_of who) && t) (one_more (lives_in (take j lives)) r
+    ∙ ap (λ k. nat_lt k (suc r)) (sym (life_more b (take j lives)))))
 
-pub among_lowest : (set : List ℕ) (who count : ℕ) → IsSet set → list_any (λ name. name == who) (take count (names_of set)) ≡ (has set who && nat_lt (lives_in (take (place_of who) set)) count)
+pub among_lowest : (set : List ℕ) (who count : ℕ) → IsSet set
+    → list_any (λ name. name == who) (take count (names_of set)) ≡ (has set who && nat_lt (lives_in (take (place_of who) set)) count)
 among_lowest set who count is = let l = is.places in among set who 0 (place_of who) count (omega arith) (omega arith)

@@ -10,7 +10,8 @@ use Rattle.am_handlers.proofs.Ends.{end_self}
 use Rattle.am_handlers.proofs.Keeping.{keeps_steady, end_steady, end_keeps, steady_then}
 use Rattle.am_receiver.specs.Pieces.{note}
 
-pub noted_end : (m : Node) (core : CoreState) (base acc : ℕ) → m.core.base ≡ m.core.log.start → Keeps (note base acc) m.core core → IsEndOf (noted m base acc) (record m { core = core })
+pub noted_end : (m : Node) (core : CoreState) (base acc : ℕ) → m.core.base ≡ m.core.log.start → Keeps (note base acc) m.core core
+    → IsEndOf (noted m base acc) (record m { core = core })
 noted_end m core base acc kept keeps = core_changes (note base acc) m core keeps m (end_self m kept)
 
 noted_steady : (m : Node) (base acc : ℕ) → IsSteady m (noted m base acc)

@@ -17,4 +17,5 @@ ack_where is_due to n = if is_due then with_letter (only_name to) (ack_of n) [] 
 -- the end of a step that noted how far the list is accepted, and before which so much was
 abbrev pub accepting : ℕ → Bool → ℕ → Node → Plan
 accepting before poll to m =
-    and_where (λ n. poll) (record (quiet m said.Known) { outcome = λ n. if nat_lt before n.core.acc then said.Advanced n.core.acc else said.Known }) (only_name to) ack_of
+    and_where (λ n. poll) (record (quiet m said.Known) { outcome = λ n. if nat_lt before n.core.acc then said.Advanced n.core.acc else said.Known })
+    (only_name to) ack_of

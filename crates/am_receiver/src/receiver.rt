@@ -53,7 +53,8 @@ fn has_left(parts: &Parts) -> bool
 
 /// Whether an entry up to a number isn't stored that the node may still store.
 fn is_short_of(parts: &Parts, high: u32) -> bool
-    ensures { result ≡ (nat_lt (top (node_of parts.now)) high && not (has_own_leave (node_of parts.now))) }
+    ensures { result ≡ (nat_lt (top (node_of parts.now)) high
+        && not (has_own_leave (node_of parts.now))) }
 {
     parts.core.log.top() < high && !has_left(parts)
 }
@@ -73,7 +74,8 @@ pub fn send_ack_where<L: Log>(is_due: bool, core: &Core<L>, to: Name, out: &mut 
 /// The end of a step that noted how far the list is accepted. It tells whether that rose.
 fn accepted_to(parts: &mut Parts, before: u32, poll: bool, from: Name, out: &mut OutBox) -> Outcome
     requires { out.old ≡ [] }
-    ensures { Done before (accepting before poll from (node_of parts.old)) result out.new (node_of parts.new) }
+    ensures { Done before (accepting before poll from (node_of parts.old)) result out.new
+        (node_of parts.new) }
 {
     let _before = parts.accepted();
     parts.end();
@@ -99,7 +101,8 @@ pub fn on_accept(
     out: &mut OutBox,
 ) -> Outcome
     requires { out.old ≡ [] }
-    ensures { Does (λ m. accept_row m from base acc high poll) (node_of parts.old) result out.new (node_of parts.new) }
+    ensures { Does (λ m. accept_row m from base acc high poll) (node_of parts.old) result out.new
+        (node_of parts.new) }
 {
     let before = parts.accepted();
     let stored = parts.core.log.top();
@@ -127,7 +130,8 @@ fn received(
     requires number { IsNumber number }
     requires entry { IfSome found (λ e. IsEntry e.now) }
     requires empty { out.old ≡ [] }
-    ensures { Done before (received (node_of parts.old) from base number (option_copied found.entry) missing) result out.new (node_of parts.new) }
+    ensures { Done before (received (node_of parts.old) from base number
+        (option_copied found.entry) missing) result out.new (node_of parts.new) }
 {
     let top = parts.core.log.top();
     if number <= top {
@@ -167,7 +171,8 @@ pub fn on_bcast(
     requires number { IsNumber number }
     requires entry { IsEntry entry.now }
     requires empty { out.old ≡ [] }
-    ensures { Does (λ m. bcast_row m from base acc number entry.now) (node_of parts.old) result out.new (node_of parts.new) }
+    ensures { Does (λ m. bcast_row m from base acc number entry.now)
+        (node_of parts.old) result out.new (node_of parts.new) }
 {
     let before = parts.accepted();
     note(parts, base, acc);
@@ -185,7 +190,8 @@ pub fn on_bcast(
 
 /// The body of the waiting send, where that is this send of the node's own.
 fn own_body(parts: &Parts, from: Name, req: u32) -> Option<&Body>
-    ensures { option_copied result ≡ own_body (node_of parts.now) from req (waiting (node_of parts.now)) }
+    ensures { option_copied result ≡ own_body (node_of parts.now) from req
+        (waiting (node_of parts.now)) }
 {
     let send = parts.sender.waiting()?;
     if from == parts.core.who && send.0 == req {
@@ -226,7 +232,8 @@ pub fn on_order(
     requires number { IsNumber number }
     requires req { IsNumber req }
     requires empty { out.old ≡ [] }
-    ensures { Does (λ m. order_row m sequencer base acc number from req) (node_of parts.old) result out.new (node_of parts.new) }
+    ensures { Does (λ m. order_row m sequencer base acc number from req)
+        (node_of parts.old) result out.new (node_of parts.new) }
 {
     let before = parts.accepted();
     let missing = Outcome::NoBody { from, req };

@@ -33,7 +33,9 @@ fn is_view(entry: &Entry) -> bool
 
 /// Whether an entry may not be stored with this number.
 fn is_unfit(parts: &Parts, number: u32, entry: &Entry) -> bool
-    ensures value { result ≡ (is_view entry.now || (not (fits (told (node_of parts.now)) entry.now) || not (is_within_bound (node_of parts.now) parts.now.core.base number))) }
+    ensures value { result ≡ (is_view entry.now
+        || (not (fits (told (node_of parts.now)) entry.now)
+        || not (is_within_bound (node_of parts.now) parts.now.core.base number))) }
     ensures kept { parts.now.core.base ≡ parts.now.core.log.start }
 {
     is_view(entry)
@@ -55,7 +57,8 @@ fn drop_from(pool: &mut Pool, entry: &Entry)
 
 /// Lets go of the bodies that a stored entry leaves behind.
 fn drop_bodies(parts: &mut Parts, entry: &Entry)
-    ensures { node_of parts.new ≡ record (node_of parts.old) { bodies = bodies_after (node_of parts.old).bodies entry.now } }
+    ensures { node_of parts.new ≡ record (node_of parts.old)
+        { bodies = bodies_after (node_of parts.old).bodies entry.now } }
 {
     drop_from(&mut parts.pool, entry);
 }
@@ -110,7 +113,8 @@ fn keep(
     requires member { is_member (node_of parts.old).status ≡ true }
     requires follows { is_sequencer (node_of parts.old) ≡ false }
     requires empty { out.old ≡ [] }
-    ensures { Done before (stored (node_of parts.old) from number entry.now) result out.new (node_of parts.new) }
+    ensures { Done before (stored (node_of parts.old) from number entry.now) result out.new
+        (node_of parts.new) }
 {
     let _before = parts.accepted();
     parts.push(entry.copied());
@@ -137,7 +141,9 @@ pub fn store(
     requires member { is_member (node_of parts.old).status ≡ true }
     requires follows { is_sequencer (node_of parts.old) ≡ false }
     requires empty { out.old ≡ [] }
-    ensures { (missing : Outcome) → Done before (store (node_of parts.old) from number (Some entry.now) missing) result out.new (node_of parts.new) }
+    ensures { (missing : Outcome) → Done before
+        (store (node_of parts.old) from number (Some entry.now) missing) result out.new
+        (node_of parts.new) }
 {
     if is_unfit(parts, number, entry) {
         return finish_quietly(parts, before, Outcome::Unfit, out);

@@ -7,7 +7,9 @@ use Rattle.am_model.specs.Ballots.{overtaken}
 use Rattle.am_model.specs.World.{World, has_departed}
 use Rattle.am_effects.specs.Causes.{Cause}
 use Rattle.am_effects.specs.Looks.{HasOpen}
-use Rattle.am_effects.specs.Changes.{Promises, invited, overtaken as overtaken_by, told_result, Change, refreshes, settles, takes_report, admits, numbers, keeps_body, notes, stores, begins_list, departs, promises, opens, looks, fetches, stores_view, queues, collects, takes, asks_to_join, asks_to_leave, closes}
+use Rattle.am_effects.specs.Changes.{Promises, invited, overtaken as overtaken_by, told_result, Change, refreshes, settles, takes_report, admits, numbers}
+use Rattle.am_effects.specs.Changes.{keeps_body, notes, stores, begins_list, departs, promises, opens, looks, fetches, stores_view, queues, collects, takes}
+use Rattle.am_effects.specs.Changes.{asks_to_join, asks_to_leave, closes}
 use Rattle.am_repair.specs.Calm.{Repair, IsApart}
 use Rattle.am_repair.proofs.Nodes.{CalmCause, acting, leading, leads_not, Alike, alike_refresh, alike_settle}
 use Rattle.am_repair.proofs.Leading.{no_ballot_begun, looked_open}

@@ -14,7 +14,9 @@ use Rattle.am_model.specs.Receiving.{is_view, bodies_after}
 use Rattle.am_model.specs.World.{World}
 use Rattle.am_packet.specs.declared.packet.Packet.TheVariants as packet
 use Rattle.am_effects.specs.Causes.{Cause, hears}
-use Rattle.am_effects.specs.Changes.{Promises, invited, overtaken as overtaken_by, told_result, Carries, whole_entry, by_number, Change, refreshes, settles, takes_report, admits, numbers, keeps_body, notes, stores, begins_list, departs, promises, opens, looks, fetches, stores_view, queues, collects, takes, asks_to_join, asks_to_leave, closes}
+use Rattle.am_effects.specs.Changes.{Promises, invited, overtaken as overtaken_by, told_result, Carries, whole_entry, by_number, Change, refreshes, settles}
+use Rattle.am_effects.specs.Changes.{takes_report, admits, numbers, keeps_body, notes, stores, begins_list, departs, promises, opens, looks, fetches}
+use Rattle.am_effects.specs.Changes.{stores_view, queues, collects, takes, asks_to_join, asks_to_leave, closes}
 use Rattle.am_effects.proofs.Tests.{not_false}
 use Rattle.am_effects.proofs.Says.{told_pushed, view_pushed, acts_pushed}
 use Rattle.am_laws.proofs.Stamps.{same_stamp}

@@ -26,7 +26,9 @@ use Rattle.am_model.specs.World.{World}
 use Rattle.am_model.proofs.Greatest.{split, and_both}
 use Rattle.am_effects.specs.Causes.{Cause, BringsReport, with_send, by_request, by_spread, by_ack, by_nack, by_leave_ask}
 use Rattle.am_effects.specs.Looks.{HasOpen, BeginsBy, by_reset, by_hand_over, Balloting, with_more, without_one, as_it_is}
-use Rattle.am_effects.specs.Changes.{Promises, invited, overtaken, told_result, Numbers, asked_send, own_send, asked_join, asked_leave, Change, refreshes, settles, takes_report, admits, numbers, keeps_body, notes, stores, begins_list, departs, promises, opens, looks, fetches, stores_view, queues, collects, takes, asks_to_join, asks_to_leave, closes}
+use Rattle.am_effects.specs.Changes.{Promises, invited, overtaken, told_result, Numbers, asked_send, own_send, asked_join, asked_leave, Change, refreshes}
+use Rattle.am_effects.specs.Changes.{settles, takes_report, admits, numbers, keeps_body, notes, stores, begins_list, departs, promises, opens, looks, fetches}
+use Rattle.am_effects.specs.Changes.{stores_view, queues, collects, takes, asks_to_join, asks_to_leave, closes}
 use Rattle.am_effects.proofs.Rests.{settle_is}
 use Rattle.am_effects.proofs.Says.{told_pushed, view_pushed, leads_pushed}
 use Rattle.am_laws.proofs.Stamps.{same_stamp}

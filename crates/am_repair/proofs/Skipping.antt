@@ -1,5 +1,6 @@
 -- What ticks send is no next entry of a member that has less than the sequencer's list began with.
-use Rattle.std.proofs.Common.{◌≡◌, ◌⊎◌, inl, ⊎_elim, ℕ, ◌+◌, ◌<◌, ◌==◌, not, nat_le, Bool, true, false, if◌then◌else◌, List, [], length, Option, Some, None, slice_get, refl, sym, ap, ◌∙◌, subst, arith}
+use Rattle.std.proofs.Common.{◌≡◌, ◌⊎◌, inl, ⊎_elim, ℕ, ◌+◌, ◌<◌, ◌==◌, not, nat_le, Bool, true, false, if◌then◌else◌, List, [], length, Option, Some, None}
+use Rattle.std.proofs.Common.{slice_get, refl, sym, ap, ◌∙◌, subst, arith}
 use Rattle.std.specs.Prelude.{All}
 use Rattle.std.proofs.lemmas.Bool.Decides.{nat_tests}
 use Rattle.std.proofs.lemmas.List.Elements.{All-nil}
@@ -19,7 +20,8 @@ use Rattle.am_sender.specs.declared.OwnSend.{OwnSend}
 use Rattle.am_model.specs.declared.status.Status.{Status}
 use Rattle.am_model.specs.declared.status.Status.TheVariants as status
 use Rattle.am_model.specs.Node.{Node, top, told, view, acts, others, only_name, is_sequencer, has_room, waiting}
-use Rattle.am_model.specs.Emit.{Plan, quiet, telling, bcast_of, ack_of, fetch_of, request_of, spread_of, join_ask_of, accept_of, result_of, tells_accepted, with_accept, finish}
+use Rattle.am_model.specs.Emit.{Plan, quiet, telling, bcast_of, ack_of, fetch_of, request_of, spread_of, join_ask_of, accept_of, result_of, tells_accepted}
+use Rattle.am_model.specs.Emit.{with_accept, finish}
 use Rattle.am_model.specs.Step.{step, row}
 use Rattle.am_model.specs.Calls.{is_unfinished, would_emit, emit, everywhere_else}
 use Rattle.am_model.specs.Ticks.{tick_row, tick_by, tick_acting, and_result, put_off, behind_view, viewed_by}

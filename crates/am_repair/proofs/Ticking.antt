@@ -28,7 +28,8 @@ use Rattle.am_repair.proofs.Leading.{is_member_now}
 use Rattle.am_repair.proofs.Ticks.{sequencers_poll, members_report}
 use Rattle.am_repair.specs.Rounds.{IsOurs, ticks as our_ticks}
 use Rattle.am_repair.proofs.Schedules.{IsAmong, Hits, acts_hit, is_running}
-use Rattle.am_repair.proofs.Fine.{Fine, few_members, fine_goes, grow_goes, letter_goes, letters_more, IsThere, member_there, tick_is, sent_at, contained_at, stepped_node}
+use Rattle.am_repair.proofs.Fine.{Fine, few_members, fine_goes, grow_goes, letter_goes, letters_more, IsThere, member_there, tick_is, sent_at, contained_at}
+use Rattle.am_repair.proofs.Fine.{stepped_node}
 
 -- ---- letters stay
 

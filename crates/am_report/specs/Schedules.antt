@@ -43,7 +43,8 @@ word_json act = codes "\"do\":\"" ++ (act_word act ++ (codes "\"" ++ keys_before
 
 unfoldable pub event_json : Rules → Event → List ℕ
 event_json rules event =
-    codes "{" ++ (body_json event.act ++ (word_json event.act ++ (codes ",\"node\":" ++ (decimal (place_of event.node) ++ (keys_behind rules event.act ++ codes "}")))))
+    codes "{" ++ (body_json event.act ++ (word_json event.act
+    ++ (codes ",\"node\":" ++ (decimal (place_of event.node) ++ (keys_behind rules event.act ++ codes "}")))))
 
 -- events with a comma before each
 abbrev pub others_json : Rules → List Event → List ℕ

@@ -17,7 +17,8 @@ fn push_byte(out: &mut String, byte: u8) -> Result<(), NoMemory>
 
 /// Adds two lower-case hexadecimal digits for each byte.
 pub fn push_bytes(out: &mut String, bytes: &[u8]) -> Result<(), NoMemory>
-    ensures { OnOk result (string_bytes out.new ≡ string_bytes out.old ++ flat_map hex_byte bytes.now) }
+    ensures { OnOk result (string_bytes out.new
+        ≡ string_bytes out.old ++ flat_map hex_byte bytes.now) }
 {
     for at in 0..bytes.len() {
         push_byte(out, bytes[at])?;
@@ -44,7 +45,8 @@ pub fn push_resilience(
     founding: &Founding,
     resilience: u8,
 ) -> Result<(), NoMemory>
-    ensures { OnOk result (string_bytes out.new ≡ string_bytes out.old ++ resilience_text founding.now resilience) }
+    ensures { OnOk result (string_bytes out.new
+        ≡ string_bytes out.old ++ resilience_text founding.now resilience) }
 {
     if resilience == founding.resilience() {
         return Ok(());
@@ -55,7 +57,8 @@ pub fn push_resilience(
 /// Adds an entry.
 #[tactic(auto, unfolding(am_model::specs::Text::entry_text))]
 pub fn push_entry(out: &mut String, founding: &Founding, entry: &Entry) -> Result<(), NoMemory>
-    ensures { OnOk result (string_bytes out.new ≡ string_bytes out.old ++ entry_text founding.now entry.now) }
+    ensures { OnOk result (string_bytes out.new
+        ≡ string_bytes out.old ++ entry_text founding.now entry.now) }
 {
     match entry {
         Entry::Data { from, req, body } => {

@@ -33,7 +33,8 @@ pub fn act_word(act: &Act) -> &'static str
 // Adds what stands behind an act's node, with a blank before each part.
 #[tactic(auto, unfolding(am_model::specs::Text::act_parts))]
 fn push_parts(out: &mut String, founding: &Founding, act: &Act) -> Result<(), NoMemory>
-    ensures { OnOk result (string_bytes out.new ≡ string_bytes out.old ++ act_parts founding.now act.now) }
+    ensures { OnOk result (string_bytes out.new
+        ≡ string_bytes out.old ++ act_parts founding.now act.now) }
 {
     match act {
         Act::Send(body) => {
@@ -61,7 +62,8 @@ fn push_parts(out: &mut String, founding: &Founding, act: &Act) -> Result<(), No
 /// Adds an event: its act's word, the place of its node, and the rest.
 #[tactic(auto, unfolding(am_model::specs::Text::event_text))]
 pub fn push_event(out: &mut String, founding: &Founding, event: &Event) -> Result<(), NoMemory>
-    ensures { OnOk result (string_bytes out.new ≡ string_bytes out.old ++ event_text founding.now event.now) }
+    ensures { OnOk result (string_bytes out.new
+        ≡ string_bytes out.old ++ event_text founding.now event.now) }
 {
     let word = act_word(&event.act);
     let place = event.node.place();

@@ -44,7 +44,8 @@ pub fn kind_word(letter: &Letter) -> &'static str
 #[tactic(auto, unfolding(am_model::specs::Text::addressees_text))]
 fn push_addressees(out: &mut String, place: u8, letter: &Letter) -> Result<(), NoMemory>
     requires { place < 16 }
-    ensures { OnOk result (string_bytes out.new ≡ string_bytes out.old ++ addressees_text place letter.now) }
+    ensures { OnOk result (string_bytes out.new
+        ≡ string_bytes out.old ++ addressees_text place letter.now) }
 {
     if letter.is_for_any() || is_everybody_else(letter.to(), place) {
         return out.push_str("all");
@@ -56,7 +57,8 @@ fn push_addressees(out: &mut String, place: u8, letter: &Letter) -> Result<(), N
 #[tactic(auto, unfolding(am_model::specs::Text::letter_text))]
 fn push_letter(out: &mut String, place: u8, number: u64, letter: &Letter) -> Result<(), NoMemory>
     requires { place < 16 }
-    ensures { OnOk result (string_bytes out.new ≡ string_bytes out.old ++ letter_text place number letter.now) }
+    ensures { OnOk result (string_bytes out.new
+        ≡ string_bytes out.old ++ letter_text place number letter.now) }
 {
     let word = kind_word(letter);
     write!(out, " | {number} {word} to ")?;
@@ -71,7 +73,8 @@ pub fn push_letters(
     letters: &[Letter],
 ) -> Result<(), NoMemory>
     requires { place < 16 }
-    ensures { OnOk result (string_bytes out.new ≡ string_bytes out.old ++ letters_text place (before + 1) letters.now) }
+    ensures { OnOk result (string_bytes out.new
+        ≡ string_bytes out.old ++ letters_text place (before + 1) letters.now) }
 {
     for at in 0..letters.len() {
         push_letter(out, place, u64::from(before) + 1 + at as u64, &letters[at])?;

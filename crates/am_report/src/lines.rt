@@ -21,7 +21,8 @@ pub fn push_record(
     before: u32,
     happened: &Record,
 ) -> Result<(), NoMemory>
-    ensures { OnOk result (string_bytes out.new ≡ string_bytes out.old ++ record_line founding.now number before happened.now) }
+    ensures { OnOk result (string_bytes out.new
+        ≡ string_bytes out.old ++ record_line founding.now number before happened.now) }
 {
     write!(out, "{number} ")?;
     push_event(out, founding, &happened.event)?;
@@ -44,7 +45,8 @@ pub fn push_group_line(
     number: u64,
     entry: &Entry,
 ) -> Result<(), NoMemory>
-    ensures { OnOk result (string_bytes out.new ≡ string_bytes out.old ++ group_line founding.now number entry.now) }
+    ensures { OnOk result (string_bytes out.new
+        ≡ string_bytes out.old ++ group_line founding.now number entry.now) }
 {
     write!(out, "group {number} ")?;
     push_entry(out, founding, entry)?;
@@ -60,7 +62,8 @@ pub fn push_log_line(
     number: u32,
     entry: &Entry,
 ) -> Result<(), NoMemory>
-    ensures { OnOk result (string_bytes out.new ≡ string_bytes out.old ++ log_line founding.now name number entry.now) }
+    ensures { OnOk result (string_bytes out.new
+        ≡ string_bytes out.old ++ log_line founding.now name number entry.now) }
 {
     out.push_str("log ")?;
     push_name(out, name)?;

@@ -33,7 +33,9 @@ pub fn push_stamp(out: &mut String, stamp: Stamp) -> Result<(), NoMemory>
 // Adds the name of a place, where there is one, behind a comma if it isn't the first; whether the next is the first.
 fn push_place(out: &mut String, first: bool, names: Names, place: u8) -> Result<bool, NoMemory>
     requires { place < 16 }
-    ensures { (rest : List ℕ) → IfOk result (λ still. string_bytes out.new ++ rest_text still rest ≡ string_bytes out.old ++ rest_text first (with_life place (slice_index names place) rest)) }
+    ensures { (rest : List ℕ) → IfOk result (λ still. string_bytes out.new ++ rest_text still rest
+        ≡ string_bytes out.old ++ rest_text first
+        (with_life place (slice_index names place) rest)) }
 {
     let Some(name) = Name::of(place, names.life_at(place)) else {
         return Ok(first);

@@ -73,7 +73,8 @@ pub fn outcome_word(outcome: &Outcome) -> &'static str
 
 // Adds the numbers of an outcome that has nothing but numbers, with a blank before each.
 fn push_numbers(out: &mut String, outcome: &Outcome) -> Result<(), NoMemory>
-    ensures { OnOk result (string_bytes out.new ≡ string_bytes out.old ++ numbers_text (outcome_numbers outcome.now)) }
+    ensures { OnOk result (string_bytes out.new
+        ≡ string_bytes out.old ++ numbers_text (outcome_numbers outcome.now)) }
 {
     match outcome {
         Outcome::Queued { req } => write!(out, " {req}"),
@@ -105,7 +106,8 @@ fn push_numbers(out: &mut String, outcome: &Outcome) -> Result<(), NoMemory>
 // Adds what stands behind an outcome's word, with a blank before each part.
 #[tactic(auto, unfolding(am_model::specs::Text::outcome_parts))]
 fn push_parts(out: &mut String, founding: &Founding, outcome: &Outcome) -> Result<(), NoMemory>
-    ensures { OnOk result (string_bytes out.new ≡ string_bytes out.old ++ outcome_parts founding.now outcome.now) }
+    ensures { OnOk result (string_bytes out.new
+        ≡ string_bytes out.old ++ outcome_parts founding.now outcome.now) }
 {
     match outcome {
         Outcome::Took { number, entry } => {
@@ -157,7 +159,8 @@ pub fn push_outcome(
     founding: &Founding,
     outcome: &Outcome,
 ) -> Result<(), NoMemory>
-    ensures { OnOk result (string_bytes out.new ≡ string_bytes out.old ++ outcome_text founding.now outcome.now) }
+    ensures { OnOk result (string_bytes out.new
+        ≡ string_bytes out.old ++ outcome_text founding.now outcome.now) }
 {
     out.push_str(outcome_word(outcome))?;
     push_parts(out, founding, outcome)

@@ -20,7 +20,8 @@ use std::alloc::Global;
 fn push_records(out: &mut String, founding: &Founding, records: &[Record]) -> Result<(), NoMemory>
     requires events { length records.now ≤ most_events }
     requires letters { length (letters_of records.now) ≤ 2400000 }
-    ensures { OnOk result (string_bytes out.new ≡ string_bytes out.old ++ records_text founding.now records.now) }
+    ensures { OnOk result (string_bytes out.new
+        ≡ string_bytes out.old ++ records_text founding.now records.now) }
 {
     let mut before = 0;
     for at in 0..records.len() {
@@ -33,7 +34,8 @@ fn push_records(out: &mut String, founding: &Founding, records: &[Record]) -> Re
 // Adds the lines of a group's list.
 #[tactic(auto, using(crate::proofs::Parts::lines), unfolding(am_model::specs::Text::group_text))]
 fn push_group(out: &mut String, founding: &Founding, group: &[Entry]) -> Result<(), NoMemory>
-    ensures { OnOk result (string_bytes out.new ≡ string_bytes out.old ++ group_text founding.now group.now) }
+    ensures { OnOk result (string_bytes out.new
+        ≡ string_bytes out.old ++ group_text founding.now group.now) }
 {
     for at in 0..group.len() {
         push_group_line(out, founding, at as u64 + 1, &group[at])?;
@@ -48,7 +50,8 @@ fn push_given(
     name: Name,
     item: &Record,
 ) -> Result<bool, NoMemory>
-    ensures text { OnOk result (string_bytes out.new ≡ string_bytes out.old ++ given_lines founding.now name (given_to name item.now)) }
+    ensures text { OnOk result (string_bytes out.new
+        ≡ string_bytes out.old ++ given_lines founding.now name (given_to name item.now)) }
     ensures some { IfOk result (λ some. some ≡ nat_lt 0 (length (given_to name item.now))) }
 {
     let Some((number, entry)) = given_to(item, name) else {
@@ -65,7 +68,8 @@ fn push_log(
     records: &[Record],
     name: Name,
 ) -> Result<(), NoMemory>
-    ensures { OnOk result (string_bytes out.new ≡ string_bytes out.old ++ log_text founding.now name (deliveries records.now name)) }
+    ensures { OnOk result (string_bytes out.new
+        ≡ string_bytes out.old ++ log_text founding.now name (deliveries records.now name)) }
 {
     let mut none = true;
     for item in records {
@@ -86,7 +90,8 @@ fn push_logs(
     records: &[Record],
     names: &[Name],
 ) -> Result<(), NoMemory>
-    ensures { OnOk result (string_bytes out.new ≡ string_bytes out.old ++ logs_text founding.now (logs_for records.now names.now)) }
+    ensures { OnOk result (string_bytes out.new
+        ≡ string_bytes out.old ++ logs_text founding.now (logs_for records.now names.now)) }
 {
     for at in 0..names.len() {
         push_log(out, founding, records, names[at])?;
@@ -104,7 +109,9 @@ pub fn play_text(
     names: &[Name],
     broken: Option<u32>,
 ) -> Result<String, NoMemory>
-    ensures { IfOk result (λ text. string_bytes text ≡ play_text journal.now.founding journal.now.records group.now (logs_for journal.now.records names.now) broken) }
+    ensures { IfOk result (λ text. string_bytes text
+        ≡ play_text journal.now.founding journal.now.records group.now
+        (logs_for journal.now.records names.now) broken) }
 {
     let founding = journal.founding();
     let records = journal.records();

@@ -25,7 +25,8 @@ fn push_life(out: &mut String, name: Name) -> Result<(), NoMemory>
 // Adds a resilience, where it isn't the founding's.
 #[tactic(auto, unfolding(crate::specs::Schedules::resilience_json))]
 fn push_resilience(out: &mut String, founding: &Founding, resilience: u8) -> Result<(), NoMemory>
-    ensures { OnOk result (string_bytes out.new ≡ string_bytes out.old ++ resilience_json founding.now resilience) }
+    ensures { OnOk result (string_bytes out.new
+        ≡ string_bytes out.old ++ resilience_json founding.now resilience) }
 {
     if resilience == founding.resilience() {
         return Ok(());
@@ -78,7 +79,8 @@ fn push_word(out: &mut String, act: &Act) -> Result<(), NoMemory>
 // Adds an act's keys behind the node.
 #[tactic(auto, unfolding(crate::specs::Schedules::keys_behind))]
 fn push_behind(out: &mut String, founding: &Founding, act: &Act) -> Result<(), NoMemory>
-    ensures { OnOk result (string_bytes out.new ≡ string_bytes out.old ++ keys_behind founding.now act.now) }
+    ensures { OnOk result (string_bytes out.new
+        ≡ string_bytes out.old ++ keys_behind founding.now act.now) }
 {
     match act {
         Act::Done(req) => write!(out, ",\"req\":{req}"),
@@ -92,7 +94,8 @@ fn push_behind(out: &mut String, founding: &Founding, act: &Act) -> Result<(), N
 // Adds an event.
 #[tactic(auto, unfolding(crate::specs::Schedules::event_json))]
 fn push_event(out: &mut String, founding: &Founding, event: &Event) -> Result<(), NoMemory>
-    ensures { OnOk result (string_bytes out.new ≡ string_bytes out.old ++ event_json founding.now event.now) }
+    ensures { OnOk result (string_bytes out.new
+        ≡ string_bytes out.old ++ event_json founding.now event.now) }
 {
     out.push_str("{")?;
     push_body(out, &event.act)?;
@@ -105,7 +108,8 @@ fn push_event(out: &mut String, founding: &Founding, event: &Event) -> Result<()
 
 // Adds events with a comma before each.
 fn push_others(out: &mut String, founding: &Founding, events: &[Event]) -> Result<(), NoMemory>
-    ensures { OnOk result (string_bytes out.new ≡ string_bytes out.old ++ others_json founding.now events.now) }
+    ensures { OnOk result (string_bytes out.new
+        ≡ string_bytes out.old ++ others_json founding.now events.now) }
 {
     for event in events {
         out.push_str(",")?;
@@ -117,7 +121,8 @@ fn push_others(out: &mut String, founding: &Founding, events: &[Event]) -> Resul
 // Adds events with commas between them.
 #[tactic(auto, unfolding(crate::specs::Schedules::listed))]
 fn push_listed(out: &mut String, founding: &Founding, events: &[Event]) -> Result<(), NoMemory>
-    ensures { OnOk result (string_bytes out.new ≡ string_bytes out.old ++ listed founding.now events.now) }
+    ensures { OnOk result (string_bytes out.new
+        ≡ string_bytes out.old ++ listed founding.now events.now) }
 {
     match events {
         [] => Ok(()),
@@ -131,7 +136,8 @@ fn push_listed(out: &mut String, founding: &Founding, events: &[Event]) -> Resul
 // Adds the key of events.
 #[tactic(auto, unfolding(crate::specs::Schedules::events_json))]
 fn push_events(out: &mut String, founding: &Founding, events: &[Event]) -> Result<(), NoMemory>
-    ensures { OnOk result (string_bytes out.new ≡ string_bytes out.old ++ events_json founding.now events.now) }
+    ensures { OnOk result (string_bytes out.new
+        ≡ string_bytes out.old ++ events_json founding.now events.now) }
 {
     out.push_str("\"events\":[")?;
     push_listed(out, founding, events)?;
@@ -141,7 +147,8 @@ fn push_events(out: &mut String, founding: &Founding, events: &[Event]) -> Resul
 // Adds the key of founders.
 #[tactic(auto, unfolding(crate::specs::Schedules::founders_json))]
 fn push_founders(out: &mut String, founding: &Founding) -> Result<(), NoMemory>
-    ensures { OnOk result (string_bytes out.new ≡ string_bytes out.old ++ founders_json founding.now) }
+    ensures { OnOk result (string_bytes out.new
+        ≡ string_bytes out.old ++ founders_json founding.now) }
 {
     out.push_str("\"founders\":[")?;
     push_names(out, founding.founders())?;
@@ -151,7 +158,8 @@ fn push_founders(out: &mut String, founding: &Founding) -> Result<(), NoMemory>
 // Adds the keys of a founding's numbers.
 #[tactic(auto, unfolding(crate::specs::Schedules::numbers_json))]
 fn push_numbers(out: &mut String, founding: &Founding) -> Result<(), NoMemory>
-    ensures { OnOk result (string_bytes out.new ≡ string_bytes out.old ++ numbers_json founding.now) }
+    ensures { OnOk result (string_bytes out.new
+        ≡ string_bytes out.old ++ numbers_json founding.now) }
 {
     let pb_up_to = founding.pb_up_to();
     let resilience = founding.resilience();

@@ -49,7 +49,8 @@ fn held(records: &[Record]) -> usize
 
 // Adds a word and a number as a line.
 fn push_count(out: &mut String, word: &str, count: usize) -> Result<(), NoMemory>
-    ensures { OnOk result (string_bytes out.new ≡ string_bytes out.old ++ count_line word.now count) }
+    ensures { OnOk result (string_bytes out.new
+        ≡ string_bytes out.old ++ count_line word.now count) }
 {
     writeln!(out, "{word} {count}")
 }
@@ -63,7 +64,8 @@ pub fn summary_text(
     group: &[Entry],
     broken: Option<u32>,
 ) -> Result<String, NoMemory>
-    ensures { IfOk result (λ text. string_bytes text ≡ summary_for journal.now.records group.now broken) }
+    ensures { IfOk result (λ text. string_bytes text
+        ≡ summary_for journal.now.records group.now broken) }
 {
     let records = journal.records();
     let mut out = String::new(alloc);

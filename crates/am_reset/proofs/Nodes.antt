@@ -1,5 +1,6 @@
 -- What the parts of a node keep where its list is trimmed or gets one entry more.
-use Rattle.std.proofs.Common.{◌≡◌, ◌⊎◌, ⊎_elim, inl, inr, ℕ, ◌+◌, ◌-◌, ◌<◌, ◌≤◌, max, List, [], ◌∷◌, length, Bool, true, false, ◌==◌, ◌&&◌, nat_lt, if◌then◌else◌, Option, Some, None, refl, sym, ap, subst, ◌∙◌, length-append, arith}
+use Rattle.std.proofs.Common.{◌≡◌, ◌⊎◌, ⊎_elim, inl, inr, ℕ, ◌+◌, ◌-◌, ◌<◌, ◌≤◌, max, List, [], ◌∷◌, length, Bool, true, false, ◌==◌, ◌&&◌, nat_lt}
+use Rattle.std.proofs.Common.{if◌then◌else◌, Option, Some, None, refl, sym, ap, subst, ◌∙◌, length-append, arith}
 use Rattle.std.proofs.lemmas.Bool.Decides.{nat_tests}
 use Rattle.am_base.specs.declared.image.Image.{Image}
 use Rattle.am_base.specs.declared.image.Report.{Report}
@@ -34,7 +35,8 @@ steady_acts m n s = λ k. is_member (s.status k) && stamp_eq (s.promise k) (s.to
 
 -- ---- a trim
 
-pub steady_core : (m : Node) (core : CoreState) (base : ℕ) → m.core.base ≡ m.core.log.start → Keeps (trim_to base) m.core core → IsSteady m (record m { core = core })
+pub steady_core : (m : Node) (core : CoreState) (base : ℕ) → m.core.base ≡ m.core.log.start → Keeps (trim_to base) m.core core
+    → IsSteady m (record m { core = core })
 steady_core m core base e keeps =
     let one = keeps m.core.log (stands_self m.core e) in
     let end = (one.0).kept in
@@ -52,7 +54,8 @@ steady_core m core base e keeps =
 pub trimmed_base : (c core : CoreState) (base : ℕ) → c.base ≡ c.log.start → Keeps (trim_to base) c core → core.base ≡ max c.base base
 trimmed_base c core base e keeps = let one = keeps c.log (stands_self c e) in ap (λ (x : CoreState). x.base) one.1
 
-pub keeps_trimmed : (m : Node) (core : CoreState) (base : ℕ) → m.core.base ≡ m.core.log.start → Keeps (trim_to base) m.core core → NodeKeeps m → NodeKeeps (record m { core = core })
+pub keeps_trimmed : (m : Node) (core : CoreState) (base : ℕ) → m.core.base ≡ m.core.log.start → Keeps (trim_to base) m.core core → NodeKeeps m
+    → NodeKeeps (record m { core = core })
 keeps_trimmed m core base e keeps is =
     let n : Node = record m { core = core } in
     let steady = steady_core m core base e keeps in
@@ -85,7 +88,8 @@ pub record HasView (m n : Node) : Type 0 where
   pub own : has (members n) (view n).by ≡ true
 
 pub view_pushed : (m : Node) (e : Entry) → fits (told m) e ≡ true → IsUpTo m.core.promise e → (view (pushed m e) ≡ view m) ⊎ HasView m (pushed m e)
-view_pushed m (Data from req body) fit up_to = inl (ap (λ (i : Image). i.view) (told-push m.core.log (Data from req body)) ∙ view_stays_data (told m) (top m + 1) from req body)
+view_pushed m (Data from req body) fit up_to = inl (ap (λ (i : Image). i.view) (told-push m.core.log (Data from req body))
+    ∙ view_stays_data (told m) (top m + 1) from req body)
 view_pushed m (Join name) fit up_to = inl (ap (λ (i : Image). i.view) (told-push m.core.log (Join name)) ∙ view_stays_join (told m) (top m + 1) name)
 view_pushed m (Leave name) fit up_to = inl (ap (λ (i : Image). i.view) (told-push m.core.log (Leave name)) ∙ view_stays_leave (told m) (top m + 1) name)
 view_pushed m (View stamp names resilience) fit up_to =
@@ -97,15 +101,18 @@ view_pushed m (View stamp names resilience) fit up_to =
       own = (λ k. has (members_of (same k)) (v k).by) ∙ view_has (told m) (top m + 1) stamp names resilience fit;
     })
 
-pub keeps_pushed : (m : Node) (e : Entry) (capacity : ℕ) → IsKept m.core.log capacity → NodeKeeps m → fits (told m) e ≡ true → IsUpTo m.core.promise e → acts m ≡ false → has_log m.status ≡ true → ((b : Ballot) → m.ballot ≡ Some b → b.is_over ≡ true) → NodeKeeps (pushed m e)
+pub keeps_pushed : (m : Node) (e : Entry) (capacity : ℕ) → IsKept m.core.log capacity → NodeKeeps m → fits (told m) e ≡ true → IsUpTo m.core.promise e
+    → acts m ≡ false → has_log m.status ≡ true → ((b : Ballot) → m.ballot ≡ Some b → b.is_over ≡ true) → NodeKeeps (pushed m e)
 keeps_pushed m e capacity kept keeps fit up_to idle logged over = record {
   own = keeps.own;
   leads = λ is. ⊎_elim
       (λ (same : view (pushed m e) ≡ view m).
-      let none : is_sequencer (pushed m e) ≡ false = ap (λ (v : Stamp). (is_member m.status && stamp_eq m.core.promise v) && (v.by == m.core.who)) same ∙ idle_leads m idle in
+      let none : is_sequencer (pushed m e) ≡ false = ap (λ (v : Stamp). (is_member m.status && stamp_eq m.core.promise v) && (v.by == m.core.who)) same
+      ∙ idle_leads m idle in
       absurd (let x = sym none ∙ is in cc))
       (λ (new : HasView m (pushed m e)).
-      let by : ((view (pushed m e)).by == m.core.who) ≡ true = split_right (is_member m.status && stamp_eq m.core.promise (view (pushed m e))) ((view (pushed m e)).by == m.core.who) is in
+      let by : ((view (pushed m e)).by == m.core.who) ≡ true =
+      split_right (is_member m.status && stamp_eq m.core.promise (view (pushed m e))) ((view (pushed m e)).by == m.core.who) is in
       let who : (view (pushed m e)).by ≡ m.core.who = grind (arith, nat_tests) in
       sym (ap (has (members (pushed m e))) who) ∙ new.own)
       (view_pushed m e fit up_to);
@@ -136,7 +143,8 @@ keeps_pushed m e capacity kept keeps fit up_to idle logged over = record {
     }
 
 -- what may be stored, once the list is trimmed
-pub keeps_stored : (m n : Node) (base : ℕ) (e : Entry) (capacity : ℕ) → IsKept n.core.log capacity → MayStore m base e → IsSteady m n → NodeKeeps n → NodeKeeps (pushed n e)
+pub keeps_stored : (m n : Node) (base : ℕ) (e : Entry) (capacity : ℕ) → IsKept n.core.log capacity → MayStore m base e → IsSteady m n → NodeKeeps n
+    → NodeKeeps (pushed n e)
 keeps_stored m n base e capacity kept may s keeps = keeps_pushed n e capacity kept keeps
     (ap (λ (i : Image). fits i e) s.told ∙ may.fits)
     (subst (λ (p : Stamp). IsUpTo p e) (sym s.promise) may.up_to)
@@ -179,5 +187,14 @@ keeps_restarted m base low keeps = record {
   settled = keeps.settled;
   due = keeps.due;
   unsent = keeps.unsent;
-  ballot = λ b there. let is_own = keeps.ballot b there in record { stamp = is_own.stamp; by = is_own.by; ahead = is_own.ahead; logged = is_own.logged; itself = is_own.itself; unvoted = is_own.unvoted; resilience = is_own.resilience };
+  ballot = λ b there. let is_own = keeps.ballot b there in record {
+    stamp = is_own.stamp;
+    by = is_own.by;
+    ahead = is_own.ahead;
+    logged = is_own.logged;
+    itself =
+        is_own.itself;
+    unvoted = is_own.unvoted;
+    resilience = is_own.resilience;
+  };
 }

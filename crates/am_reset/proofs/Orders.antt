@@ -20,7 +20,8 @@ lex_not r a s b h = split (nat_lt r s)
 lex_low : (r a s b : ℕ) → (s < r) ⊎ ((r ≡ s) × (b ≤ a)) → lex r a s b ≡ false
 lex_low r a s b = λ h. ⊎_elim
     (λ (l : s < r). let f : nat_lt r s ≡ false = grind (arith, nat_tests) in let e : (r == s) ≡ false = grind (arith, nat_tests) in rw (f, e) refl)
-    (λ (l : (r ≡ s) × (b ≤ a)). let x = l.0 in let y = l.1 in let f : nat_lt r s ≡ false = grind (arith, nat_tests) in let g : nat_lt a b ≡ false = grind (arith, nat_tests) in split (r == s) (λ e. rw (f, e, g) refl) (λ e. rw (f, e) refl))
+    (λ (l : (r ≡ s) × (b ≤ a)). let x = l.0 in let y = l.1 in let f : nat_lt r s ≡ false = grind (arith, nat_tests) in
+    let g : nat_lt a b ≡ false = grind (arith, nat_tests) in split (r == s) (λ e. rw (f, e, g) refl) (λ e. rw (f, e) refl))
     h
 
 pub lt_self : (a : Stamp) → stamp_lt a a ≡ false
@@ -32,11 +33,13 @@ lt_none a b c h k =
     let x = lex_not a.round (rank_of a.by) b.round (rank_of b.by) h in
     let y = lex_not b.round (rank_of b.by) c.round (rank_of c.by) k in
     lex_low a.round (rank_of a.by) c.round (rank_of c.by) (⊎_elim
-    (λ (l : b.round < a.round). ⊎_elim (λ (m : c.round < b.round). inl (omega arith)) (λ (m : (b.round ≡ c.round) × (rank_of c.by ≤ rank_of b.by)). let e = m.0 in inl (omega arith)) y)
+    (λ (l : b.round < a.round). ⊎_elim (λ (m : c.round < b.round). inl (omega arith)) (λ (m : (b.round ≡ c.round) × (rank_of c.by ≤ rank_of b.by)). let e =
+    m.0 in inl (omega arith)) y)
     (λ (l : (a.round ≡ b.round) × (rank_of b.by ≤ rank_of a.by)).
     let e = l.0 in
     let u = l.1 in
-    ⊎_elim (λ (m : c.round < b.round). inl (omega arith)) (λ (m : (b.round ≡ c.round) × (rank_of c.by ≤ rank_of b.by)). let f = m.0 in let w = m.1 in inr (omega arith, omega arith)) y)
+    ⊎_elim (λ (m : c.round < b.round). inl (omega arith)) (λ (m : (b.round ≡ c.round) × (rank_of c.by ≤ rank_of b.by)). let f = m.0 in let w = m.1 in
+    inr (omega arith, omega arith)) y)
     x)
 
 -- two equal stamps are one
@@ -61,8 +64,11 @@ lt_or v p l k h apart = split (stamp_lt p v) (λ t. t) (λ f.
     let x = lex_not v.round (rank_of v.by) p.round (rank_of p.by) h in
     let y = lex_not p.round (rank_of p.by) v.round (rank_of v.by) f in
     let both : (v.round ≡ p.round) × (rank_of v.by ≡ rank_of p.by) = ⊎_elim
-    (λ (a : p.round < v.round). ⊎_elim (λ (b : v.round < p.round). absurd (omega arith)) (λ (b : (p.round ≡ v.round) × (rank_of v.by ≤ rank_of p.by)). let e = b.0 in absurd (omega arith)) y)
-    (λ (a : (v.round ≡ p.round) × (rank_of p.by ≤ rank_of v.by)). let e = a.0 in let u = a.1 in ⊎_elim (λ (b : v.round < p.round). absurd (omega arith)) (λ (b : (p.round ≡ v.round) × (rank_of v.by ≤ rank_of p.by)). let w = b.1 in (e, omega arith)) y)
+    (λ (a : p.round < v.round). ⊎_elim (λ (b : v.round < p.round). absurd (omega arith)) (λ (b : (p.round ≡ v.round) × (rank_of v.by ≤ rank_of p.by)). let e =
+    b.0 in absurd (omega arith)) y)
+    (λ (a : (v.round ≡ p.round) × (rank_of p.by ≤ rank_of v.by)). let e = a.0 in let u = a.1 in
+    ⊎_elim (λ (b : v.round < p.round). absurd (omega arith)) (λ (b : (p.round ≡ v.round) × (rank_of v.by ≤ rank_of p.by)). let w = b.1 in
+    (e, omega arith)) y)
     x in
     let r = both.0 in
     let q = both.1 in
@@ -75,7 +81,8 @@ lt_or v p l k h apart = split (stamp_lt p v) (λ t. t) (λ f.
 pub lt_next : (p view : Stamp) (who : ℕ) → stamp_lt p view ≡ false → stamp_lt view (record { round = p.round + 1; by = who }) ≡ true
 lt_next p view who h =
     let x = lex_not p.round (rank_of p.by) view.round (rank_of view.by) h in
-    let low : view.round < p.round + 1 = ⊎_elim (λ (a : view.round < p.round). omega arith) (λ (a : (p.round ≡ view.round) × (rank_of view.by ≤ rank_of p.by)). let e = a.0 in omega arith) x in
+    let low : view.round < p.round + 1 = ⊎_elim (λ (a : view.round < p.round). omega arith) (λ (a : (p.round ≡ view.round)
+    × (rank_of view.by ≤ rank_of p.by)). let e = a.0 in omega arith) x in
     let t : nat_lt view.round (p.round + 1) ≡ true = grind (arith, nat_tests) in
     rw t refl
 

@@ -41,7 +41,8 @@ stays v (Some b) is = split b.is_over
 some_is : (a b : Ballot) → Some a ≡ Some b → a ≡ b
 some_is a b e = cc
 
-over : (v : Stamp) (o : Option Ballot) (b : Ballot) → ((b : Ballot) → o ≡ Some b → b.is_over ≡ false → stamp_lt b.stamp v ≡ true) → ((b : Ballot) → o ≡ Some b → b.resilience ≤ 15) → overtaken v o ≡ Some b → (b.is_over ≡ true) × (b.resilience ≤ 15)
+over : (v : Stamp) (o : Option Ballot) (b : Ballot) → ((b : Ballot) → o ≡ Some b → b.is_over ≡ false → stamp_lt b.stamp v ≡ true)
+    → ((b : Ballot) → o ≡ Some b → b.resilience ≤ 15) → overtaken v o ≡ Some b → (b.is_over ≡ true) × (b.resilience ≤ 15)
 over v None b low few = λ e. absurd (cc)
 over v (Some a) b low few = split a.is_over
     (λ t.
@@ -50,7 +51,8 @@ over v (Some a) b low few = split a.is_over
     (λ f.
     let lt = low a refl f in
     let ov : overtaken v (Some a) ≡ Some (record a { answer = Overtaken v; is_over = true }) = rw (f, lt) refl in
-    λ e. let same = some_is (record a { answer = Overtaken v; is_over = true }) b (sym ov ∙ e) in (ap (λ (x : Ballot). x.is_over) (sym same), subst (λ (x : Ballot). x.resilience ≤ 15) same (few a refl)))
+    λ e. let same = some_is (record a { answer = Overtaken v; is_over = true }) b (sym ov ∙ e) in
+    (ap (λ (x : Ballot). x.is_over) (sym same), subst (λ (x : Ballot). x.resilience ≤ 15) same (few a refl)))
 
 pub promised_same : (m : Node) (v : Stamp) → NodeKeeps m → stamp_eq v m.core.promise ≡ true → m ≡ promised m v
 promised_same m v keeps e =
@@ -58,12 +60,14 @@ promised_same m v keeps e =
     let o = stays v m.ballot (λ b there open_. (keeps.ballot b there).stamp open_ ∙ sym same) in
     λ k. record m { core = record (m.core) { promise = sym same k }; ballot = sym o k }
 
-pub keeps_promised : (m : Node) (v : Stamp) → NodeKeeps m → v.by < 256 → m.core.promise.by < 256 → stamp_lt v m.core.promise ≡ false → stamp_eq v m.core.promise ≡ false → NodeKeeps (promised m v)
+pub keeps_promised : (m : Node) (v : Stamp) → NodeKeeps m → v.by < 256 → m.core.promise.by < 256 → stamp_lt v m.core.promise ≡ false
+    → stamp_eq v m.core.promise ≡ false → NodeKeeps (promised m v)
 keeps_promised m v keeps small little higher apart =
     let above = lt_or v m.core.promise small little higher apart in
     record {
       own = keeps.own;
-      leads = λ is. absurd (let e = lt_apart m.core.promise v (view m) above keeps.promised in leads_not (is_member m.status) (stamp_eq v (view m)) ((view m).by == m.core.who) e is);
+      leads = λ is. absurd (let e = lt_apart m.core.promise v (view m) above keeps.promised in
+          leads_not (is_member m.status) (stamp_eq v (view m)) ((view m).by == m.core.who) e is);
       promised = lt_none v m.core.promise (view m) higher keeps.promised;
       blank = keeps.blank;
       settled = keeps.settled;
@@ -95,7 +99,16 @@ keeps_without m keeps = record {
 }
 
 pub own_with : (m : Node) (o : Option Ballot) (b : Ballot) → IsOwnBallot m b → IsOwnBallot (record m { ballot = o }) b
-own_with m o b is = record { stamp = is.stamp; by = is.by; ahead = is.ahead; logged = is.logged; itself = is.itself; unvoted = is.unvoted; resilience = is.resilience }
+own_with m o b is = record {
+  stamp = is.stamp;
+  by = is.by;
+  ahead = is.ahead;
+  logged = is.logged;
+  itself = is.itself;
+  unvoted = is.unvoted;
+  resilience =
+      is.resilience;
+}
 
 pub keeps_with : (m : Node) (b : Ballot) → NodeKeeps m → IsOwnBallot m b → NodeKeeps (record m { ballot = Some b })
 keeps_with m b keeps own = record {
@@ -125,7 +138,16 @@ taken_voted m b name vote other is =
     record {
       order = is.order;
       out = is.out;
-      own = record { stamp = own.stamp; by = own.by; ahead = own.ahead; logged = own.logged; itself = own.itself; unvoted = λ open_. rw apart (own.unvoted open_); resilience = own.resilience };
+      own = record {
+        stamp = own.stamp;
+        by = own.by;
+        ahead = own.ahead;
+        logged = own.logged;
+        itself = own.itself;
+        unvoted =
+            λ open_. rw apart (own.unvoted open_);
+        resilience = own.resilience;
+      };
       is_open = is.is_open;
       number = is.number;
     }
@@ -137,7 +159,16 @@ taken_given m b name other is =
     record {
       order = is.order;
       out = is.out;
-      own = record { stamp = own.stamp; by = own.by; ahead = own.ahead; logged = own.logged; itself = λ open_. rw apart (own.itself open_); unvoted = λ open_. rw apart (own.unvoted open_); resilience = own.resilience };
+      own = record {
+        stamp = own.stamp;
+        by = own.by;
+        ahead = own.ahead;
+        logged = own.logged;
+        itself = λ open_. rw apart (own.itself open_);
+        unvoted =
+            λ open_. rw apart (own.unvoted open_);
+        resilience = own.resilience;
+      };
       is_open = is.is_open;
       number = is.number;
     }
@@ -154,7 +185,8 @@ next_higher m =
 abbrev pub next_node : Node → Node
 next_node m = record m { core = record (m.core) { promise = next_stamp m }; ballot = None }
 
-pub begins : (m : Node) (least resilience : ℕ) → IsInOrder m.core → NodeKeeps m → has_log m.status ≡ true → top m < most_number → IsTakenOut (next_node m) (new_ballot (next_stamp m) least (min resilience 15))
+pub begins : (m : Node) (least resilience : ℕ) → IsInOrder m.core → NodeKeeps m → has_log m.status ≡ true → top m < most_number
+    → IsTakenOut (next_node m) (new_ballot (next_stamp m) least (min resilience 15))
 begins m least resilience order keeps logged number = record {
   order = record { kept = order.kept; let_go = order.let_go; given = order.given; accepted = order.accepted };
   out = refl;

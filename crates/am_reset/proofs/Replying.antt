@@ -36,8 +36,10 @@ fetch_same m all s = ap (λ (t : ℕ). packet.Fetch m.core.who m.core.promise t)
 vote_same : (m : Node) (all : Log) → Stands all m.core → vote_of (with_log m all) ≡ vote_of m
 vote_same m all s = ap (λ (v : Vote). packet.Vote m.core.who m.core.promise v) (own_vote_same m all s)
 
-result_same : (o : Outcome) (m : Node) (all : Log) (letters : List Letter) → Stands all m.core → with_result o (with_log m all) letters ≡ with_result o m letters
-result_same (Decided number names) m all letters s = ap (λ (i : Image). with_letter (without_name names m.core.who) (result_of m number names i.resilience) letters) (told_same m all s)
+result_same : (o : Outcome) (m : Node) (all : Log) (letters : List Letter) → Stands all m.core
+    → with_result o (with_log m all) letters ≡ with_result o m letters
+result_same (Decided number names) m all letters s = ap (λ (i : Image). with_letter (without_name names m.core.who)
+    (result_of m number names i.resilience) letters) (told_same m all s)
 result_same _ m all letters s = refl
 
 asks_same : (o : Outcome) (m : Node) (all : Log) (letters : List Letter) → Stands all m.core → with_fetch o (with_log m all) letters ≡ with_fetch o m letters
@@ -50,7 +52,8 @@ letters_log o (tell.Ack to) m all s = ap (λ (p : Packet). with_letter (only_nam
 letters_log o (tell.AckIn v to) m all s = λ k. if stamp_eq (told_same m all s k).view v then with_letter (only_name to) (ack_same m all s k) [] else []
 letters_log o (tell.Fetch to) m all s = ap (λ (p : Packet). with_letter (only_name to) p []) (fetch_same m all s)
 letters_log o (tell.Vote to) m all s = ap (λ (p : Packet). with_letter (only_name to) p []) (vote_same m all s)
-letters_log o (tell.Ballot invited true) m all s = result_same o m all (with_fetch o (with_log m all) (with_letter invited (invite_of m) [])) s ∙ ap (with_result o m) (asks_same o m all (with_letter invited (invite_of m) []) s)
+letters_log o (tell.Ballot invited true) m all s = result_same o m all (with_fetch o (with_log m all) (with_letter invited (invite_of m) [])) s
+    ∙ ap (with_result o m) (asks_same o m all (with_letter invited (invite_of m) []) s)
 letters_log o (tell.Ballot invited false) m all s = result_same o m all (with_letter invited (invite_of m) []) s
 
 pub letters_same : (o : Outcome) (t : Telling) (all m : Node) → IsEndOf all m → letters_of o t all ≡ letters_of o t m
@@ -61,7 +64,8 @@ letters_same o t all m e = ap (letters_of o t) (sym e.same) ∙ letters_log o t 
 -- a plan that polls nobody and numbers nothing, from the end of its node on
 pub ends_with : (m : Node) (p : Plan) (mid new : Node) (o : Outcome) (letters sent : List Letter)
     → IsEndOf p.node mid → p.polls ≡ false → p.numbers ≡ false → p.departs ≡ false → Changes refresh_at_end mid new
-    → ((n : Node) → IsEndOf n new → p.outcome n ≡ o) → ((n : Node) → IsEndOf n new → letters ≡ p.letters n) → Tells (with_told m.core.acc false false letters) new sent
+    → ((n : Node) → IsEndOf n new → p.outcome n ≡ o) → ((n : Node) → IsEndOf n new → letters ≡ p.letters n)
+    → Tells (with_told m.core.acc false false letters) new sent
     → ends.ComesTo (finish m p) o sent new
 unfolding finish
 ends_with m p mid new o letters sent is polls numbers departs end answer same tells =
@@ -77,7 +81,8 @@ pub finishes : (m : Node) (p : Plan) (mid new : Node) (o : Outcome) (t : Telling
     → Replies p o t mid → Changes refresh_at_end mid new → letters ≡ letters_of o t new → Tells (with_told m.core.acc false false letters) new sent
     → ends.ComesTo (finish m p) o sent new
 finishes m p mid new o t letters sent r end is tells =
-    ends_with m p mid new o letters sent r.node r.polls r.numbers r.departs end (λ n e. r.answer n) (λ n e. is ∙ sym (letters_same o t n new e) ∙ sym (r.letters n)) tells
+    ends_with m p mid new o letters sent r.node r.polls r.numbers r.departs end (λ n e. r.answer n) (λ n e. is ∙ sym (letters_same o t n new e)
+    ∙ sym (r.letters n)) tells
 
 -- ---- replies
 
@@ -93,7 +98,8 @@ replies_ack m n o to e = record { node = e; answer = λ x. refl; letters = λ x.
 pub replies_fetch : (m n : Node) (o : Outcome) (to : ℕ) → IsEndOf m n → Replies (telling m o (only_name to) fetch_of) o (tell.Fetch to) n
 replies_fetch m n o to e = record { node = e; answer = λ x. refl; letters = λ x. refl; polls = refl; numbers = refl; departs = refl }
 
-pub replies_asking : (v : Verdict) (n : Node) (o : Outcome) (to set : List ℕ) → ComesTo v o n → set ≡ to → Replies (answered v (λ x. with_fetch v.outcome x (with_letter to (invite_of x) []))) o (tell.Ballot set true) n
+pub replies_asking : (v : Verdict) (n : Node) (o : Outcome) (to set : List ℕ) → ComesTo v o n → set ≡ to
+    → Replies (answered v (λ x. with_fetch v.outcome x (with_letter to (invite_of x) []))) o (tell.Ballot set true) n
 replies_asking v n o to set c is = record {
   node = c.node;
   answer = λ x. c.answer;
@@ -103,7 +109,8 @@ replies_asking v n o to set c is = record {
   departs = refl;
 }
 
-pub replies_ballot : (v : Verdict) (n : Node) (o : Outcome) (to set : List ℕ) → ComesTo v o n → set ≡ to → Replies (answered v (λ x. with_letter to (invite_of x) [])) o (tell.Ballot set false) n
+pub replies_ballot : (v : Verdict) (n : Node) (o : Outcome) (to set : List ℕ) → ComesTo v o n → set ≡ to
+    → Replies (answered v (λ x. with_letter to (invite_of x) [])) o (tell.Ballot set false) n
 replies_ballot v n o to set c is = record {
   node = c.node;
   answer = λ x. c.answer;
@@ -117,10 +124,12 @@ nobody_invited : (x : Node) → with_letter nobody (invite_of x) [] ≡ []
 nobody_invited x = refl
 
 -- nobody is invited
-pub replies_silent : (v : Verdict) (n : Node) (o : Outcome) (set : List ℕ) → ComesTo v o n → set ≡ nobody → Replies (answered v (λ x. with_fetch v.outcome x [])) o (tell.Ballot set true) n
+pub replies_silent : (v : Verdict) (n : Node) (o : Outcome) (set : List ℕ) → ComesTo v o n → set ≡ nobody
+    → Replies (answered v (λ x. with_fetch v.outcome x [])) o (tell.Ballot set true) n
 replies_silent v n o set c is = replies_asking v n o nobody set c is
 
-pub replies_looked : (v : Verdict) (n : Node) (o : Outcome) (set : List ℕ) → ComesTo v o n → set ≡ nobody → Replies (answered v (λ x. [])) o (tell.Ballot set false) n
+pub replies_looked : (v : Verdict) (n : Node) (o : Outcome) (set : List ℕ) → ComesTo v o n → set ≡ nobody
+    → Replies (answered v (λ x. [])) o (tell.Ballot set false) n
 replies_looked v n o set c is = replies_ballot v n o nobody set c is
 
 -- ---- the ballot of the node itself isn't looked at
@@ -140,9 +149,11 @@ give_with m o b name = refl
 -- who is newly needed, by the two best votes
 pub newly_is : (m : Node) (old new kept : Ballot) (who : ℕ) (own : Vote) (before needed : Shown) (set less more : List ℕ)
     → kept ≡ new → who ≡ m.core.who → own ≡ own_vote m → before ≡ best_vote old.votes who own → needed ≡ best_vote kept.votes who own
-    → less ≡ before.vote.members → more ≡ needed.vote.members → set ≡ those (λ name. not (has_voted who kept name)) (minus more less) → set ≡ newly_needed m old new
+    → less ≡ before.vote.members → more ≡ needed.vote.members → set ≡ those (λ name. not (has_voted who kept name)) (minus more less)
+    → set ≡ newly_needed m old new
 unfolding best_of
 newly_is m old new kept who own before needed set less more k w o b n l r is =
     let bo : before ≡ best_vote old.votes m.core.who (own_vote m) = b ∙ (λ i. best_vote old.votes (w i) (o i)) in
     let bn : needed ≡ best_vote new.votes m.core.who (own_vote m) = n ∙ (λ i. best_vote (k i).votes (w i) (o i)) in
-    is ∙ (λ i. those (λ name. not (has_voted (w i) (k i) name)) (minus ((r ∙ ap (λ (x : Shown). x.vote.members) bn) i) ((l ∙ ap (λ (x : Shown). x.vote.members) bo) i)))
+    is ∙ (λ i. those (λ name. not (has_voted (w i) (k i) name))
+    (minus ((r ∙ ap (λ (x : Shown). x.vote.members) bn) i) ((l ∙ ap (λ (x : Shown). x.vote.members) bo) i)))

@@ -1,5 +1,6 @@
 -- Entries that are copied, and sent once the step has ended.
-use Rattle.std.proofs.Common.{◌≡◌, ℕ, zero, suc, ◌+◌, ◌-◌, ◌<◌, ◌≤◌, min, All, List, [], ◌∷◌, ◌++◌, length, take, Some, true, false, ◌||◌, nat_lt, slice_index_or, refl, sym, ap, ◌∙◌, length-drop, arith}
+use Rattle.std.proofs.Common.{◌≡◌, ℕ, zero, suc, ◌+◌, ◌-◌, ◌<◌, ◌≤◌, min, All, List, [], ◌∷◌, ◌++◌, length, take, Some, true, false, ◌||◌, nat_lt}
+use Rattle.std.proofs.Common.{slice_index_or, refl, sym, ap, ◌∙◌, length-drop, arith}
 use Rattle.std.proofs.lemmas.List.{length-take, take_more}
 use Rattle.std.proofs.lemmas.List.Elements.{All-drop, All-take}
 use Rattle.am_base.specs.declared.entry.Entry.{Entry}
@@ -24,7 +25,8 @@ use Rattle.am_reset.specs.Replies.{Replies}
 use Rattle.am_reset.proofs.Replying.{ends_with, replies_quiet}
 
 -- one entry more is copied
-pub copied_next : (log : Log) (stored number : ℕ) (old new : List Entry) → log.start ≤ stored → stored ≤ number → number < top_of log → old ≡ take (number - stored) (kept_above log stored)
+pub copied_next : (log : Log) (stored number : ℕ) (old new : List Entry) → log.start ≤ stored → stored ≤ number → number < top_of log
+    → old ≡ take (number - stored) (kept_above log stored)
     → ((e : Entry) → entry_at log (number + 1) ≡ Some e → new ≡ old ++ e ∷ []) → new ≡ take (number + 1 - stored) (kept_above log stored)
 copied_next log stored number old new low from high before more =
     let es = kept_above log stored in
@@ -38,7 +40,8 @@ copied_next log stored number old new low from high before more =
     ∙ ap (λ k. take k es) next
 
 -- all of those to be served are copied
-pub copied_all : (m : Node) (stored last : ℕ) → m.core.log.start ≤ stored → stored ≤ top m → last ≡ min (top m) (stored + 8) → take (last - stored) (kept_above m.core.log stored) ≡ served m stored
+pub copied_all : (m : Node) (stored last : ℕ) → m.core.log.start ≤ stored → stored ≤ top m → last ≡ min (top m) (stored + 8)
+    → take (last - stored) (kept_above m.core.log stored) ≡ served m stored
 copied_all m stored last low high is =
     let few : last - stored ≡ min (length (kept_above m.core.log stored)) 8 = simp length-drop (omega arith) in
     take_few (kept_above m.core.log stored) (last - stored) few
@@ -55,7 +58,8 @@ any_default (e ∷ es) zero a b h = refl
 any_default (e ∷ es) (suc i) a b h = any_default es i a b (omega arith)
 
 -- one Piece more
-pub piece_next : (f : ℕ → Entry → Packet) (to : List ℕ) (stored number i : ℕ) (es : List Entry) (e : Entry) (old new : List Letter) → i < length es → number ≡ stored + i → e ≡ slice_index_or es i e
+pub piece_next : (f : ℕ → Entry → Packet) (to : List ℕ) (stored number i : ℕ) (es : List Entry) (e : Entry) (old new : List Letter) → i < length es
+    → number ≡ stored + i → e ≡ slice_index_or es i e
     → old ≡ put_all f to (stored + 1) (take i es) [] → new ≡ with_letter to (f (number + 1) e) old → new ≡ put_all f to (stored + 1) (take (i + 1) es) []
 piece_next f to stored number i es e old new h at is before more =
     let next : number + 1 ≡ stored + 1 + i = omega arith in
@@ -70,18 +74,22 @@ pub serve_ends : (m old new : Node) (to stored : ℕ) (o : Outcome) (entries : L
 serve_ends m old new to stored o entries letters sent self end copied answer is tells =
     ends_with m (serve_pieces old to stored) old new o letters sent self refl refl refl end
     (λ n e. sym (answer ∙ ap (λ xs. said.Served (length xs)) copied))
-    (λ n e. is ∙ ap (λ xs. put_all (piece_of new) (only_name to) (stored + 1) xs []) copied ∙ ap (λ (f : ℕ → Entry → Packet). put_all f (only_name to) (stored + 1) (served old stored) []) (ap piece_of e.same))
+    (λ n e. is ∙ ap (λ xs. put_all (piece_of new) (only_name to) (stored + 1) xs []) copied
+    ∙ ap (λ (f : ℕ → Entry → Packet). put_all f (only_name to) (stored + 1) (served old stored) []) (ap piece_of e.same))
     tells
 
 -- the row's other cases
-pub fetch_elsewhere : (m n : Node) (s : ℕ) (v : Stamp) (stored : ℕ) → may_fetch m s v ≡ false → IsEndOf m n → Replies (fetch_row m s v stored) said.Elsewhere tell.Nothing n
+pub fetch_elsewhere : (m n : Node) (s : ℕ) (v : Stamp) (stored : ℕ) → may_fetch m s v ≡ false → IsEndOf m n
+    → Replies (fetch_row m s v stored) said.Elsewhere tell.Nothing n
 unfolding fetch_row
 fetch_elsewhere m n s v stored f end = rw f (replies_quiet m n said.Elsewhere end)
 
-pub fetch_behind : (m n : Node) (s : ℕ) (v : Stamp) (stored : ℕ) → may_fetch m s v ≡ true → (nat_lt stored m.core.base || nat_lt (top m) stored) ≡ true → IsEndOf m n → Replies (fetch_row m s v stored) said.Behind tell.Nothing n
+pub fetch_behind : (m n : Node) (s : ℕ) (v : Stamp) (stored : ℕ) → may_fetch m s v ≡ true → (nat_lt stored m.core.base || nat_lt (top m) stored) ≡ true
+    → IsEndOf m n → Replies (fetch_row m s v stored) said.Behind tell.Nothing n
 unfolding fetch_row
 fetch_behind m n s v stored t u end = rw (t, u) (replies_quiet m n said.Behind end)
 
-pub fetch_serves : (m : Node) (s : ℕ) (v : Stamp) (stored : ℕ) → may_fetch m s v ≡ true → (nat_lt stored m.core.base || nat_lt (top m) stored) ≡ false → fetch_row m s v stored ≡ serve_pieces m s stored
+pub fetch_serves : (m : Node) (s : ℕ) (v : Stamp) (stored : ℕ) → may_fetch m s v ≡ true → (nat_lt stored m.core.base || nat_lt (top m) stored) ≡ false
+    → fetch_row m s v stored ≡ serve_pieces m s stored
 unfolding fetch_row
 fetch_serves m s v stored t f = rw (t, f) refl

@@ -1,5 +1,6 @@
 -- The names of a set that pass a test.
-use Rattle.std.proofs.Common.{◌≡◌, ℕ, zero, suc, ◌+◌, ◌<◌, List, [], ◌∷◌, Bool, true, false, ◌==◌, ◌||◌, nat_lt, if◌then◌else◌, slice_index, refl, sym, ap, ◌∙◌, arith}
+use Rattle.std.proofs.Common.{◌≡◌, ℕ, zero, suc, ◌+◌, ◌<◌, List, [], ◌∷◌, Bool, true, false, ◌==◌, ◌||◌, nat_lt, if◌then◌else◌, slice_index, refl, sym, ap, ◌∙◌}
+use Rattle.std.proofs.Common.{arith}
 use Rattle.std.proofs.lemmas.Bool.Decides.{nat_tests}
 use Rattle.am_base.specs.Names.{place_of, life_of, name_at, has, size, is_within, by_place}
 use Rattle.am_base.proofs.Places.{slice_index-by_place}
@@ -41,7 +42,8 @@ has_those test set who there passes =
     let f : ℕ → ℕ = λ place. name_where test place (slice_index set place) in
     let place : place_of who < 16 = omega arith in
     let is : slice_index set (place_of who) ≡ life_of who = grind (arith, nat_tests) in
-    let value : slice_index (by_place f) (place_of who) ≡ life_of who = slice_index-by_place f (place_of who) place ∙ ap (name_where test (place_of who)) is ∙ life_there test who passes in
+    let value : slice_index (by_place f) (place_of who) ≡ life_of who = slice_index-by_place f (place_of who) place ∙ ap (name_where test (place_of who)) is
+    ∙ life_there test who passes in
     grind (arith, nat_tests)
 
 -- each of those is one of the set
@@ -56,4 +58,5 @@ pub those_within : (test : ℕ → Bool) (set : List ℕ) → is_within (those t
 unfolding those
 those_within test set =
     let f : ℕ → ℕ = λ place. name_where test place (slice_index set place) in
-    sym (within_all (by_place f) set (λ k h. ap (λ (x : ℕ). (x == 0) || (x == slice_index set k)) (slice_index-by_place f k h) ∙ where_within test k (slice_index set k)))
+    sym (within_all (by_place f) set (λ k h. ap (λ (x : ℕ). (x == 0) || (x == slice_index set k)) (slice_index-by_place f k h)
+    ∙ where_within test k (slice_index set k)))

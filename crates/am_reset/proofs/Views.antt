@@ -1,5 +1,6 @@
 -- What a View that fits does to the members and to the view.
-use Rattle.std.proofs.Common.{◌≡◌, ⊎_elim, ℕ, ◌<◌, ◌≤◌, List, length, Bool, true, false, ◌==◌, ◌&&◌, ◌||◌, nat_lt, nat_le, slice_index, refl, sym, ap, ◌∙◌, arith}
+use Rattle.std.proofs.Common.{◌≡◌, ⊎_elim, ℕ, ◌<◌, ◌≤◌, List, length, Bool, true, false, ◌==◌, ◌&&◌, ◌||◌, nat_lt, nat_le, slice_index, refl, sym, ap, ◌∙◌}
+use Rattle.std.proofs.Common.{arith}
 use Rattle.std.proofs.lemmas.Bool.Decides.{nat_tests}
 use Rattle.std.proofs.lemmas.Bool.{cases_lt}
 use Rattle.std.proofs.lemmas.List.{get_or_past, length-map}
@@ -30,7 +31,8 @@ pub record FitsAsView (image : Image) (stamp : Stamp) (names : List ℕ) (resili
   pub own : has names stamp.by ≡ true
   pub no_less : nat_le image.resilience resilience ≡ true
 
-pub view_parts : (image : Image) (stamp : Stamp) (names : List ℕ) (resilience : ℕ) → fits image (View stamp names resilience) ≡ true → FitsAsView image stamp names resilience
+pub view_parts : (image : Image) (stamp : Stamp) (names : List ℕ) (resilience : ℕ) → fits image (View stamp names resilience) ≡ true
+    → FitsAsView image stamp names resilience
 unfolding fits
 view_parts image stamp names resilience h =
     let a = stamp_lt image.view stamp in
@@ -48,14 +50,16 @@ view_parts image stamp names resilience h =
     }
 
 -- and made of them
-pub fits_view : (image : Image) (stamp : Stamp) (names : List ℕ) (resilience : ℕ) → stamp_lt image.view stamp ≡ true → is_within names (members_of image) ≡ true → has names stamp.by ≡ true → image.resilience ≤ resilience → fits image (View stamp names resilience) ≡ true
+pub fits_view : (image : Image) (stamp : Stamp) (names : List ℕ) (resilience : ℕ) → stamp_lt image.view stamp ≡ true → is_within names (members_of image) ≡ true
+    → has names stamp.by ≡ true → image.resilience ≤ resilience → fits image (View stamp names resilience) ≡ true
 unfolding fits
 fits_view image stamp names resilience above within own more =
     let r : nat_le image.resilience resilience ≡ true = grind (arith, nat_tests) in
     rw (above, within, own, r) (split (is_blank image) (λ t. rw t refl) (λ f. rw f refl))
 
 within_at : (a b : List ℕ) (place : ℕ) → place < 16 → is_within a b ≡ true → ((slice_index a place == 0) || (slice_index a place == slice_index b place)) ≡ true
-within_at a b place h is = split ((slice_index a place == 0) || (slice_index a place == slice_index b place)) (λ t. t) (λ f. absurd (let g = within_none a b place h f in cc))
+within_at a b place h is = split ((slice_index a place == 0) || (slice_index a place == slice_index b place)) (λ t. t)
+    (λ f. absurd (let g = within_none a b place h f in cc))
 
 viewed_first : (number life : ℕ) (r : Row) → 0 < life → member_life (viewed true number life r) ≡ life
 viewed_first number life r h = let e : (life == 0) ≡ false = grind (arith, nat_tests) in rw e refl
@@ -68,7 +72,8 @@ viewed_stays number life r e =
     (λ u. rw u e)
 
 -- the stamp's name is a member after a View that fits
-pub view_has : (image : Image) (number : ℕ) (stamp : Stamp) (names : List ℕ) (resilience : ℕ) → fits image (View stamp names resilience) ≡ true → has (members_of (after image number (View stamp names resilience))) stamp.by ≡ true
+pub view_has : (image : Image) (number : ℕ) (stamp : Stamp) (names : List ℕ) (resilience : ℕ) → fits image (View stamp names resilience) ≡ true
+    → has (members_of (after image number (View stamp names resilience))) stamp.by ≡ true
 unfolding after
 view_has image number stamp names resilience h =
     let parts = view_parts image stamp names resilience h in
@@ -79,7 +84,8 @@ view_has image number stamp names resilience h =
     let new = after image number (View stamp names resilience) in
     let f : ℕ → Row = λ k. viewed (is_blank image) number (slice_index names k) (row_at image k) in
     let long = length-by_place f in
-    let at : slice_index (members_of new) place ≡ member_life (viewed (is_blank image) number (slice_index names place) (row_at image place)) = member_at new place (omega arith) ∙ ap member_life (get_or-by_place f place blank_row low) in
+    let at : slice_index (members_of new) place ≡ member_life (viewed (is_blank image) number (slice_index names place) (row_at image place)) =
+    member_at new place (omega arith) ∙ ap member_life (get_or-by_place f place blank_row low) in
     let is : member_life (viewed (is_blank image) number (slice_index names place) (row_at image place)) ≡ slice_index names place = split (is_blank image)
     (λ t. rw t (viewed_first number (slice_index names place) (row_at image place) (omega arith)))
     (λ t.
@@ -89,7 +95,8 @@ view_has image number stamp names resilience h =
     let e : slice_index names place ≡ slice_index (members_of image) place = grind (arith, nat_tests) in
     let there : slice_index (members_of image) place ≡ member_life (row_at image place) = ⊎_elim
     (λ (l : place < length image.rows). member_at image place l)
-    (λ (l : length image.rows ≤ place). let long = length-map image.rows member_life in let z : slice_index (members_of image) place ≡ 0 = get_or_past (members_of image) place 0 (omega arith) in absurd (omega arith))
+    (λ (l : length image.rows ≤ place). let long = length-map image.rows member_life in
+    let z : slice_index (members_of image) place ≡ 0 = get_or_past (members_of image) place 0 (omega arith) in absurd (omega arith))
     (cases_lt place (length image.rows)) in
     rw t (viewed_stays number (slice_index names place) (row_at image place) (sym (e ∙ there)))) in
     let life_is : slice_index (members_of new) place ≡ life_of stamp.by = at ∙ is ∙ life in

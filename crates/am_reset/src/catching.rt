@@ -35,7 +35,8 @@ use am_letter::out_box::OutBox;
 
 /// Whether a view's stamp is above another, or in a ballot is that.
 fn is_past(stamp: &Stamp, in_ballot: bool, view: &Stamp) -> bool
-    ensures value { result ≡ (stamp_lt stamp.now view.now || (in_ballot && stamp_eq view.now stamp.now)) }
+    ensures value { result ≡ (stamp_lt stamp.now view.now
+        || (in_ballot && stamp_eq view.now stamp.now)) }
     ensures below { in_ballot ≡ true → result ≡ false → stamp_lt view.now stamp.now ≡ true }
 {
     let same = is_same(view, stamp);
@@ -71,8 +72,12 @@ fn refusal(
     entry: &Entry,
     in_ballot: bool,
 ) -> Option<Outcome>
-    ensures value { (x : Option node.Ballot) (then_ : Node → Plan) → fetched (with_ballot (node_of parts.now) x) stamp.now base number entry.now in_ballot then_ ≡ unless result (with_ballot (node_of parts.now) x) (then_ (pushed (trimmed (with_ballot (node_of parts.now) x) base) entry.now)) }
-    ensures next { IfNone result (ComesNext (node_of parts.now) stamp.now base number entry.now in_ballot) }
+    ensures value { (x : Option node.Ballot) (then_ : Node → Plan)
+        → fetched (with_ballot (node_of parts.now) x) stamp.now base number entry.now in_ballot
+        then_ ≡ unless result (with_ballot (node_of parts.now) x)
+        (then_ (pushed (trimmed (with_ballot (node_of parts.now) x) base) entry.now)) }
+    ensures next { IfNone result (ComesNext
+        (node_of parts.now) stamp.now base number entry.now in_ballot) }
 {
     let top = last_of(parts);
     if number <= top {
@@ -97,7 +102,8 @@ fn refusal(
 
 /// Whether a stamp isn't the promise, or is the view.
 fn is_apart(parts: &Parts, stamp: &Stamp) -> bool
-    ensures { result ≡ (not (stamp_eq stamp.now parts.now.core.promise) || stamp_eq (view (node_of parts.now)) stamp.now) }
+    ensures { result ≡ (not (stamp_eq stamp.now parts.now.core.promise)
+        || stamp_eq (view (node_of parts.now)) stamp.now) }
 {
     !is_same(stamp, &promise_of(parts)) || is_view(parts, stamp)
 }
@@ -118,7 +124,8 @@ fn piece_promised(
     requires over { (b : node.Ballot) → (node_of parts.old).ballot ≡ Some b → b.is_over ≡ true }
     requires entry { IsEntry entry.now }
     requires number { top_of parts.old.core.log < most_number }
-    ensures replies { Replies (piece_promised (node_of parts.old) from stamp base number entry.now) result.outcome result.telling (node_of parts.new) }
+    ensures replies { Replies (piece_promised (node_of parts.old) from stamp base number entry.now)
+        result.outcome result.telling (node_of parts.new) }
     ensures told { MayTell result.telling result.outcome }
 {
     if stamp.by != from {
@@ -152,7 +159,9 @@ fn piece_in_ballot(
     requires promise { stamp.now ≡ parts.old.core.promise }
     requires entry { IsEntry entry.now }
     requires number { top_of parts.old.core.log + 1 < most_number }
-    ensures replies { Replies (fetched (with_ballot (node_of parts.old) (Some (ballot_of ballot))) stamp.now base number entry.now true (fetched_for (ballot_of ballot))) result.outcome result.telling (node_of parts.new) }
+    ensures replies { Replies (fetched (with_ballot (node_of parts.old) (Some (ballot_of ballot)))
+        stamp.now base number entry.now true (fetched_for (ballot_of ballot))) result.outcome
+        result.telling (node_of parts.new) }
     ensures told { MayTell result.telling result.outcome }
 {
     match refusal(parts, stamp, base, number, entry, true) {
@@ -192,7 +201,9 @@ fn piece_for(
     requires view { stamp_eq (view (node_of parts.old)) stamp ≡ false }
     requires entry { IsEntry entry.now }
     requires number { top_of parts.old.core.log + 1 < most_number }
-    ensures replies { Replies (piece_for (with_ballot (node_of parts.old) (Some (ballot_of ballot))) from stamp base number entry.now (Some (ballot_of ballot))) result.outcome result.telling (node_of parts.new) }
+    ensures replies { Replies (piece_for (with_ballot (node_of parts.old) (Some (ballot_of ballot)))
+        from stamp base number entry.now (Some (ballot_of ballot))) result.outcome result.telling
+        (node_of parts.new) }
     ensures told { MayTell result.telling result.outcome }
 {
     if ballot.is_over() {
@@ -218,7 +229,8 @@ fn piece(
     requires logged { has_log parts.old.status ≡ true }
     requires entry { IsEntry entry.now }
     requires number { top_of parts.old.core.log + 1 < most_number }
-    ensures replies { Replies (piece_row (node_of parts.old) from stamp base number entry.now) result.outcome result.telling (node_of parts.new) }
+    ensures replies { Replies (piece_row (node_of parts.old) from stamp base number entry.now)
+        result.outcome result.telling (node_of parts.new) }
     ensures told { MayTell result.telling result.outcome }
 {
     if is_apart(parts, &stamp) {
@@ -246,7 +258,8 @@ pub fn on_piece(
     requires logged { has_log parts.old.status ≡ true }
     requires entry { IsEntry entry.now }
     requires number { top_of parts.old.core.log + 1 < most_number }
-    ensures { Does (λ m. piece_row m from stamp base number entry.now) (node_of parts.old) result out.new (node_of parts.new) }
+    ensures { Does (λ m. piece_row m from stamp base number entry.now)
+        (node_of parts.old) result out.new (node_of parts.new) }
 {
     let before = accepted_of(parts);
     let reply = piece(parts, from, stamp, base, number, entry);
@@ -274,8 +287,13 @@ fn result_refusal(
     members: Names,
     resilience: u8,
 ) -> Option<Reply>
-    ensures value { hears_result (node_of parts.now) from stamp.now base number members resilience ≡ unless_reply result (node_of parts.now) (telling (pushed (trimmed (node_of parts.now) base) (Entry.View stamp.now members resilience)) (Outcome.Stored number) (only_name from) ack_of) }
-    ensures next { IfNone result (FollowsAsView (node_of parts.now) stamp.now base number members resilience) }
+    ensures value { hears_result (node_of parts.now) from stamp.now base number members resilience
+        ≡ unless_reply result (node_of parts.now)
+        (telling (pushed (trimmed (node_of parts.now) base)
+        (Entry.View stamp.now members resilience)) (Outcome.Stored number)
+        (only_name from) ack_of) }
+    ensures next { IfNone result (FollowsAsView
+        (node_of parts.now) stamp.now base number members resilience) }
     ensures told { IfSome result (λ reply. MayTell reply.telling reply.outcome) }
 {
     if is_view(parts, stamp) {
@@ -322,7 +340,9 @@ fn hears_result(
     requires other { stamp.now.by ≢ parts.old.core.who }
     requires within { IsEntry (Entry.View stamp.now members resilience) }
     requires number { top_of parts.old.core.log < most_number }
-    ensures replies { Replies (hears_result (node_of parts.old) from stamp.now base number members resilience) result.outcome result.telling (node_of parts.new) }
+    ensures replies { Replies (hears_result
+        (node_of parts.old) from stamp.now base number members resilience) result.outcome
+        result.telling (node_of parts.new) }
     ensures told { MayTell result.telling result.outcome }
 {
     match result_refusal(parts, from, stamp, base, number, members, resilience) {
@@ -339,7 +359,8 @@ fn hears_result(
 
 /// Whether a stamp is of the node's own, or below its promise.
 fn is_passed(parts: &Parts, stamp: &Stamp) -> bool
-    ensures { result ≡ ((stamp.now.by == parts.now.core.who) || stamp_lt stamp.now parts.now.core.promise) }
+    ensures { result ≡ ((stamp.now.by == parts.now.core.who)
+        || stamp_lt stamp.now parts.now.core.promise) }
 {
     stamp.by == name_of(parts) || copy_of(stamp).is_below(promise_of(parts))
 }
@@ -358,7 +379,9 @@ fn result_row(
     requires within { IsStamp stamp }
     requires resilience { resilience ≤ 15 }
     requires number { top_of parts.old.core.log < most_number }
-    ensures replies { Replies (result_row (node_of parts.old) from stamp base number members resilience) result.outcome result.telling (node_of parts.new) }
+    ensures replies { Replies (result_row
+        (node_of parts.old) from stamp base number members resilience) result.outcome result.telling
+        (node_of parts.new) }
     ensures told { MayTell result.telling result.outcome }
 {
     if is_passed(parts, &stamp) {
@@ -386,7 +409,8 @@ pub fn on_result(
     requires within { IsStamp stamp }
     requires resilience { resilience ≤ 15 }
     requires number { top_of parts.old.core.log < most_number }
-    ensures { Does (λ m. result_row m from stamp base number members resilience) (node_of parts.old) result out.new (node_of parts.new) }
+    ensures { Does (λ m. result_row m from stamp base number members resilience)
+        (node_of parts.old) result out.new (node_of parts.new) }
 {
     let before = accepted_of(parts);
     let reply = result_row(parts, from, stamp, base, number, members, resilience);

@@ -54,7 +54,8 @@ fn push(parts: &mut Parts, entry: Entry)
 /// Trims the list up to a base, where that is greater, and stores an entry behind it.
 pub fn store(parts: &mut Parts, base: u32, entry: &Entry)
     requires { MayStore (node_of parts.old) base entry.now }
-    ensures changes { Changes (λ m. pushed (trimmed m base) entry.now) (node_of parts.old) (node_of parts.new) }
+    ensures changes { Changes (λ m. pushed (trimmed m base) entry.now) (node_of parts.old)
+        (node_of parts.new) }
     ensures steady { IsSteady (pushed (node_of parts.old) entry.now) (node_of parts.new) }
     ensures order { IsInOrder parts.new.core }
 {
@@ -67,7 +68,8 @@ pub fn store(parts: &mut Parts, base: u32, entry: &Entry)
 fn close(parts: &mut Parts, ballot: Ballot, answer: Outcome) -> Outcome
     requires resilience { ballot.resilience ≤ 15 }
     requires plain { is_took answer ≡ false }
-    ensures node { node_of parts.new ≡ record (node_of parts.old) { ballot = Some (finished (ballot_of ballot) answer) } }
+    ensures node { node_of parts.new ≡ record (node_of parts.old)
+        { ballot = Some (finished (ballot_of ballot) answer) } }
     ensures answer { result ≡ answer }
 {
     let mut ballot = ballot;
@@ -81,7 +83,8 @@ fn keep_on(parts: &mut Parts, ballot: Ballot, answer: Outcome) -> Outcome
     requires own { IsOwnBallot (node_of parts.old) (ballot_of ballot) }
     requires is_open { ballot.is_over ≡ false }
     requires plain { is_took answer ≡ false }
-    ensures node { node_of parts.new ≡ record (node_of parts.old) { ballot = Some (unfinished (ballot_of ballot) answer) } }
+    ensures node { node_of parts.new ≡ record (node_of parts.old)
+        { ballot = Some (unfinished (ballot_of ballot) answer) } }
     ensures answer { result ≡ answer }
 {
     let mut ballot = ballot;
@@ -92,7 +95,8 @@ fn keep_on(parts: &mut Parts, ballot: Ballot, answer: Outcome) -> Outcome
 
 /// Whether there is no room for a View of so many.
 fn is_crowded(parts: &Parts, names: Names) -> bool
-    ensures { result ≡ nat_lt (parts.now.core.rules.window + 16 - size names) (top_of parts.now.core.log + 1 - parts.now.core.base) }
+    ensures { result ≡ nat_lt (parts.now.core.rules.window + 16 - size names)
+        (top_of parts.now.core.log + 1 - parts.now.core.base) }
 {
     let room = u32::from(parts.core.rules.window()) + 16 - names.len();
     room < parts.core.log.top() + 1 - parts.core.log.base()
@@ -124,7 +128,8 @@ fn decided(parts: &Parts, names: Names) -> Outcome
 fn view_of(parts: &Parts, ballot: &Ballot, names: Names) -> Entry
     requires stamp { ballot.now.stamp ≡ parts.now.core.promise }
     requires resilience { ballot.now.resilience ≤ 15 }
-    ensures value { result ≡ Entry.View ballot.now.stamp names (max ballot.now.resilience (told_by parts.now.core.log).resilience) }
+    ensures value { result ≡ Entry.View ballot.now.stamp names
+        (max ballot.now.resilience (told_by parts.now.core.log).resilience) }
     ensures within { IsEntry result }
 {
     Entry::View {
@@ -146,8 +151,10 @@ fn restart(parts: &mut Parts, base: u32)
 fn push_view(parts: &mut Parts, ballot: Ballot, names: Names) -> Outcome
     requires ballot { IsTakenOut (node_of parts.old) (ballot_of ballot) }
     requires names { MayBeView (node_of parts.old) names }
-    requires room { nat_lt (parts.old.core.rules.window + 16 - size names) (top_of parts.old.core.log + 1 - parts.old.core.base) ≡ false }
-    ensures comes { (all : Node) → IsEndOf all (node_of parts.old) → ComesTo (decide_view all (ballot_of ballot) names) result (node_of parts.new) }
+    requires room { nat_lt (parts.old.core.rules.window + 16 - size names)
+        (top_of parts.old.core.log + 1 - parts.old.core.base) ≡ false }
+    ensures comes { (all : Node) → IsEndOf all (node_of parts.old)
+        → ComesTo (decide_view all (ballot_of ballot) names) result (node_of parts.new) }
     ensures told { IsTold result }
 {
     let _before = parts.accepted();
@@ -162,7 +169,8 @@ fn push_view(parts: &mut Parts, ballot: Ballot, names: Names) -> Outcome
 fn decide_view(parts: &mut Parts, ballot: Ballot, names: Names) -> Outcome
     requires ballot { IsTakenOut (node_of parts.old) (ballot_of ballot) }
     requires names { MayBeView (node_of parts.old) names }
-    ensures comes { (all : Node) → IsEndOf all (node_of parts.old) → ComesTo (decide_view all (ballot_of ballot) names) result (node_of parts.new) }
+    ensures comes { (all : Node) → IsEndOf all (node_of parts.old)
+        → ComesTo (decide_view all (ballot_of ballot) names) result (node_of parts.new) }
     ensures told { IsTold result }
 {
     if is_crowded(parts, names) {
@@ -173,7 +181,8 @@ fn decide_view(parts: &mut Parts, ballot: Ballot, names: Names) -> Outcome
 
 /// The least that these have taken, 0 where there is nobody.
 fn least_taken(parts: &Parts, ballot: &Ballot, names: Names) -> u32
-    ensures value { result ≡ unwrap_or (least_of (taken_by parts.now.core.who parts.now.core.taken (ballot_of ballot.now)) (names_of names)) 0 }
+    ensures value { result ≡ unwrap_or (least_of (taken_by parts.now.core.who parts.now.core.taken
+        (ballot_of ballot.now)) (names_of names)) 0 }
     ensures own { has names parts.now.core.who ≡ true → result ≤ parts.now.core.taken }
 {
     let least = ballot.least_taken(parts.core.who, parts.core.taken, names);
@@ -184,7 +193,9 @@ fn least_taken(parts: &Parts, ballot: &Ballot, names: Names) -> u32
 fn trim_and_decide(parts: &mut Parts, ballot: Ballot, names: Names) -> Outcome
     requires ballot { IsTakenOut (node_of parts.old) (ballot_of ballot) }
     requires names { MayBeView (node_of parts.old) names }
-    ensures comes { (all : Node) → IsEndOf all (node_of parts.old) → ComesTo (decide_view (trimmed_for all (ballot_of ballot) names) (ballot_of ballot) names) result (node_of parts.new) }
+    ensures comes { (all : Node) → IsEndOf all (node_of parts.old)
+        → ComesTo (decide_view (trimmed_for all (ballot_of ballot) names) (ballot_of ballot) names)
+        result (node_of parts.new) }
     ensures told { IsTold result }
 {
     let least = least_taken(parts, &ballot, names);
@@ -197,7 +208,8 @@ fn trim_and_decide(parts: &mut Parts, ballot: Ballot, names: Names) -> Outcome
 /// vote; TooFew where fewer than the least size are left; else what pushing the view comes to.
 pub fn decide(parts: &mut Parts, ballot: Ballot) -> Outcome
     requires { IsTakenOut (node_of parts.old) (ballot_of ballot) }
-    ensures comes { (all : Node) → IsEndOf all (node_of parts.old) → ComesTo (decide all (ballot_of ballot)) result (node_of parts.new) }
+    ensures comes { (all : Node) → IsEndOf all (node_of parts.old)
+        → ComesTo (decide all (ballot_of ballot)) result (node_of parts.new) }
     ensures told { IsTold result }
 {
     let own = own_vote(parts);

@@ -82,7 +82,8 @@ fn invite(parts: &Parts) -> Packet
 #[tactic(auto, unfolding(am_codec::specs::Limits::IsWithin))]
 fn result_packet(parts: &Parts, number: u32, members: Names) -> Packet
     requires { IsNumber number }
-    ensures value { result ≡ result_of (node_of parts.now) number members (told (node_of parts.now)).resilience }
+    ensures value { result ≡ result_of (node_of parts.now) number members
+        (told (node_of parts.now)).resilience }
     ensures within { IsWithin result }
 {
     Packet::Result {
@@ -132,7 +133,8 @@ fn tell_fetch(parts: &Parts, outcome: &Outcome, out: &mut OutBox)
 fn tell_ballot(parts: &Parts, outcome: &Outcome, invited: Names, fetches: bool, out: &mut OutBox)
     requires empty { out.old ≡ [] }
     requires told { IsTold outcome.now }
-    ensures letters { out.new ≡ letters_of outcome.now (Telling.Ballot invited fetches) (node_of parts.now) }
+    ensures letters { out.new ≡ letters_of outcome.now (Telling.Ballot invited fetches)
+        (node_of parts.now) }
     ensures few { length out.new ≤ 3 }
 {
     out.put(invited, &invite(parts));
@@ -146,7 +148,8 @@ fn tell_ballot(parts: &Parts, outcome: &Outcome, invited: Names, fetches: bool, 
 #[tactic(auto, using(am_model::proofs::Letters::one_more))]
 fn tell_ack_in(parts: &Parts, view: Stamp, to: Name, out: &mut OutBox)
     requires { out.old ≡ [] }
-    ensures letters { out.new ≡ letters_of Outcome.Known (Telling.AckIn view to) (node_of parts.now) }
+    ensures letters { out.new ≡ letters_of Outcome.Known (Telling.AckIn view to)
+        (node_of parts.now) }
     ensures few { length out.new ≤ 1 }
 {
     let here = parts.core.log.view();

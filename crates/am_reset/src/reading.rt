@@ -91,7 +91,8 @@ pub fn others_of(parts: &Parts) -> Names
 
 /// Whether it is a member by its status and by its list.
 pub fn is_member(parts: &Parts) -> bool
-    ensures { result ≡ (is_member parts.now.status && has (members (node_of parts.now)) parts.now.core.who) }
+    ensures { result ≡ (is_member parts.now.status
+        && has (members (node_of parts.now)) parts.now.core.who) }
 {
     parts.status == Status::Member && parts.core.is_member()
 }
@@ -113,7 +114,8 @@ pub fn has_own_leave(parts: &Parts) -> bool
 
 /// Whether a number is beyond the bound of the greater of two bases.
 pub fn is_beyond(parts: &Parts, base: u32, number: u32) -> bool
-    ensures { result ≡ not (is_within_bound (node_of parts.now) (max parts.now.core.base base) number) }
+    ensures { result ≡ not (is_within_bound (node_of parts.now)
+        (max parts.now.core.base base) number) }
 {
     let greater = parts.core.log.base().max(base);
     number.saturating_sub(greater) > u32::from(parts.core.rules.window()) + 15

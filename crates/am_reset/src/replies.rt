@@ -54,7 +54,9 @@ pub fn quiet(outcome: Outcome) -> Reply
 pub fn finish(parts: &mut Parts, before: u32, reply: Reply, out: &mut OutBox) -> Outcome
     requires empty { out.old ≡ [] }
     requires told { MayTell reply.telling reply.outcome }
-    ensures { (m : Node) (p : Plan) → m.core.acc ≡ before → Replies p reply.outcome reply.telling (node_of parts.old) → ends.ComesTo (finish m p) result out.new (node_of parts.new) }
+    ensures { (m : Node) (p : Plan) → m.core.acc ≡ before
+        → Replies p reply.outcome reply.telling (node_of parts.old)
+        → ends.ComesTo (finish m p) result out.new (node_of parts.new) }
 {
     parts.end();
     tell(parts, &reply.outcome, &reply.telling, out);

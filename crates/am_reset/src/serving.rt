@@ -32,7 +32,8 @@ const MOST_SERVED: u32 = 8;
 /// Adds a copy of the entry of a number.
 fn copy_entry(parts: &Parts, number: u32, entries: &mut ArrayVec<Entry, 8>)
     requires { length entries.old.items < 8 }
-    ensures items { (e : Entry) → entry_at parts.now.core.log number ≡ Some e → entries.new.items ≡ entries.old.items ++ e ∷ [] }
+    ensures items { (e : Entry) → entry_at parts.now.core.log number ≡ Some e
+        → entries.new.items ≡ entries.old.items ++ e ∷ [] }
     ensures few { length entries.new.items ≤ length entries.old.items + 1 }
 {
     match parts.core.log.entry(number) {
@@ -74,7 +75,8 @@ fn tell_piece(parts: &Parts, to: Name, number: u32, entry: &Entry, out: &mut Out
     requires room { length out.old < 24 }
     requires number { IsNumber number }
     requires entry { IsEntry entry.now }
-    ensures letters { out.new ≡ with_letter (only_name to) (piece_of (node_of parts.now) number entry.now) out.old }
+    ensures letters { out.new ≡ with_letter (only_name to)
+        (piece_of (node_of parts.now) number entry.now) out.old }
     ensures few { length out.new ≤ length out.old + 1 }
 {
     let packet = Packet::Piece {
@@ -93,7 +95,8 @@ fn tell_pieces(parts: &Parts, to: Name, stored: u32, entries: &[Entry], out: &mu
     requires few { length entries.now ≤ 8 }
     requires within { All IsEntry entries.now }
     requires numbers { stored + length entries.now ≤ most_number }
-    ensures letters { out.new ≡ put_all (piece_of (node_of parts.now)) (only_name to) (stored + 1) entries.now [] }
+    ensures letters { out.new ≡ put_all (piece_of (node_of parts.now)) (only_name to)
+        (stored + 1) entries.now [] }
     ensures few { length out.new ≤ 8 }
 {
     let mut number = stored;
@@ -109,7 +112,9 @@ fn serve(parts: &mut Parts, to: Name, stored: u32, before: u32, out: &mut OutBox
     requires order { IsInOrder parts.old.core }
     requires low { parts.old.core.base ≤ stored }
     requires high { stored ≤ top_of parts.old.core.log }
-    ensures { (m : Node) → m.core.acc ≡ before → ends.ComesTo (finish m (serve_pieces (node_of parts.old) to stored)) result out.new (node_of parts.new) }
+    ensures { (m : Node) → m.core.acc ≡ before
+        → ends.ComesTo (finish m (serve_pieces (node_of parts.old) to stored)) result out.new
+        (node_of parts.new) }
 {
     let entries = copies(parts, stored);
     parts.end();
@@ -130,7 +135,8 @@ fn may_fetch(parts: &Parts, from: Name, stamp: &Stamp) -> bool
 
 /// Whether a number is below the base or above the last entry.
 fn is_out_of_reach(parts: &Parts, number: u32) -> bool
-    ensures { result ≡ (nat_lt number parts.now.core.base || nat_lt (top_of parts.now.core.log) number) }
+    ensures { result ≡ (nat_lt number parts.now.core.base
+        || nat_lt (top_of parts.now.core.log) number) }
 {
     number < parts.core.log.base() || parts.core.log.top() < number
 }
@@ -145,7 +151,8 @@ pub fn on_fetch(
     out: &mut OutBox,
 ) -> Outcome
     requires { out.old ≡ [] }
-    ensures { Does (λ m. fetch_row m from stamp stored) (node_of parts.old) result out.new (node_of parts.new) }
+    ensures { Does (λ m. fetch_row m from stamp stored) (node_of parts.old) result out.new
+        (node_of parts.new) }
 {
     let before = accepted_of(parts);
     if !may_fetch(parts, from, &stamp) {

@@ -89,7 +89,8 @@ pub fn put_back(parts: &mut Parts, ballot: Ballot)
 fn keep_vote(parts: &mut Parts, from: Name, vote: &Vote, ballot: Ballot) -> Reply
     requires ballot { IsTakenOut (node_of parts.old) (ballot_of ballot) }
     requires other { from ≢ parts.old.core.who }
-    ensures replies { Replies (keep_vote (node_of parts.old) (ballot_of ballot) from vote.now) result.outcome result.telling (node_of parts.new) }
+    ensures replies { Replies (keep_vote (node_of parts.old) (ballot_of ballot) from vote.now)
+        result.outcome result.telling (node_of parts.new) }
     ensures told { MayTell result.telling result.outcome }
 {
     let own = own_vote(parts);
@@ -113,7 +114,8 @@ fn keep_vote(parts: &mut Parts, from: Name, vote: &Vote, ballot: Ballot) -> Repl
 fn give_up(parts: &mut Parts, name: Name, ballot: Ballot) -> Reply
     requires ballot { IsTakenOut (node_of parts.old) (ballot_of ballot) }
     requires other { name ≢ parts.old.core.who }
-    ensures replies { Replies (give_up (node_of parts.old) (ballot_of ballot) name) result.outcome result.telling (node_of parts.new) }
+    ensures replies { Replies (give_up (node_of parts.old) (ballot_of ballot) name) result.outcome
+        result.telling (node_of parts.new) }
     ensures told { MayTell result.telling result.outcome }
 {
     let mut ballot = ballot;
@@ -130,7 +132,8 @@ fn give_up(parts: &mut Parts, name: Name, ballot: Ballot) -> Reply
 
 /// Whether a vote of this stamp is none for an unfinished ballot.
 fn is_stale(parts: &Parts, stamp: &Stamp, ballot: &Ballot) -> bool
-    ensures { result ≡ (stamp_lt stamp.now parts.now.core.promise || not (is_open stamp.now (ballot_of ballot.now))) }
+    ensures { result ≡ (stamp_lt stamp.now parts.now.core.promise
+        || not (is_open stamp.now (ballot_of ballot.now))) }
 {
     copy_of(stamp).is_below(promise_of(parts)) || !ballot.is_open(copy_of(stamp))
 }
@@ -142,7 +145,9 @@ fn voted_for(parts: &mut Parts, from: Name, stamp: Stamp, vote: &Vote, ballot: B
     requires own { IsOwnBallot (node_of parts.old) (ballot_of ballot) }
     requires number { top_of parts.old.core.log < most_number }
     requires other { from ≢ parts.old.core.who }
-    ensures replies { Replies (voted_for (record (node_of parts.old) { ballot = Some (ballot_of ballot) }) from stamp vote.now (Some (ballot_of ballot))) result.outcome result.telling (node_of parts.new) }
+    ensures replies { Replies (voted_for (record (node_of parts.old)
+        { ballot = Some (ballot_of ballot) }) from stamp vote.now (Some (ballot_of ballot)))
+        result.outcome result.telling (node_of parts.new) }
     ensures told { MayTell result.telling result.outcome }
 {
     if is_stale(parts, &stamp, &ballot) {
@@ -160,7 +165,8 @@ fn vote(parts: &mut Parts, from: Name, stamp: Stamp, vote: &Vote) -> Reply
     requires within { IsStamp stamp }
     requires number { top_of parts.old.core.log < most_number }
     requires other { from ≢ parts.old.core.who }
-    ensures replies { Replies (vote_row (node_of parts.old) from stamp vote.now) result.outcome result.telling (node_of parts.new) }
+    ensures replies { Replies (vote_row (node_of parts.old) from stamp vote.now) result.outcome
+        result.telling (node_of parts.new) }
     ensures told { MayTell result.telling result.outcome }
 {
     if promise_of(parts).is_below(copy_of(&stamp)) {
@@ -176,7 +182,8 @@ fn vote(parts: &mut Parts, from: Name, stamp: Stamp, vote: &Vote) -> Reply
 
 fn invite(parts: &mut Parts, from: Name, stamp: Stamp) -> Reply
     requires within { IsStamp stamp }
-    ensures replies { Replies (invite_row (node_of parts.old) from stamp) result.outcome result.telling (node_of parts.new) }
+    ensures replies { Replies (invite_row (node_of parts.old) from stamp) result.outcome
+        result.telling (node_of parts.new) }
     ensures told { MayTell result.telling result.outcome }
 {
     let telling = Telling::Vote(from);
@@ -200,7 +207,9 @@ fn give_up_of(parts: &mut Parts, name: Name, ballot: Ballot) -> Reply
     requires out { (node_of parts.old).ballot ≡ None }
     requires own { IsOwnBallot (node_of parts.old) (ballot_of ballot) }
     requires number { top_of parts.old.core.log < most_number }
-    ensures replies { Replies (give_up_of (record (node_of parts.old) { ballot = Some (ballot_of ballot) }) name (Some (ballot_of ballot))) result.outcome result.telling (node_of parts.new) }
+    ensures replies { Replies (give_up_of (record (node_of parts.old)
+        { ballot = Some (ballot_of ballot) }) name (Some (ballot_of ballot))) result.outcome
+        result.telling (node_of parts.new) }
     ensures told { MayTell result.telling result.outcome }
 {
     if ballot.is_over() {
@@ -217,7 +226,8 @@ fn give_up_of(parts: &mut Parts, name: Name, ballot: Ballot) -> Reply
 fn give_up_row(parts: &mut Parts, name: Name) -> Reply
     requires order { IsInOrder parts.old.core }
     requires number { top_of parts.old.core.log < most_number }
-    ensures replies { Replies (give_up_row (node_of parts.old) name) result.outcome result.telling (node_of parts.new) }
+    ensures replies { Replies (give_up_row (node_of parts.old) name) result.outcome result.telling
+        (node_of parts.new) }
     ensures told { MayTell result.telling result.outcome }
 {
     match take_ballot(parts) {
@@ -253,7 +263,8 @@ fn begin(parts: &mut Parts, least: u8, resilience: u8) -> Reply
     requires round { parts.old.core.promise.round < most_number }
     requires number { top_of parts.old.core.log < most_number }
     requires logged { has_log parts.old.status ≡ true }
-    ensures replies { Replies (begin (node_of parts.old) least resilience) result.outcome result.telling (node_of parts.new) }
+    ensures replies { Replies (begin (node_of parts.old) least resilience) result.outcome
+        result.telling (node_of parts.new) }
     ensures told { MayTell result.telling result.outcome }
 {
     let stamp = next_stamp(parts);
@@ -275,7 +286,8 @@ fn reset(parts: &mut Parts, least: u8, resilience: u8) -> Reply
     requires order { IsInOrder parts.old.core }
     requires round { parts.old.core.promise.round < most_number }
     requires number { top_of parts.old.core.log < most_number }
-    ensures replies { Replies (reset_row (node_of parts.old) least resilience) result.outcome result.telling (node_of parts.new) }
+    ensures replies { Replies (reset_row (node_of parts.old) least resilience) result.outcome
+        result.telling (node_of parts.new) }
     ensures told { MayTell result.telling result.outcome }
 {
     if !is_member(parts) {
@@ -316,7 +328,8 @@ fn ask(parts: &Parts, round: u32) -> Outcome
 pub fn on_invite(parts: &mut Parts, from: Name, stamp: Stamp, out: &mut OutBox) -> Outcome
     requires empty { out.old ≡ [] }
     requires within { IsStamp stamp }
-    ensures { Does (λ m. invite_row m from stamp) (node_of parts.old) result out.new (node_of parts.new) }
+    ensures { Does (λ m. invite_row m from stamp) (node_of parts.old) result out.new
+        (node_of parts.new) }
 {
     let before = accepted_of(parts);
     let reply = invite(parts, from, stamp);
@@ -336,7 +349,8 @@ pub fn on_vote(
     requires within { IsStamp stamp }
     requires other { from ≢ parts.old.core.who }
     requires number { top_of parts.old.core.log < most_number }
-    ensures { Does (λ m. vote_row m from stamp shown.now) (node_of parts.old) result out.new (node_of parts.new) }
+    ensures { Does (λ m. vote_row m from stamp shown.now) (node_of parts.old) result out.new
+        (node_of parts.new) }
 {
     let before = accepted_of(parts);
     let reply = vote(parts, from, stamp, shown);
@@ -348,7 +362,8 @@ pub fn on_vote(
 pub fn on_give_up(parts: &mut Parts, name: Name, out: &mut OutBox) -> Outcome
     requires empty { out.old ≡ [] }
     requires number { top_of parts.old.core.log < most_number }
-    ensures { Does (λ m. give_up_row m name) (node_of parts.old) result out.new (node_of parts.new) }
+    ensures { Does (λ m. give_up_row m name) (node_of parts.old) result out.new
+        (node_of parts.new) }
 {
     let before = accepted_of(parts);
     let reply = give_up_row(parts, name);
@@ -360,7 +375,8 @@ pub fn on_reset(parts: &mut Parts, least: u8, resilience: u8, out: &mut OutBox) 
     requires empty { out.old ≡ [] }
     requires round { parts.old.core.promise.round < most_number }
     requires number { top_of parts.old.core.log < most_number }
-    ensures { Does (λ m. reset_row m least resilience) (node_of parts.old) result out.new (node_of parts.new) }
+    ensures { Does (λ m. reset_row m least resilience) (node_of parts.old) result out.new
+        (node_of parts.new) }
 {
     let before = accepted_of(parts);
     let reply = reset(parts, least, resilience);

@@ -22,7 +22,8 @@ use Rattle.am_script.proofs.Races.{race_within}
 -- ---- it keeps to the limits
 
 race_from_within : (d : Data) (s : Script) → (race_from d >>= λ plan. Ok (Race plan)) ≡ Ok s → ScriptWithin s
-race_from_within d s h = ok_then (race_from d) _ s h (λ plan told is. subst (λ (x : Script). ScriptWithin x) (same_ok (Race plan) s is) (race_within d plan told))
+race_from_within d s h = ok_then (race_from d) _ s h (λ plan told is. subst (λ (x : Script). ScriptWithin x) (same_ok (Race plan) s is)
+    (race_within d plan told))
 
 script_from_within : (asked : Key) (d : Data) (s : Script) → script_from asked d ≡ Ok s → ScriptWithin s
 script_from_within key.Race d s h = race_from_within d s h
@@ -30,7 +31,8 @@ script_from_within _ d s h = play_from_within d s h
 
 document_within : (asked : Key) (d : Data) (s : Script) → document_from asked d ≡ Ok s → ScriptWithin s
 unfolding document_from
-document_within asked d s h = if_ok (is_some (as_object d)) _ _ s h (λ is_one inner. ok_then (value_in asked 0 d) _ s inner (λ v there rest. if_ok (has_only (asked ∷ []) d) _ _ s rest (λ only told.
+document_within asked d s h = if_ok (is_some (as_object d)) _ _ s h
+    (λ is_one inner. ok_then (value_in asked 0 d) _ s inner (λ v there rest. if_ok (has_only (asked ∷ []) d) _ _ s rest (λ only told.
     script_from_within asked v s told)))
 
 pub answer_within : (asked : Key) (d : Data) (r : Result Script ScriptRefusal) → Answers (document_from asked d) r → IfOk r ScriptWithin
@@ -46,7 +48,8 @@ others_are_plays _ d other = refl
 
 a_play : (d : Data) (s : Script) → play_from d ≡ Ok s → IsOfKind key.Play s
 unfolding play_from parts_of_play
-a_play d s h = if_ok (is_some (as_object d)) _ _ s h (λ is_play parts. if_ok (has_only play_keys d) _ _ s parts (λ few whole. ok_then (founding_in d) _ s whole (λ founding founded rest. ok_then (flag_or false key.Settle 0 d) _ s rest (λ settle told more.
+a_play d s h = if_ok (is_some (as_object d)) _ _ s h (λ is_play parts. if_ok (has_only play_keys d) _ _ s parts
+    (λ few whole. ok_then (founding_in d) _ s whole (λ founding founded rest. ok_then (flag_or false key.Settle 0 d) _ s rest (λ settle told more.
     ok_then (value_in key.Events 0 d) _ s more (λ v there later. ok_then (events_from founding.resilience v) _ s later (λ events listed is.
     subst (λ (x : Script). IsOfKind key.Play x) (same_ok _ s is) tt))))))
 
@@ -60,7 +63,8 @@ of_kind _ d s kind h = absurd kind
 
 document_of_kind : (asked : Key) (d : Data) (s : Script) → IsKind asked → document_from asked d ≡ Ok s → IsOfKind asked s
 unfolding document_from
-document_of_kind asked d s kind h = if_ok (is_some (as_object d)) _ _ s h (λ is_one inner. ok_then (value_in asked 0 d) _ s inner (λ v there rest. if_ok (has_only (asked ∷ []) d) _ _ s rest (λ only told.
+document_of_kind asked d s kind h = if_ok (is_some (as_object d)) _ _ s h
+    (λ is_one inner. ok_then (value_in asked 0 d) _ s inner (λ v there rest. if_ok (has_only (asked ∷ []) d) _ _ s rest (λ only told.
     of_kind asked v s kind told)))
 
 pub answer_of_kind : (asked : Key) (d : Data) (r : Result Script ScriptRefusal) → IsKind asked → Answers (document_from asked d) r → IfOk r (IsOfKind asked)

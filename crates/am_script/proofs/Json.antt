@@ -10,6 +10,7 @@ use Rattle.am_script.specs.Keys.{words_of}
 pub items_len_view : (values : List Value) → items_len (items_view values) ≡ length values
 items_len_view values = items_len-items_view values
 
-pub all_words : (p : List ℕ → Bool) (members : List (String Global × Value)) → list_all (λ k. p (string_bytes k)) (map (λ m. m.0) members) ≡ list_all p (words_of (members_view members))
+pub all_words : (p : List ℕ → Bool) (members : List (String Global × Value))
+    → list_all (λ k. p (string_bytes k)) (map (λ m. m.0) members) ≡ list_all p (words_of (members_view members))
 all_words p [] = refl
 all_words p (m ∷ ms) = ap (λ b. p (string_bytes m.0) && b) (all_words p ms)

@@ -1,5 +1,6 @@
 -- Every play keeps to the limits.
-use Rattle.std.proofs.Common.{◌≡◌, ℕ, ◌+◌, ◌*◌, ◌-◌, ◌/◌, ◌%◌, ◌<◌, ◌≤◌, List, [], ◌∷◌, length, get_or, set, Result, Ok, Err, true, false, is_some, ◌&&◌, nat_le, nat_lt, refl, subst, arith, cond, All}
+use Rattle.std.proofs.Common.{◌≡◌, ℕ, ◌+◌, ◌*◌, ◌-◌, ◌/◌, ◌%◌, ◌<◌, ◌≤◌, List, [], ◌∷◌, length, get_or, set, Result, Ok, Err, true, false, is_some, ◌&&◌}
+use Rattle.std.proofs.Common.{nat_le, nat_lt, refl, subst, arith, cond, All}
 use Rattle.std.specs.Option.{ok_or}
 use Rattle.std.proofs.lemmas.Bool.{leb-true}
 use Rattle.std.proofs.lemmas.Grind.{common_steps}
@@ -56,14 +57,16 @@ send_within place d a h = ok_then (text_in key.Body place d) _ a h (λ text ther
 
 reset_within : (founding place : ℕ) (d : Data) (a : Act) → founding ≤ 15 → reset_in founding place d ≡ Ok a → ActWithin a
 unfolding reset_in
-reset_within founding place d a low h = ok_then (number_in key.Least place 1 16 d) _ a h (λ least there rest. ok_then (number_or founding key.Resilience place 0 15 d) _ a rest (λ resilience told is.
+reset_within founding place d a low h = ok_then (number_in key.Least place 1 16 d) _ a h
+    (λ least there rest. ok_then (number_or founding key.Resilience place 0 15 d) _ a rest (λ resilience told is.
     let size_of = number_in_within key.Least place 1 16 d least there in
     let kept = number_or_within founding key.Resilience place 0 15 d resilience (omega arith) low told in
     act_as (act.Reset least resilience) a is (omega (arith, size_of.0), size_of.1, kept.1)))
 
 give_up_within : (place : ℕ) (d : Data) (a : Act) → give_up_in place d ≡ Ok a → ActWithin a
 unfolding give_up_in
-give_up_within place d a h = ok_then (number_in key.Name place 0 15 d) _ a h (λ seat there rest. ok_then (number_or 1 key.Life place 1 16 d) _ a rest (λ life told is.
+give_up_within place d a h = ok_then (number_in key.Name place 0 15 d) _ a h
+    (λ seat there rest. ok_then (number_or 1 key.Life place 1 16 d) _ a rest (λ life told is.
     let low = number_in_within key.Name place 0 15 d seat there in
     let lives = number_or_within 1 key.Life place 1 16 d life (omega arith) (omega arith) told in
     act_as (act.GiveUp (name_at seat life)) a is (omega (arith, low, lives))))
@@ -73,41 +76,49 @@ count_within k place d n h = let fits = number_in_within k place 1 most_number d
 
 cut_within : (place : ℕ) (d : Data) (a : Act) → cut_in place d ≡ Ok a → ActWithin a
 unfolding cut_in
-cut_within place d a h = ok_then (number_in key.Packet place 1 most_number d) _ a h (λ packet there rest. ok_then (number_in key.Keep place 0 most_packet d) _ a rest (λ keep told is.
+cut_within place d a h = ok_then (number_in key.Packet place 1 most_number d) _ a h
+    (λ packet there rest. ok_then (number_in key.Keep place 0 most_packet d) _ a rest (λ keep told is.
     act_as (act.Cut packet keep) a is (count_within key.Packet place d packet there, (number_in_within key.Keep place 0 most_packet d keep told).1)))
 
 pub act_within : (kind : Kind) (founding place : ℕ) (d : Data) (a : Act) → founding ≤ 15 → act_in kind founding place d ≡ Ok a → ActWithin a
 unfolding act_in
 act_within Send founding place d a low h = send_within place d a h
-act_within Done founding place d a low h = ok_then (number_in key.Req place 1 most_number d) _ a h (λ n told is. act_as (act.Done n) a is (count_within key.Req place d n told))
+act_within Done founding place d a low h = ok_then (number_in key.Req place 1 most_number d) _ a h
+    (λ n told is. act_as (act.Done n) a is (count_within key.Req place d n told))
 act_within Take founding place d a low h = act_as act.Take a h tt
 act_within Join founding place d a low h = act_as act.Join a h tt
 act_within State founding place d a low h = act_as act.State a h tt
 act_within Leave founding place d a low h = act_as act.Leave a h tt
 act_within Reset founding place d a low h = reset_within founding place d a low h
-act_within Ask founding place d a low h = ok_then (number_in key.Round place 1 most_number d) _ a h (λ n told is. act_as (act.Ask n) a is (count_within key.Round place d n told))
+act_within Ask founding place d a low h = ok_then (number_in key.Round place 1 most_number d) _ a h
+    (λ n told is. act_as (act.Ask n) a is (count_within key.Round place d n told))
 act_within GiveUp founding place d a low h = give_up_within place d a h
 act_within Stop founding place d a low h = act_as act.Stop a h tt
 act_within Tick founding place d a low h = act_as act.Tick a h tt
-act_within Hear founding place d a low h = ok_then (number_in key.Packet place 1 most_number d) _ a h (λ n told is. act_as (act.Hear n) a is (count_within key.Packet place d n told))
+act_within Hear founding place d a low h = ok_then (number_in key.Packet place 1 most_number d) _ a h
+    (λ n told is. act_as (act.Hear n) a is (count_within key.Packet place d n told))
 act_within Cut founding place d a low h = cut_within place d a h
 act_within Return founding place d a low h = act_as act.Return a h tt
 
 event_as_within : (kind : Kind) (founding place : ℕ) (d : Data) (e : Event) → founding ≤ 15 → event_as kind founding place d ≡ Ok e → EventWithin e
 unfolding event_as
-event_as_within kind founding place d e low h = if_ok (has_only (keys_of kind) d) _ _ e h (λ only inner. ok_then (number_in key.Node place 0 15 d) _ e inner (λ node there rest. ok_then (act_in kind founding place d) _ e rest (λ done told is.
+event_as_within kind founding place d e low h = if_ok (has_only (keys_of kind) d) _ _ e h
+    (λ only inner. ok_then (number_in key.Node place 0 15 d) _ e inner (λ node there rest. ok_then (act_in kind founding place d) _ e rest (λ done told is.
     let fits = number_in_within key.Node place 0 15 d node there in
     let seat : node < 16 = omega (arith, fits.1) in
     subst (λ (x : Event). EventWithin x) (same_ok _ e is) (seat, act_within kind founding place d done low told))))
 
 event_within : (founding place : ℕ) (d : Data) (e : Event) → founding ≤ 15 → event_from founding place d ≡ Ok e → EventWithin e
 unfolding event_from
-event_within founding place d e low h = if_ok (is_some (as_object d)) _ _ e h (λ there inner. ok_then (kind_in place d) _ e inner (λ kind known told. event_as_within kind founding place d e low told))
+event_within founding place d e low h = if_ok (is_some (as_object d)) _ _ e h
+    (λ there inner. ok_then (kind_in place d) _ e inner (λ kind known told. event_as_within kind founding place d e low told))
 
 each_within : (founding place : ℕ) (ds : Items) (es : List Event) → founding ≤ 15 → each_event founding place ds ≡ Ok es → All EventWithin es
 each_within founding place no_items es low h = subst (λ (xs : List Event). All EventWithin xs) (same_ok [] es h) (λ k d lt. absurd (omega arith))
-each_within founding place (item d ds) es low h = ok_then (event_from founding place d) _ es h (λ e told rest. ok_then (each_event founding (place + 1) ds) _ es rest (λ more others is.
-    subst (λ (xs : List Event). All EventWithin xs) (same_ok _ es is) (All-cons EventWithin e more (event_within founding place d e low told) (each_within founding (place + 1) ds more low others))))
+each_within founding place (item d ds) es low h = ok_then (event_from founding place d) _ es h
+    (λ e told rest. ok_then (each_event founding (place + 1) ds) _ es rest (λ more others is.
+    subst (λ (xs : List Event). All EventWithin xs) (same_ok _ es is)
+    (All-cons EventWithin e more (event_within founding place d e low told) (each_within founding (place + 1) ds more low others))))
 
 events_within : (founding : ℕ) (d : Data) (es : List Event) → founding ≤ 15 → events_from founding d ≡ Ok es → All EventWithin es
 unfolding events_from
@@ -138,7 +149,8 @@ good_with names place le good = (
 
 founders_good : (names : List ℕ) (ds : Items) (out : List ℕ) → each_founder names ds ≡ Ok out → Good names → Good out × (0 < size names → 0 < size out)
 founders_good names no_items out h good = subst (λ (xs : List ℕ). Good xs × (0 < size names → 0 < size xs)) (same_ok names out h) (good, λ some. some)
-founders_good names (item d ds) out h good = ok_then (number_from key.Founders 0 0 15 d) _ out h (λ place told rest. none_or (has names place) _ _ out rest (λ later.
+founders_good names (item d ds) out h good = ok_then (number_from key.Founders 0 0 15 d) _ out h
+    (λ place told rest. none_or (has names place) _ _ out rest (λ later.
     let fits = number_within key.Founders 0 0 15 d place told in
     let next = good_with names place fits.1 good in
     let done = founders_good (with_name names place) ds out later next.0 in
@@ -149,14 +161,16 @@ nobody_good = record { places = refl; first_lives = λ k lt. grind (arith, commo
 
 some_founder : (ds : Items) (names : List ℕ) → nat_le 1 (items_len ds) ≡ true → each_founder nobody ds ≡ Ok names → 0 < size names
 some_founder no_items names some h = cc
-some_founder (item d ds) names some h = ok_then (number_from key.Founders 0 0 15 d) _ names h (λ place told rest. none_or (has nobody place) _ _ names rest (λ later.
+some_founder (item d ds) names some h = ok_then (number_from key.Founders 0 0 15 d) _ names h
+    (λ place told rest. none_or (has nobody place) _ _ names rest (λ later.
     let fits = number_within key.Founders 0 0 15 d place told in
     let next = good_with nobody place fits.1 nobody_good in
     (founders_good (with_name nobody place) ds names later next.0).1 next.1))
 
 pub founders_are : (d : Data) (names : List ℕ) → founders_from d ≡ Ok names → AreFounders names
 unfolding founders_from
-founders_are d names h = ok_then (ok_or (as_array d) (BadValue key.Founders 0)) _ names h (λ ds there told. if_ok (nat_le 1 (items_len ds) && nat_le (items_len ds) 16) _ _ names told (λ count inner.
+founders_are d names h = ok_then (ok_or (as_array d) (BadValue key.Founders 0)) _ names h
+    (λ ds there told. if_ok (nat_le 1 (items_len ds) && nat_le (items_len ds) 16) _ _ names told (λ count inner.
     let good = (founders_good nobody ds names inner nobody_good).0 in
     record {
       set = record { places = good.places; lives = λ k lt. grind (arith, good.first_lives k) };
@@ -169,7 +183,9 @@ founders_are d names h = ok_then (ok_or (as_array d) (BadValue key.Founders 0)) 
 pub founding_within : (d : Data) (rules : Rules) → founding_in d ≡ Ok rules → MayFound rules
 unfolding founding_in
 founding_within d rules h = ok_then (value_in key.Founders 0 d) _ rules h (λ v there rest. ok_then (founders_from v) _ rules rest (λ names named more.
-    ok_then (number_or 0 key.Resilience 0 0 15 d) _ rules more (λ resilience kept later. ok_then (number_or 64 key.Window 0 1 most_window d) _ rules later (λ window wide last. ok_then (number_or 256 key.PbUpTo 0 0 most_body d) _ rules last (λ pb_up_to short is.
+    ok_then (number_or 0 key.Resilience 0 0 15 d) _ rules more
+    (λ resilience kept later. ok_then (number_or 64 key.Window 0 1 most_window d) _ rules later
+    (λ window wide last. ok_then (number_or 256 key.PbUpTo 0 0 most_body d) _ rules last (λ pb_up_to short is.
     let are = founders_are v names named in
     let low = number_or_within 0 key.Resilience 0 0 15 d resilience (omega arith) (omega arith) kept in
     let room = number_or_within 64 key.Window 0 1 most_window d window (omega arith) (omega arith) wide in

@@ -1,5 +1,6 @@
 -- Every race keeps to the limits.
-use Rattle.std.proofs.Common.{◌≡◌, ℕ, suc, ◌+◌, ◌<◌, ◌≤◌, List, [], ◌∷◌, ◌++◌, length, drop, slice_index_or, append_assoc, sym, ◌∙◌, Ok, Err, true, is_some, ◌&&◌, nat_le, refl, ap, subst, arith, All}
+use Rattle.std.proofs.Common.{◌≡◌, ℕ, suc, ◌+◌, ◌<◌, ◌≤◌, List, [], ◌∷◌, ◌++◌, length, drop, slice_index_or, append_assoc, sym, ◌∙◌, Ok, Err, true, is_some}
+use Rattle.std.proofs.Common.{◌&&◌, nat_le, refl, ap, subst, arith, All}
 use Rattle.std.specs.Option.{ok_or}
 use Rattle.std.proofs.lemmas.Bool.{leb-true}
 use Rattle.std.proofs.lemmas.List.{drop_more}
@@ -23,7 +24,8 @@ use Rattle.am_script.specs.Refusals.{Read, ◌>>=◌}
 use Rattle.am_script.specs.Values.{value_in, text_in, number_in, number_or, body_from}
 use Rattle.am_script.specs.Events.{kind_in, send_in, reset_in, act_in}
 use Rattle.am_script.specs.Founders.{founding_in}
-use Rattle.am_script.specs.Races.{is_call, call_keys_of, call_kind_in, call_as, call_from, each_call, calls_from, thread_keys, parts_of_thread, thread_from, each_thread, threads_from, calls_of, records_of, of_right_size, race_keys, parts_of_race, race_from}
+use Rattle.am_script.specs.Races.{is_call, call_keys_of, call_kind_in, call_as, call_from, each_call, calls_from, thread_keys, parts_of_thread, thread_from}
+use Rattle.am_script.specs.Races.{each_thread, threads_from, calls_of, records_of, of_right_size, race_keys, parts_of_race, race_from}
 use Rattle.am_script.specs.Limits.{CallWithin, ThreadWithin, RaceWithin}
 use Rattle.am_script.proofs.Steps.{same_ok, ok_then, if_ok, both, number_in_within, number_or_within}
 use Rattle.am_script.proofs.Limits.{body_within, founding_within}
@@ -33,14 +35,17 @@ use Rattle.am_script.proofs.Limits.{body_within, founding_within}
 call_is : (a b : Act) → (let r : Read Act = Ok a in r) ≡ Ok b → CallWithin a → CallWithin b
 call_is a b h within = subst (λ (x : Act). CallWithin x) (same_ok a b h) within
 
-call_act_within : (kind : Kind) (founding place : ℕ) (d : Data) (a : Act) → founding ≤ 15 → is_call kind ≡ true → act_in kind founding place d ≡ Ok a → CallWithin a
+call_act_within : (kind : Kind) (founding place : ℕ) (d : Data) (a : Act) → founding ≤ 15 → is_call kind ≡ true → act_in kind founding place d ≡ Ok a
+    → CallWithin a
 unfolding act_in send_in reset_in
-call_act_within Send founding place d a low may h = ok_then (text_in key.Body place d) _ a h (λ text there rest. ok_then (body_from place text) _ a rest (λ body told is.
+call_act_within Send founding place d a low may h = ok_then (text_in key.Body place d) _ a h
+    (λ text there rest. ok_then (body_from place text) _ a rest (λ body told is.
     call_is (act.Send body) a is (body_within place text body told)))
 call_act_within Take founding place d a low may h = call_is act.Take a h tt
 call_act_within Join founding place d a low may h = call_is act.Join a h tt
 call_act_within Leave founding place d a low may h = call_is act.Leave a h tt
-call_act_within Reset founding place d a low may h = ok_then (number_in key.Least place 1 16 d) _ a h (λ least there rest. ok_then (number_or founding key.Resilience place 0 15 d) _ a rest (λ resilience told is.
+call_act_within Reset founding place d a low may h = ok_then (number_in key.Least place 1 16 d) _ a h
+    (λ least there rest. ok_then (number_or founding key.Resilience place 0 15 d) _ a rest (λ resilience told is.
     let size_of = number_in_within key.Least place 1 16 d least there in
     let kept = number_or_within founding key.Resilience place 0 15 d resilience (omega arith) low told in
     call_is (act.Reset least resilience) a is (omega (arith, size_of.0), size_of.1, kept.1)))
@@ -58,28 +63,35 @@ call_within : (founding place : ℕ) (d : Data) (a : Act) → founding ≤ 15 �
 unfolding call_from call_kind_in call_as
 call_within founding place d a low h = if_ok (is_some (as_object d)) _ _ a h (λ there inner. ok_then (call_kind_in place d) _ a inner (λ kind known told.
     if_ok (has_only (call_keys_of kind) d) _ _ a told (λ only is. ok_then (kind_in place d) _ kind known (λ found named right.
-    if_ok (is_call found) _ _ kind right (λ may same. call_act_within kind founding place d a low (subst (λ (k : Kind). is_call k ≡ true) (same_ok found kind same) may) is)))))
+    if_ok (is_call found) _ _ kind right (λ may same. call_act_within kind founding place d a low
+    (subst (λ (k : Kind). is_call k ≡ true) (same_ok found kind same) may) is)))))
 
 each_call_within : (founding place : ℕ) (ds : Items) (calls : List Act) → founding ≤ 15 → each_call founding place ds ≡ Ok calls → All CallWithin calls
 each_call_within founding place no_items calls low h = subst (λ (xs : List Act). All CallWithin xs) (same_ok [] calls h) (λ k d lt. absurd (omega arith))
-each_call_within founding place (item d ds) calls low h = ok_then (call_from founding place d) _ calls h (λ a told rest. ok_then (each_call founding (place + 1) ds) _ calls rest (λ more others is.
-    subst (λ (xs : List Act). All CallWithin xs) (same_ok _ calls is) (All-cons CallWithin a more (call_within founding place d a low told) (each_call_within founding (place + 1) ds more low others))))
+each_call_within founding place (item d ds) calls low h = ok_then (call_from founding place d) _ calls h
+    (λ a told rest. ok_then (each_call founding (place + 1) ds) _ calls rest (λ more others is.
+    subst (λ (xs : List Act). All CallWithin xs) (same_ok _ calls is)
+    (All-cons CallWithin a more (call_within founding place d a low told) (each_call_within founding (place + 1) ds more low others))))
 
 calls_within : (founding place : ℕ) (d : Data) (calls : List Act) → founding ≤ 15 → calls_from founding place d ≡ Ok calls → All CallWithin calls
 unfolding calls_from
-calls_within founding place d calls low h = ok_then (ok_or (as_array d) (BadValue key.Calls 0)) _ calls h (λ ds there told. each_call_within founding place ds calls low told)
+calls_within founding place d calls low h = ok_then (ok_or (as_array d) (BadValue key.Calls 0)) _ calls h
+    (λ ds there told. each_call_within founding place ds calls low told)
 
 -- ---- threads
 
 parts_within : (founding place : ℕ) (d : Data) (thread : ThreadPlan) → founding ≤ 15 → parts_of_thread founding place d ≡ Ok thread → ThreadWithin thread
 unfolding parts_of_thread
-parts_within founding place d thread low h = ok_then (number_in key.Node 0 0 15 d) _ thread h (λ node there rest. ok_then (value_in key.Calls 0 d) _ thread rest (λ v found more. ok_then (calls_from founding place v) _ thread more (λ calls told is.
+parts_within founding place d thread low h = ok_then (number_in key.Node 0 0 15 d) _ thread h
+    (λ node there rest. ok_then (value_in key.Calls 0 d) _ thread rest (λ v found more. ok_then (calls_from founding place v) _ thread more (λ calls told is.
     let fits = number_in_within key.Node 0 0 15 d node there in
-    subst (λ (x : ThreadPlan). ThreadWithin x) (same_ok _ thread is) (record { node = omega (arith, fits.1); calls = calls_within founding place v calls low told }))))
+    subst (λ (x : ThreadPlan). ThreadWithin x) (same_ok _ thread is)
+    (record { node = omega (arith, fits.1); calls = calls_within founding place v calls low told }))))
 
 thread_within : (founding place : ℕ) (d : Data) (thread : ThreadPlan) → founding ≤ 15 → thread_from founding place d ≡ Ok thread → ThreadWithin thread
 unfolding thread_from
-thread_within founding place d thread low h = if_ok (is_some (as_object d)) _ _ thread h (λ there inner. if_ok (has_only thread_keys d) _ _ thread inner (λ only told. parts_within founding place d thread low told))
+thread_within founding place d thread low h = if_ok (is_some (as_object d)) _ _ thread h
+    (λ there inner. if_ok (has_only thread_keys d) _ _ thread inner (λ only told. parts_within founding place d thread low told))
 
 -- one thread more of those that are read in turn
 read_more : (thread : ThreadPlan) (threads : List ThreadPlan) (later : Read (List ThreadPlan))
@@ -87,8 +99,10 @@ read_more : (thread : ThreadPlan) (threads : List ThreadPlan) (later : Read (Lis
 read_more thread threads (Ok xs) = ap (λ (ys : List ThreadPlan). let r : Read (List ThreadPlan) = Ok ys in r) (sym (append_assoc threads (thread ∷ []) xs))
 read_more thread threads (Err e) = refl
 
-pub threads_go_on : (founding first i count : ℕ) (list : List Value) (value : Value) (thread : ThreadPlan) (threads more : List ThreadPlan) (whole : Read (List ThreadPlan))
-    → i < length list → value ≡ slice_index_or list i value → thread_from founding first (view value) ≡ Ok thread → count ≡ length thread.calls → more ≡ threads ++ thread ∷ []
+pub threads_go_on : (founding first i count : ℕ) (list : List Value) (value : Value) (thread : ThreadPlan) (threads more : List ThreadPlan)
+    (whole : Read (List ThreadPlan))
+    → i < length list → value ≡ slice_index_or list i value → thread_from founding first (view value) ≡ Ok thread → count ≡ length thread.calls
+    → more ≡ threads ++ thread ∷ []
     → whole ≡ (each_thread founding first (items_view (drop i list)) >>= λ later. Ok (threads ++ later))
     → whole ≡ (each_thread founding (first + count) (items_view (drop (i + 1) list)) >>= λ later. Ok (more ++ later))
 threads_go_on founding first i count list value thread threads more whole within is told counted pushed h =
@@ -107,9 +121,13 @@ record GoodThreads (ds : Items) (threads : List ThreadPlan) : Type 0 where
   each : All ThreadWithin threads
   count : length threads ≡ items_len ds
 
-each_thread_within : (founding place : ℕ) (ds : Items) (threads : List ThreadPlan) → founding ≤ 15 → each_thread founding place ds ≡ Ok threads → GoodThreads ds threads
-each_thread_within founding place no_items threads low h = subst (λ (xs : List ThreadPlan). GoodThreads no_items xs) (same_ok [] threads h) (record { each = λ k d lt. absurd (omega arith); count = refl })
-each_thread_within founding place (item d ds) threads low h = ok_then (thread_from founding place d) _ threads h (λ thread told rest. ok_then (each_thread founding (place + length thread.calls) ds) _ threads rest (λ more others is.
+each_thread_within : (founding place : ℕ) (ds : Items) (threads : List ThreadPlan) → founding ≤ 15 → each_thread founding place ds ≡ Ok threads
+    → GoodThreads ds threads
+each_thread_within founding place no_items threads low h = subst (λ (xs : List ThreadPlan). GoodThreads no_items xs) (same_ok [] threads h)
+    (record { each = λ k d lt. absurd (omega arith); count = refl })
+each_thread_within founding place (item d ds) threads low h =
+    ok_then (thread_from founding place d) _ threads h (λ thread told rest. ok_then (each_thread founding (place + length thread.calls) ds) _ threads rest
+    (λ more others is.
     let later = each_thread_within founding (place + length thread.calls) ds more low others in
     subst (λ (xs : List ThreadPlan). GoodThreads (item d ds) xs) (same_ok _ threads is) (record {
       each = All-cons ThreadWithin thread more (thread_within founding place d thread low told) later.each;
@@ -123,7 +141,8 @@ record RightThreads (threads : List ThreadPlan) : Type 0 where
 
 threads_within : (founding : ℕ) (d : Data) (threads : List ThreadPlan) → founding ≤ 15 → threads_from founding d ≡ Ok threads → RightThreads threads
 unfolding threads_from
-threads_within founding d threads low h = ok_then (ok_or (as_array d) (BadValue key.Threads 0)) _ threads h (λ ds there told. if_ok (nat_le 1 (items_len ds) && nat_le (items_len ds) 16) _ _ threads told (λ count inner.
+threads_within founding d threads low h = ok_then (ok_or (as_array d) (BadValue key.Threads 0)) _ threads h
+    (λ ds there told. if_ok (nat_le 1 (items_len ds) && nat_le (items_len ds) 16) _ _ threads told (λ count inner.
     let good = each_thread_within founding 1 ds threads low inner in
     let tests = both _ _ count in
     let least = leb-true 1 (items_len ds) tests.0 in
@@ -142,13 +161,16 @@ record RightSize (plan found : RacePlan) : Type 0 where
 
 right_size : (plan found : RacePlan) → of_right_size plan ≡ Ok found → RightSize plan found
 unfolding of_right_size
-right_size plan found h = if_ok (nat_le (calls_of plan.threads) 1000) _ _ found h (λ few inner. if_ok (nat_le (records_of plan) most_events) _ _ found inner (λ short is.
+right_size plan found h = if_ok (nat_le (calls_of plan.threads) 1000) _ _ found h
+    (λ few inner. if_ok (nat_le (records_of plan) most_events) _ _ found inner (λ short is.
     record { same = same_ok plan found is; calls = leb-true (calls_of plan.threads) 1000 few; records = leb-true (records_of plan) most_events short }))
 
 race_parts_within : (d : Data) (plan : RacePlan) → parts_of_race d ≡ Ok plan → RaceWithin plan
 unfolding parts_of_race
-race_parts_within d plan h = ok_then (founding_in d) _ plan h (λ founding founded r1. ok_then (number_in key.Seed 0 0 18446744073709551615 d) _ plan r1 (λ seed seeded r2.
-    ok_then (number_or 0 key.Loss 0 0 50 d) _ plan r2 (λ loss lost r3. ok_then (number_or 0 key.Repeat 0 0 40 d) _ plan r3 (λ repeat again r4. ok_then (number_or 200 key.Turns 0 1 10000 d) _ plan r4 (λ turns turned r5.
+race_parts_within d plan h = ok_then (founding_in d) _ plan h
+    (λ founding founded r1. ok_then (number_in key.Seed 0 0 18446744073709551615 d) _ plan r1 (λ seed seeded r2.
+    ok_then (number_or 0 key.Loss 0 0 50 d) _ plan r2 (λ loss lost r3. ok_then (number_or 0 key.Repeat 0 0 40 d) _ plan r3
+    (λ repeat again r4. ok_then (number_or 200 key.Turns 0 1 10000 d) _ plan r4 (λ turns turned r5.
     ok_then (value_in key.Threads 0 d) _ plan r5 (λ v there r6. ok_then (threads_from founding.resilience v) _ plan r6 (λ threads listed last.
     let may = founding_within d founding founded in
     let low = number_or_within 0 key.Loss 0 0 50 d loss (omega arith) (omega arith) lost in
@@ -171,4 +193,5 @@ race_parts_within d plan h = ok_then (founding_in d) _ plan h (λ founding found
 
 pub race_within : (d : Data) (plan : RacePlan) → race_from d ≡ Ok plan → RaceWithin plan
 unfolding race_from
-race_within d plan h = if_ok (is_some (as_object d)) _ _ plan h (λ is_race inner. if_ok (has_only race_keys d) _ _ plan inner (λ only told. race_parts_within d plan told))
+race_within d plan h = if_ok (is_some (as_object d)) _ _ plan h
+    (λ is_race inner. if_ok (has_only race_keys d) _ _ plan inner (λ only told. race_parts_within d plan told))

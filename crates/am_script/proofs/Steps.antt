@@ -33,16 +33,19 @@ both false b h = cc
 
 pub number_within : (k : Key) (place least most : ℕ) (d : Data) (n : ℕ) → number_from k place least most d ≡ Ok n → (least ≤ n) × (n ≤ most)
 unfolding number_from
-number_within k place least most d n h = ok_then (ok_or (option_and_then as_u64 (as_number d)) (BadValue k place)) _ n h (λ found there told. if_ok (nat_le least found && nat_le found most) _ _ n told (λ fits is.
+number_within k place least most d n h = ok_then (ok_or (option_and_then as_u64 (as_number d)) (BadValue k place)) _ n h
+    (λ found there told. if_ok (nat_le least found && nat_le found most) _ _ n told (λ fits is.
     let tests = both _ _ fits in
     subst (λ (m : ℕ). (least ≤ m) × (m ≤ most)) (same_ok found n is) (leb-true least found tests.0, leb-true found most tests.1)))
 
 pub number_in_within : (k : Key) (place least most : ℕ) (d : Data) (n : ℕ) → number_in k place least most d ≡ Ok n → (least ≤ n) × (n ≤ most)
 number_in_within k place least most d n h = ok_then (value_in k place d) _ n h (λ v there told. number_within k place least most v n told)
 
-number_or_at : (otherwise : ℕ) (k : Key) (place least most : ℕ) (found : Option Data) (n : ℕ) → least ≤ otherwise → otherwise ≤ most → option_map_or (number_from k place least most) found (Ok otherwise) ≡ Ok n → (least ≤ n) × (n ≤ most)
+number_or_at : (otherwise : ℕ) (k : Key) (place least most : ℕ) (found : Option Data) (n : ℕ) → least ≤ otherwise → otherwise ≤ most
+    → option_map_or (number_from k place least most) found (Ok otherwise) ≡ Ok n → (least ≤ n) × (n ≤ most)
 number_or_at otherwise k place least most None n low high h = subst (λ (m : ℕ). (least ≤ m) × (m ≤ most)) (same_ok otherwise n h) (low, high)
 number_or_at otherwise k place least most (Some v) n low high h = number_within k place least most v n h
 
-pub number_or_within : (otherwise : ℕ) (k : Key) (place least most : ℕ) (d : Data) (n : ℕ) → least ≤ otherwise → otherwise ≤ most → number_or otherwise k place least most d ≡ Ok n → (least ≤ n) × (n ≤ most)
+pub number_or_within : (otherwise : ℕ) (k : Key) (place least most : ℕ) (d : Data) (n : ℕ) → least ≤ otherwise → otherwise ≤ most
+    → number_or otherwise k place least most d ≡ Ok n → (least ≤ n) × (n ≤ most)
 number_or_within otherwise k place least most d n low high h = number_or_at otherwise k place least most (value_at k d) n low high h

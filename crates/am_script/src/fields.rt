@@ -18,7 +18,8 @@ fn is_known(keys: &[Key], word: &str) -> bool
 
 /// Whether each key of a map is one of these.
 fn are_known(keys: &[Key], members: &Map<String, Value>) -> bool
-    ensures { result ≡ list_all (λ word. is_among keys.now (string_bytes word)) (map (λ m. m.0) members.now.entries) }
+    ensures { result ≡ list_all (λ word. is_among keys.now (string_bytes word))
+        (map (λ m. m.0) members.now.entries) }
 {
     members.keys().all(|word| is_known(keys, word.as_str()))
 }
@@ -35,7 +36,8 @@ pub fn only(keys: &[Key], value: &Value) -> bool
 
 /// The value at a key of an object; Missing where the key isn't there.
 pub fn value_in(object: &Value, key: Key, place: u64) -> Result<&Value, ScriptRefusal>
-    ensures { result_map_both (λ v. view v.now) (λ e. e) result ≡ value_in key place (view object.now) }
+    ensures { result_map_both (λ v. view v.now) (λ e. e) result
+        ≡ value_in key place (view object.now) }
 {
     match object.get(key.word()) {
         Some(value) => Ok(value),

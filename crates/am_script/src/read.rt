@@ -50,7 +50,8 @@ fn document(alloc: Global, asked: Key, value: &Value) -> Result<Script, ScriptRe
 fn parsed(alloc: Global, bytes: &[u8]) -> Result<Value, ScriptRefusal>
     ensures ok { IfOk result (λ v. document_in bytes.now ≡ Some (view v)) }
     ensures some { OnOk result (0 < length bytes.now) }
-    ensures refused { IfErr result (λ e. e ≢ ScriptRefusal.NoMemory → (e ≡ ScriptRefusal.NotJson) × (document_in bytes.now ≡ None)) }
+    ensures refused { IfErr result (λ e. e ≢ ScriptRefusal.NoMemory → (e ≡ ScriptRefusal.NotJson)
+        × (document_in bytes.now ≡ None)) }
     ensures memory { IfErr result (λ e. e ≡ ScriptRefusal.NoMemory → 0 < length bytes.now) }
 {
     match Value::from_slice(alloc, bytes) {
@@ -70,7 +71,8 @@ pub fn read_script(alloc: Global, asked: Key, bytes: &[u8]) -> Result<Script, Sc
     ensures ok { IfOk result (λ script. reading asked bytes.now ≡ Ok script) }
     ensures kind { IfOk result (IsOfKind asked) }
     ensures within { IfOk result ScriptWithin }
-    ensures refused { IfErr result (λ e. e ≢ ScriptRefusal.NoMemory → reading asked bytes.now ≡ Err e) }
+    ensures refused { IfErr result (λ e. e ≢ ScriptRefusal.NoMemory
+        → reading asked bytes.now ≡ Err e) }
     ensures memory { IfErr result (λ e. e ≡ ScriptRefusal.NoMemory → 0 < length bytes.now) }
 {
     let value = parsed(alloc, bytes)?;

@@ -1,5 +1,6 @@
 -- Sends stand in line through each change.
-use Rattle.std.proofs.Common.{length-append, take, drop, ◌≡◌, ℕ, ◌+◌, ◌<◌, ◌≤◌, List, [], ◌∷◌, ◌++◌, map, filter, find, length, option_map, Bool, true, false, not, ◌&&◌, ◌==◌, nat_lt, if◌then◌else◌, Option, Some, None, is_none, is_some, refl, sym, ◌∙◌, ap, subst, arith}
+use Rattle.std.proofs.Common.{length-append, take, drop, ◌≡◌, ℕ, ◌+◌, ◌<◌, ◌≤◌, List, [], ◌∷◌, ◌++◌, map, filter, find, length, option_map, Bool, true, false}
+use Rattle.std.proofs.Common.{not, ◌&&◌, ◌==◌, nat_lt, if◌then◌else◌, Option, Some, None, is_none, is_some, refl, sym, ◌∙◌, ap, subst, arith}
 use Rattle.std.specs.List.{list_any, list_all, refill}
 use Rattle.std.specs.Prelude.{IfSome}
 use Rattle.std.proofs.lemmas.Bool.Decides.{nat_tests}
@@ -92,7 +93,8 @@ push_next last (s ∷ ss) n un is = split (is_unsettled s)
     (λ t. rw t refl)
     (λ f. rw f (push_next last ss n un is))
 
-pub push_line : (last : ℕ) (q : List OwnSend) (n : OwnSend) → is_unsettled n ≡ true → n.req ≡ last + 1 → are_in_line last q ≡ true → are_in_line (last + 1) (q ++ n ∷ []) ≡ true
+pub push_line : (last : ℕ) (q : List OwnSend) (n : OwnSend) → is_unsettled n ≡ true → n.req ≡ last + 1 → are_in_line last q ≡ true
+    → are_in_line (last + 1) (q ++ n ∷ []) ≡ true
 push_line last [] n un is line = open_made (last + 1) n [] un (record { next = omega arith; rest = refl; line = refl })
 push_line last (s ∷ ss) n un is line = split (is_unsettled s)
     (λ t.
@@ -110,7 +112,8 @@ push_line last (s ∷ ss) n un is line = split (is_unsettled s)
 other_send : (req number : ℕ) (s : OwnSend) → (s.req ≡ req → ⊥) → settle_send req number s ≡ s
 other_send req number s other = let test : (s.req == req) ≡ false = grind (arith, nat_tests) in rw test refl
 
-all_stay : (last req number : ℕ) (q : List OwnSend) → are_in_line last q ≡ true → list_all is_unsettled q ≡ true → req < next_in last q → map (settle_send req number) q ≡ q
+all_stay : (last req number : ℕ) (q : List OwnSend) → are_in_line last q ≡ true → list_all is_unsettled q ≡ true → req < next_in last q
+    → map (settle_send req number) q ≡ q
 all_stay last req number [] line all low = refl
 all_stay last req number (s ∷ ss) line all low = split (is_unsettled s)
     (λ t.
@@ -129,7 +132,8 @@ pub record IsSettled (last req : ℕ) (q : List OwnSend) : Type 0 where
   pub line : are_in_line last q ≡ true
   pub next : next_in last q ≡ req + 1
 
-pub settle_line : (last req number : ℕ) (q : List OwnSend) (w : OwnSend) → are_in_line last q ≡ true → find is_unsettled q ≡ Some w → w.req ≡ req → IsSettled last req (map (settle_send req number) q)
+pub settle_line : (last req number : ℕ) (q : List OwnSend) (w : OwnSend) → are_in_line last q ≡ true → find is_unsettled q ≡ Some w → w.req ≡ req
+    → IsSettled last req (map (settle_send req number) q)
 settle_line last req number [] w line is at = absurd (cc)
 settle_line last req number (s ∷ ss) w line is at = split (is_unsettled s)
     (λ t.
@@ -175,7 +179,8 @@ pub record StaysInLine (last first : ℕ) (q : List OwnSend) : Type 0 where
   pub line : are_in_line last q ≡ true
   pub next : next_in last q ≡ first
 
-pub remove_line : (last req : ℕ) (q : List OwnSend) → are_in_line last q ≡ true → req < next_in last q → StaysInLine last (next_in last q) (filter (λ send. not (is_request req send)) q)
+pub remove_line : (last req : ℕ) (q : List OwnSend) → are_in_line last q ≡ true → req < next_in last q
+    → StaysInLine last (next_in last q) (filter (λ send. not (is_request req send)) q)
 remove_line last req [] line low = record { line = refl; next = refl }
 remove_line last req (s ∷ ss) line low = split (is_unsettled s)
     (λ t.
@@ -186,7 +191,8 @@ remove_line last req (s ∷ ss) line low = split (is_unsettled s)
     let kept : is_request req s ≡ false = grind (arith, nat_tests) in
     let more = stays.next in
     rw (kept, t) (record {
-      line = open_made last s (filter (λ send. not (is_request req send)) ss) t (record { next = more ∙ next; rest = all_filter (λ send. not (is_request req send)) ss o.rest; line = stays.line });
+      line = open_made last s (filter (λ send. not (is_request req send)) ss) t
+          (record { next = more ∙ next; rest = all_filter (λ send. not (is_request req send)) ss o.rest; line = stays.line });
       next = rw t refl;
     }))
     (λ f.
@@ -212,7 +218,8 @@ any_open req (s ∷ ss) all = split (is_none s.number)
     rw here (any_open req ss rest))
     (λ f. let none = rw f at all in absurd (cc))
 
-pub settled_low : (last req : ℕ) (q : List OwnSend) → are_in_line last q ≡ true → list_any (λ send. (send.req == req) && is_some send.number) q ≡ true → req < next_in last q
+pub settled_low : (last req : ℕ) (q : List OwnSend) → are_in_line last q ≡ true → list_any (λ send. (send.req == req) && is_some send.number) q ≡ true
+    → req < next_in last q
 settled_low last req [] line any = absurd (cc)
 settled_low last req (s ∷ ss) line any = split (is_none s.number)
     (λ t.
@@ -231,11 +238,14 @@ settled_low last req (s ∷ ss) line any = split (is_none s.number)
 
 -- ---- what is kept of them
 
-some_first : (w : Option OwnSend) (req : ℕ) → option_map {U = ℕ} (λ send. send.0) (option_map {U = ℕ × List ℕ} (λ send. (send.req, send.body)) w) ≡ Some req → (s : OwnSend) × (w ≡ Some s) × (s.req ≡ req)
+some_first : (w : Option OwnSend) (req : ℕ) → option_map {U = ℕ} (λ send. send.0) (option_map {U = ℕ × List ℕ} (λ send. (send.req, send.body)) w) ≡ Some req
+    → (s : OwnSend) × (w ≡ Some s) × (s.req ≡ req)
 some_first None req is = absurd (cc)
 some_first (Some s) req is = (s, refl, cc)
 
-pub kept_settle : (last req number : ℕ) (q later : List OwnSend) → AreKept last q → option_map {U = ℕ} (λ send. send.0) (option_map {U = ℕ × List ℕ} (λ send. (send.req, send.body)) (find is_unsettled q)) ≡ Some req → later ≡ map (settle_send req number) q → AreKept last later × (next_in last later ≡ req + 1)
+pub kept_settle : (last req number : ℕ) (q later : List OwnSend) → AreKept last q
+    → option_map {U = ℕ} (λ send. send.0) (option_map {U = ℕ × List ℕ} (λ send. (send.req, send.body)) (find is_unsettled q)) ≡ Some req
+    → later ≡ map (settle_send req number) q → AreKept last later × (next_in last later ≡ req + 1)
 kept_settle last req number q later kept waits is =
     let w = some_first (find is_unsettled q) req waits in
     let line = settle_line last req number q w.0 kept.line w.1 w.2 in
@@ -243,16 +253,21 @@ kept_settle last req number q later kept waits is =
     let few = kept.few in
     (record { few = omega arith; line = ap (are_in_line last) is ∙ line.line; limit = kept.limit }, ap (next_in last) is ∙ line.next)
 
-pub kept_push : (last : ℕ) (q later : List OwnSend) (n : OwnSend) → AreKept last q → length q < 4 → last < most_number → is_unsettled n ≡ true → n.req ≡ last + 1 → later ≡ q ++ n ∷ [] → AreKept (last + 1) later × (next_in (last + 1) later ≡ next_in last q)
+pub kept_push : (last : ℕ) (q later : List OwnSend) (n : OwnSend) → AreKept last q → length q < 4 → last < most_number → is_unsettled n ≡ true
+    → n.req ≡ last + 1 → later ≡ q ++ n ∷ [] → AreKept (last + 1) later × (next_in (last + 1) later ≡ next_in last q)
 kept_push last q later n kept few low un req is =
-    let long : length later ≡ length q + 1 = ap length is ∙ length-append q (n ∷ []) in
-    (record { few = omega arith; line = ap (are_in_line (last + 1)) is ∙ push_line last q n un req kept.line; limit = omega arith }, ap (next_in (last + 1)) is ∙ push_next last q n un req)
+    let long : length later ≡ length q + 1 = ap length is ∙ length-append q (n ∷ []) in (
+      record { few = omega arith; line = ap (are_in_line (last + 1)) is ∙ push_line last q n un req kept.line; limit = omega arith },
+      ap (next_in (last + 1)) is
+          ∙ push_next last q n un req,
+    )
 
 shorter : (p : OwnSend → Bool) (q : List OwnSend) → length (filter p q) ≤ length q
 shorter p [] = omega arith
 shorter p (s ∷ ss) = let rest = shorter p ss in split (p s) (λ t. rw t (omega arith)) (λ f. rw f (omega arith))
 
-pub kept_remove : (last req : ℕ) (q later : List OwnSend) → AreKept last q → req < next_in last q → later ≡ filter (λ send. not (is_request req send)) q → AreKept last later × (next_in last later ≡ next_in last q)
+pub kept_remove : (last req : ℕ) (q later : List OwnSend) → AreKept last q → req < next_in last q → later ≡ filter (λ send. not (is_request req send)) q
+    → AreKept last later × (next_in last later ≡ next_in last q)
 kept_remove last req q later kept low is =
     let line = remove_line last req q kept.line low in
     let long = shorter (λ send. not (is_request req send)) q in
@@ -264,14 +279,17 @@ abbrev first_or_none : Option (ℕ × List ℕ) → ℕ
 first_or_none None = 0
 first_or_none (Some send) = send.0
 
-some_low : (w : Option OwnSend) (last req : ℕ) (body : List ℕ) → ((s : OwnSend) → w ≡ Some s → s.req ≤ last) → Some (req, body) ≡ option_map {U = ℕ × List ℕ} (λ send. (send.req, send.body)) w → req ≤ last
+some_low : (w : Option OwnSend) (last req : ℕ) (body : List ℕ) → ((s : OwnSend) → w ≡ Some s → s.req ≤ last)
+    → Some (req, body) ≡ option_map {U = ℕ × List ℕ} (λ send. (send.req, send.body)) w → req ≤ last
 some_low None last req body low is = absurd (cc)
 some_low (Some s) last req body low is =
     let same : req ≡ s.req = ap first_or_none is in
     let most = low s refl in
     omega arith
 
-pub waiting_within : {B : Type 0} (last : ℕ) (q : List OwnSend) (body : B → List ℕ) (found : Option (ℕ × B)) → AreKept last q → option_map {U = ℕ × List ℕ} (λ send. (send.0, body send.1)) found ≡ option_map {U = ℕ × List ℕ} (λ send. (send.req, send.body)) (find is_unsettled q) → IfSome found (λ send. send.0 ≤ most_number)
+pub waiting_within : {B : Type 0} (last : ℕ) (q : List OwnSend) (body : B → List ℕ) (found : Option (ℕ × B)) → AreKept last q
+    → option_map {U = ℕ × List ℕ} (λ send. (send.0, body send.1)) found ≡ option_map {U = ℕ × List ℕ} (λ send. (send.req, send.body)) (find is_unsettled q)
+    → IfSome found (λ send. send.0 ≤ most_number)
 waiting_within last q body None kept is = tt
 waiting_within last q body (Some f) kept is =
     let limit = kept.limit in

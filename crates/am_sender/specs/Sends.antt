@@ -1,5 +1,6 @@
 -- A node's own sends, which are queued until they are collected.
-use Rattle.std.specs.Prelude.{◌≡◌, ℕ, ◌+◌, ◌≤◌, length, true, nat_lt, List, [], ◌∷◌, ◌++◌, map, filter, find, count_by, Option, Some, None, option_map, is_some, is_none, Bool, not, ◌==◌, ◌&&◌, if◌then◌else◌}
+use Rattle.std.specs.Prelude.{◌≡◌, ℕ, ◌+◌, ◌≤◌, length, true, nat_lt, List, [], ◌∷◌, ◌++◌, map, filter, find, count_by, Option, Some, None, option_map, is_some}
+use Rattle.std.specs.Prelude.{is_none, Bool, not, ◌==◌, ◌&&◌, if◌then◌else◌}
 use Rattle.std.specs.List.{list_any, list_all}
 use Rattle.am_base.specs.Most.{most_number}
 use Rattle.am_base.specs.declared.outcome.Outcome.{Outcome}
@@ -79,7 +80,8 @@ next_in last (send ∷ sends) = if is_unsettled send then send.req else next_in 
 -- those that aren't settled stand behind the settled ones, with requests that follow one another up to the last
 abbrev pub are_in_line : ℕ → List OwnSend → Bool
 are_in_line last [] = true
-are_in_line last (send ∷ sends) = (if is_unsettled send then (send.req + 1 == next_in last sends) && list_all is_unsettled sends else nat_lt send.req (next_in last sends)) && are_in_line last sends
+are_in_line last (send ∷ sends) = (if is_unsettled send then (send.req + 1 == next_in last sends)
+    && list_all is_unsettled sends else nat_lt send.req (next_in last sends)) && are_in_line last sends
 
 abbrev pub next_request : Sends → ℕ
 next_request sends = next_in sends.last sends.queue

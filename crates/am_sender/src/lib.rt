@@ -118,7 +118,8 @@ impl Sender {
 
     fn first_unsettled(&self) -> Option<(u32, &Body)>
         ensures kept { AreKept self.now.last self.now.queue }
-        ensures value { option_map {U = ℕ × List ℕ} (λ send. (send.0, send.1.now)) result ≡ waiting_send self.now }
+        ensures value { option_map {U = ℕ × List ℕ} (λ send. (send.0, send.1.now)) result
+            ≡ waiting_send self.now }
     {
         self.queue
             .as_slice()
@@ -129,7 +130,8 @@ impl Sender {
 
     /// The send that is sent next, the first that isn't settled; None exactly where there is none.
     pub fn waiting(&self) -> Option<(u32, &Body)>
-        ensures value { option_map {U = ℕ × List ℕ} (λ send. (send.0, send.1.now)) result ≡ waiting_send self.now }
+        ensures value { option_map {U = ℕ × List ℕ} (λ send. (send.0, send.1.now)) result
+            ≡ waiting_send self.now }
         ensures within { IfSome result (λ send. send.0 ≤ most_number) }
         ensures kept { AreKept self.now.last self.now.queue }
     {

@@ -22,12 +22,16 @@ use Rattle.am_model.specs.Emit.{Step}
 use Rattle.am_model.proofs.Greatest.{split}
 use Rattle.am_effects.specs.Causes.{Cause, calls, hears, BringsSend, by_request, by_spread}
 use Rattle.am_effects.specs.Looks.{Looks, finds_itself_out, waits, fetches_from_best, finds_too_few, finds_no_room, decides}
-use Rattle.am_effects.specs.Changes.{Numbers, asked_send, own_send, asked_join, asked_leave, Carries, whole_entry, by_number, Change, refreshes, settles, takes_report, admits, numbers, keeps_body, notes, stores, begins_list, departs, promises, opens, looks, fetches, stores_view, queues, collects, takes, asks_to_join, asks_to_leave, closes}
-use Rattle.am_effects.specs.Letters.{HasSend, Stands, Says, request, spread, bcast, order, accept, ack, nack, hold, join_ask, welcome, leave_ask, gone, invite, vote, fetch, piece, result, hand_over, LetterSays}
+use Rattle.am_effects.specs.Changes.{Numbers, asked_send, own_send, asked_join, asked_leave, Carries, whole_entry, by_number, Change, refreshes, settles}
+use Rattle.am_effects.specs.Changes.{takes_report, admits, numbers, keeps_body, notes, stores, begins_list, departs, promises, opens, looks, fetches}
+use Rattle.am_effects.specs.Changes.{stores_view, queues, collects, takes, asks_to_join, asks_to_leave, closes}
+use Rattle.am_effects.specs.Letters.{HasSend, Stands, Says, request, spread, bcast, order, accept, ack, nack, hold, join_ask, welcome, leave_ask, gone, invite}
+use Rattle.am_effects.specs.Letters.{vote, fetch, piece, result, hand_over, LetterSays}
 use Rattle.am_effects.specs.Effects.{Effect}
 use Rattle.am_effects.proofs.Items.{all_get, all_find}
 use Rattle.am_effects.proofs.Runs.{along}
-use Rattle.am_sent.proofs.Kept.{WasSent, EntrySent, PacketSent, LetterSent, SendSent, BodySent, Keeps, as_sent, kept_pushed, kept_queued, kept_collected, kept_body, kept_refresh, kept_settle, kept_at_end, waiting_sent}
+use Rattle.am_sent.proofs.Kept.{WasSent, EntrySent, PacketSent, LetterSent, SendSent, BodySent, Keeps, as_sent, kept_pushed, kept_queued, kept_collected}
+use Rattle.am_sent.proofs.Kept.{kept_body, kept_refresh, kept_settle, kept_at_end, waiting_sent}
 
 -- ---- what makes a node do a step
 
@@ -37,11 +41,13 @@ CauseSent all who o (hears p) = PacketSent all p
 CauseSent all who o (calls (does.Send body)) = (req : ℕ) → o ≡ said.Queued req → WasSent all who req body
 CauseSent all who o _ = Unit {0}
 
-brought_sent : (all : List Record) (who : ℕ) (o : Outcome) (c : Cause) (s : ℕ) (v : Stamp) (report : Report) (req : ℕ) (body : List ℕ) → BringsSend c s v report req body → CauseSent all who o c → WasSent all s req body
+brought_sent : (all : List Record) (who : ℕ) (o : Outcome) (c : Cause) (s : ℕ) (v : Stamp) (report : Report) (req : ℕ) (body : List ℕ)
+    → BringsSend c s v report req body → CauseSent all who o c → WasSent all s req body
 brought_sent all who o c s v report req body (by_request s1 v1 report1 req1 body1) sent = sent
 brought_sent all who o c s v report req body (by_spread s1 v1 report1 req1 body1) sent = sent
 
-numbered_sent : (all : List Record) (who : ℕ) (o : Outcome) (c : Cause) (m : Node) (e : Entry) → Numbers c m e → CauseSent all who o c → Keeps all who m → EntrySent all e
+numbered_sent : (all : List Record) (who : ℕ) (o : Outcome) (c : Cause) (m : Node) (e : Entry) → Numbers c m e → CauseSent all who o c → Keeps all who m
+    → EntrySent all e
 numbered_sent all who o c m e (asked_send s v report req body by known stays next) sent h = brought_sent all who o c s v report req body by sent
 numbered_sent all who o c m e (own_send s is last) sent h = as_sent all who m s.req s.body h (waiting_sent all who m s h is)
 numbered_sent all who o c m e (asked_join s v is other fit) sent h = tt
@@ -60,7 +66,8 @@ as_asked all a b from req body t was =
     let f : b ≡ req = grind (arith, nat_tests) in
     subst (λ name. WasSent all name req body) e (subst (λ r. WasSent all a r body) f was)
 
-own_body_sent : (all : List Record) (who : ℕ) (m : Node) (from req : ℕ) (w : Option OwnSend) → ((s : OwnSend) → w ≡ Some s → SendSent all who s) → Keeps all who m → MaySend all from req (own_body m from req w)
+own_body_sent : (all : List Record) (who : ℕ) (m : Node) (from req : ℕ) (w : Option OwnSend) → ((s : OwnSend) → w ≡ Some s → SendSent all who s)
+    → Keeps all who m → MaySend all from req (own_body m from req w)
 own_body_sent all who m from req None sent h = tt
 own_body_sent all who m from req (Some s) sent h = split ((from == m.core.who) && (s.req == req))
     (λ t.
@@ -69,14 +76,17 @@ own_body_sent all who m from req (Some s) sent h = split ((from == m.core.who) &
     rw t (as_asked all who s.req from req s.body same (sent s refl)))
     (λ f. rw f tt)
 
-found_sent : (all : List Record) (from req : ℕ) (found : Option KeptBody) → ((kept : KeptBody) → found ≡ Some kept → BodySent all kept × (is_of from req kept ≡ true)) → MaySend all from req (option_map (λ kept. kept.body) found)
+found_sent : (all : List Record) (from req : ℕ) (found : Option KeptBody)
+    → ((kept : KeptBody) → found ≡ Some kept → BodySent all kept × (is_of from req kept ≡ true)) → MaySend all from req (option_map (λ kept. kept.body) found)
 found_sent all from req None h = tt
 found_sent all from req (Some kept) h = let k = h kept refl in as_asked all kept.from kept.req from req kept.body k.1 k.0
 
 find_body_sent : (all : List Record) (from req : ℕ) (bodies : List KeptBody) → All (BodySent all) bodies → MaySend all from req (find_body from req bodies)
-find_body_sent all from req bodies h = found_sent all from req (find (is_of from req) bodies) (λ kept is. all_find (BodySent all) (is_of from req) bodies kept h is)
+find_body_sent all from req bodies h = found_sent all from req (find (is_of from req) bodies)
+    (λ kept is. all_find (BodySent all) (is_of from req) bodies kept h is)
 
-first_sent : (all : List Record) (from req : ℕ) (a b : Option (List ℕ)) → MaySend all from req a → MaySend all from req b → MaySend all from req (first_body a b)
+first_sent : (all : List Record) (from req : ℕ) (a b : Option (List ℕ)) → MaySend all from req a → MaySend all from req b
+    → MaySend all from req (first_body a b)
 first_sent all from req None b f g = g
 first_sent all from req (Some body) b f g = f
 
@@ -92,9 +102,11 @@ bodies_after_sent all bodies (Join name) h = h
 bodies_after_sent all bodies (Leave name) h = h
 bodies_after_sent all bodies (View stamp names resilience) h = h
 
-carried_sent : (all : List Record) (who : ℕ) (o : Outcome) (c : Cause) (m : Node) (s : ℕ) (v : Stamp) (base acc number : ℕ) (e : Entry) → Carries c m s v base acc number e → CauseSent all who o c → Keeps all who m → EntrySent all e
+carried_sent : (all : List Record) (who : ℕ) (o : Outcome) (c : Cause) (m : Node) (s : ℕ) (v : Stamp) (base acc number : ℕ) (e : Entry)
+    → Carries c m s v base acc number e → CauseSent all who o c → Keeps all who m → EntrySent all e
 carried_sent all who o c m s v base acc number e (whole_entry x is) sent h = subst (CauseSent all who o) is sent
-carried_sent all who o c m s v base acc number e (by_number from req body is found) sent h = subst (MaySend all from req) found (body_of_sent all who m from req h)
+carried_sent all who o c m s v base acc number e (by_number from req body is found) sent h =
+    subst (MaySend all from req) found (body_of_sent all who m from req h)
 
 -- ---- each change
 
@@ -106,7 +118,8 @@ look_sent all who m b v (finds_too_few x y) h = h
 look_sent all who m b v (finds_no_room x) h = h
 look_sent all who m b v (decides may) h = kept_pushed all who m (View b.stamp _ _) tt h
 
-pub change_sent : (all : List Record) (who : ℕ) (c : Cause) (o : Outcome) (m n : Node) → CauseSent all who o c → Change c o m n → Keeps all who m → Keeps all who n
+pub change_sent : (all : List Record) (who : ℕ) (c : Cause) (o : Outcome) (m n : Node) → CauseSent all who o c → Change c o m n → Keeps all who m
+    → Keeps all who n
 change_sent all who c o m n sent refreshes h = kept_refresh all who m h
 change_sent all who c o m n sent settles h = kept_settle all who m h
 change_sent all who c o m n sent (takes_report s v report by may) h = h
@@ -117,19 +130,24 @@ change_sent all who c o m n sent (notes s v base acc by heard) h = h
 change_sent all who c o m n sent (stores s v base acc number e by heard plain may) h =
     let k = kept_pushed all who m e (carried_sent all who o c m s v base acc number e by sent h) h in
     record { name = k.name; entries = k.entries; sends = k.sends; bodies = bodies_after_sent all m.bodies e h.bodies }
-change_sent all who c o m n sent (begins_list s v base join image is a may) h = record { name = h.name; entries = All-nil (EntrySent all); sends = h.sends; bodies = h.bodies }
+change_sent all who c o m n sent (begins_list s v base join image is a may) h =
+    record { name = h.name; entries = All-nil (EntrySent all); sends = h.sends; bodies = h.bodies }
 change_sent all who c o m n sent (departs s v number is heard leaves) h = h
 change_sent all who c o m n sent (promises v low why) h = h
 change_sent all who c o m n sent (opens least resilience by may) h = h
 change_sent all who c o m n sent (looks b verdict over why look is) h = look_sent all who m b verdict look h
-change_sent all who c o m n sent (fetches s v base number e is heard promise below from may) h = kept_pushed all who (trimmed m base) e (subst (CauseSent all who o) is sent) h
-change_sent all who c o m n sent (stores_view s v base number names resilience is heard own other promise below may) h = kept_pushed all who (trimmed m base) (View v names resilience) tt h
-change_sent all who c o m n sent (queues body is a member stays few) h = kept_queued all who m body ((subst (CauseSent all who o) is sent) (m.sends.last + 1) a) h
+change_sent all who c o m n sent (fetches s v base number e is heard promise below from may) h =
+    kept_pushed all who (trimmed m base) e (subst (CauseSent all who o) is sent) h
+change_sent all who c o m n sent (stores_view s v base number names resilience is heard own other promise below may) h =
+    kept_pushed all who (trimmed m base) (View v names resilience) tt h
+change_sent all who c o m n sent (queues body is a member stays few) h =
+    kept_queued all who m body ((subst (CauseSent all who o) is sent) (m.sends.last + 1) a) h
 change_sent all who c o m n sent (collects req is) h = kept_collected all who m req h
 change_sent all who c o m n sent (takes e is a member some there) h = h
 change_sent all who c o m n sent (asks_to_join is was) h = h
 change_sent all who c o m n sent (asks_to_leave is was stays done) h = h
-change_sent all who c o m n sent (closes leads leaves alone room) h = kept_at_end all who (pushed m (Leave m.core.who)) (kept_pushed all who m (Leave m.core.who) tt h)
+change_sent all who c o m n sent (closes leads leaves alone room) h =
+    kept_at_end all who (pushed m (Leave m.core.who)) (kept_pushed all who m (Leave m.core.who) tt h)
 
 -- ---- letters
 
@@ -141,7 +159,8 @@ own_sent all who n req body s h =
     let was = all_get (SendSent all who) n.sends.queue s.index s.send h.sends s.there in
     as_sent all who n req body h (subst (λ b. WasSent all who req b) s.body_ (subst (λ r. WasSent all who r s.send.body) s.request was))
 
-pub said_sent : (all : List Record) (who : ℕ) (m : Node) (c : Cause) (n : Node) (to : List ℕ) (p : Packet) → Says m c n to p → Keeps all who n → PacketSent all p
+pub said_sent : (all : List Record) (who : ℕ) (m : Node) (c : Cause) (n : Node) (to : List ℕ) (p : Packet) → Says m c n to p → Keeps all who n
+    → PacketSent all p
 said_sent all who m c n to p (request x req body a b s) h = own_sent all who n req body s h
 said_sent all who m c n to p (spread x req body a b s) h = own_sent all who n req body s h
 said_sent all who m c n to p (bcast x number e a s) h = stands_sent all who n m.core.base number e s h
@@ -168,11 +187,13 @@ pub record StepSent (all : List Record) (who : ℕ) (s : Step) : Type 0 where
   pub node : Keeps all who s.node
   pub letters : All (LetterSent all) s.letters
 
-pub step_sent : (all : List Record) (who : ℕ) (c : Cause) (m : Node) (s : Step) → Effect m c s → CauseSent all who s.outcome c → Keeps all who m → StepSent all who s
+pub step_sent : (all : List Record) (who : ℕ) (c : Cause) (m : Node) (s : Step) → Effect m c s → CauseSent all who s.outcome c → Keeps all who m
+    → StepSent all who s
 step_sent all who c m s effect sent h =
     let k = along (Keeps all who) (λ x y. change_sent all who c s.outcome x y sent) effect.changes h in
     let l : Keeps all who effect.sender = subst (Keeps all who) effect.is k in
     record {
       node = k;
-      letters = All-weaker (LetterSays m c effect.sender) (LetterSent all) (λ letter says. said_sent all who m c effect.sender letter.to letter.packet says.says l) s.letters effect.letters;
+      letters = All-weaker (LetterSays m c effect.sender) (LetterSent all)
+          (λ letter says. said_sent all who m c effect.sender letter.to letter.packet says.says l) s.letters effect.letters;
     }

@@ -101,27 +101,53 @@ pub as_sent : (all : List Record) (who : ℕ) (m : Node) (req : ℕ) (body : Lis
 as_sent all who m req body h was = subst (λ name. WasSent all name req body) (sym h.name) was
 
 pub kept_pushed : (all : List Record) (who : ℕ) (m : Node) (e : Entry) → EntrySent all e → Keeps all who m → Keeps all who (pushed m e)
-kept_pushed all who m e sent h = record { name = h.name; entries = All-push (EntrySent all) m.core.log.entries e h.entries sent; sends = h.sends; bodies = h.bodies }
+kept_pushed all who m e sent h = record {
+  name = h.name;
+  entries = All-push (EntrySent all) m.core.log.entries e h.entries sent;
+  sends = h.sends;
+  bodies =
+      h.bodies;
+}
 
-pub kept_queued : (all : List Record) (who : ℕ) (m : Node) (body : List ℕ) → WasSent all who (m.sends.last + 1) body → Keeps all who m → Keeps all who (queued m body)
-kept_queued all who m body sent h = record { name = h.name; entries = h.entries; sends = All-push (SendSent all who) m.sends.queue _ h.sends sent; bodies = h.bodies }
+pub kept_queued : (all : List Record) (who : ℕ) (m : Node) (body : List ℕ) → WasSent all who (m.sends.last + 1) body → Keeps all who m
+    → Keeps all who (queued m body)
+kept_queued all who m body sent h = record {
+  name = h.name;
+  entries = h.entries;
+  sends = All-push (SendSent all who) m.sends.queue _ h.sends sent;
+  bodies =
+      h.bodies;
+}
 
 pub kept_collected : (all : List Record) (who : ℕ) (m : Node) (req : ℕ) → Keeps all who m → Keeps all who (record m { sends = own.collect req m.sends })
 kept_collected all who m req h = split (own.is_settled req m.sends)
-    (λ t. rw t (record { name = h.name; entries = h.entries; sends = All-filter (λ s. not (own.is_request req s)) (SendSent all who) m.sends.queue h.sends; bodies = h.bodies }))
+    (λ t. rw t (record {
+      name = h.name;
+      entries = h.entries;
+      sends = All-filter (λ s. not (own.is_request req s)) (SendSent all who) m.sends.queue h.sends;
+      bodies = h.bodies;
+    }))
     (λ f. rw f h)
 
 -- ---- bodies
 
-all_with_body : (all : List Record) (kept : KeptBody) (bodies : List KeptBody) → BodySent all kept → All (BodySent all) bodies → All (BodySent all) (with_body bodies kept)
+all_with_body : (all : List Record) (kept : KeptBody) (bodies : List KeptBody) → BodySent all kept → All (BodySent all) bodies
+    → All (BodySent all) (with_body bodies kept)
 all_with_body all kept bodies sent h = split (nat_le 16 (length bodies))
     (λ t. rw t (All-push (BodySent all) (drop 1 bodies) kept (All-drop (BodySent all) 1 bodies h) sent))
     (λ f. rw f (All-push (BodySent all) bodies kept h sent))
 
-pub kept_body : (all : List Record) (who : ℕ) (m : Node) (from req : ℕ) (body : List ℕ) → WasSent all from req body → Keeps all who m → Keeps all who (record m { bodies = keep_body from req body m.bodies })
+pub kept_body : (all : List Record) (who : ℕ) (m : Node) (from req : ℕ) (body : List ℕ) → WasSent all from req body → Keeps all who m
+    → Keeps all who (record m { bodies = keep_body from req body m.bodies })
 kept_body all who m from req body sent h = split (list_any (is_of from req) m.bodies)
     (λ t. rw t h)
-    (λ f. rw f (record { name = h.name; entries = h.entries; sends = h.sends; bodies = all_with_body all (record { from = from; req = req; body = body }) m.bodies sent h.bodies }))
+    (λ f. rw f (record {
+      name = h.name;
+      entries = h.entries;
+      sends = h.sends;
+      bodies =
+          all_with_body all (record { from = from; req = req; body = body }) m.bodies sent h.bodies;
+    }))
 
 -- ---- the refresh
 
@@ -149,7 +175,8 @@ kept_settled_at all who m req (Some k) h =
     record {
       name = h.name;
       entries = h.entries;
-      sends = All-map (SendSent all who) f m.sends.queue (All-weaker (SendSent all who) (λ s. SendSent all who (f s)) (same_send all who req (m.core.base + 1 + k)) m.sends.queue h.sends);
+      sends = All-map (SendSent all who) f m.sends.queue (All-weaker (SendSent all who) (λ s. SendSent all who (f s))
+          (same_send all who req (m.core.base + 1 + k)) m.sends.queue h.sends);
       bodies = h.bodies;
     }
 

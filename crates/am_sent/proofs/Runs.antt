@@ -42,7 +42,8 @@ pub record AllSent (w : World) : Type 0 where
   pub all : IsAllSent w.records w.nodes w.letters w.group
 
 -- more records say no less
-pub all_sent_more : (all more : List Record) (nodes : ℕ → Node) (letters : List Letter) (group : List Entry) → IsAllSent all nodes letters group → IsAllSent (all ++ more) nodes letters group
+pub all_sent_more : (all more : List Record) (nodes : ℕ → Node) (letters : List Letter) (group : List Entry) → IsAllSent all nodes letters group
+    → IsAllSent (all ++ more) nodes letters group
 all_sent_more all more nodes letters group h = record {
   each = λ name. kept_more all more name (nodes name) (h.each name);
   sent = All-weaker (LetterSent all) (LetterSent (all ++ more)) (letter_more all more) letters h.sent;
@@ -51,14 +52,17 @@ all_sent_more all more nodes letters group h = record {
 
 -- ---- a step
 
-set_kept : (all : List Record) (nodes : ℕ → Node) (name : ℕ) (n : Node) → ((other : ℕ) → Keeps all other (nodes other)) → Keeps all name n → (other : ℕ) → Keeps all other (set_at nodes name n other)
+set_kept : (all : List Record) (nodes : ℕ → Node) (name : ℕ) (n : Node) → ((other : ℕ) → Keeps all other (nodes other)) → Keeps all name n → (other : ℕ)
+    → Keeps all other (set_at nodes name n other)
 set_kept all nodes name n h k other = split (other == name)
     (λ t. let is : name ≡ other = grind (arith, nat_tests) in rw t (subst (λ i. Keeps all i n) is k))
     (λ f. rw f (h other))
 
-group_sent : (all : List Record) (group : List Entry) (m : Node) → All (EntrySent all) group → All (EntrySent all) m.core.log.entries → All (EntrySent all) (group_after group m)
+group_sent : (all : List Record) (group : List Entry) (m : Node) → All (EntrySent all) group → All (EntrySent all) m.core.log.entries
+    → All (EntrySent all) (group_after group m)
 group_sent all group m h k = split ((view m).by == m.core.who)
-    (λ t. rw t (All-append (EntrySent all) group _ h (All-take (EntrySent all) (m.core.acc - length group) _ (All-drop (EntrySent all) (length group - m.core.log.start) m.core.log.entries k))))
+    (λ t. rw t (All-append (EntrySent all) group _ h (All-take (EntrySent all) (m.core.acc - length group) _
+    (All-drop (EntrySent all) (length group - m.core.log.start) m.core.log.entries k))))
     (λ f. rw f h)
 
 -- the records with that of a step
@@ -82,7 +86,8 @@ sent_stepped w e name s h k =
 -- ---- events
 
 -- a Send that is answered as queued stands among the records
-called_sent : (w : World) (e : Event) (s : Step) (ev : NodeEvent) (a : Act) → e.act ≡ a → IsCall w a ev → CauseSent (after_step w e s) (actor w e) s.outcome (calls ev)
+called_sent : (w : World) (e : Event) (s : Step) (ev : NodeEvent) (a : Act) → e.act ≡ a → IsCall w a ev
+    → CauseSent (after_step w e s) (actor w e) s.outcome (calls ev)
 called_sent w e s ev a is (event.send body) = λ req answered. record {
   index = length w.records;
   send = record_of w e s.outcome s.letters;
@@ -99,7 +104,8 @@ called_sent w e s ev a is (event.ask round) = tt
 called_sent w e s ev a is (event.give_up other stopped) = tt
 called_sent w e s ev a is event.tick = tt
 
-pub cause_sent : (w : World) (e : Event) (s : Step) (c : Cause) → AllSent w → IsCause w (actor w e) e.act c → CauseSent (after_step w e s) (actor w e) s.outcome c
+pub cause_sent : (w : World) (e : Event) (s : Step) (c : Cause) → AllSent w → IsCause w (actor w e) e.act c
+    → CauseSent (after_step w e s) (actor w e) s.outcome c
 cause_sent w e s (calls ev) h is = called_sent w e s ev e.act refl is
 cause_sent w e s (hears p) h is =
     let sent = all_item (LetterSent w.records) w.letters (heard_by e.act) is.letter h.all.sent is.there in
@@ -113,7 +119,8 @@ each_keeps w e v (stops runs) h = record { all = all_sent_more w.records _ w.nod
 each_keeps w e v (returns place is gone more) h = record { all = all_sent_more w.records _ w.nodes w.letters w.group h.all }
 each_keeps w e v (steps c s runs cause effect) h =
     let old = all_sent_more w.records (record_of w e s.outcome s.letters ∷ []) w.nodes w.letters w.group h.all in
-    sent_stepped w e (actor w e) s h (step_sent (after_step w e s) (actor w e) c (w.nodes (actor w e)) s effect (cause_sent w e s c h cause) (old.each (actor w e)))
+    sent_stepped w e (actor w e) s h (step_sent (after_step w e s) (actor w e) c (w.nodes (actor w e)) s effect (cause_sent w e s c h cause)
+    (old.each (actor w e)))
 
 -- ---- the start
 
@@ -151,6 +158,7 @@ sent_holds rules events founds = record {
       let h = runs_keep AllSent each_keeps (start rules) (take moment events) (sent_start rules) in
       let was : WasSent w.records name req body = all_item (EntrySent w.records) w.group number (Data name req body) h.all.list there in
       let begins = runs_begin rules events moment in
-      let now : slice_get (run rules events).records was.index ≡ Some was.send = rw begins.records.1 (get_front w.records begins.records.0 was.index was.send was.there) in
+      let now : slice_get (run rules events).records was.index ≡ Some was.send =
+      rw begins.records.1 (get_front w.records begins.records.0 was.index was.send was.there) in
       (was.index, was.send, before rules events moment was.index was.send was.there, now, was.is);
 }

@@ -19,18 +19,23 @@ use Rattle.am_handlers.proofs.Plans.{end_tells}
 served_core : (m n : Node) (stored : ℕ) → n.core ≡ m.core → served n stored ≡ served m stored
 served_core m n stored same = ap (λ (c : CoreState). let x : Node = record m { core = c } in served x stored) same
 
-pub serves_count : (m n : Node) (stored count : ℕ) → n.core ≡ m.core → IsInOrder n.core → CoreTells (λ x. length (served x stored)) n.core count → Tells (λ x. said.Served (length (served m stored))) n (said.Served count)
+pub serves_count : (m n : Node) (stored count : ℕ) → n.core ≡ m.core → IsInOrder n.core → CoreTells (λ x. length (served x stored)) n.core count
+    → Tells (λ x. said.Served (length (served m stored))) n (said.Served count)
 serves_count m n stored count same order told = λ x end.
-    let here : count ≡ length (served n stored) = end_tells (λ y. length (served y stored)) n count order.kept (core_tells (λ y. length (served y stored)) n count told) in
+    let here : count ≡ length (served n stored) = end_tells (λ y. length (served y stored)) n count order.kept
+    (core_tells (λ y. length (served y stored)) n count told) in
     ap said.Served (here ∙ ap length (served_core m n stored same))
 
-pub serves_letters : (m n : Node) (to stored : ℕ) (letters : List Letter) → n.core ≡ m.core → IsInOrder n.core → n.core.base ≤ stored → CoreTells (λ x. put_all (bcast_of x) (only_name to) (stored + 1) (served x stored) []) n.core letters
+pub serves_letters : (m n : Node) (to stored : ℕ) (letters : List Letter) → n.core ≡ m.core → IsInOrder n.core → n.core.base ≤ stored
+    → CoreTells (λ x. put_all (bcast_of x) (only_name to) (stored + 1) (served x stored) []) n.core letters
     → Tells (λ x. put_all (bcast_of x) (only_name to) (stored + 1) (served m stored) []) n letters
 serves_letters m n to stored letters same order low told = λ x end.
-    let all_of : served x stored ≡ served n stored = ap (λ (y : Node). served y stored) (sym end.same) ∙ same_served x.core.log n stored (keeps_end x n end order) low in
+    let all_of : served x stored ≡ served n stored = ap (λ (y : Node). served y stored) (sym end.same)
+    ∙ same_served x.core.log n stored (keeps_end x n end order) low in
     core_tells (λ y. put_all (bcast_of y) (only_name to) (stored + 1) (served y stored) []) n letters told x end
     ∙ ap (λ es. put_all (bcast_of x) (only_name to) (stored + 1) es []) (all_of ∙ served_core m n stored same)
 
 -- a core alone says what a Bcast of it is
-pub bcast_is : (c : CoreState) (number : ℕ) (e : Entry) (x : Packet) → c.base ≡ c.log.start → CoreTells (λ n. bcast_of n number e) c x → x ≡ bcast_from c number e
+pub bcast_is : (c : CoreState) (number : ℕ) (e : Entry) (x : Packet) → c.base ≡ c.log.start → CoreTells (λ n. bcast_of n number e) c x
+    → x ≡ bcast_from c number e
 bcast_is c number e x kept told = told (stranger c.rules c.who) c.log (stands_self c kept)

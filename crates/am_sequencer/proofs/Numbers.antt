@@ -25,7 +25,8 @@ known_life : (r : Row) (life : ℕ) → (r.life == life) ≡ true → nat_lt 0 r
 known_life r life same joined stays = grind (arith, nat_tests)
 
 -- a name that has joined and not left sends what comes next
-pub next_fits : (image : Image) (from req : ℕ) (body : List ℕ) → ((row_of image from).joined == 0) ≡ false → (row_of image from).left ≡ 0 → req ≡ (row_of image from).last + 1 → fits image (Data from req body) ≡ true
+pub next_fits : (image : Image) (from req : ℕ) (body : List ℕ) → ((row_of image from).joined == 0) ≡ false → (row_of image from).left ≡ 0
+    → req ≡ (row_of image from).last + 1 → fits image (Data from req body) ≡ true
 unfolding fits
 next_fits image from req body = split ((at_place image from).life == life_of from)
     (λ t. rw t (λ known stays next.

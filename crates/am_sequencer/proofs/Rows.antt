@@ -21,7 +21,8 @@ pub ack_unfit : (m : Node) (from : ℕ) (report : Report) → is_unknown m from 
 unfolding ack_row
 ack_unfit m from report known unfit = rw (known, unfit) refl
 
-pub ack_taken : (m : Node) (from : ℕ) (report : Report) → is_unknown m from ≡ false → report_fits m report ≡ true → ack_row m from report ≡ following m.core.acc (with_report m from report)
+pub ack_taken : (m : Node) (from : ℕ) (report : Report) → is_unknown m from ≡ false → report_fits m report ≡ true
+    → ack_row m from report ≡ following m.core.acc (with_report m from report)
 unfolding ack_row
 ack_taken m from report known fits = rw (known, fits) refl
 
@@ -41,11 +42,13 @@ pub nack_unknown : (m : Node) (from : ℕ) (report : Report) → is_unknown m fr
 unfolding nack_row
 nack_unknown m from report unknown = rw unknown refl
 
-pub nack_unfit : (m : Node) (from : ℕ) (report : Report) → is_unknown m from ≡ false → report_fits m report ≡ false → nack_row m from report ≡ quiet m said.Unfit
+pub nack_unfit : (m : Node) (from : ℕ) (report : Report) → is_unknown m from ≡ false → report_fits m report ≡ false
+    → nack_row m from report ≡ quiet m said.Unfit
 unfolding nack_row
 nack_unfit m from report known unfit = rw (known, unfit) refl
 
-pub nack_taken : (m : Node) (from : ℕ) (report : Report) → is_unknown m from ≡ false → report_fits m report ≡ true → nack_row m from report ≡ asked_again (reported m from report) from report.stored
+pub nack_taken : (m : Node) (from : ℕ) (report : Report) → is_unknown m from ≡ false → report_fits m report ≡ true
+    → nack_row m from report ≡ asked_again (reported m from report) from report.stored
 unfolding nack_row
 nack_taken m from report known fits = rw (known, fits) refl
 
@@ -61,25 +64,30 @@ again_served m to stored low =
 
 -- ---- a send
 
-pub request_unknown : (m : Node) (from : ℕ) (report : Report) (req : ℕ) (body : List ℕ) (by_order : Bool) → is_unknown m from ≡ true → request_row m from report req body by_order ≡ quiet m said.Stranger
+pub request_unknown : (m : Node) (from : ℕ) (report : Report) (req : ℕ) (body : List ℕ) (by_order : Bool) → is_unknown m from ≡ true
+    → request_row m from report req body by_order ≡ quiet m said.Stranger
 unfolding request_row
 request_unknown m from report req body by_order unknown = rw unknown refl
 
-pub request_unfit : (m : Node) (from : ℕ) (report : Report) (req : ℕ) (body : List ℕ) (by_order : Bool) → is_unknown m from ≡ false → report_fits m report ≡ false → request_row m from report req body by_order ≡ quiet m said.Unfit
+pub request_unfit : (m : Node) (from : ℕ) (report : Report) (req : ℕ) (body : List ℕ) (by_order : Bool) → is_unknown m from ≡ false
+    → report_fits m report ≡ false → request_row m from report req body by_order ≡ quiet m said.Unfit
 unfolding request_row
 request_unfit m from report req body by_order known unfit = rw (known, unfit) refl
 
-pub request_taken : (m : Node) (from : ℕ) (report : Report) (req : ℕ) (body : List ℕ) (by_order : Bool) → is_unknown m from ≡ false → report_fits m report ≡ true → request_row m from report req body by_order ≡ requested (reported m from report) from req body by_order
+pub request_taken : (m : Node) (from : ℕ) (report : Report) (req : ℕ) (body : List ℕ) (by_order : Bool) → is_unknown m from ≡ false
+    → report_fits m report ≡ true → request_row m from report req body by_order ≡ requested (reported m from report) from req body by_order
 unfolding request_row
 request_taken m from report req body by_order known fits = rw (known, fits) refl
 
-pub requested_left : (m : Node) (from req : ℕ) (body : List ℕ) (by_order : Bool) (r : Row) → r ≡ row_at m from → 0 < r.left → requested m from req body by_order ≡ quiet m said.Stranger
+pub requested_left : (m : Node) (from req : ℕ) (body : List ℕ) (by_order : Bool) (r : Row) → r ≡ row_at m from → 0 < r.left
+    → requested m from req body by_order ≡ quiet m said.Stranger
 requested_left m from req body by_order r is left =
     let e = ap (λ (x : Row). x.left) is in
     let test : nat_lt 0 (row_at m from).left ≡ true = grind (arith, nat_tests) in
     rw test refl
 
-pub requested_again : (m : Node) (from req : ℕ) (body : List ℕ) (by_order : Bool) (r : Row) → r ≡ row_at m from → r.left ≤ 0 → req ≤ r.last → requested m from req body by_order ≡ quiet m said.Again
+pub requested_again : (m : Node) (from req : ℕ) (body : List ℕ) (by_order : Bool) (r : Row) → r ≡ row_at m from → r.left ≤ 0 → req ≤ r.last
+    → requested m from req body by_order ≡ quiet m said.Again
 requested_again m from req body by_order r is stays low =
     let e = ap (λ (x : Row). x.left) is in
     let f = ap (λ (x : Row). x.last) is in
@@ -87,7 +95,8 @@ requested_again m from req body by_order r is stays low =
     let last : nat_le req (row_at m from).last ≡ true = grind (arith, nat_tests) in
     rw (left, last) refl
 
-pub requested_early : (m : Node) (from req : ℕ) (body : List ℕ) (by_order : Bool) (r : Row) → r ≡ row_at m from → r.left ≤ 0 → r.last + 1 < req → requested m from req body by_order ≡ quiet m (said.Early r.last)
+pub requested_early : (m : Node) (from req : ℕ) (body : List ℕ) (by_order : Bool) (r : Row) → r ≡ row_at m from → r.left ≤ 0 → r.last + 1 < req
+    → requested m from req body by_order ≡ quiet m (said.Early r.last)
 requested_early m from req body by_order r is stays early =
     let e = ap (λ (x : Row). x.left) is in
     let f = ap (λ (x : Row). x.last) is in
@@ -96,7 +105,8 @@ requested_early m from req body by_order r is stays early =
     let next : nat_lt ((row_at m from).last + 1) req ≡ true = grind (arith, nat_tests) in
     rw (left, last, next) (ap (λ (x : Row). quiet m (said.Early x.last)) (sym is))
 
-pub requested_held : (m : Node) (from req : ℕ) (body : List ℕ) (by_order : Bool) (r : Row) → r ≡ row_at m from → r.left ≤ 0 → req ≡ r.last + 1 → has_room m ≡ false
+pub requested_held : (m : Node) (from req : ℕ) (body : List ℕ) (by_order : Bool) (r : Row) → r ≡ row_at m from → r.left ≤ 0 → req ≡ r.last + 1
+    → has_room m ≡ false
     → requested m from req body by_order ≡ and_telling (polling m (said.Held m.core.base (top m))) (only_name from) (λ n. hold_of n req)
 requested_held m from req body by_order r is stays new full =
     let e = ap (λ (x : Row). x.left) is in
@@ -106,7 +116,8 @@ requested_held m from req body by_order r is stays new full =
     let next : nat_lt ((row_at m from).last + 1) req ≡ false = grind (arith, nat_tests) in
     rw (left, last, next, full) refl
 
-pub requested_next : (m : Node) (from req : ℕ) (body : List ℕ) (by_order : Bool) (r : Row) → r ≡ row_at m from → r.left ≤ 0 → req ≡ r.last + 1 → has_room m ≡ true
+pub requested_next : (m : Node) (from req : ℕ) (body : List ℕ) (by_order : Bool) (r : Row) → r ≡ row_at m from → r.left ≤ 0 → req ≡ r.last + 1
+    → has_room m ≡ true
     → requested m from req body by_order ≡ number_data m from req body by_order
 requested_next m from req body by_order r is stays new room =
     let e = ap (λ (x : Row). x.left) is in

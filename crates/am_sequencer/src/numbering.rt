@@ -30,7 +30,9 @@ use am_packet::packet::Packet;
 fn put_off(parts: &mut Parts, before: u32, to: Name, req: u32, out: &mut OutBox) -> Outcome
     requires req { IsNumber req }
     requires empty { out.old ≡ [] }
-    ensures { Done before (and_telling (polling (node_of parts.old) (said.Held parts.old.core.base (top (node_of parts.old)))) (only_name to) (λ n. hold_of n req)) result out.new (node_of parts.new) }
+    ensures { Done before (and_telling (polling (node_of parts.old)
+        (said.Held parts.old.core.base (top (node_of parts.old)))) (only_name to)
+        (λ n. hold_of n req)) result out.new (node_of parts.new) }
 {
     let _before = parts.accepted();
     let answer = held(parts);
@@ -81,7 +83,8 @@ fn number_data(
     requires number { top (node_of parts.old) < most_number }
     requires req { IsNumber req }
     requires empty { out.old ≡ [] }
-    ensures { Done before (number_data (node_of parts.old) from req body.now by_order) result out.new (node_of parts.new) }
+    ensures { Done before (number_data (node_of parts.old) from req body.now by_order) result
+        out.new (node_of parts.new) }
 {
     let _before = parts.accepted();
     let number = next_number(parts);
@@ -115,7 +118,8 @@ pub fn requested(
     requires number { top (node_of parts.old) < most_number }
     requires req { IsNumber req }
     requires empty { out.old ≡ [] }
-    ensures { Done before (requested (node_of parts.old) from req body.now by_order) result out.new (node_of parts.new) }
+    ensures { Done before (requested (node_of parts.old) from req body.now by_order) result out.new
+        (node_of parts.new) }
 {
     let row = row(parts, from);
     if 0 < row.left {

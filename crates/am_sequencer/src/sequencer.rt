@@ -22,7 +22,8 @@ use am_letter::out_box::OutBox;
 /// The end of a step whose report is taken, and before which so much was accepted. It tells whether that rose.
 fn follow(parts: &mut Parts, before: u32, out: &mut OutBox) -> Outcome
     requires { out.old ≡ [] }
-    ensures { Done before (following before (node_of parts.old)) result out.new (node_of parts.new) }
+    ensures { Done before (following before (node_of parts.old)) result out.new
+        (node_of parts.new) }
 {
     let _before = parts.accepted();
     parts.end();
@@ -39,7 +40,8 @@ fn follow(parts: &mut Parts, before: u32, out: &mut OutBox) -> Outcome
 pub fn on_ack(parts: &mut Parts, from: Name, report: Report, out: &mut OutBox) -> Outcome
     requires other { from ≢ parts.old.core.who }
     requires empty { out.old ≡ [] }
-    ensures { Does (λ m. ack_row m from report) (node_of parts.old) result out.new (node_of parts.new) }
+    ensures { Does (λ m. ack_row m from report) (node_of parts.old) result out.new
+        (node_of parts.new) }
 {
     let before = parts.accepted();
     if is_unknown(parts, from) {
@@ -58,7 +60,8 @@ pub fn on_ack(parts: &mut Parts, from: Name, report: Report, out: &mut OutBox) -
 pub fn on_nack(parts: &mut Parts, from: Name, report: Report, out: &mut OutBox) -> Outcome
     requires other { from ≢ parts.old.core.who }
     requires empty { out.old ≡ [] }
-    ensures { Does (λ m. nack_row m from report) (node_of parts.old) result out.new (node_of parts.new) }
+    ensures { Does (λ m. nack_row m from report) (node_of parts.old) result out.new
+        (node_of parts.new) }
 {
     let before = parts.accepted();
     if is_unknown(parts, from) {
@@ -89,7 +92,8 @@ pub fn on_request(
     requires number { top (node_of parts.old) < most_number }
     requires req { IsNumber req }
     requires empty { out.old ≡ [] }
-    ensures { Does (λ m. request_row m from report req body.now by_order) (node_of parts.old) result out.new (node_of parts.new) }
+    ensures { Does (λ m. request_row m from report req body.now by_order)
+        (node_of parts.old) result out.new (node_of parts.new) }
 {
     let before = parts.accepted();
     if is_unknown(parts, from) {

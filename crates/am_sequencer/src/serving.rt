@@ -29,7 +29,8 @@ const MOST_SERVED: u32 = 8;
 fn tell_entry<L: Log>(core: &Core<L>, to: Name, number: u32, out: &mut OutBox)
     requires number { IsNumber number }
     requires room { length out.old < 24 }
-    ensures letters { (e : Entry) → entry_at core.now.log number ≡ Some e → out.new ≡ with_letter (only_name to) (bcast_from core.now number e) out.old }
+    ensures letters { (e : Entry) → entry_at core.now.log number ≡ Some e
+        → out.new ≡ with_letter (only_name to) (bcast_from core.now number e) out.old }
     ensures few { length out.new ≤ length out.old + 1 }
 {
     match core.log.entry(number) {
@@ -54,7 +55,8 @@ fn put_entries<L: Log>(core: &Core<L>, to: Name, stored: u32, out: &mut OutBox) 
     requires kept { core.now.base ≡ core.now.log.start }
     requires empty { out.old ≡ [] }
     ensures count { CoreTells (λ m. length (served m stored)) core.now result }
-    ensures letters { CoreTells (λ m. put_all (bcast_of m) (only_name to) (stored + 1) (served m stored) []) core.now out.new }
+    ensures letters { CoreTells (λ m. put_all (bcast_of m) (only_name to) (stored + 1)
+        (served m stored) []) core.now out.new }
     ensures few { length out.new ≤ 8 }
 {
     let last = last_served(core, stored);
@@ -91,7 +93,8 @@ pub fn asked_again(
     requires high { stored ≤ top (node_of parts.old) }
     requires again { refresh (node_of parts.old) ≡ node_of parts.old }
     requires empty { out.old ≡ [] }
-    ensures { Done before (asked_again (node_of parts.old) to stored) result out.new (node_of parts.new) }
+    ensures { Done before (asked_again (node_of parts.old) to stored) result out.new
+        (node_of parts.new) }
 {
     if stored < parts.core.log.base() {
         return finish_quietly(parts, before, Outcome::Behind, out);

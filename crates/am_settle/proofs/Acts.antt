@@ -39,4 +39,5 @@ ticks_begin w = refl
 
 pub hearings_begin : (w : World) (number : ℕ) (l : Letter) → acts_from (hears w l) (act.Hear number) 0 ≡ hearings_of w number l
 unfolding running
-hearings_begin w number l = ap (λ (places : List ℕ). map (λ at. event_at at (act.Hear number)) places) (sym (filter_both (is_running w) (is_meant w l) (range_with_len 0 16)))
+hearings_begin w number l = ap (λ (places : List ℕ). map (λ at. event_at at (act.Hear number)) places)
+    (sym (filter_both (is_running w) (is_meant w l) (range_with_len 0 16)))

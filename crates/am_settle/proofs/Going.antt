@@ -42,7 +42,8 @@ take-within (suc n) [] ys = (0, refl)
 take-within (suc n) (x ∷ xs) ys = let r = take-within n xs ys in (suc r.0, ap (λ (l : List Event). x ∷ l) r.1)
 
 -- stuck in a part
-pub stuck_in : (all part rest : List Event) (old now new : Play) (refusal : WorldRefusal) → Going all (part ++ rest) old now → Stuck part now new refusal → Stuck all old new refusal
+pub stuck_in : (all part rest : List Event) (old now new : Play) (refusal : WorldRefusal) → Going all (part ++ rest) old now → Stuck part now new refusal
+    → Stuck all old new refusal
 stuck_in all part rest old now new refusal g s =
     let within = take-within (s.some).0 part rest in
     let count = length g.done + within.0 in
@@ -52,7 +53,8 @@ stuck_in all part rest old now new refusal g s =
       some = (
         count,
         (s.some).1 ∙ ap (λ (p : Play). record p { events = p.events ++ take (s.some).0 part }) g.is
-            ∙ ap (λ (es : List Event). record old { events = es }) (append_assoc old.events g.done (take (s.some).0 part) ∙ ap (λ (es : List Event). old.events ++ es) (sym took)),
+            ∙ ap (λ (es : List Event). record old { events = es }) (append_assoc old.events g.done (take (s.some).0 part)
+            ∙ ap (λ (es : List Event). old.events ++ es) (sym took)),
       );
       spent = λ is.
           let more = s.spent is in
@@ -66,6 +68,7 @@ stuck_in all part rest old now new refusal g s =
 pub goes_more : (all part rest : List Event) (old now new : Play) → Going all (part ++ rest) old now → Did part now new → Going all rest old new
 goes_more all part rest old now new g did = record {
   done = g.done ++ part;
-  is = did ∙ ap (λ (p : Play). record p { events = p.events ++ part }) g.is ∙ ap (λ (es : List Event). record old { events = es }) (append_assoc old.events g.done part);
+  is = did ∙ ap (λ (p : Play). record p { events = p.events ++ part }) g.is
+      ∙ ap (λ (es : List Event). record old { events = es }) (append_assoc old.events g.done part);
   whole = append_assoc g.done part rest ∙ g.whole;
 }

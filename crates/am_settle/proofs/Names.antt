@@ -1,5 +1,6 @@
 -- Ticks and hearings leave the lives as they were, and who has stopped; the letters only go on.
-use Rattle.std.proofs.Common.{◌≡◌, ℕ, zero, suc, List, [], ◌∷◌, ◌++◌, map, Bool, true, false, if◌then◌else◌, Option, Some, None, slice_get, refl, sym, ◌∙◌, ap, append_assoc, append-nil}
+use Rattle.std.proofs.Common.{◌≡◌, ℕ, zero, suc, List, [], ◌∷◌, ◌++◌, map, Bool, true, false, if◌then◌else◌, Option, Some, None, slice_get, refl, sym, ◌∙◌, ap}
+use Rattle.std.proofs.Common.{append_assoc, append-nil}
 use Rattle.am_packet.specs.declared.packet.Packet.{Packet}
 use Rattle.am_packet.specs.Boxes.{Letter}
 use Rattle.am_base.specs.declared.outcome.Outcome.{Outcome}
@@ -59,7 +60,8 @@ unfolding happens
 hear_goes number place w = goes_heard w _ _ _ (letter_at w.letters number)
 
 -- an act of some places
-pub acts_go : (a : Act) (goes : (place : ℕ) (w : World) → GoesOn w (happens w (event_at place a))) (w : World) (places : List ℕ) → GoesOn w (happen w (map (λ place. event_at place a) places))
+pub acts_go : (a : Act) (goes : (place : ℕ) (w : World) → GoesOn w (happens w (event_at place a))) (w : World) (places : List ℕ)
+    → GoesOn w (happen w (map (λ place. event_at place a) places))
 unfolding happen
 acts_go a goes w [] = goes_nowhere w
 acts_go a goes w (place ∷ places) = goes_then w (happens w (event_at place a)) _ (goes place w) (acts_go a goes (happens w (event_at place a)) places)

@@ -59,7 +59,8 @@ rounds_from left es w =
 
 -- ---- a step more
 
-pub wave_more : (left after : ℕ) (w : World) → wave_events (suc left) after w ≡ hearings w after ++ wave_events left (length w.letters) (happen w (hearings w after))
+pub wave_more : (left after : ℕ) (w : World) → wave_events (suc left) after w
+    ≡ hearings w after ++ wave_events left (length w.letters) (happen w (hearings w after))
 unfolding wave_events waves
 wave_more left after w = waves_from left (length w.letters) (hearings w after) (happen w (hearings w after))
 
@@ -95,27 +96,34 @@ ticks_first old new did =
     let w = replay old in
     going_as (round_events w) (wave_events 5 (length w.letters) (happen w (ticks w))) (wave_events 5 (length w.letters) (replay new)) old new
     (ap (wave_events 5 (length w.letters)) (sym (did_replay (ticks w) old new did)))
-    (goes_more (round_events w) (ticks w) _ old old new (setting_out (round_events w) (ticks w ++ wave_events 5 (length w.letters) (happen w (ticks w))) old (sym (round_more w))) did)
+    (goes_more (round_events w) (ticks w) _ old old new (setting_out (round_events w) (ticks w ++ wave_events 5 (length w.letters) (happen w (ticks w))) old
+    (sym (round_more w))) did)
 
 pub ticks_stuck : (old new : Play) (refusal : WorldRefusal) → Stuck (ticks (replay old)) old new refusal → Stuck (round_events (replay old)) old new refusal
 ticks_stuck old new refusal stuck =
     let w = replay old in
-    stuck_in (round_events w) (ticks w) (wave_events 5 (length w.letters) (happen w (ticks w))) old old new refusal (setting_out (round_events w) _ old (sym (round_more w))) stuck
+    stuck_in (round_events w) (ticks w) (wave_events 5 (length w.letters) (happen w (ticks w))) old old new refusal
+    (setting_out (round_events w) _ old (sym (round_more w))) stuck
 
-at_wave : (wave after : ℕ) (old now : Play) → wave < 5 → Rounding wave after old now → Going (round_events (replay old)) (hearings (replay now) after ++ wave_events (5 - (wave + 1)) (length (replay now).letters) (happen (replay now) (hearings (replay now) after))) old now
+at_wave : (wave after : ℕ) (old now : Play) → wave < 5 → Rounding wave after old now
+    → Going (round_events (replay old)) (hearings (replay now) after
+    ++ wave_events (5 - (wave + 1)) (length (replay now).letters) (happen (replay now) (hearings (replay now) after))) old now
 at_wave wave after old now low way =
     let left : 5 - wave ≡ suc (5 - (wave + 1)) = omega arith in
     going_as (round_events (replay old)) (wave_events (5 - wave) after (replay now)) _ old now
     (ap (λ k. wave_events k after (replay now)) left ∙ wave_more (5 - (wave + 1)) after (replay now)) way
 
-pub wave_next : (wave after : ℕ) (old now new : Play) → wave < 5 → Rounding wave after old now → Did (hearings (replay now) after) now new → Rounding (wave + 1) (length (replay now).letters) old new
+pub wave_next : (wave after : ℕ) (old now new : Play) → wave < 5 → Rounding wave after old now → Did (hearings (replay now) after) now new
+    → Rounding (wave + 1) (length (replay now).letters) old new
 wave_next wave after old now new low way did =
     let v = replay now in
-    going_as (round_events (replay old)) (wave_events (5 - (wave + 1)) (length v.letters) (happen v (hearings v after))) (wave_events (5 - (wave + 1)) (length v.letters) (replay new)) old new
+    going_as (round_events (replay old)) (wave_events (5 - (wave + 1)) (length v.letters) (happen v (hearings v after)))
+    (wave_events (5 - (wave + 1)) (length v.letters) (replay new)) old new
     (ap (wave_events (5 - (wave + 1)) (length v.letters)) (sym (did_replay (hearings v after) now new did)))
     (goes_more (round_events (replay old)) (hearings v after) _ old now new (at_wave wave after old now low way) did)
 
-pub round_stuck : (wave after : ℕ) (old now new : Play) (refusal : WorldRefusal) → wave < 5 → Rounding wave after old now → Stuck (hearings (replay now) after) now new refusal → Stuck (round_events (replay old)) old new refusal
+pub round_stuck : (wave after : ℕ) (old now new : Play) (refusal : WorldRefusal) → wave < 5 → Rounding wave after old now
+    → Stuck (hearings (replay now) after) now new refusal → Stuck (round_events (replay old)) old new refusal
 round_stuck wave after old now new refusal low way stuck =
     stuck_in (round_events (replay old)) (hearings (replay now) after) _ old now new refusal (at_wave wave after old now low way) stuck
 
@@ -131,22 +139,28 @@ abbrev pub Settles : ℕ → ℕ → Play → Play → Type 0
 Settles count round old now = Going (rounds_events count (replay old)) (rounds_events (count - round) (replay now)) old now
 
 pub settles : (count : ℕ) (old : Play) → Settles count 0 old old
-settles count old = setting_out (rounds_events count (replay old)) (rounds_events (count - 0) (replay old)) old (let all : count - 0 ≡ count = omega arith in ap (λ k. rounds_events k (replay old)) all)
+settles count old = setting_out (rounds_events count (replay old)) (rounds_events (count - 0) (replay old)) old (let all : count - 0 ≡ count = omega arith in
+    ap (λ k. rounds_events k (replay old)) all)
 
-at_round : (count round : ℕ) (old now : Play) → round < count → Settles count round old now → Going (rounds_events count (replay old)) (round_events (replay now) ++ rounds_events (count - (round + 1)) (happen (replay now) (round_events (replay now)))) old now
+at_round : (count round : ℕ) (old now : Play) → round < count → Settles count round old now
+    → Going (rounds_events count (replay old)) (round_events (replay now)
+    ++ rounds_events (count - (round + 1)) (happen (replay now) (round_events (replay now)))) old now
 at_round count round old now low way =
     let left : count - round ≡ suc (count - (round + 1)) = omega arith in
     going_as (rounds_events count (replay old)) (rounds_events (count - round) (replay now)) _ old now
     (ap (λ k. rounds_events k (replay now)) left ∙ rounds_more (count - (round + 1)) (replay now)) way
 
-pub round_next : (count round : ℕ) (old now new : Play) → round < count → Settles count round old now → Did (round_events (replay now)) now new → Settles count (round + 1) old new
+pub round_next : (count round : ℕ) (old now new : Play) → round < count → Settles count round old now → Did (round_events (replay now)) now new
+    → Settles count (round + 1) old new
 round_next count round old now new low way did =
     let v = replay now in
-    going_as (rounds_events count (replay old)) (rounds_events (count - (round + 1)) (happen v (round_events v))) (rounds_events (count - (round + 1)) (replay new)) old new
+    going_as (rounds_events count (replay old)) (rounds_events (count - (round + 1)) (happen v (round_events v)))
+    (rounds_events (count - (round + 1)) (replay new)) old new
     (ap (rounds_events (count - (round + 1))) (sym (did_replay (round_events v) now new did)))
     (goes_more (rounds_events count (replay old)) (round_events v) _ old now new (at_round count round old now low way) did)
 
-pub settle_stuck : (count round : ℕ) (old now new : Play) (refusal : WorldRefusal) → round < count → Settles count round old now → Stuck (round_events (replay now)) now new refusal → Stuck (rounds_events count (replay old)) old new refusal
+pub settle_stuck : (count round : ℕ) (old now new : Play) (refusal : WorldRefusal) → round < count → Settles count round old now
+    → Stuck (round_events (replay now)) now new refusal → Stuck (rounds_events count (replay old)) old new refusal
 settle_stuck count round old now new refusal low way stuck =
     stuck_in (rounds_events count (replay old)) (round_events (replay now)) _ old now new refusal (at_round count round old now low way) stuck
 

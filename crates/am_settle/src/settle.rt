@@ -29,7 +29,8 @@ fn letter_count(world: &World) -> u32
 fn act_where(world: &mut World, is_due: bool, act: Act, place: u8) -> Result<(), WorldRefusal>
     requires { place < 16 }
     ensures ok { OnOk result (Did (act_at is_due act place) world.old world.new) }
-    ensures err { IfErr result (λ refusal. Stuck (act_at is_due act place) world.old world.new refusal) }
+    ensures err { IfErr result (λ refusal. Stuck
+        (act_at is_due act place) world.old world.new refusal) }
 {
     if !is_due {
         return Ok(());
@@ -47,7 +48,8 @@ fn act_where(world: &mut World, is_due: bool, act: Act, place: u8) -> Result<(),
 /// Each place that runs ticks.
 fn tick_all(world: &mut World) -> Result<(), WorldRefusal>
     ensures ok { OnOk result (Did (ticks (replay world.old)) world.old world.new) }
-    ensures err { IfErr result (λ refusal. Stuck (ticks (replay world.old)) world.old world.new refusal) }
+    ensures err { IfErr result (λ refusal. Stuck
+        (ticks (replay world.old)) world.old world.new refusal) }
 {
     for place in 0..16u8 {
         let is_due = is_running(world, place);
@@ -59,7 +61,8 @@ fn tick_all(world: &mut World) -> Result<(), WorldRefusal>
 /// Whether a place is to hear a letter.
 fn is_heard(world: &World, number: u32, place: u8) -> bool
     requires { place < 16 }
-    ensures { (l : boxes.Letter) → letter_at (replay world.now).letters number ≡ Some l → result ≡ (is_running (replay world.now) place && is_meant (replay world.now) l place) }
+    ensures { (l : boxes.Letter) → letter_at (replay world.now).letters number ≡ Some l
+        → result ≡ (is_running (replay world.now) place && is_meant (replay world.now) l place) }
 {
     match world.journal().packet(number) {
         Some(letter) => {
@@ -71,8 +74,11 @@ fn is_heard(world: &World, number: u32, place: u8) -> bool
 
 /// Each place that runs hears a letter, where it is for its name.
 fn hear_all(world: &mut World, number: u32) -> Result<(), WorldRefusal>
-    ensures ok { (l : boxes.Letter) → letter_at (replay world.old).letters number ≡ Some l → OnOk result (Did (hearings_of (replay world.old) number l) world.old world.new) }
-    ensures err { (l : boxes.Letter) → letter_at (replay world.old).letters number ≡ Some l → IfErr result (λ refusal. Stuck (hearings_of (replay world.old) number l) world.old world.new refusal) }
+    ensures ok { (l : boxes.Letter) → letter_at (replay world.old).letters number ≡ Some l
+        → OnOk result (Did (hearings_of (replay world.old) number l) world.old world.new) }
+    ensures err { (l : boxes.Letter) → letter_at (replay world.old).letters number ≡ Some l
+        → IfErr result (λ refusal. Stuck (hearings_of (replay world.old) number l) world.old
+        world.new refusal) }
 {
     for place in 0..16u8 {
         let is_due = is_heard(world, number, place);
@@ -84,7 +90,8 @@ fn hear_all(world: &mut World, number: u32) -> Result<(), WorldRefusal>
 /// A wave: each letter above a number, of those that are sent when the wave begins, is heard.
 fn wave(world: &mut World, after: u32) -> Result<(), WorldRefusal>
     ensures ok { OnOk result (Did (hearings (replay world.old) after) world.old world.new) }
-    ensures err { IfErr result (λ refusal. Stuck (hearings (replay world.old) after) world.old world.new refusal) }
+    ensures err { IfErr result (λ refusal. Stuck
+        (hearings (replay world.old) after) world.old world.new refusal) }
 {
     let last = letter_count(world);
     for number in after..last {
@@ -96,7 +103,8 @@ fn wave(world: &mut World, after: u32) -> Result<(), WorldRefusal>
 /// A round: all tick, and five waves are heard, each of the letters that were sent since the wave before it began.
 fn round(world: &mut World) -> Result<(), WorldRefusal>
     ensures ok { OnOk result (Did (round_events (replay world.old)) world.old world.new) }
-    ensures err { IfErr result (λ refusal. Stuck (round_events (replay world.old)) world.old world.new refusal) }
+    ensures err { IfErr result (λ refusal. Stuck
+        (round_events (replay world.old)) world.old world.new refusal) }
 {
     let mut after = letter_count(world);
     tick_all(world)?;
@@ -118,8 +126,10 @@ fn round_count(world: &World) -> u16
 /// Settles a world: does the whole lossless schedule from where it stands. After a refusal a beginning of the schedule was
 /// done: NoMemory where there was no memory for the next event, Spent where 100,000 events are too few for the whole.
 pub fn settle(world: &mut World) -> Result<(), WorldRefusal>
-    ensures ok { OnOk result (Did (settle_events world.old.rules (replay world.old)) world.old world.new) }
-    ensures err { IfErr result (λ refusal. Stuck (settle_events world.old.rules (replay world.old)) world.old world.new refusal) }
+    ensures ok { OnOk result (Did (settle_events world.old.rules (replay world.old)) world.old
+        world.new) }
+    ensures err { IfErr result (λ refusal. Stuck
+        (settle_events world.old.rules (replay world.old)) world.old world.new refusal) }
 {
     let rounds = round_count(world);
     for _round in 0..rounds {

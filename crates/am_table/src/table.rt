@@ -264,7 +264,8 @@ impl Table {
     #[tactic(auto, using(crate::proofs::Rows::with_row_image))]
     fn set_row(&mut self, name: Name, row: Row, members: Names)
         requires row { IsRow row }
-        requires members { members ≡ slice_set (members_of self.old) (place_of name) (member_life row) }
+        requires members { members ≡ slice_set (members_of self.old) (place_of name)
+            (member_life row) }
         ensures value { self.new ≡ with_row self.old name row }
         ensures within { IsImage self.new }
     {

@@ -1,5 +1,6 @@
 -- A step of any name, and of the first founder.
-use Rattle.std.proofs.Common.{◌≡◌, ◌≢◌, ⊎_elim, ℕ, zero, suc, ◌-◌, ◌≤◌, ◌==◌, true, false, List, [], ◌∷◌, ◌++◌, length, take, drop, None, refl, sym, ap, ◌∙◌, subst, append_assoc, append-nil, arith}
+use Rattle.std.proofs.Common.{◌≡◌, ◌≢◌, ⊎_elim, ℕ, zero, suc, ◌-◌, ◌≤◌, ◌==◌, true, false, List, [], ◌∷◌, ◌++◌, length, take, drop, None, refl, sym, ap, ◌∙◌}
+use Rattle.std.proofs.Common.{subst, append_assoc, append-nil, arith}
 use Rattle.std.specs.Prelude.{All}
 use Rattle.std.proofs.lemmas.Bool.Decides.{nat_tests}
 use Rattle.std.proofs.lemmas.List.{take-append-le, length-take-le}
@@ -24,7 +25,8 @@ use Rattle.am_model.specs.Group.{has_log}
 use Rattle.am_model.specs.Claims.{heard_by}
 use Rattle.am_model.proofs.Greatest.{split}
 use Rattle.am_effects.specs.Causes.{Cause, calls, hears, refuses}
-use Rattle.am_effects.specs.Changes.{Change, refreshes, settles, takes_report, admits, numbers, keeps_body, notes, stores, begins_list, departs, promises, opens, looks, fetches, stores_view, queues, collects, takes, asks_to_join, asks_to_leave, closes}
+use Rattle.am_effects.specs.Changes.{Change, refreshes, settles, takes_report, admits, numbers, keeps_body, notes, stores, begins_list, departs, promises}
+use Rattle.am_effects.specs.Changes.{opens, looks, fetches, stores_view, queues, collects, takes, asks_to_join, asks_to_leave, closes}
 use Rattle.am_effects.specs.Letters.{LetterSays}
 use Rattle.am_effects.specs.Effects.{Answers, WasQueued, AnswersAsk, Effect}
 use Rattle.am_effects.specs.Events.{actor, IsCause}
@@ -46,14 +48,16 @@ use Rattle.am_unballoted.proofs.Goes.{kept_step}
 
 -- ---- what makes a name do a step
 
-cause_ok : (rules : Rules) (list : List Entry) (acc i : ℕ) (w : World) (a : Act) (c : Cause) → All (LetterOk rules list acc) w.letters → IsCause w i a c → CauseOk rules list acc i c
+cause_ok : (rules : Rules) (list : List Entry) (acc i : ℕ) (w : World) (a : Act) (c : Cause) → All (LetterOk rules list acc) w.letters → IsCause w i a c
+    → CauseOk rules list acc i c
 cause_ok rules list acc i w a (calls ev) h is = tt
 cause_ok rules list acc i w a (hears p) h is =
     let l = all_item (LetterOk rules list acc) w.letters (heard_by a) is.letter h is.there in
     subst (PacketOk rules list acc i) is.is (l.heard i is.addressed)
 cause_ok rules list acc i w a refuses h is = tt
 
-asked_step : (w : World) (e : Event) (c : Cause) (s : Step) → AskedOk w.records w.nodes → Effect (w.nodes (actor w e)) c s → s.node.ballot ≡ None → AskedOk (after_step w e s) (set_at w.nodes (actor w e) s.node)
+asked_step : (w : World) (e : Event) (c : Cause) (s : Step) → AskedOk w.records w.nodes → Effect (w.nodes (actor w e)) c s → s.node.ballot ≡ None
+    → AskedOk (after_step w e s) (set_at w.nodes (actor w e) s.node)
 asked_step w e c s h effect none =
     let i = actor w e in
     let m = w.nodes i in
@@ -65,7 +69,8 @@ asked_step w e c s h effect none =
 
 -- ---- the sender of its letters
 
-sends_of : (rules : Rules) (list : List Entry) (acc i : ℕ) (m : Node) (c : Cause) (s : Step) (effect : Effect m c s) → NodeOk rules list acc i s.node → s.node.ballot ≡ None → Sends rules list acc i m effect.sender
+sends_of : (rules : Rules) (list : List Entry) (acc i : ℕ) (m : Node) (c : Cause) (s : Step) (effect : Effect m c s) → NodeOk rules list acc i s.node
+    → s.node.ballot ≡ None → Sends rules list acc i m effect.sender
 sends_of rules list acc i m c s effect h none =
     let core : s.node.core ≡ effect.sender.core = ap (λ (x : Node). x.core) effect.is in
     record {
@@ -73,12 +78,14 @@ sends_of rules list acc i m c s effect h none =
       log = subst (λ (x : CoreState). ListOk list acc x.log) core h.log;
       fronts = subst (λ (x : CoreState). FrontsOk (first_of rules) acc i x) core h.fronts;
       promise = λ t. ap (λ (x : CoreState). x.promise) (sym core)
-          ∙ h.status.promise (⊎_elim (λ (x : s.node.status ≡ effect.sender.status). ap has_log x ∙ logged effect.sender.status t) (λ (x : s.node.status ≡ Departed). ap has_log x) effect.stays);
+          ∙ h.status.promise (⊎_elim (λ (x : s.node.status ≡ effect.sender.status). ap has_log x
+          ∙ logged effect.sender.status t) (λ (x : s.node.status ≡ Departed). ap has_log x) effect.stays);
       none = ap (λ (x : Node). x.ballot) (sym effect.is) ∙ none;
       before = none_first effect.changes none;
     }
 
-fetched_of : (rules : Rules) (list : List Entry) (acc i : ℕ) (m : Node) (c : Cause) (s : Step) (effect : Effect m c s) → NodeOk rules list acc i m → s.node.ballot ≡ None → Fetched c m effect.sender
+fetched_of : (rules : Rules) (list : List Entry) (acc i : ℕ) (m : Node) (c : Cause) (s : Step) (effect : Effect m c s) → NodeOk rules list acc i m
+    → s.node.ballot ≡ None → Fetched c m effect.sender
 fetched_of rules list acc i m c s effect h none name v stored is =
     let same = start_same (λ a b d f g heard. (let z = sym is ∙ heard in absurd (cc))) effect.changes none in
     let core = ap (λ (x : Node). x.core.log.start) effect.is in
@@ -104,8 +111,10 @@ accepted_within : (rules : Rules) (m : Node) → FirstBase rules m → m.core.ac
 accepted_within rules m h = let w = h.node.fronts.within in let s = h.start in omega arith
 
 -- what the step comes to
-pub other_chain : (rules : Rules) (w : World) (e : Event) (c : Cause) (s : Step) → WorldOk rules w → AllSent w → actor w e ≢ first_of rules → IsCause w (actor w e) e.act c → Effect (w.nodes (actor w e)) c s → s.node.ballot ≡ None
-    → OtherOk rules (w.nodes (first_of rules)).core.log.entries (w.nodes (first_of rules)).core.acc (actor w e) (after_step w e s) c s.outcome (w.nodes (actor w e)) s.node
+pub other_chain : (rules : Rules) (w : World) (e : Event) (c : Cause) (s : Step) → WorldOk rules w → AllSent w → actor w e ≢ first_of rules
+    → IsCause w (actor w e) e.act c → Effect (w.nodes (actor w e)) c s → s.node.ballot ≡ None
+    → OtherOk rules (w.nodes (first_of rules)).core.log.entries (w.nodes (first_of rules)).core.acc (actor w e) (after_step w e s) c s.outcome
+    (w.nodes (actor w e)) s.node
 other_chain rules w e c s h sent d cause effect none =
     let i = actor w e in
     let m = w.nodes i in
@@ -118,13 +127,25 @@ other_chain rules w e c s h sent d cause effect none =
     let within = accepted_within rules first h.first.base in
     let ok = cause_ok rules list acc i w e.act c h.kept.letters cause in
     let was : CauseSent all i s.outcome c = cause_sent w e s c sent cause in
-    let heard : Heard rules list acc i all s.outcome c = record { cause = ok; within = within; unique = unique all (set_at w.nodes i s.node) asked; sent = (old.each (first_of rules)).entries } in
+    let heard : Heard rules list acc i all s.outcome c = record {
+      cause = ok;
+      within = within;
+      unique = unique all (set_at w.nodes i s.node) asked;
+      sent =
+          (old.each (first_of rules)).entries;
+    } in
     let before : OtherOk rules list acc i all c s.outcome m m = record { sent = old.each i; node = h.kept.each i; gave = nothing refl refl refl } in
     quietly (OtherOk rules list acc i all c s.outcome m)
-    (λ x y z n q. record { sent = change_sent all i c s.outcome x y was z q.sent; node = other_change rules list acc i all c s.outcome x y heard d z n q.sent q.node; gave = gave_change rules list acc i m x y q.node z n q.gave })
+    (λ x y z n q. record {
+      sent = change_sent all i c s.outcome x y was z q.sent;
+      node =
+          other_change rules list acc i all c s.outcome x y heard d z n q.sent q.node;
+      gave = gave_change rules list acc i m x y q.node z n q.gave;
+    })
     effect.changes none before
 
-pub other_step : (rules : Rules) (w : World) (e : Event) (c : Cause) (s : Step) → WorldOk rules w → AllSent w → actor w e ≢ first_of rules → IsCause w (actor w e) e.act c → Effect (w.nodes (actor w e)) c s → s.node.ballot ≡ None → WorldOk rules (stepped w e (actor w e) s)
+pub other_step : (rules : Rules) (w : World) (e : Event) (c : Cause) (s : Step) → WorldOk rules w → AllSent w → actor w e ≢ first_of rules
+    → IsCause w (actor w e) e.act c → Effect (w.nodes (actor w e)) c s → s.node.ballot ≡ None → WorldOk rules (stepped w e (actor w e) s)
 unfolding stepped
 other_step rules w e c s h sent d cause effect none =
     let i = actor w e in
@@ -140,10 +161,15 @@ other_step rules w e c s h sent d cause effect none =
     let node : NodeOk rules (list ++ []) acc i s.node = subst (λ l. NodeOk rules l acc i s.node) (sym back) p.node in
     let sends = sends_of rules list acc i m c s effect p.node none in
     let fetched = fetched_of rules list acc i m c s effect (h.kept.each i) none in
-    let says : (l : Letter) → LetterSays m c effect.sender l → LetterOk rules (list ++ []) acc l = λ l x. subst (λ t. LetterOk rules t acc l) (sym back) (letter_says rules list list acc acc i m effect.sender c l sends (λ q. absurd (d q)) fetched ok x) in
-    let low : s.node.core.acc ≤ length w.group = (let a = p.node.fronts.accepted in let b = length-take-le acc list within in let g = ap length h.kept.group in omega arith) in
+    let says : (l : Letter) → LetterSays m c effect.sender l
+    → LetterOk rules (list ++ []) acc l = λ l x. subst (λ t. LetterOk rules t acc l) (sym back)
+    (letter_says rules list list acc acc i m effect.sender c l sends (λ q. absurd (d q)) fetched ok x) in
+    let low : s.node.core.acc ≤ length w.group = (let a = p.node.fronts.accepted in let b = length-take-le acc list within in let g = ap length h.kept.group in
+    omega arith) in
     let group : group_after w.group s.node ≡ take acc (list ++ []) = same_group w.group s.node low ∙ h.kept.group ∙ ap (take acc) (sym back) in
-    let kept = kept_step rules list [] acc acc w e c s h.kept within (omega arith) node group (All-weaker (LetterSays m c effect.sender) (LetterOk rules (list ++ []) acc) says s.letters effect.letters) p.gave cause effect.answer (none_first effect.changes none) in
+    let kept = kept_step rules list [] acc acc w e c s h.kept within (omega arith) node group
+    (All-weaker (LetterSays m c effect.sender) (LetterOk rules (list ++ []) acc) says s.letters effect.letters) p.gave cause effect.answer
+    (none_first effect.changes none) in
     let differs : (first_of rules == i) ≡ false = split (first_of rules == i) (λ t. absurd (d (grind (arith, nat_tests)))) (λ f. f) in
     let same : first ≡ set_at w.nodes i s.node (first_of rules) = rw differs refl in
     record {
@@ -161,7 +187,12 @@ pub record Grown (m x : Node) : Type 0 where
   pub up : m.core.acc ≤ x.core.acc
 
 grown_by : (k m n : Node) (es : List Entry) → n.core.log.entries ≡ m.core.log.entries ++ es → m.core.acc ≤ n.core.acc → Grown k m → Grown k n
-grown_by k m n es e up h = record { more = h.more ++ es; is = e ∙ ap (λ l. l ++ es) h.is ∙ append_assoc k.core.log.entries h.more es; up = let u = h.up in omega arith }
+grown_by k m n es e up h = record {
+  more = h.more ++ es;
+  is = e ∙ ap (λ l. l ++ es) h.is ∙ append_assoc k.core.log.entries h.more es;
+  up = let u = h.up in
+      omega arith;
+}
 
 grown_same : (k m n : Node) → n.core.log.entries ≡ m.core.log.entries → m.core.acc ≤ n.core.acc → Grown k m → Grown k n
 grown_same k m n e up h = grown_by k m n [] (e ∙ sym (append-nil m.core.log.entries)) up h
@@ -181,7 +212,8 @@ grown_change rules k m n f (promises v low why) none h = grown_same k m n refl (
 grown_change rules k m n f (opens least resilience by may) none h = absurd (cc)
 grown_change rules k m n f (looks b verdict over why look is) none h = absurd (looks_leave m b verdict look none)
 grown_change rules k m n f (fetches s v base number e is heard promise below from may) none h = grown_by k m n (e ∷ []) refl (omega arith) h
-grown_change rules k m n f (stores_view s v base number names resilience is heard own other promise below may) none h = grown_by k m n (View v names resilience ∷ []) refl (omega arith) h
+grown_change rules k m n f (stores_view s v base number names resilience is heard own other promise below may) none h =
+    grown_by k m n (View v names resilience ∷ []) refl (omega arith) h
 grown_change rules k m n f (queues body is says member stays few) none h = grown_same k m n refl (omega arith) h
 grown_change rules k m n f (collects req is) none h = grown_same k m n refl (omega arith) h
 grown_change rules k m n f (takes e is says member some there) none h = grown_same k m n refl (omega arith) h
@@ -207,7 +239,8 @@ take_rest (x ∷ xs) (suc a) (suc b) low =
     ap (λ n. x ∷ (take a xs ++ take n (drop a xs))) z ∙ ap (λ l. x ∷ l) (take_rest xs a b (omega arith))
 
 -- the first founder's list grows, and the group's with what it accepts
-first_group : (rules : Rules) (group list more : List Entry) (acc : ℕ) (n : Node) → FirstBase rules n → n.core.log.entries ≡ list ++ more → acc ≤ n.core.acc → acc ≤ length list → group ≡ take acc list → group_after group n ≡ take n.core.acc (list ++ more)
+first_group : (rules : Rules) (group list more : List Entry) (acc : ℕ) (n : Node) → FirstBase rules n → n.core.log.entries ≡ list ++ more → acc ≤ n.core.acc
+    → acc ≤ length list → group ≡ take acc list → group_after group n ≡ take n.core.acc (list ++ more)
 first_group rules group list more acc n h is up low same =
     let v = first_view rules n h in
     let who = h.node.who in
@@ -219,7 +252,8 @@ first_group rules group list more acc n h is up low same =
     let count : n.core.acc - length group ≡ n.core.acc - acc = omega arith in
     rw by ((λ j. begins j ++ take (count j) (drop (skip j) (is j))) ∙ take_rest (list ++ more) acc n.core.acc up)
 
-pub first_chain : (rules : Rules) (w : World) (e : Event) (c : Cause) (s : Step) → WorldOk rules w → actor w e ≡ first_of rules → IsCause w (actor w e) e.act c → Effect (w.nodes (actor w e)) c s → s.node.ballot ≡ None → FirstGoes rules c s.outcome (w.nodes (actor w e)) s.node
+pub first_chain : (rules : Rules) (w : World) (e : Event) (c : Cause) (s : Step) → WorldOk rules w → actor w e ≡ first_of rules → IsCause w (actor w e) e.act c
+    → Effect (w.nodes (actor w e)) c s → s.node.ballot ≡ None → FirstGoes rules c s.outcome (w.nodes (actor w e)) s.node
 first_chain rules w e c s h eq cause effect none =
     let i = actor w e in
     let m = w.nodes i in
@@ -230,12 +264,23 @@ first_chain rules w e c s h eq cause effect none =
     let kept_m : Kept rules list acc w = subst (λ (x : Node). Kept rules x.core.log.entries x.core.acc w) here h.kept in
     let ok = cause_ok rules list acc i w e.act c kept_m.letters cause in
     let ok_first : CauseOk rules list acc (first_of rules) c = subst (λ x. CauseOk rules list acc x c) eq ok in
-    let before : FirstGoes rules c s.outcome m m = record { ok = ok_m; grown = record { more = []; is = sym (append-nil list); up = omega arith }; gave = nothing refl refl refl } in
+    let before : FirstGoes rules c s.outcome m m = record {
+      ok = ok_m;
+      grown = record { more = []; is = sym (append-nil list); up = omega arith };
+      gave =
+          nothing refl refl refl;
+    } in
     quietly (FirstGoes rules c s.outcome m)
-    (λ x y z n q. record { ok = first_change rules list acc c s.outcome x y ok_first z n q.ok; grown = grown_change rules m x y q.ok z n q.grown; gave = gave_change rules x.core.log.entries x.core.acc (first_of rules) m x y q.ok.base.node z n q.gave })
+    (λ x y z n q. record {
+      ok = first_change rules list acc c s.outcome x y ok_first z n q.ok;
+      grown = grown_change rules m x y q.ok z n q.grown;
+      gave =
+          gave_change rules x.core.log.entries x.core.acc (first_of rules) m x y q.ok.base.node z n q.gave;
+    })
     effect.changes none before
 
-pub first_step : (rules : Rules) (w : World) (e : Event) (c : Cause) (s : Step) → WorldOk rules w → actor w e ≡ first_of rules → IsCause w (actor w e) e.act c → Effect (w.nodes (actor w e)) c s → s.node.ballot ≡ None → WorldOk rules (stepped w e (actor w e) s)
+pub first_step : (rules : Rules) (w : World) (e : Event) (c : Cause) (s : Step) → WorldOk rules w → actor w e ≡ first_of rules → IsCause w (actor w e) e.act c
+    → Effect (w.nodes (actor w e)) c s → s.node.ballot ≡ None → WorldOk rules (stepped w e (actor w e) s)
 unfolding stepped
 first_step rules w e c s h eq cause effect none =
     let i = actor w e in
@@ -263,20 +308,25 @@ first_step rules w e c s h eq cause effect none =
       start = ap (λ (x : CoreState). x.log.start) (sym core) ∙ p.ok.base.start;
       group = subst (IsGroup rules) g.is p.ok.base.group;
     } in
-    let says : (l : Letter) → LetterSays m c effect.sender l → LetterOk rules (list ++ g.more) to l = λ l x. letter_says rules (list ++ g.more) list to acc i m effect.sender c l sends (λ q. first) fetched ok x in
+    let says : (l : Letter) → LetterSays m c effect.sender l
+    → LetterOk rules (list ++ g.more) to l = λ l x. letter_says rules (list ++ g.more) list to acc i m effect.sender c l sends (λ q. first) fetched ok x in
     let group = first_group rules w.group list g.more acc n p.ok.base g.is g.up within kept_m.group in
-    let kept = kept_step rules list g.more acc to w e c s kept_m within g.up node group (All-weaker (LetterSays m c effect.sender) (LetterOk rules (list ++ g.more) to) says s.letters effect.letters) p.gave cause effect.answer (none_first effect.changes none) in
+    let kept = kept_step rules list g.more acc to w e c s kept_m within g.up node group
+    (All-weaker (LetterSays m c effect.sender) (LetterOk rules (list ++ g.more) to) says s.letters effect.letters) p.gave cause effect.answer
+    (none_first effect.changes none) in
     let mine : (first_of rules == i) ≡ true = grind (arith, nat_tests) in
     let same : n ≡ set_at w.nodes i n (first_of rules) = rw mine refl in
     record {
       first = subst (FirstOk rules) same p.ok;
-      kept = subst (λ (x : Node). Kept rules x.core.log.entries x.core.acc (stepped w e i s)) same (subst (λ l. Kept rules l to (stepped w e i s)) (sym g.is) kept);
+      kept = subst (λ (x : Node). Kept rules x.core.log.entries x.core.acc (stepped w e i s)) same
+          (subst (λ l. Kept rules l to (stepped w e i s)) (sym g.is) kept);
       asked = asked_step w e c s h.asked effect none;
     }
 
 -- ---- what was given
 
-pub gave_step : (rules : Rules) (w : World) (e : Event) (c : Cause) (s : Step) → WorldOk rules w → AllSent w → IsCause w (actor w e) e.act c → Effect (w.nodes (actor w e)) c s → s.node.ballot ≡ None → Gave c s.outcome (w.nodes (actor w e)) s.node
+pub gave_step : (rules : Rules) (w : World) (e : Event) (c : Cause) (s : Step) → WorldOk rules w → AllSent w → IsCause w (actor w e) e.act c
+    → Effect (w.nodes (actor w e)) c s → s.node.ballot ≡ None → Gave c s.outcome (w.nodes (actor w e)) s.node
 gave_step rules w e c s h sent cause effect none = split (actor w e == first_of rules)
     (λ t. let is : actor w e ≡ first_of rules = grind (arith, nat_tests) in (first_chain rules w e c s h is cause effect none).gave)
     (λ f. (other_chain rules w e c s h sent (λ q. let z : ⊥ = grind (arith, nat_tests) in z) cause effect none).gave)

@@ -1,5 +1,6 @@
 -- What some changes in turn keep.
-use Rattle.std.proofs.Common.{◌≡◌, ℕ, ◌+◌, ◌-◌, ◌<◌, ◌≤◌, max, min, ◌==◌, ◌&&◌, nat_lt, not, true, false, if◌then◌else◌, List, Option, Some, None, refl, sym, ap, ◌∙◌, subst, arith}
+use Rattle.std.proofs.Common.{◌≡◌, ℕ, ◌+◌, ◌-◌, ◌<◌, ◌≤◌, max, min, ◌==◌, ◌&&◌, nat_lt, not, true, false, if◌then◌else◌, List, Option, Some, None, refl, sym}
+use Rattle.std.proofs.Common.{ap, ◌∙◌, subst, arith}
 use Rattle.std.proofs.lemmas.Bool.Decides.{nat_tests}
 use Rattle.am_base.specs.declared.name.Stamp.{Stamp}
 use Rattle.am_base.specs.declared.entry.Entry.{Entry}
@@ -22,7 +23,9 @@ use Rattle.am_model.specs.Joining.{begun}
 use Rattle.am_model.specs.Group.{has_log}
 use Rattle.am_model.proofs.Greatest.{split, and_both}
 use Rattle.am_effects.specs.Causes.{Cause, hears}
-use Rattle.am_effects.specs.Changes.{MayBeWelcomed, Change, refreshes, settles, takes_report, admits, numbers, keeps_body, notes, stores, begins_list, departs, promises, opens, looks, fetches, stores_view, queues, collects, takes, asks_to_join, asks_to_leave, closes, Changes, unchanged, changed}
+use Rattle.am_effects.specs.Changes.{MayBeWelcomed, Change, refreshes, settles, takes_report, admits, numbers, keeps_body, notes, stores, begins_list, departs}
+use Rattle.am_effects.specs.Changes.{promises, opens, looks, fetches, stores_view, queues, collects, takes, asks_to_join, asks_to_leave, closes, Changes}
+use Rattle.am_effects.specs.Changes.{unchanged, changed}
 use Rattle.am_effects.proofs.Rests.{rests_refresh, rests_closed, settle_is}
 use Rattle.am_unballoted.proofs.Kept.{NodeOk}
 use Rattle.am_effects.proofs.Statuses.{logged, asking_log}
@@ -64,7 +67,8 @@ none_first unchanged h = h
 none_first (changed {m = x} {n = y} z zs) h = none_before x y z (none_first zs h)
 
 -- what each change keeps that leaves no ballot
-pub quietly : {c : Cause} {o : Outcome} {m n : Node} (P : Node → Type 0) → ((x y : Node) → Change c o x y → y.ballot ≡ None → P x → P y) → Changes c o m n → n.ballot ≡ None → P m → P n
+pub quietly : {c : Cause} {o : Outcome} {m n : Node} (P : Node → Type 0) → ((x y : Node) → Change c o x y → y.ballot ≡ None → P x → P y) → Changes c o m n
+    → n.ballot ≡ None → P m → P n
 quietly P f unchanged none h = h
 quietly P f (changed {m = x} {n = y} z zs) none h = quietly P f zs none (f x y z (none_first zs none) h)
 
@@ -142,17 +146,21 @@ front m = max m.core.taken (m.core.start - 1)
 -- by what is answered: nothing was given, the next entry was, or a list has begun
 pub data Gave (c : Cause) (o : Outcome) (m n : Node) : Type 0 where
   nothing : front n ≡ front m → n.core.start ≡ m.core.start → has_log n.status ≡ has_log m.status → Gave c o m n
-  took : (k : ℕ) (e : Entry) → o ≡ said.Took (k + 1) e → front m ≡ k → front n ≡ k + 1 → n.core.start ≡ m.core.start → n.core.start - 1 ≤ k → has_log n.status ≡ true → has_log m.status ≡ true → Gave c o m n
-  began : (s : ℕ) (v : Stamp) (base join : ℕ) (image : Image) → c ≡ hears (packet.Welcome s v base join image) → o ≡ said.Welcomed join → has_log m.status ≡ false → has_log n.status ≡ true → n.core.start ≡ join → front n ≡ join - 1 → 0 < join → Gave c o m n
+  took : (k : ℕ) (e : Entry) → o ≡ said.Took (k + 1) e → front m ≡ k → front n ≡ k + 1 → n.core.start ≡ m.core.start → n.core.start - 1 ≤ k
+      → has_log n.status ≡ true → has_log m.status ≡ true → Gave c o m n
+  began : (s : ℕ) (v : Stamp) (base join : ℕ) (image : Image) → c ≡ hears (packet.Welcome s v base join image) → o ≡ said.Welcomed join
+      → has_log m.status ≡ false → has_log n.status ≡ true → n.core.start ≡ join → front n ≡ join - 1 → 0 < join → Gave c o m n
 
 -- a change that moves no front
-gave_still : {c : Cause} {o : Outcome} (k m n : Node) → front n ≡ front m → n.core.start ≡ m.core.start → has_log n.status ≡ has_log m.status → Gave c o k m → Gave c o k n
+gave_still : {c : Cause} {o : Outcome} (k m n : Node) → front n ≡ front m → n.core.start ≡ m.core.start → has_log n.status ≡ has_log m.status → Gave c o k m
+    → Gave c o k n
 gave_still k m n a b d (nothing x y z) = nothing (a ∙ x) (b ∙ y) (d ∙ z)
 gave_still k m n a b d (took j e is x y z w u v) = took j e is x (a ∙ y) (b ∙ z) (let s = ap (λ t. t - 1) b in omega arith) (d ∙ u) v
 gave_still k m n a b d (began s v base join image is says x y z w u) = began s v base join image is says x (d ∙ y) (b ∙ z) (a ∙ w) u
 
 passed_front : (taken acc start : ℕ) → max (if nat_lt taken (start - 1) then max taken (min acc (start - 1)) else taken) (start - 1) ≡ max taken (start - 1)
-passed_front taken acc start = split (nat_lt taken (start - 1)) (λ t. let z : taken < start - 1 = grind (arith, nat_tests) in rw t (omega arith)) (λ f. rw f refl)
+passed_front taken acc start = split (nat_lt taken (start - 1)) (λ t. let z : taken < start - 1 = grind (arith, nat_tests) in
+    rw t (omega arith)) (λ f. rw f refl)
 
 lead_front : (m : Node) → (front (lead m) ≡ front m) × ((lead m).core.start ≡ m.core.start)
 unfolding lead own_report tell go_on let_go accept pass_over
@@ -174,13 +182,16 @@ unfolding refresh_at_end
 end_front m = let a = settle_front (refresh m) in let b = refresh_front m in (a.0 ∙ b.0, a.1 ∙ b.1)
 
 pub at_least : (taken acc low : ℕ) → (taken < low → acc ≤ taken) → taken < acc → low ≤ taken
-at_least taken acc low f less = split (nat_lt taken low) (λ t. let z : taken < low = grind (arith, nat_tests) in let y = f z in absurd (omega arith)) (λ n. grind (arith, nat_tests))
+at_least taken acc low f less = split (nat_lt taken low) (λ t. let z : taken < low = grind (arith, nat_tests) in let y = f z in
+    absurd (omega arith)) (λ n. grind (arith, nat_tests))
 
 abbrev number_of : Outcome → ℕ
 number_of (said.Took number e) = number
 number_of _ = 0
 
-gave_taken : {c : Cause} {o : Outcome} (rules : Rules) (list : List Entry) (acc i : ℕ) (k m n : Node) (e : Entry) → NodeOk rules list acc i m → is_member m.status ≡ true → (m.core.taken == m.core.acc) ≡ false → o ≡ said.Took (m.core.taken + 1) e → n ≡ record m { core = record (m.core) { taken = m.core.taken + 1 } } → Gave c o k m → Gave c o k n
+gave_taken : {c : Cause} {o : Outcome} (rules : Rules) (list : List Entry) (acc i : ℕ) (k m n : Node) (e : Entry) → NodeOk rules list acc i m
+    → is_member m.status ≡ true → (m.core.taken == m.core.acc) ≡ false → o ≡ said.Took (m.core.taken + 1) e
+    → n ≡ record m { core = record (m.core) { taken = m.core.taken + 1 } } → Gave c o k m → Gave c o k n
 gave_taken rules list acc i k m n e h member some says is (nothing x y z) =
     let f = h.fronts in
     let t = f.taken in
@@ -201,15 +212,18 @@ gave_taken rules list acc i k m n e h member some says is (began s v base join i
 still_log : (s : Status) → is_member s ≡ true → has_log status.Departed ≡ has_log s
 still_log s t = sym (logged s t)
 
-gave_begun : {c : Cause} {o : Outcome} (k m : Node) (s : ℕ) (v : Stamp) (base join : ℕ) (image : Image) → c ≡ hears (packet.Welcome s v base join image) → o ≡ said.Welcomed join → MayBeWelcomed m s v base join image → Gave c o k m → Gave c o k (begun m v base join image)
+gave_begun : {c : Cause} {o : Outcome} (k m : Node) (s : ℕ) (v : Stamp) (base join : ℕ) (image : Image) → c ≡ hears (packet.Welcome s v base join image)
+    → o ≡ said.Welcomed join → MayBeWelcomed m s v base join image → Gave c o k m → Gave c o k (begun m v base join image)
 gave_begun k m s v base join image is says may (nothing x y z) =
     let no = asking_log m.status (asking m s v base join image may) in
     let above = may.above in
     began s v base join image is says (sym z ∙ no) refl refl (omega arith) (omega arith)
 gave_begun k m s v base join image is says may (took j e was x y z w u l) = let no = asking_log m.status (asking m s v base join image may) in absurd (cc)
-gave_begun k m s v base join image is says may (began s1 v1 base1 join1 image1 was said_ x y z w u) = let no = asking_log m.status (asking m s v base join image may) in absurd (cc)
+gave_begun k m s v base join image is says may (began s1 v1 base1 join1 image1 was said_ x y z w u) = let no =
+    asking_log m.status (asking m s v base join image may) in absurd (cc)
 
-pub gave_change : {c : Cause} {o : Outcome} (rules : Rules) (list : List Entry) (acc i : ℕ) (k m n : Node) → NodeOk rules list acc i m → Change c o m n → n.ballot ≡ None → Gave c o k m → Gave c o k n
+pub gave_change : {c : Cause} {o : Outcome} (rules : Rules) (list : List Entry) (acc i : ℕ) (k m n : Node) → NodeOk rules list acc i m → Change c o m n
+    → n.ballot ≡ None → Gave c o k m → Gave c o k n
 gave_change rules list acc i k m n h refreshes none g = let f = refresh_front m in gave_still k m n f.0 f.1 (ap has_log (rests_refresh m).rests.status) g
 gave_change rules list acc i k m n h settles none g = let f = settle_front m in gave_still k m n f.0 f.1 (ap (λ (x : Node). has_log x.status) (settle_is m)) g
 gave_change rules list acc i k m n h (takes_report s v report by may) none g = gave_still k m n refl refl refl g
@@ -219,12 +233,14 @@ gave_change rules list acc i k m n h (keeps_body s v report req body is heard) n
 gave_change rules list acc i k m n h (notes s v base a by heard) none g = gave_still k m n refl refl refl g
 gave_change rules list acc i k m n h (stores s v base a number e by heard plain may) none g = gave_still k m n refl refl refl g
 gave_change rules list acc i k m n h (begins_list s v base join image is says may) none g = gave_begun k m s v base join image is says may g
-gave_change rules list acc i k m n h (departs s v number is heard leaves) none g = gave_still k m n refl refl (still_log m.status (and_both (not (s == m.core.who)) (is_member m.status) heard).1) g
+gave_change rules list acc i k m n h (departs s v number is heard leaves) none g =
+    gave_still k m n refl refl (still_log m.status (and_both (not (s == m.core.who)) (is_member m.status) heard).1) g
 gave_change rules list acc i k m n h (promises v low why) none g = gave_still k m n refl refl refl g
 gave_change rules list acc i k m n h (opens least resilience by may) none g = absurd (cc)
 gave_change rules list acc i k m n h (looks b verdict over why look is) none g = absurd (looks_leave m b verdict look none)
 gave_change rules list acc i k m n h (fetches s v base number e is heard promise below from may) none g = gave_still k m n refl refl refl g
-gave_change rules list acc i k m n h (stores_view s v base number names resilience is heard own_ other promise below may) none g = gave_still k m n refl refl refl g
+gave_change rules list acc i k m n h (stores_view s v base number names resilience is heard own_ other promise below may) none g =
+    gave_still k m n refl refl refl g
 gave_change rules list acc i k m n h (queues body is says member stays few) none g = gave_still k m n refl refl refl g
 gave_change rules list acc i k m n h (collects req is) none g = gave_still k m n refl refl refl g
 gave_change rules list acc i k m n h (takes e is says member some there) none g = gave_taken rules list acc i k m n e h member some says refl g

@@ -1,5 +1,6 @@
 -- What each change of a node keeps, as long as its ballot is none: of any name but the first founder, and of that.
-use Rattle.std.proofs.Common.{◌≡◌, ℕ, ◌+◌, ◌-◌, ◌<◌, ◌≤◌, ◌==◌, nat_lt, true, not, List, take, get_or, Option, Some, None, slice_get, refl, sym, ap, ◌∙◌, subst, arith}
+use Rattle.std.proofs.Common.{◌≡◌, ℕ, ◌+◌, ◌-◌, ◌<◌, ◌≤◌, ◌==◌, nat_lt, true, not, List, take, get_or, Option, Some, None, slice_get, refl, sym, ap, ◌∙◌, subst}
+use Rattle.std.proofs.Common.{arith}
 use Rattle.std.specs.Prelude.{All}
 use Rattle.std.proofs.lemmas.Bool.Decides.{nat_tests}
 use Rattle.std.proofs.lemmas.List.{length-take}
@@ -44,7 +45,8 @@ leads_first rules list acc i m h t =
 -- ---- fronts
 
 -- what is accepted goes on to what is told, and a joiner passes over what is below its Join
-pub advance_fronts : (first acc to i : ℕ) (core : CoreState) → acc ≤ to → core.told ≤ to → FrontsOk first acc i core → FrontsOk first to i (pass_over (accept core))
+pub advance_fronts : (first acc to i : ℕ) (core : CoreState) → acc ≤ to → core.told ≤ to → FrontsOk first acc i core
+    → FrontsOk first to i (pass_over (accept core))
 unfolding pass_over accept
 advance_fronts first acc to i core up low h =
     let a = h.accepted in
@@ -98,35 +100,42 @@ found_at m req k is =
     let low = p.0 in
     let long = length-take few above in
     let here = slice_get-get_or (take few above) k (Join 0) low in
-    let there : slice_get m.core.log.entries ((m.core.base - m.core.log.start) + k) ≡ Some e = sym (slice_get-drop (m.core.base - m.core.log.start) k m.core.log.entries) ∙ get_take few above k e here in
+    let there : slice_get m.core.log.entries ((m.core.base - m.core.log.start) + k) ≡ Some e =
+    sym (slice_get-drop (m.core.base - m.core.log.start) k m.core.log.entries) ∙ get_take few above k e here in
     record { body = found.0; there = there ∙ ap Some found.1; low = omega arith }
 
-settled_stands : (rules : Rules) (list : List Entry) (acc i : ℕ) (m : Node) (req k : ℕ) → NodeOk rules list acc i m → accepted_at m req ≡ Some k → (body : List ℕ) × At list acc (m.core.base + 1 + k) (Data i req body)
+settled_stands : (rules : Rules) (list : List Entry) (acc i : ℕ) (m : Node) (req k : ℕ) → NodeOk rules list acc i m → accepted_at m req ≡ Some k
+    → (body : List ℕ) × At list acc (m.core.base + 1 + k) (Data i req body)
 settled_stands rules list acc i m req k h is =
     let f = found_at m req k is in
     let low = f.low in
     let up = h.fronts.accepted in
     let base = h.fronts.base in
     let at = within_get list m.core.log.start m.core.log.entries ((m.core.base - m.core.log.start) + k) (Data m.core.who req f.body) h.log.within f.there in
-    let there : item_at list (m.core.base + 1 + k) ≡ Some (Data m.core.who req f.body) = get_item list (m.core.base + 1 + k) (m.core.log.start + ((m.core.base - m.core.log.start) + k)) _ (omega arith) at in
+    let there : item_at list (m.core.base + 1 + k) ≡ Some (Data m.core.who req f.body) =
+    get_item list (m.core.base + 1 + k) (m.core.log.start + ((m.core.base - m.core.log.start) + k)) _ (omega arith) at in
     (f.body, record { low = omega arith; there = there ∙ ap (λ w. Some (Data w req f.body)) h.who })
 
-settled_send : (list : List Entry) (acc i req number : ℕ) (s : OwnSend) → ((body : List ℕ) × At list acc number (Data i req body)) → SendOk list acc i s → SendOk list acc i (own.settle_send req number s)
+settled_send : (list : List Entry) (acc i req number : ℕ) (s : OwnSend) → ((body : List ℕ) × At list acc number (Data i req body)) → SendOk list acc i s
+    → SendOk list acc i (own.settle_send req number s)
 settled_send list acc i req number s stands h = split (s.req == req)
     (λ t. let e : req ≡ s.req = grind (arith, nat_tests) in rw t (stands.0, subst (λ r. At list acc number (Data i r stands.0)) e stands.1))
     (λ f. rw f h)
 
-with_queue : (rules : Rules) (list : List Entry) (acc i : ℕ) (m : Node) (sends : own.Sends) → All (SendOk list acc i) sends.queue → NodeOk rules list acc i m → NodeOk rules list acc i (record m { sends = sends })
+with_queue : (rules : Rules) (list : List Entry) (acc i : ℕ) (m : Node) (sends : own.Sends) → All (SendOk list acc i) sends.queue → NodeOk rules list acc i m
+    → NodeOk rules list acc i (record m { sends = sends })
 with_queue rules list acc i m sends q h = record { who = h.who; log = h.log; fronts = h.fronts; status = h.status; sends = q }
 
-settled_at_ok : (rules : Rules) (list : List Entry) (acc i : ℕ) (m : Node) (req : ℕ) (at : Option ℕ) → accepted_at m req ≡ at → NodeOk rules list acc i m → NodeOk rules list acc i (settled_at m req at)
+settled_at_ok : (rules : Rules) (list : List Entry) (acc i : ℕ) (m : Node) (req : ℕ) (at : Option ℕ) → accepted_at m req ≡ at → NodeOk rules list acc i m
+    → NodeOk rules list acc i (settled_at m req at)
 settled_at_ok rules list acc i m req None is h = h
 settled_at_ok rules list acc i m req (Some k) is h =
     let number = m.core.base + 1 + k in
     let stands = settled_stands rules list acc i m req k h is in
     with_queue rules list acc i m (own.settle req number m.sends)
     (All-map (SendOk list acc i) (own.settle_send req number) m.sends.queue
-    (All-weaker (SendOk list acc i) (λ s. SendOk list acc i (own.settle_send req number s)) (λ s. settled_send list acc i req number s stands) m.sends.queue h.sends)) h
+    (All-weaker (SendOk list acc i) (λ s. SendOk list acc i (own.settle_send req number s))
+    (λ s. settled_send list acc i req number s stands) m.sends.queue h.sends)) h
 
 settled_ok : (rules : Rules) (list : List Entry) (acc i : ℕ) (m : Node) (w : Option OwnSend) → NodeOk rules list acc i m → NodeOk rules list acc i (settled m w)
 settled_ok rules list acc i m None h = h
@@ -138,10 +147,12 @@ settle_ok rules list acc i m h = settled_ok rules list acc i m (waiting m) h
 
 -- ---- sends
 
-pub queued_ok : (rules : Rules) (list : List Entry) (acc i : ℕ) (m : Node) (body : List ℕ) → NodeOk rules list acc i m → NodeOk rules list acc i (record m { sends = own.submit body m.sends })
+pub queued_ok : (rules : Rules) (list : List Entry) (acc i : ℕ) (m : Node) (body : List ℕ) → NodeOk rules list acc i m
+    → NodeOk rules list acc i (record m { sends = own.submit body m.sends })
 queued_ok rules list acc i m body h = with_queue rules list acc i m (own.submit body m.sends) (All-push (SendOk list acc i) m.sends.queue _ h.sends tt) h
 
-pub collected_ok : (rules : Rules) (list : List Entry) (acc i : ℕ) (m : Node) (req : ℕ) → NodeOk rules list acc i m → NodeOk rules list acc i (record m { sends = own.collect req m.sends })
+pub collected_ok : (rules : Rules) (list : List Entry) (acc i : ℕ) (m : Node) (req : ℕ) → NodeOk rules list acc i m
+    → NodeOk rules list acc i (record m { sends = own.collect req m.sends })
 collected_ok rules list acc i m req h = split (own.is_settled req m.sends)
     (λ t. rw t (with_queue rules list acc i m _ (All-filter (λ s. not (own.is_request req s)) (SendOk list acc i) m.sends.queue h.sends) h))
     (λ f. rw f h)

@@ -1,5 +1,6 @@
 -- What each change of the first founder keeps, which is the sequencer as long as it is a member.
-use Rattle.std.proofs.Common.{◌≡◌, ℕ, ◌+◌, ◌≤◌, ◌==◌, true, false, List, [], ◌∷◌, ◌++◌, length, take, Some, slice_get, refl, sym, ap, ◌∙◌, subst, length-append, arith}
+use Rattle.std.proofs.Common.{◌≡◌, ℕ, ◌+◌, ◌≤◌, ◌==◌, true, false, List, [], ◌∷◌, ◌++◌, length, take, Some, slice_get, refl, sym, ap, ◌∙◌, subst, length-append}
+use Rattle.std.proofs.Common.{arith}
 use Rattle.std.specs.Prelude.{All}
 use Rattle.std.proofs.lemmas.Grind.{flat_map-append}
 use Rattle.std.proofs.lemmas.List.Elements.{All-push, All-head, All-tail}
@@ -39,9 +40,11 @@ pub record SameView (a b : Image) : Type 0 where
 
 same_after : (image : Image) (n : ℕ) (e : Entry) → is_view e ≡ false → SameView image (after image n e)
 unfolding after
-same_after image n (Data from req body) f = split ((at_place image from).life == life_of from) (λ t. rw t (record { view = refl; number = refl; resilience = refl })) (λ g. rw g (record { view = refl; number = refl; resilience = refl }))
+same_after image n (Data from req body) f = split ((at_place image from).life == life_of from)
+    (λ t. rw t (record { view = refl; number = refl; resilience = refl })) (λ g. rw g (record { view = refl; number = refl; resilience = refl }))
 same_after image n (Join name) f = record { view = refl; number = refl; resilience = refl }
-same_after image n (Leave name) f = split ((at_place image name).life == life_of name) (λ t. rw t (record { view = refl; number = refl; resilience = refl })) (λ g. rw g (record { view = refl; number = refl; resilience = refl }))
+same_after image n (Leave name) f = split ((at_place image name).life == life_of name) (λ t. rw t (record { view = refl; number = refl; resilience = refl }))
+    (λ g. rw g (record { view = refl; number = refl; resilience = refl }))
 same_after image n (View stamp names resilience) f = absurd (cc)
 
 same_fold : (image : Image) (n : ℕ) (es : List Entry) → All (λ e. is_view e ≡ false) es → SameView image (fold image n es)
@@ -68,7 +71,12 @@ unfolding fold
 group_view rules list h =
     let a = founded rules in
     let b = same_fold (after blank 1 (founders_view rules)) (1 + 1) h.rest h.plain in
-    subst (λ l. FoundersView rules (told l)) (sym h.is) (record { view = b.view ∙ a.view; number = b.number ∙ a.number; resilience = b.resilience ∙ a.resilience })
+    subst (λ l. FoundersView rules (told l)) (sym h.is) (record {
+      view = b.view ∙ a.view;
+      number = b.number ∙ a.number;
+      resilience = b.resilience
+          ∙ a.resilience;
+    })
 
 -- ---- its own sends
 
@@ -117,7 +125,8 @@ own_push rules list e sends h =
     let d = length-append (requests_of (first_of rules) list) (requests_of (first_of rules) (e ∷ [])) in
     record { next = h.next; turn = h.turn; low = let l = h.low in omega arith }
 
-pub first_push : (rules : Rules) (m : Node) (e : Entry) → is_view e ≡ false → fits (told m.core.log.entries) e ≡ true → FirstBase rules m → FirstBase rules (pushed m e)
+pub first_push : (rules : Rules) (m : Node) (e : Entry) → is_view e ≡ false → fits (told m.core.log.entries) e ≡ true → FirstBase rules m
+    → FirstBase rules (pushed m e)
 first_push rules m e plain fit h =
     let list = m.core.log.entries in
     let i = first_of rules in

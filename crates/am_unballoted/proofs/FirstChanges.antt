@@ -1,5 +1,6 @@
 -- What each change of the first founder keeps, as long as its ballot is none.
-use Rattle.std.proofs.Common.{◌≡◌, ℕ, ◌+◌, ◌-◌, ◌<◌, ◌≤◌, max, min, ◌==◌, ◌&&◌, ◌||◌, not, nat_lt, true, false, if◌then◌else◌, List, [], length, map, Option, Some, None, refl, sym, ap, ◌∙◌, subst, append-nil, arith}
+use Rattle.std.proofs.Common.{◌≡◌, ℕ, ◌+◌, ◌-◌, ◌<◌, ◌≤◌, max, min, ◌==◌, ◌&&◌, ◌||◌, not, nat_lt, true, false, if◌then◌else◌, List, [], length, map, Option}
+use Rattle.std.proofs.Common.{Some, None, refl, sym, ap, ◌∙◌, subst, append-nil, arith}
 use Rattle.std.proofs.lemmas.Bool.Decides.{nat_tests}
 use Rattle.am_base.specs.declared.name.Stamp.{Stamp}
 use Rattle.am_base.specs.declared.image.Report.{Report}
@@ -31,7 +32,9 @@ use Rattle.am_chain_lists.proofs.Rows as rows
 use Rattle.am_chain_lists.proofs.Members.{mem_in, in_mem, mem_push}
 use Rattle.am_orders.proofs.Turns.{request_within, next_in}
 use Rattle.am_effects.specs.Causes.{Cause}
-use Rattle.am_effects.specs.Changes.{Numbers, asked_send, own_send, asked_join, asked_leave, MayBeWelcomed, Change, refreshes, settles, takes_report, admits, numbers, keeps_body, notes, stores, begins_list, departs, promises, opens, looks, fetches, stores_view, queues, collects, takes, asks_to_join, asks_to_leave, closes}
+use Rattle.am_effects.specs.Changes.{Numbers, asked_send, own_send, asked_join, asked_leave, MayBeWelcomed, Change, refreshes, settles, takes_report, admits}
+use Rattle.am_effects.specs.Changes.{numbers, keeps_body, notes, stores, begins_list, departs, promises, opens, looks, fetches, stores_view, queues, collects}
+use Rattle.am_effects.specs.Changes.{takes, asks_to_join, asks_to_leave, closes}
 use Rattle.am_effects.proofs.Rests.{base_up, rests_refresh, settle_is}
 use Rattle.am_unballoted.proofs.Kept.{first_of, At, ListOk, NodeOk, CauseOk, node_more}
 use Rattle.am_effects.proofs.Statuses.{logged}
@@ -45,7 +48,8 @@ use Rattle.am_unballoted.proofs.First.{group_view, OwnOk, FirstBase, FirstOk, fi
 passed_within : (taken acc start : ℕ) → taken ≤ acc → (if nat_lt taken (start - 1) then max taken (min acc (start - 1)) else taken) ≤ acc
 passed_within taken acc start low = split (nat_lt taken (start - 1)) (λ t. rw t (omega arith)) (λ f. rw f low)
 
-passed_over : (taken acc start : ℕ) → (if nat_lt taken (start - 1) then max taken (min acc (start - 1)) else taken) < start - 1 → acc ≤ (if nat_lt taken (start - 1) then max taken (min acc (start - 1)) else taken)
+passed_over : (taken acc start : ℕ) → (if nat_lt taken (start - 1) then max taken (min acc (start - 1)) else taken) < start - 1
+    → acc ≤ (if nat_lt taken (start - 1) then max taken (min acc (start - 1)) else taken)
 passed_over taken acc start = split (nat_lt taken (start - 1))
     (λ t. rw t (λ b. omega arith))
     (λ f. let z : start - 1 ≤ taken = grind (arith, nat_tests) in rw f (λ b. absurd (omega arith)))
@@ -72,7 +76,8 @@ at_up list acc to number e up h = record { low = let a = h.low in omega arith; t
 pub node_up : (rules : Rules) (list : List Entry) (acc to i : ℕ) (m : Node) → acc ≤ to → NodeOk rules list acc i m → NodeOk rules list to i m
 node_up rules list acc to i m up h = subst (λ l. NodeOk rules l to i m) (append-nil list) (node_more rules list [] acc to i m up h)
 
-first_rise : (rules : Rules) (m : Node) (told base : ℕ) (reports : ℕ → Report) → m.core.base ≤ base → FirstBase rules m → FirstBase rules (risen m told base reports)
+first_rise : (rules : Rules) (m : Node) (told base : ℕ) (reports : ℕ → Report) → m.core.base ≤ base → FirstBase rules m
+    → FirstBase rules (risen m told base reports)
 first_rise rules m told base reports up h =
     let list = m.core.log.entries in
     let i = first_of rules in
@@ -119,17 +124,20 @@ first_refresh rules m h = split (is_sequencer m) (λ t. rw t (first_lead rules m
 
 -- ---- its waiting send is settled
 
-with_own : (rules : Rules) (m : Node) (sends : own.Sends) → NodeOk rules m.core.log.entries m.core.acc (first_of rules) (record m { sends = sends }) → OwnOk rules m.core.log.entries sends → FirstBase rules m → FirstBase rules (record m { sends = sends })
+with_own : (rules : Rules) (m : Node) (sends : own.Sends) → NodeOk rules m.core.log.entries m.core.acc (first_of rules) (record m { sends = sends })
+    → OwnOk rules m.core.log.entries sends → FirstBase rules m → FirstBase rules (record m { sends = sends })
 with_own rules m sends n o h = record { node = n; start = h.start; group = h.group; good = h.good; log = h.log; own = o }
 
 -- where it stands, so many requests are there
-asked_there : (rules : Rules) (m : Node) (req k : ℕ) → FirstBase rules m → accepted_at m req ≡ Some k → req ≤ length (requests_of (first_of rules) m.core.log.entries)
+asked_there : (rules : Rules) (m : Node) (req k : ℕ) → FirstBase rules m → accepted_at m req ≡ Some k
+    → req ≤ length (requests_of (first_of rules) m.core.log.entries)
 asked_there rules m req k h is =
     let f = found_at m req k is in
     let there = f.there ∙ ap (λ w. Some (Data w req f.body)) h.node.who in
     request_within m.core.log.entries (first_of rules) req f.body ((m.core.base - m.core.log.start) + k) h.good.fit there
 
-first_settled_at : (rules : Rules) (m : Node) (s : OwnSend) (at : Option ℕ) → waiting m ≡ Some s → accepted_at m s.req ≡ at → NodeOk rules m.core.log.entries m.core.acc (first_of rules) (settled_at m s.req at) → FirstBase rules m → FirstBase rules (settled_at m s.req at)
+first_settled_at : (rules : Rules) (m : Node) (s : OwnSend) (at : Option ℕ) → waiting m ≡ Some s → accepted_at m s.req ≡ at
+    → NodeOk rules m.core.log.entries m.core.acc (first_of rules) (settled_at m s.req at) → FirstBase rules m → FirstBase rules (settled_at m s.req at)
 first_settled_at rules m s None w is n h = h
 first_settled_at rules m s (Some k) w is n h =
     let o = h.own in
@@ -138,9 +146,14 @@ first_settled_at rules m s (Some k) w is n h =
     let there = asked_there rules m s.req k h is in
     let turn = waiting_settled o.next o.next m.sends.last number m.sends.queue s (omega arith) w o.turn in
     with_own rules m (own.settle s.req number m.sends) n
-    (record { next = o.next + 1; turn = subst (λ r. Turn (o.next + 1) (o.next + 1) (map (own.settle_send r number) m.sends.queue) m.sends.last) (sym same) turn; low = omega arith }) h
+    (record {
+      next = o.next + 1;
+      turn = subst (λ r. Turn (o.next + 1) (o.next + 1) (map (own.settle_send r number) m.sends.queue) m.sends.last) (sym same) turn;
+      low = omega arith;
+    }) h
 
-first_settled : (rules : Rules) (m : Node) (w : Option OwnSend) → waiting m ≡ w → NodeOk rules m.core.log.entries m.core.acc (first_of rules) (settled m w) → FirstBase rules m → FirstBase rules (settled m w)
+first_settled : (rules : Rules) (m : Node) (w : Option OwnSend) → waiting m ≡ w → NodeOk rules m.core.log.entries m.core.acc (first_of rules) (settled m w)
+    → FirstBase rules m → FirstBase rules (settled m w)
 first_settled rules m None w n h = h
 first_settled rules m (Some s) w n h = first_settled_at rules m s (accepted_at m s.req) w refl n h
 
@@ -171,7 +184,8 @@ known_member list name known stays =
       is = r.1;
     })
 
-fits_data : (list : List Entry) (name req : ℕ) (body : List ℕ) → mem list name ≡ true → req ≡ (row_of (told list) name).last + 1 → fits (told list) (Data name req body) ≡ true
+fits_data : (list : List Entry) (name req : ℕ) (body : List ℕ) → mem list name ≡ true → req ≡ (row_of (told list) name).last + 1
+    → fits (told list) (Data name req body) ≡ true
 unfolding fits mem
 fits_data list name req body member next =
     let t : (req == (row_of (told list) name).last + 1) ≡ true = grind (arith, nat_tests) in
@@ -182,7 +196,8 @@ unfolding fits mem
 fits_leave list name member = member
 
 -- of a member the last request is that of so many
-last_asked : (rules : Rules) (m : Node) → FirstBase rules m → mem m.core.log.entries (first_of rules) ≡ true → (row_of (told m.core.log.entries) (first_of rules)).last ≡ length (requests_of (first_of rules) m.core.log.entries)
+last_asked : (rules : Rules) (m : Node) → FirstBase rules m → mem m.core.log.entries (first_of rules) ≡ true
+    → (row_of (told m.core.log.entries) (first_of rules)).last ≡ length (requests_of (first_of rules) m.core.log.entries)
 last_asked rules m h member =
     let list = m.core.log.entries in
     let i = first_of rules in
@@ -193,7 +208,8 @@ last_asked rules m h member =
     let last = ap (λ (r : Row). r.last) same in
     omega arith
 
-numbered_fits : (rules : Rules) (c : Cause) (m : Node) (e : Entry) → FirstBase rules m → mem m.core.log.entries (first_of rules) ≡ true → Numbers c m e → (is_view e ≡ false) × (fits (told m.core.log.entries) e ≡ true)
+numbered_fits : (rules : Rules) (c : Cause) (m : Node) (e : Entry) → FirstBase rules m → mem m.core.log.entries (first_of rules) ≡ true → Numbers c m e
+    → (is_view e ≡ false) × (fits (told m.core.log.entries) e ≡ true)
 numbered_fits rules c m e h member (asked_send s v report req body by known stays next) =
     let list = m.core.log.entries in
     let t = first_told rules m h in
@@ -211,7 +227,8 @@ numbered_fits rules c m e h member (own_send s is last) =
     let same = waiting_is o.next o.next m.sends.last m.sends.queue s o.turn is in
     let low = o.low in
     let asked = last_asked rules m h member in
-    let above : nat_lt (row_of (told list) i).last s.req ≡ true = ap (λ x. nat_lt (row_of x i).last s.req) (sym t) ∙ ap (λ w. nat_lt (row_of (nodes.told m) w).last s.req) (sym who) ∙ last in
+    let above : nat_lt (row_of (told list) i).last s.req ≡ true = ap (λ x. nat_lt (row_of x i).last s.req) (sym t)
+    ∙ ap (λ w. nat_lt (row_of (nodes.told m) w).last s.req) (sym who) ∙ last in
     let less : (row_of (told list) i).last < s.req = grind (arith, nat_tests) in
     let next : s.req ≡ (row_of (told list) i).last + 1 = omega arith in
     (refl, ap (λ w. fits (told list) (Data w s.req s.body)) who ∙ fits_data list i s.req s.body member next)
@@ -229,7 +246,8 @@ numbered_spares : (rules : Rules) (c : Cause) (m : Node) (e : Entry) → m.core.
 numbered_spares rules c m e who (asked_send s v report req body by known stays next) = tt
 numbered_spares rules c m e who (own_send s is last) = tt
 numbered_spares rules c m e who (asked_join s v is other fit) = tt
-numbered_spares rules c m e who (asked_leave s v report is other known stays) = λ same. (let z : s ≡ m.core.who = same ∙ sym who in absurd (let y : ⊥ = grind (arith, nat_tests) in y))
+numbered_spares rules c m e who (asked_leave s v report is other known stays) =
+    λ same. (let z : s ≡ m.core.who = same ∙ sym who in absurd (let y : ⊥ = grind (arith, nat_tests) in y))
 
 -- ---- what it doesn't hear
 
@@ -249,7 +267,8 @@ not_heard rules m s v h t =
     let first = view m in
     let z : ⊥ = grind (arith, nat_tests) in z
 
-not_fetched : (rules : Rules) (m : Node) (v : Stamp) → FirstBase rules m → is_member m.status ≡ true → stamp_eq v m.core.promise ≡ true → stamp_eq (view m) v ≡ false → ⊥
+not_fetched : (rules : Rules) (m : Node) (v : Stamp) → FirstBase rules m → is_member m.status ≡ true → stamp_eq v m.core.promise ≡ true
+    → stamp_eq (view m) v ≡ false → ⊥
 not_fetched rules m v h member promise below =
     let p = h.node.status.promise (logged m.status member) in
     let f = first_view rules m h in
@@ -275,8 +294,10 @@ not_welcomed m s v base join image h log =
     none status.Departed b a l = absurd (cc)
 
 -- collecting changes no request number
-collected_last : (next req : ℕ) (sends : own.Sends) → Turn next next sends.queue sends.last → Turn next next (own.collect req sends).queue (own.collect req sends).last
-collected_last next req sends h = subst (Turn next next (own.collect req sends).queue) (sym same) (collected_turn next next sends.last req sends (omega arith) h)
+collected_last : (next req : ℕ) (sends : own.Sends) → Turn next next sends.queue sends.last
+    → Turn next next (own.collect req sends).queue (own.collect req sends).last
+collected_last next req sends h = subst (Turn next next (own.collect req sends).queue) (sym same)
+    (collected_turn next next sends.last req sends (omega arith) h)
   where
     same : (own.collect req sends).last ≡ sends.last
     same = split (own.is_settled req sends) (λ t. rw t refl) (λ f. rw f refl)
@@ -302,7 +323,8 @@ numbered rules c m e leads why h =
     let base = first_push rules m e f.0 f.1 h.base in
     record { base = base; member = λ t. mem_push m.core.log.entries e i base.good (numbered_spares rules c m e h.base.node.who why) member }
 
-closed : (rules : Rules) (m : Node) → is_sequencer m ≡ true → FirstOk rules m → FirstOk rules (record (refresh_at_end (pushed m (Leave m.core.who))) { status = status.Departed })
+closed : (rules : Rules) (m : Node) → is_sequencer m ≡ true → FirstOk rules m
+    → FirstOk rules (record (refresh_at_end (pushed m (Leave m.core.who))) { status = status.Departed })
 closed rules m leads h =
     let i = first_of rules in
     let list = m.core.log.entries in
@@ -323,37 +345,88 @@ closed rules m leads h =
       member = λ t. absurd (cc);
     }
 
-pub first_change : (rules : Rules) (list : List Entry) (acc : ℕ) (c : Cause) (o : Outcome) (m n : Node) → CauseOk rules list acc (first_of rules) c → Change c o m n → n.ballot ≡ None → FirstOk rules m → FirstOk rules n
+pub first_change : (rules : Rules) (list : List Entry) (acc : ℕ) (c : Cause) (o : Outcome) (m n : Node) → CauseOk rules list acc (first_of rules) c
+    → Change c o m n → n.ballot ≡ None → FirstOk rules m → FirstOk rules n
 first_change rules list acc c o m n w refreshes none h = record { base = first_refresh rules m h.base; member = member_refreshed rules m h }
 first_change rules list acc c o m n w settles none h = record { base = first_settle rules m h.base; member = member_settled rules m h }
 first_change rules list acc c o m n w (takes_report s v report by may) none h =
     let b = h.base in
-    record { base = record { node = same_node rules _ _ _ m n refl refl refl b.node; start = b.start; group = b.group; good = b.good; log = b.log; own = b.own }; member = h.member }
+    record {
+      base = record {
+        node = same_node rules _ _ _ m n refl refl refl b.node;
+        start = b.start;
+        group = b.group;
+        good = b.good;
+        log = b.log;
+        own =
+            b.own;
+      };
+      member = h.member;
+    }
 first_change rules list acc c o m n w (admits s v is leads fit) none h =
     let b = h.base in
-    record { base = record { node = same_node rules _ _ _ m n refl refl refl b.node; start = b.start; group = b.group; good = b.good; log = b.log; own = b.own }; member = h.member }
+    record {
+      base = record {
+        node = same_node rules _ _ _ m n refl refl refl b.node;
+        start = b.start;
+        group = b.group;
+        good = b.good;
+        log = b.log;
+        own =
+            b.own;
+      };
+      member = h.member;
+    }
 first_change rules list acc c o m n w (numbers e leads room why) none h = numbered rules c m e leads why h
 first_change rules list acc c o m n w (keeps_body s v report req body is heard) none h =
     let b = h.base in
-    record { base = record { node = same_node rules _ _ _ m n refl refl refl b.node; start = b.start; group = b.group; good = b.good; log = b.log; own = b.own }; member = h.member }
+    record {
+      base = record {
+        node = same_node rules _ _ _ m n refl refl refl b.node;
+        start = b.start;
+        group = b.group;
+        good = b.good;
+        log = b.log;
+        own =
+            b.own;
+      };
+      member = h.member;
+    }
 first_change rules list acc c o m n w (notes s v base a by heard) none h = absurd (not_heard rules m s v h.base heard)
 first_change rules list acc c o m n w (stores s v base a number e by heard plain may) none h = absurd (not_heard rules m s v h.base heard)
 first_change rules list acc c o m n w (begins_list s v base join image is says may) none h = absurd (not_welcomed m s v base join image may h.base.log)
 first_change rules list acc c o m n w (departs s v number is heard leaves) none h =
     let b = h.base in
     record {
-      base = record { node = with_status rules _ _ _ m status.Departed (sym b.log) b.node; start = b.start; group = b.group; good = b.good; log = refl; own = b.own };
+      base = record {
+        node = with_status rules _ _ _ m status.Departed (sym b.log) b.node;
+        start = b.start;
+        group = b.group;
+        good = b.good;
+        log = refl;
+        own =
+            b.own;
+      };
       member = λ t. absurd (cc);
     }
 first_change rules list acc c o m n w (promises v low why) none h =
     let b = h.base in
     record {
-      base = record { node = with_promise rules _ _ _ m n v refl (promised_first rules list acc (first_of rules) c m v why w) b.node; start = b.start; group = b.group; good = b.good; log = b.log; own = b.own };
+      base = record {
+        node = with_promise rules _ _ _ m n v refl (promised_first rules list acc (first_of rules) c m v why w) b.node;
+        start = b.start;
+        group =
+            b.group;
+        good = b.good;
+        log = b.log;
+        own = b.own;
+      };
       member = h.member;
     }
 first_change rules list acc c o m n w (opens least resilience by may) none h = absurd (cc)
 first_change rules list acc c o m n w (looks b verdict over why look is) none h = absurd (looks_leave m b verdict look none)
-first_change rules list acc c o m n w (fetches s v base number e is heard promise below from may) none h = absurd (not_fetched rules m v h.base (and_both (not (s == m.core.who)) (is_member m.status) heard).1 promise below)
+first_change rules list acc c o m n w (fetches s v base number e is heard promise below from may) none h =
+    absurd (not_fetched rules m v h.base (and_both (not (s == m.core.who)) (is_member m.status) heard).1 promise below)
 first_change rules list acc c o m n w (stores_view s v base number names resilience is heard own other promise below may) none h =
     absurd (not_fetched rules m v h.base (and_both (not (s == m.core.who)) (is_member m.status) heard).1 (ap (stamp_eq v) promise ∙ itself v) below)
 first_change rules list acc c o m n w (queues body is says member stays few) none h =
@@ -374,9 +447,23 @@ first_change rules list acc c o m n w (collects req is) none h =
     }
 first_change rules list acc c o m n w (takes e is says member some there) none h =
     let b = h.base in
-    record { base = record { node = taken_ok rules _ _ _ m member some b.node; start = b.start; group = b.group; good = b.good; log = b.log; own = b.own }; member = h.member }
+    record {
+      base = record { node = taken_ok rules _ _ _ m member some b.node; start = b.start; group = b.group; good = b.good; log = b.log; own = b.own };
+      member = h.member;
+    }
 first_change rules list acc c o m n w (asks_to_join is was) none h = let l = h.base.log in let z = ap has_log was in absurd (cc)
 first_change rules list acc c o m n w (asks_to_leave is was stays done) none h =
     let b = h.base in
-    record { base = record { node = same_node rules _ _ _ m n refl refl refl b.node; start = b.start; group = b.group; good = b.good; log = b.log; own = b.own }; member = h.member }
+    record {
+      base = record {
+        node = same_node rules _ _ _ m n refl refl refl b.node;
+        start = b.start;
+        group = b.group;
+        good = b.good;
+        log = b.log;
+        own =
+            b.own;
+      };
+      member = h.member;
+    }
 first_change rules list acc c o m n w (closes leads leaves last room) none h = closed rules m leads h

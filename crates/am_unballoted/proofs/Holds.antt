@@ -23,11 +23,13 @@ use Rattle.am_unballoted.proofs.Steps.{nil_of}
 use Rattle.am_unballoted.proofs.Runs.{world_ok}
 
 -- what is accepted stands in the group's list
-in_group : (rules : Rules) (list : List Entry) (acc : ℕ) (w : World) (number : ℕ) (e : Entry) → Kept rules list acc w → At list acc number e → item_at w.group number ≡ Some e
+in_group : (rules : Rules) (list : List Entry) (acc : ℕ) (w : World) (number : ℕ) (e : Entry) → Kept rules list acc w → At list acc number e
+    → item_at w.group number ≡ Some e
 in_group rules list acc w number e h a = subst (λ g. item_at g number ≡ Some e) (sym h.group) (item_taken acc list number e a.low a.there)
 
 -- who was given something has a list
-given_log : (rules : Rules) (list : List Entry) (acc : ℕ) (w : World) (name : ℕ) → Kept rules list acc w → deliveries w.records name ≢ [] → has_log (w.nodes name).status ≡ true
+given_log : (rules : Rules) (list : List Entry) (acc : ℕ) (w : World) (name : ℕ) → Kept rules list acc w → deliveries w.records name ≢ []
+    → has_log (w.nodes name).status ≡ true
 given_log rules list acc w name h some = split (has_log (w.nodes name).status) (λ t. t)
     (λ f.
     let b = (h.each name).status.blank f in
@@ -36,7 +38,8 @@ given_log rules list acc w name h some = split (has_log (w.nodes name).status) (
     let count = (h.given name).count in
     absurd (some (nil_of (deliveries w.records name) (omega arith))))
 
-begins_there : (rules : Rules) (list : List Entry) (acc : ℕ) (w : World) (name : ℕ) → Kept rules list acc w → has_log (w.nodes name).status ≡ true → BeginsAt rules w name (w.nodes name).core.start
+begins_there : (rules : Rules) (list : List Entry) (acc : ℕ) (w : World) (name : ℕ) → Kept rules list acc w → has_log (w.nodes name).status ≡ true
+    → BeginsAt rules w name (w.nodes name).core.start
 begins_there rules list acc w name h log =
     let b = (h.each name).status.begins log in
     record {

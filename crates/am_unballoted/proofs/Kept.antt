@@ -110,7 +110,8 @@ CauseOk rules list acc i refuses = Unit {0}
 pub at_more : (list more : List Entry) (acc to number : ℕ) (e : Entry) → acc ≤ to → At list acc number e → At (list ++ more) to number e
 at_more list more acc to number e up h = record { low = let low = h.low in omega arith; there = item_more list more number e h.there }
 
-settled_more : (list more : List Entry) (acc to i req : ℕ) (number : Option ℕ) → acc ≤ to → IsSettled list acc i req number → IsSettled (list ++ more) to i req number
+settled_more : (list more : List Entry) (acc to i req : ℕ) (number : Option ℕ) → acc ≤ to → IsSettled list acc i req number
+    → IsSettled (list ++ more) to i req number
 settled_more list more acc to i req None up h = tt
 settled_more list more acc to i req (Some number) up h = (h.0, at_more list more acc to number (Data i req h.0) up h.1)
 
@@ -121,14 +122,29 @@ list_more list more acc to log up h = record {
   within = within_more list more log.start log.entries h.within;
 }
 
-pub begins_more : (rules : Rules) (list more : List Entry) (acc to i start : ℕ) → acc ≤ to → BeginsOk rules list acc i start → BeginsOk rules (list ++ more) to i start
-begins_more rules list more acc to i start up h = record { some = h.some; founder = h.founder; joiner = λ f. at_more list more acc to start (Join i) up (h.joiner f) }
+pub begins_more : (rules : Rules) (list more : List Entry) (acc to i start : ℕ) → acc ≤ to → BeginsOk rules list acc i start
+    → BeginsOk rules (list ++ more) to i start
+begins_more rules list more acc to i start up h = record {
+  some = h.some;
+  founder = h.founder;
+  joiner =
+      λ f. at_more list more acc to start (Join i) up (h.joiner f);
+}
 
-pub sends_more : (list more : List Entry) (acc to i : ℕ) (queue : List OwnSend) → acc ≤ to → All (SendOk list acc i) queue → All (SendOk (list ++ more) to i) queue
-sends_more list more acc to i queue up h = All-weaker (SendOk list acc i) (SendOk (list ++ more) to i) (λ s. settled_more list more acc to i s.req s.number up) queue h
+pub sends_more : (list more : List Entry) (acc to i : ℕ) (queue : List OwnSend) → acc ≤ to → All (SendOk list acc i) queue
+    → All (SendOk (list ++ more) to i) queue
+sends_more list more acc to i queue up h = All-weaker (SendOk list acc i) (SendOk (list ++ more) to i)
+    (λ s. settled_more list more acc to i s.req s.number up) queue h
 
-pub status_more : (rules : Rules) (list more : List Entry) (acc to i : ℕ) (status : Status) (core : CoreState) → acc ≤ to → StatusOk rules list acc i status core → StatusOk rules (list ++ more) to i status core
-status_more rules list more acc to i status core up h = record { promise = h.promise; founder = h.founder; blank = h.blank; begins = λ t. begins_more rules list more acc to i core.start up (h.begins t) }
+pub status_more : (rules : Rules) (list more : List Entry) (acc to i : ℕ) (status : Status) (core : CoreState) → acc ≤ to
+    → StatusOk rules list acc i status core → StatusOk rules (list ++ more) to i status core
+status_more rules list more acc to i status core up h = record {
+  promise = h.promise;
+  founder = h.founder;
+  blank = h.blank;
+  begins =
+      λ t. begins_more rules list more acc to i core.start up (h.begins t);
+}
 
 pub node_more : (rules : Rules) (list more : List Entry) (acc to i : ℕ) (m : Node) → acc ≤ to → NodeOk rules list acc i m → NodeOk rules (list ++ more) to i m
 node_more rules list more acc to i m up h =
@@ -136,14 +152,24 @@ node_more rules list more acc to i m up h =
     record {
       who = h.who;
       log = list_more list more acc to m.core.log up h.log;
-      fronts = record { accepted = let a = f.accepted in omega arith; within = f.within; taken = f.taken; base = f.base; told = λ d. (let a = f.told d in omega arith); passed = f.passed };
+      fronts = record {
+        accepted = let a = f.accepted in omega arith;
+        within = f.within;
+        taken = f.taken;
+        base = f.base;
+        told =
+            λ d. (let a = f.told d in omega arith);
+        passed = f.passed;
+      };
       status = status_more rules list more acc to i m.status m.core up h.status;
       sends = sends_more list more acc to i m.sends.queue up h.sends;
     }
 
-pub packet_more : (rules : Rules) (list more : List Entry) (acc to i : ℕ) (p : Packet) → acc ≤ length list → acc ≤ to → PacketOk rules list acc i p → PacketOk rules (list ++ more) to i p
+pub packet_more : (rules : Rules) (list more : List Entry) (acc to i : ℕ) (p : Packet) → acc ≤ length list → acc ≤ to → PacketOk rules list acc i p
+    → PacketOk rules (list ++ more) to i p
 packet_more rules list more acc to i (Bcast s v base a number e) low up h = (let b = h.0 in omega arith, item_more list more number e h.1)
-packet_more rules list more acc to i (Order s v base a number from req) low up h = (let b = h.0 in omega arith, h.1, item_more list more number (Data from req h.1) h.2)
+packet_more rules list more acc to i (Order s v base a number from req) low up h =
+    (let b = h.0 in omega arith, h.1, item_more list more number (Data from req h.1) h.2)
 packet_more rules list more acc to i (Accept s v base a high poll) low up h = omega arith
 packet_more rules list more acc to i (Welcome s v base join image) low up h = record {
   stamp = h.stamp;
@@ -157,5 +183,6 @@ packet_more rules list more acc to i (Piece s v base number e) low up h = item_m
 packet_more rules list more acc to i (Result s v base number names resilience) low up h = (h.0, item_more list more number (View v names resilience) h.1)
 packet_more rules list more acc to i _ low up h = tt
 
-pub letter_more : (rules : Rules) (list more : List Entry) (acc to : ℕ) (letter : Letter) → acc ≤ length list → acc ≤ to → LetterOk rules list acc letter → LetterOk rules (list ++ more) to letter
+pub letter_more : (rules : Rules) (list more : List Entry) (acc to : ℕ) (letter : Letter) → acc ≤ length list → acc ≤ to → LetterOk rules list acc letter
+    → LetterOk rules (list ++ more) to letter
 letter_more rules list more acc to letter low up h = record { heard = λ i f. packet_more rules list more acc to i letter.packet low up (h.heard i f) }

@@ -1,5 +1,6 @@
 -- Items of lists, and lists that begin one another.
-use Rattle.std.proofs.Common.{◌≡◌, ℕ, zero, suc, ◌+◌, ◌<◌, ◌≤◌, List, [], ◌∷◌, ◌++◌, length, take, drop, Some, slice_get, sym, ap, ◌∙◌, subst, append_assoc, length-append, arith}
+use Rattle.std.proofs.Common.{◌≡◌, ℕ, zero, suc, ◌+◌, ◌<◌, ◌≤◌, List, [], ◌∷◌, ◌++◌, length, take, drop, Some, slice_get, sym, ap, ◌∙◌, subst, append_assoc}
+use Rattle.std.proofs.Common.{length-append, arith}
 use Rattle.std.specs.Prelude.{All}
 use Rattle.std.proofs.lemmas.Option.{slice_get_within}
 use Rattle.std.proofs.lemmas.List.{take-append-le, take-append-drop, length-take, append-nil}
@@ -65,16 +66,19 @@ within_long whole start entries h =
     let d = ap length h.begins.same in
     omega arith
 
-pub within_get : (whole : List Entry) (start : ℕ) (entries : List Entry) (k : ℕ) (e : Entry) → Within whole start entries → slice_get entries k ≡ Some e → slice_get whole (start + k) ≡ Some e
+pub within_get : (whole : List Entry) (start : ℕ) (entries : List Entry) (k : ℕ) (e : Entry) → Within whole start entries → slice_get entries k ≡ Some e
+    → slice_get whole (start + k) ≡ Some e
 within_get whole start entries k e h is =
     let front = take start whole in
     let long : length front ≡ start = length_take start whole h.low in
     let at : slice_get (front ++ entries) (length front + k) ≡ Some e = get_behind front entries k ∙ is in
-    let there : slice_get whole (length front + k) ≡ Some e = subst (λ l. slice_get l (length front + k) ≡ Some e) h.begins.same (get_front (front ++ entries) h.begins.rest (length front + k) e at) in
+    let there : slice_get whole (length front + k) ≡ Some e =
+    subst (λ l. slice_get l (length front + k) ≡ Some e) h.begins.same (get_front (front ++ entries) h.begins.rest (length front + k) e at) in
     subst (λ n. slice_get whole (n + k) ≡ Some e) long there
 
 -- with the entry that comes next
-pub within_push : (whole : List Entry) (start : ℕ) (entries : List Entry) (e : Entry) → Within whole start entries → slice_get whole (start + length entries) ≡ Some e → Within whole start (entries ++ e ∷ [])
+pub within_push : (whole : List Entry) (start : ℕ) (entries : List Entry) (e : Entry) → Within whole start entries
+    → slice_get whole (start + length entries) ≡ Some e → Within whole start (entries ++ e ∷ [])
 within_push whole start entries e h is =
     let front = take start whole in
     let long : length front ≡ start = length_take start whole h.low in

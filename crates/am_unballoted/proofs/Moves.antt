@@ -1,5 +1,6 @@
 -- Each event of a run in which nobody began a ballot moves the group by its record alone.
-use Rattle.std.proofs.Common.{◌≡◌, ◌≢◌, ⊎_elim, ℕ, ◌+◌, ◌-◌, ◌<◌, ◌≤◌, ◌==◌, true, false, if◌then◌else◌, List, [], ◌∷◌, ◌++◌, length, map, Option, Some, None, slice_get, slice_set, slice_index_or, refl, sym, ap, ◌∙◌, subst, append-nil, arith}
+use Rattle.std.proofs.Common.{◌≡◌, ◌≢◌, ⊎_elim, ℕ, ◌+◌, ◌-◌, ◌<◌, ◌≤◌, ◌==◌, true, false, if◌then◌else◌, List, [], ◌∷◌, ◌++◌, length, map, Option, Some, None}
+use Rattle.std.proofs.Common.{slice_get, slice_set, slice_index_or, refl, sym, ap, ◌∙◌, subst, append-nil, arith}
 use Rattle.std.specs.List.{range_with_len}
 use Rattle.std.proofs.lemmas.Bool.Decides.{nat_tests}
 use Rattle.std.proofs.lemmas.Option.{get_or_from_slice_get}
@@ -74,8 +75,10 @@ fronts_set : (nodes : ℕ → Node) (i : ℕ) (n : Node) → i < 256 → fronts_
 unfolding fronts_of
 fronts_set nodes i n low =
     let z : 0 + i ≡ i = omega arith in
-    map_same (λ name. front_of (set_at nodes i n name)) (set_at (λ name. front_of (nodes name)) i (front_of n)) 0 256 (λ j up. split (j == i) (λ t. rw t refl) (λ f. rw f refl))
-    ∙ sym (set_name (λ name. front_of (nodes name)) (front_of n) 0 256 i low ∙ ap (λ y. map (set_at (λ name. front_of (nodes name)) y (front_of n)) (range_with_len 0 256)) z)
+    map_same (λ name. front_of (set_at nodes i n name)) (set_at (λ name. front_of (nodes name)) i (front_of n)) 0 256
+    (λ j up. split (j == i) (λ t. rw t refl) (λ f. rw f refl))
+    ∙ sym (set_name (λ name. front_of (nodes name)) (front_of n) 0 256 i low
+    ∙ ap (λ y. map (set_at (λ name. front_of (nodes name)) y (front_of n)) (range_with_len 0 256)) z)
 
 -- as it was
 fronts_same : (nodes : ℕ → Node) (i : ℕ) (n : Node) → front_of n ≡ front_of (nodes i) → fronts_of (set_at nodes i n) ≡ fronts_of nodes
@@ -104,7 +107,8 @@ log_front m t = rw t refl
 no_front : (m : Node) → has_log m.status ≡ false → front_of m ≡ None
 no_front m f = rw f refl
 
-grows_to : (group : List Entry) (fronts other : List (Option ℕ)) (n : Node) → fronts ≡ other → Grows (record { entries = group; fronts = fronts }) (record { entries = group_after group n; fronts = other })
+grows_to : (group : List Entry) (fronts other : List (Option ℕ)) (n : Node) → fronts ≡ other
+    → Grows (record { entries = group; fronts = fronts }) (record { entries = group_after group n; fronts = other })
 grows_to group fronts other n same =
     let long = group_long group n in
     let g : Group = record { entries = group; fronts = fronts } in
@@ -112,7 +116,9 @@ grows_to group fronts other n same =
     let is : record g { entries = group ++ long.0 } ≡ end = (λ j. record { entries = sym long.1 j; fronts = same j }) in
     subst (Grows g) is (appends g long.0)
 
-moves_step : (rules : Rules) (list next : List Entry) (acc to : ℕ) (w v : World) (i : ℕ) (n : Node) (c : Cause) (o : Outcome) → i < 256 → Kept rules list acc w → acc ≤ length list → Kept rules next to v → to ≤ length next → v.nodes i ≡ n → v.group ≡ group_after w.group n → (w.nodes i).ballot ≡ None → Answers (w.nodes i) c n o → Gave c o (w.nodes i) n → Does w i n o
+moves_step : (rules : Rules) (list next : List Entry) (acc to : ℕ) (w v : World) (i : ℕ) (n : Node) (c : Cause) (o : Outcome) → i < 256 → Kept rules list acc w
+    → acc ≤ length list → Kept rules next to v → to ≤ length next → v.nodes i ≡ n → v.group ≡ group_after w.group n → (w.nodes i).ballot ≡ None
+    → Answers (w.nodes i) c n o → Gave c o (w.nodes i) n → Does w i n o
 unfolding group_is
 moves_step rules list next acc to w v i n c o small h low k high is grew none_ answer (nothing f start log) = ⊎_elim
     (λ (x : taken_in o ≡ []). record {
@@ -144,13 +150,16 @@ moves_step rules list next acc to w v i n c o small h low k_ high is grew none_ 
     let item = entry_item rules list acc i m k e (h.each i) t.there in
     let there : item_at w.group (k + 1) ≡ Some e = ap (λ l. item_at l (k + 1)) h.group ∙ item_taken acc list (k + 1) e (omega arith) item in
     let got : slice_get w.group k ≡ Some e = item_get w.group (k + 1) k e refl there in
-    let at : slice_index_or (fronts_of w.nodes) i None ≡ Some k = get_or_from_slice_get (fronts_of w.nodes) i (front_of m) None (front_get w.nodes i small) ∙ log_front m lm ∙ ap Some a in
+    let at : slice_index_or (fronts_of w.nodes) i None ≡ Some k = get_or_from_slice_get (fronts_of w.nodes) i (front_of m) None (front_get w.nodes i small)
+    ∙ log_front m lm ∙ ap Some a in
     let next_ : next_of (group_is w.group w.nodes) i ≡ Some (k + 1, e) = ap (above w.group) at ∙ ap (λ x. numbered (k + 1) x) got in
     let new : front_of n ≡ Some (k + 1) = log_front n ln ∙ ap Some b in
-    let fronts : slice_set (fronts_of w.nodes) i (Some (k + 1)) ≡ fronts_of (set_at w.nodes i n) = ap (slice_set (fronts_of w.nodes) i) (sym new) ∙ sym (fronts_set w.nodes i n small) in
+    let fronts : slice_set (fronts_of w.nodes) i (Some (k + 1)) ≡ fronts_of (set_at w.nodes i n) = ap (slice_set (fronts_of w.nodes) i) (sym new)
+    ∙ sym (fronts_set w.nodes i n small) in
     record {
       between = record { entries = w.group; fronts = slice_set (fronts_of w.nodes) i (Some (k + 1)) };
-      takes = subst (λ x. GivesOut i (taken_in x) (group_is w.group w.nodes) (record { entries = w.group; fronts = slice_set (fronts_of w.nodes) i (Some (k + 1)) })) (sym says) (next_, refl);
+      takes = subst (λ x. GivesOut i (taken_in x) (group_is w.group w.nodes)
+          (record { entries = w.group; fronts = slice_set (fronts_of w.nodes) i (Some (k + 1)) })) (sym says) (next_, refl);
       grows = grows_to w.group (slice_set (fronts_of w.nodes) i (Some (k + 1))) (fronts_of (set_at w.nodes i n)) n fronts;
     }
 moves_step rules list next acc to w v i n c o small h low k high is grew none_ answer (began s stamp base join image heard says lm ln start f up) =
@@ -178,7 +187,8 @@ moves_step rules list next acc to w v i n c o small h low k high is grew none_ a
 accepted_low : (rules : Rules) (w : World) → WorldOk rules w → (w.nodes (first_of rules)).core.acc ≤ length (w.nodes (first_of rules)).core.log.entries
 accepted_low rules w h = let f = h.first.base.node.fronts.within in let s = h.first.base.start in omega arith
 
-idle_moves : (w v : World) (e : Event) (o : Outcome) → v.records ≡ w.records ++ record_of w e o [] ∷ [] → group_of v ≡ group_of w → taken_in o ≡ [] → MovesOn w v
+idle_moves : (w v : World) (e : Event) (o : Outcome) → v.records ≡ w.records ++ record_of w e o [] ∷ [] → group_of v ≡ group_of w → taken_in o ≡ []
+    → MovesOn w v
 idle_moves w v e o records group takes = record {
   done = record_of w e o [];
   records = records;
@@ -202,8 +212,10 @@ moves_by rules w e v u lives (steps c s runs cause effect) free =
     let b = (each_keeps rules w e v (steps c s runs cause effect) u).ok free in
     let self : (i == i) ≡ true = grind (arith, nat_tests) in
     let mine : set_at w.nodes i s.node i ≡ s.node = rw self refl in
-    let d = moves_step rules _ _ _ _ w v i s.node c s.outcome (actor_low w e lives) a.kept (accepted_low rules w a) b.kept (accepted_low rules v b) mine refl (before i) effect.answer (gave_step rules w e c s a u.sent cause effect own) in
+    let d = moves_step rules _ _ _ _ w v i s.node c s.outcome (actor_low w e lives) a.kept (accepted_low rules w a) b.kept (accepted_low rules v b) mine refl
+    (before i) effect.answer (gave_step rules w e c s a u.sent cause effect own) in
     record { done = record_of w e s.outcome s.letters; records = refl; moves = record { between = d.between; takes = d.takes; grows = d.grows } }
 
 pub unballoted_moves : UnballotedMoves
-unballoted_moves rules events e may free = moves_by rules (run rules events) e (happens (run rules events) e) (unballoted rules events may) (lives_run rules events) (events_have_effects (run rules events) e) free
+unballoted_moves rules events e may free = moves_by rules (run rules events) e (happens (run rules events) e) (unballoted rules events may)
+    (lives_run rules events) (events_have_effects (run rules events) e) free

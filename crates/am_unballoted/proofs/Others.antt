@@ -1,5 +1,6 @@
 -- What each change of another name than the first founder keeps, as long as its ballot is none.
-use Rattle.std.proofs.Common.{◌≡◌, ◌≢◌, ℕ, ◌+◌, ◌-◌, ◌<◌, ◌≤◌, max, min, ◌==◌, not, nat_lt, true, false, if◌then◌else◌, List, [], ◌∷◌, length, Option, Some, None, slice_get, refl, sym, ap, ◌∙◌, subst, length-append, arith}
+use Rattle.std.proofs.Common.{◌≡◌, ◌≢◌, ℕ, ◌+◌, ◌-◌, ◌<◌, ◌≤◌, max, min, ◌==◌, not, nat_lt, true, false, if◌then◌else◌, List, [], ◌∷◌, length, Option, Some}
+use Rattle.std.proofs.Common.{None, slice_get, refl, sym, ap, ◌∙◌, subst, length-append, arith}
 use Rattle.std.specs.Prelude.{All}
 use Rattle.std.proofs.lemmas.Bool.Decides.{nat_tests}
 use Rattle.am_base.specs.declared.name.Stamp.{Stamp}
@@ -23,7 +24,9 @@ use Rattle.am_model.specs.Group.{has_log}
 use Rattle.am_model.proofs.Greatest.{split, and_both}
 use Rattle.am_effects.specs.Causes.{Cause, BringsFronts, with_entry, with_number, alone}
 use Rattle.am_effects.specs.Looks.{Looks, finds_itself_out, waits, fetches_from_best, finds_too_few, finds_no_room, decides}
-use Rattle.am_effects.specs.Changes.{Carries, whole_entry, by_number, Promises, invited, overtaken, told_result, Change, refreshes, settles, takes_report, admits, numbers, keeps_body, notes, stores, begins_list, departs, promises, opens, looks, fetches, stores_view, queues, collects, takes, asks_to_join, asks_to_leave, closes}
+use Rattle.am_effects.specs.Changes.{Carries, whole_entry, by_number, Promises, invited, overtaken, told_result, Change, refreshes, settles, takes_report}
+use Rattle.am_effects.specs.Changes.{admits, numbers, keeps_body, notes, stores, begins_list, departs, promises, opens, looks, fetches, stores_view, queues}
+use Rattle.am_effects.specs.Changes.{collects, takes, asks_to_join, asks_to_leave, closes}
 use Rattle.am_sent.proofs.Kept.{WasSent, EntrySent, Keeps}
 use Rattle.am_sent.proofs.Changes.{MaySend, body_of_sent}
 use Rattle.am_effects.proofs.Items.{all_item}
@@ -36,30 +39,42 @@ use Rattle.am_unballoted.proofs.Changes.{leads_first, advance_fronts, settle_ok,
 -- ---- parts
 
 -- the same list, numbers, status and sends
-pub same_node : (rules : Rules) (list : List Entry) (acc i : ℕ) (m n : Node) → n.core ≡ m.core → n.status ≡ m.status → n.sends ≡ m.sends → NodeOk rules list acc i m → NodeOk rules list acc i n
+pub same_node : (rules : Rules) (list : List Entry) (acc i : ℕ) (m n : Node) → n.core ≡ m.core → n.status ≡ m.status → n.sends ≡ m.sends
+    → NodeOk rules list acc i m → NodeOk rules list acc i n
 same_node rules list acc i m n a b c h = record {
   who = ap (λ (x : CoreState). x.who) a ∙ h.who;
   log = subst (λ (x : CoreState). ListOk list acc x.log) (sym a) h.log;
   fronts = subst (λ (x : CoreState). FrontsOk (first_of rules) acc i x) (sym a) h.fronts;
-  status = subst (λ (x : Status). StatusOk rules list acc i x n.core) (sym b) (subst (λ (x : CoreState). StatusOk rules list acc i m.status x) (sym a) h.status);
+  status = subst (λ (x : Status). StatusOk rules list acc i x n.core) (sym b)
+      (subst (λ (x : CoreState). StatusOk rules list acc i m.status x) (sym a) h.status);
   sends = subst (λ s. All (SendOk list acc i) s.queue) (sym c) h.sends;
 }
 
 -- what comes next in the whole list is stored
-pub pushed_ok : (rules : Rules) (list : List Entry) (acc i : ℕ) (m : Node) (e : Entry) → slice_get list (top m) ≡ Some e → NodeOk rules list acc i m → NodeOk rules list acc i (pushed m e)
+pub pushed_ok : (rules : Rules) (list : List Entry) (acc i : ℕ) (m : Node) (e : Entry) → slice_get list (top m) ≡ Some e → NodeOk rules list acc i m
+    → NodeOk rules list acc i (pushed m e)
 pushed_ok rules list acc i m e is h =
     let f = h.fronts in
     let l = h.log in
     record {
       who = h.who;
       log = record { start = l.start; image = l.image; within = within_push list m.core.log.start m.core.log.entries e l.within is };
-      fronts = record { accepted = f.accepted; within = let a = f.within in let b = length-append m.core.log.entries (e ∷ []) in omega arith; taken = f.taken; base = f.base; told = f.told; passed = f.passed };
+      fronts = record {
+        accepted = f.accepted;
+        within = let a = f.within in let b = length-append m.core.log.entries (e ∷ []) in
+            omega arith;
+        taken = f.taken;
+        base = f.base;
+        told = f.told;
+        passed = f.passed;
+      };
       status = record { promise = h.status.promise; founder = h.status.founder; blank = h.status.blank; begins = h.status.begins };
       sends = h.sends;
     }
 
 -- its base goes up, and what it is told is no more than is accepted
-pub noted_ok : (rules : Rules) (list : List Entry) (acc i : ℕ) (m : Node) (base to : ℕ) → m.core.base ≤ base → (i ≢ first_of rules → to ≤ acc) → NodeOk rules list acc i m → NodeOk rules list acc i (record m { core = record (m.core) { base = base; told = to } })
+pub noted_ok : (rules : Rules) (list : List Entry) (acc i : ℕ) (m : Node) (base to : ℕ) → m.core.base ≤ base → (i ≢ first_of rules → to ≤ acc)
+    → NodeOk rules list acc i m → NodeOk rules list acc i (record m { core = record (m.core) { base = base; told = to } })
 noted_ok rules list acc i m base to up low h =
     let f = h.fronts in
     record {
@@ -70,26 +85,44 @@ noted_ok rules list acc i m base to up low h =
       sends = h.sends;
     }
 
-pub with_status : (rules : Rules) (list : List Entry) (acc i : ℕ) (m : Node) (s : Status) → has_log s ≡ has_log m.status → NodeOk rules list acc i m → NodeOk rules list acc i (record m { status = s })
+pub with_status : (rules : Rules) (list : List Entry) (acc i : ℕ) (m : Node) (s : Status) → has_log s ≡ has_log m.status → NodeOk rules list acc i m
+    → NodeOk rules list acc i (record m { status = s })
 with_status rules list acc i m s b h = record {
   who = h.who;
   log = h.log;
   fronts = h.fronts;
-  status = record { promise = λ t. h.status.promise (sym b ∙ t); founder = λ t. b ∙ h.status.founder t; blank = λ t. h.status.blank (sym b ∙ t); begins = λ t. h.status.begins (sym b ∙ t) };
+  status = record {
+    promise = λ t. h.status.promise (sym b ∙ t);
+    founder = λ t. b ∙ h.status.founder t;
+    blank = λ t. h.status.blank (sym b ∙ t);
+    begins =
+        λ t. h.status.begins (sym b ∙ t);
+  };
   sends = h.sends;
 }
 
-pub with_promise : (rules : Rules) (list : List Entry) (acc i : ℕ) (m n : Node) (v : Stamp) → n ≡ record m { core = record (m.core) { promise = v }; ballot = n.ballot } → v ≡ founding_stamp rules → NodeOk rules list acc i m → NodeOk rules list acc i n
+pub with_promise : (rules : Rules) (list : List Entry) (acc i : ℕ) (m n : Node) (v : Stamp)
+    → n ≡ record m { core = record (m.core) { promise = v }; ballot = n.ballot } → v ≡ founding_stamp rules → NodeOk rules list acc i m
+    → NodeOk rules list acc i n
 with_promise rules list acc i m n v is e h = subst (NodeOk rules list acc i) (sym is) (record {
   who = h.who;
   log = record { start = h.log.start; image = h.log.image; within = h.log.within };
-  fronts = record { accepted = h.fronts.accepted; within = h.fronts.within; taken = h.fronts.taken; base = h.fronts.base; told = h.fronts.told; passed = h.fronts.passed };
+  fronts = record {
+    accepted = h.fronts.accepted;
+    within = h.fronts.within;
+    taken = h.fronts.taken;
+    base = h.fronts.base;
+    told = h.fronts.told;
+    passed =
+        h.fronts.passed;
+  };
   status = record { promise = λ t. e; founder = h.status.founder; blank = h.status.blank; begins = h.status.begins };
   sends = h.sends;
 })
 
 -- the application takes the next entry
-pub taken_ok : (rules : Rules) (list : List Entry) (acc i : ℕ) (m : Node) → is_member m.status ≡ true → (m.core.taken == m.core.acc) ≡ false → NodeOk rules list acc i m → NodeOk rules list acc i (record m { core = record (m.core) { taken = m.core.taken + 1 } })
+pub taken_ok : (rules : Rules) (list : List Entry) (acc i : ℕ) (m : Node) → is_member m.status ≡ true → (m.core.taken == m.core.acc) ≡ false
+    → NodeOk rules list acc i m → NodeOk rules list acc i (record m { core = record (m.core) { taken = m.core.taken + 1 } })
 taken_ok rules list acc i m member some h =
     let f = h.fronts in
     let t = f.taken in
@@ -99,7 +132,15 @@ taken_ok rules list acc i m member some h =
     record {
       who = h.who;
       log = record { start = h.log.start; image = h.log.image; within = h.log.within };
-      fronts = record { accepted = f.accepted; within = f.within; taken = omega arith; base = f.base; told = f.told; passed = λ b. (let z : m.core.taken < m.core.start - 1 = omega arith in let q = p z in absurd (omega arith)) };
+      fronts = record {
+        accepted = f.accepted;
+        within = f.within;
+        taken = omega arith;
+        base = f.base;
+        told = f.told;
+        passed =
+            λ b. (let z : m.core.taken < m.core.start - 1 = omega arith in let q = p z in absurd (omega arith));
+      };
       status = record { promise = h.status.promise; founder = h.status.founder; blank = λ z. absurd (cc); begins = h.status.begins };
       sends = h.sends;
     }
@@ -111,7 +152,8 @@ blank_passed taken acc start a b =
     let f : nat_lt taken (start - 1) ≡ false = grind (arith, nat_tests) in
     rw f a
 
-pub advance_ok : (rules : Rules) (list : List Entry) (acc to i : ℕ) (m : Node) → acc ≤ to → m.core.told ≤ to → StatusOk rules list to i m.status m.core → ListOk list to m.core.log → All (SendOk list to i) m.sends.queue → NodeOk rules list acc i m → NodeOk rules list to i (advance m)
+pub advance_ok : (rules : Rules) (list : List Entry) (acc to i : ℕ) (m : Node) → acc ≤ to → m.core.told ≤ to → StatusOk rules list to i m.status m.core
+    → ListOk list to m.core.log → All (SendOk list to i) m.sends.queue → NodeOk rules list acc i m → NodeOk rules list to i (advance m)
 unfolding accept pass_over
 advance_ok rules list acc to i m up low st l q h = record {
   who = h.who;
@@ -135,14 +177,29 @@ refreshed_ok rules list acc i m other h = split (is_sequencer m)
 
 -- ---- a joiner's list
 
-begun_ok : (rules : Rules) (list : List Entry) (acc i s : ℕ) (v : Stamp) (base join : ℕ) (image : Image) (m : Node) → acc ≤ length list → has rules.founders i ≡ false → WelcomeOk rules list acc i v base join image → base < join → NodeOk rules list acc i m → NodeOk rules list acc i (begun m v base join image)
+begun_ok : (rules : Rules) (list : List Entry) (acc i s : ℕ) (v : Stamp) (base join : ℕ) (image : Image) (m : Node) → acc ≤ length list
+    → has rules.founders i ≡ false → WelcomeOk rules list acc i v base join image → base < join → NodeOk rules list acc i m
+    → NodeOk rules list acc i (begun m v base join image)
 begun_ok rules list acc i s v base join image m within no_founder w above h =
     let low = w.low in
-    let begins : BeginsOk rules list acc i join = record { some = omega arith; founder = λ t. absurd (cc); joiner = λ f. record { low = w.low; there = w.joined f } } in
+    let begins : BeginsOk rules list acc i join = record {
+      some = omega arith;
+      founder = λ t. absurd (cc);
+      joiner =
+          λ f. record { low = w.low; there = w.joined f };
+    } in
     record {
       who = h.who;
       log = record { start = omega arith; image = w.tells above; within = within_none list base (omega arith) };
-      fronts = record { accepted = omega arith; within = omega arith; taken = omega arith; base = omega arith; told = λ d. omega arith; passed = λ b. omega arith };
+      fronts = record {
+        accepted = omega arith;
+        within = omega arith;
+        taken = omega arith;
+        base = omega arith;
+        told = λ d. omega arith;
+        passed =
+            λ b. omega arith;
+      };
       status = record { promise = λ t. w.stamp; founder = λ t. refl; blank = λ t. absurd (cc); begins = λ t. begins };
       sends = h.sends;
     }
@@ -153,15 +210,18 @@ begun_ok rules list acc i s v base join image m within no_founder w above h =
 pub record Unique (all : List Record) : Type 0 where
   pub one : (name req : ℕ) (body other : List ℕ) → WasSent all name req body → WasSent all name req other → body ≡ other
 
-fronts_told : (rules : Rules) (list : List Entry) (acc i : ℕ) (c : Cause) (s : ℕ) (v : Stamp) (base a : ℕ) → BringsFronts c s v base a → CauseOk rules list acc i c → a ≤ acc
+fronts_told : (rules : Rules) (list : List Entry) (acc i : ℕ) (c : Cause) (s : ℕ) (v : Stamp) (base a : ℕ) → BringsFronts c s v base a
+    → CauseOk rules list acc i c → a ≤ acc
 fronts_told rules list acc i c s v base a (with_entry s1 v1 base1 acc1 number e) h = h.0
 fronts_told rules list acc i c s v base a (with_number s1 v1 base1 acc1 number from req) h = h.0
 fronts_told rules list acc i c s v base a (alone s1 v1 base1 acc1 high poll) h = h
 
-found_is : (all : List Record) (from req : ℕ) (body other : List ℕ) (found : Option (List ℕ)) → found ≡ Some body → Unique all → MaySend all from req found → WasSent all from req other → body ≡ other
+found_is : (all : List Record) (from req : ℕ) (body other : List ℕ) (found : Option (List ℕ)) → found ≡ Some body → Unique all → MaySend all from req found
+    → WasSent all from req other → body ≡ other
 found_is all from req body other found is u sent was = u.one from req body other (subst (MaySend all from req) is sent) was
 
-carried_ok : (rules : Rules) (list : List Entry) (acc i : ℕ) (all : List Record) (c : Cause) (m : Node) (s : ℕ) (v : Stamp) (base a number : ℕ) (e : Entry) → Unique all → All (EntrySent all) list → Keeps all i m → Carries c m s v base a number e → CauseOk rules list acc i c → item_at list number ≡ Some e
+carried_ok : (rules : Rules) (list : List Entry) (acc i : ℕ) (all : List Record) (c : Cause) (m : Node) (s : ℕ) (v : Stamp) (base a number : ℕ) (e : Entry)
+    → Unique all → All (EntrySent all) list → Keeps all i m → Carries c m s v base a number e → CauseOk rules list acc i c → item_at list number ≡ Some e
 carried_ok rules list acc i all c m s v base a number e one sent k (whole_entry x is) h = (subst (CauseOk rules list acc i) is h).1
 carried_ok rules list acc i all c m s v base a number e one sent k (by_number from req body is found) h =
     let p = subst (CauseOk rules list acc i) is h in
@@ -180,7 +240,8 @@ looks_leave m b v (finds_too_few x y) h = absurd (cc)
 looks_leave m b v (finds_no_room x) h = absurd (cc)
 looks_leave m b v (decides x) h = absurd (cc)
 
-pub promised_first : (rules : Rules) (list : List Entry) (acc i : ℕ) (c : Cause) (m : Node) (v : Stamp) → Promises c m v → CauseOk rules list acc i c → v ≡ founding_stamp rules
+pub promised_first : (rules : Rules) (list : List Entry) (acc i : ℕ) (c : Cause) (m : Node) (v : Stamp) → Promises c m v → CauseOk rules list acc i c
+    → v ≡ founding_stamp rules
 promised_first rules list acc i c m v (invited s w is heard own) h = absurd (subst (CauseOk rules list acc i) is h)
 promised_first rules list acc i c m v (overtaken s w vote is heard above) h = absurd (subst (CauseOk rules list acc i) is h)
 promised_first rules list acc i c m v (told_result s w base number names resilience is heard own other) h = (subst (CauseOk rules list acc i) is h).0
@@ -190,7 +251,8 @@ promised_first rules list acc i c m v (told_result s w base number names resilie
 next_is : (list : List Entry) (m : Node) (number : ℕ) (e : Entry) → number ≡ top m + 1 → item_at list number ≡ Some e → slice_get list (top m) ≡ Some e
 next_is list m number e next is = item_get list number (top m) e next is
 
-pub no_founder : (rules : Rules) (list : List Entry) (acc i : ℕ) (m : Node) → NodeOk rules list acc i m → has_log m.status ≡ false → has rules.founders i ≡ false
+pub no_founder : (rules : Rules) (list : List Entry) (acc i : ℕ) (m : Node) → NodeOk rules list acc i m → has_log m.status ≡ false
+    → has rules.founders i ≡ false
 no_founder rules list acc i m h none = split (has rules.founders i) (λ t. let l = h.status.founder t in absurd (cc)) (λ f. f)
 
 -- what makes the name do a step, and the records to which all that was sent goes back
@@ -200,7 +262,8 @@ pub record Heard (rules : Rules) (list : List Entry) (acc i : ℕ) (all : List R
   pub unique : Unique all
   pub sent : All (EntrySent all) list
 
-pub other_change : (rules : Rules) (list : List Entry) (acc i : ℕ) (all : List Record) (c : Cause) (o : Outcome) (m n : Node) → Heard rules list acc i all o c → i ≢ first_of rules → Change c o m n → n.ballot ≡ None → Keeps all i m → NodeOk rules list acc i m → NodeOk rules list acc i n
+pub other_change : (rules : Rules) (list : List Entry) (acc i : ℕ) (all : List Record) (c : Cause) (o : Outcome) (m n : Node) → Heard rules list acc i all o c
+    → i ≢ first_of rules → Change c o m n → n.ballot ≡ None → Keeps all i m → NodeOk rules list acc i m → NodeOk rules list acc i n
 other_change rules list acc i all c o m n w d refreshes none k h = refreshed_ok rules list acc i m d h
 other_change rules list acc i all c o m n w d settles none k h = settle_ok rules list acc i m h
 other_change rules list acc i all c o m n w d (takes_report s v report by may) none k h = absurd (d (leads_first rules list acc i m h may.leads))
@@ -218,8 +281,10 @@ other_change rules list acc i all c o m n w d (begins_list s v base join image i
     let p : WelcomeOk rules list acc i v base join image = subst (CauseOk rules list acc i) is w.cause in
     let none_yet = asking_log m.status (asking m s v base join image may) in
     begun_ok rules list acc i s v base join image m w.within (no_founder rules list acc i m h none_yet) p may.above h
-other_change rules list acc i all c o m n w d (departs s v number is heard leaves) none k h = with_status rules list acc i m status.Departed (sym (logged m.status (and_both (not (s == m.core.who)) (is_member m.status) heard).1)) h
-other_change rules list acc i all c o m n w d (promises v low why) none k h = with_promise rules list acc i m n v refl (promised_first rules list acc i c m v why w.cause) h
+other_change rules list acc i all c o m n w d (departs s v number is heard leaves) none k h =
+    with_status rules list acc i m status.Departed (sym (logged m.status (and_both (not (s == m.core.who)) (is_member m.status) heard).1)) h
+other_change rules list acc i all c o m n w d (promises v low why) none k h =
+    with_promise rules list acc i m n v refl (promised_first rules list acc i c m v why w.cause) h
 other_change rules list acc i all c o m n w d (opens least resilience by may) none k h = absurd (cc)
 other_change rules list acc i all c o m n w d (looks b verdict over why look is) none k h = absurd (looks_leave m b verdict look none)
 other_change rules list acc i all c o m n w d (fetches s v base number e is heard promise below from may) none k h =

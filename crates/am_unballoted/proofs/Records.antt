@@ -1,5 +1,6 @@
 -- One record more, and letters more.
-use Rattle.std.proofs.Common.{◌≡◌, ◌≢◌, ◌⊎◌, ⊎_elim, inl, inr, ℕ, zero, suc, ◌+◌, ◌≤◌, ◌==◌, ◌&&◌, Bool, true, false, if◌then◌else◌, List, [], ◌∷◌, ◌++◌, length, refl, sym, ap, ◌∙◌, subst, append-nil, arith}
+use Rattle.std.proofs.Common.{◌≡◌, ◌≢◌, ◌⊎◌, ⊎_elim, inl, inr, ℕ, zero, suc, ◌+◌, ◌≤◌, ◌==◌, ◌&&◌, Bool, true, false, if◌then◌else◌, List, [], ◌∷◌, ◌++◌}
+use Rattle.std.proofs.Common.{length, refl, sym, ap, ◌∙◌, subst, append-nil, arith}
 use Rattle.std.specs.Prelude.{All}
 use Rattle.std.specs.List.{flat_map}
 use Rattle.std.proofs.lemmas.Grind.{flat_map-append}
@@ -46,8 +47,10 @@ pub deliveries_push : (records : List Record) (r : Record) (name : ℕ) → deli
 deliveries_push records r name = flat_map-append (given_to name) records (r ∷ []) ∙ ap (λ l. deliveries records name ++ l) (append-nil (given_to name r))
 
 -- a record that gives this name nothing
-pub given_same : (list : List Entry) (acc : ℕ) (m : Node) (records : List Record) (r : Record) (name : ℕ) → given_to name r ≡ [] → GivenOk list acc m (deliveries records name) → GivenOk list acc m (deliveries (records ++ r ∷ []) name)
-given_same list acc m records r name none h = subst (GivenOk list acc m) (sym (deliveries_push records r name ∙ ap (λ l. deliveries records name ++ l) none ∙ append-nil (deliveries records name))) h
+pub given_same : (list : List Entry) (acc : ℕ) (m : Node) (records : List Record) (r : Record) (name : ℕ) → given_to name r ≡ []
+    → GivenOk list acc m (deliveries records name) → GivenOk list acc m (deliveries (records ++ r ∷ []) name)
+given_same list acc m records r name none h = subst (GivenOk list acc m)
+    (sym (deliveries_push records r name ∙ ap (λ l. deliveries records name ++ l) none ∙ append-nil (deliveries records name))) h
 
 pub not_given : (r : Record) (name : ℕ) → name_of r ≢ name → given_to name r ≡ []
 not_given r name other = let f : (name_of r == name) ≡ false = split (name_of r == name) (λ t. absurd (other (grind (arith, nat_tests)))) (λ g. g) in rw f refl
@@ -55,19 +58,29 @@ not_given r name other = let f : (name_of r == name) ≡ false = split (name_of 
 pub idle_gives : (r : Record) (name : ℕ) → taken_in r.outcome ≡ [] → given_to name r ≡ []
 idle_gives r name none = split (name_of r == name) (λ t. rw t none) (λ f. rw f refl)
 
-pub given_more : (list more : List Entry) (acc to : ℕ) (m : Node) (given : List (ℕ × Entry)) → acc ≤ to → GivenOk list acc m given → GivenOk (list ++ more) to m given
-given_more list more acc to m given up h = record { count = h.count; each = λ k number e is. (let x = h.each k number e is in (x.0, at_more list more acc to (m.core.start + k) e up x.1)) }
+pub given_more : (list more : List Entry) (acc to : ℕ) (m : Node) (given : List (ℕ × Entry)) → acc ≤ to → GivenOk list acc m given
+    → GivenOk (list ++ more) to m given
+given_more list more acc to m given up h = record {
+  count = h.count;
+  each =
+      λ k number e is. (let x = h.each k number e is in (x.0, at_more list more acc to (m.core.start + k) e up x.1));
+}
 
 -- ---- accepted sends
 
 pub accepted_push : (records : List Record) (r : Record) → accepted_sends (records ++ r ∷ []) ≡ accepted_sends records ++ sent_in (name_of r) r.outcome
-accepted_push records r = flat_map-append (λ x. sent_in (name_of x) x.outcome) records (r ∷ []) ∙ ap (λ l. accepted_sends records ++ l) (append-nil (sent_in (name_of r) r.outcome))
+accepted_push records r = flat_map-append (λ x. sent_in (name_of x) x.outcome) records (r ∷ [])
+    ∙ ap (λ l. accepted_sends records ++ l) (append-nil (sent_in (name_of r) r.outcome))
 
-pub accepted_more : (list more : List Entry) (acc to : ℕ) (sends : List Accepted) → acc ≤ to → All (StandsAt list acc) sends → All (StandsAt (list ++ more) to) sends
-accepted_more list more acc to sends up h = All-weaker (StandsAt list acc) (StandsAt (list ++ more) to) (λ s x. (x.0, at_more list more acc to s.number (Data s.name s.req x.0) up x.1)) sends h
+pub accepted_more : (list more : List Entry) (acc to : ℕ) (sends : List Accepted) → acc ≤ to → All (StandsAt list acc) sends
+    → All (StandsAt (list ++ more) to) sends
+accepted_more list more acc to sends up h = All-weaker (StandsAt list acc) (StandsAt (list ++ more) to)
+    (λ s x. (x.0, at_more list more acc to s.number (Data s.name s.req x.0) up x.1)) sends h
 
-pub accepted_and : (list : List Entry) (acc : ℕ) (records : List Record) (r : Record) → All (StandsAt list acc) (sent_in (name_of r) r.outcome) → All (StandsAt list acc) (accepted_sends records) → All (StandsAt list acc) (accepted_sends (records ++ r ∷ []))
-accepted_and list acc records r new h = subst (All (StandsAt list acc)) (sym (accepted_push records r)) (All-append (StandsAt list acc) (accepted_sends records) (sent_in (name_of r) r.outcome) h new)
+pub accepted_and : (list : List Entry) (acc : ℕ) (records : List Record) (r : Record) → All (StandsAt list acc) (sent_in (name_of r) r.outcome)
+    → All (StandsAt list acc) (accepted_sends records) → All (StandsAt list acc) (accepted_sends (records ++ r ∷ []))
+accepted_and list acc records r new h = subst (All (StandsAt list acc)) (sym (accepted_push records r))
+    (All-append (StandsAt list acc) (accepted_sends records) (sent_in (name_of r) r.outcome) h new)
 
 -- ---- who was welcomed
 
@@ -87,13 +100,16 @@ letter_before : (letters more : List Letter) (number : ℕ) → number ≤ lengt
 letter_before letters more zero low = refl
 letter_before letters more (suc k) low = get_before letters more k (omega arith)
 
-same_welcome : (letters more : List Letter) (name : ℕ) (r : Record) → RecordOk (length letters) r → welcome_in (letters ++ more) name r ≡ welcome_in letters name r
+same_welcome : (letters more : List Letter) (name : ℕ) (r : Record) → RecordOk (length letters) r
+    → welcome_in (letters ++ more) name r ≡ welcome_in letters name r
 same_welcome letters more name r h = ⊎_elim
     (λ (x : welcomed_in r.outcome ≡ []). none_either _ (welcomed_in r.outcome) x ∙ sym (none_either _ (welcomed_in r.outcome) x))
-    (λ (x : welcomed_in r.outcome ≢ []). ap (λ l. if (name_of r == name) && is_welcome l then welcomed_in r.outcome else []) (letter_before letters more (heard_by r.event.act) (h x)))
+    (λ (x : welcomed_in r.outcome ≢ []). ap (λ l. if (name_of r == name) && is_welcome l then welcomed_in r.outcome else [])
+    (letter_before letters more (heard_by r.event.act) (h x)))
     (welcomed_or r.outcome)
 
-same_welcomes : (letters more : List Letter) (name : ℕ) (records : List Record) → All (RecordOk (length letters)) records → flat_map (welcome_in (letters ++ more) name) records ≡ flat_map (welcome_in letters name) records
+same_welcomes : (letters more : List Letter) (name : ℕ) (records : List Record) → All (RecordOk (length letters)) records
+    → flat_map (welcome_in (letters ++ more) name) records ≡ flat_map (welcome_in letters name) records
 same_welcomes letters more name [] h = refl
 same_welcomes letters more name (r ∷ rs) h =
     let P = RecordOk (length letters) in
@@ -101,7 +117,8 @@ same_welcomes letters more name (r ∷ rs) h =
     let b = same_welcomes letters more name rs (All-tail P r rs h) in
     λ i. a i ++ b i
 
-pub welcomes_push : (letters more : List Letter) (name : ℕ) (records : List Record) (r : Record) → All (RecordOk (length letters)) records → flat_map (welcome_in (letters ++ more) name) (records ++ r ∷ []) ≡ flat_map (welcome_in letters name) records ++ welcome_in (letters ++ more) name r
+pub welcomes_push : (letters more : List Letter) (name : ℕ) (records : List Record) (r : Record) → All (RecordOk (length letters)) records
+    → flat_map (welcome_in (letters ++ more) name) (records ++ r ∷ []) ≡ flat_map (welcome_in letters name) records ++ welcome_in (letters ++ more) name r
 welcomes_push letters more name records r h =
     flat_map-append (welcome_in (letters ++ more) name) records (r ∷ [])
     ∙ (λ i. same_welcomes letters more name records h i ++ append-nil (welcome_in (letters ++ more) name r) i)
@@ -110,7 +127,8 @@ pub idle_welcome : (letters : List Letter) (name : ℕ) (r : Record) → welcome
 idle_welcome letters name r none = none_either _ (welcomed_in r.outcome) none
 
 pub other_welcome : (letters : List Letter) (name : ℕ) (r : Record) → name_of r ≢ name → welcome_in letters name r ≡ []
-other_welcome letters name r other = let f : (name_of r == name) ≡ false = split (name_of r == name) (λ t. absurd (other (grind (arith, nat_tests)))) (λ g. g) in rw f refl
+other_welcome letters name r other = let f : (name_of r == name) ≡ false =
+    split (name_of r == name) (λ t. absurd (other (grind (arith, nat_tests)))) (λ g. g) in rw f refl
 
 pub record_up : (letters more : ℕ) (r : Record) → letters ≤ more → RecordOk letters r → RecordOk more r
 record_up letters more r up h some = let low = h some in omega arith

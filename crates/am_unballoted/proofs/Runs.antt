@@ -40,7 +40,8 @@ none_there nodes i n h =
     let t : (i == i) ≡ true = grind (arith, nat_tests) in
     rw t at (h i)
 
-pub none_else : (nodes : ℕ → Node) (i : ℕ) (n : Node) → ((j : ℕ) → (set_at nodes i n j).ballot ≡ None) → (nodes i).ballot ≡ None → (j : ℕ) → (nodes j).ballot ≡ None
+pub none_else : (nodes : ℕ → Node) (i : ℕ) (n : Node) → ((j : ℕ) → (set_at nodes i n j).ballot ≡ None) → (nodes i).ballot ≡ None → (j : ℕ)
+    → (nodes j).ballot ≡ None
 none_else nodes i n h own j = split (j == i)
     (λ t. let e : j ≡ i = grind (arith, nat_tests) in ap (λ x. (nodes x).ballot) e ∙ own)
     (λ f. rw f at (h j))
@@ -92,8 +93,22 @@ unfolding fold
 founder_ok rules i there = record {
   who = refl;
   log = record { start = omega arith; image = refl; within = within_all (founders_list rules) };
-  fronts = record { accepted = omega arith; within = omega arith; taken = omega arith; base = omega arith; told = λ d. omega arith; passed = λ b. absurd (omega arith) };
-  status = record { promise = λ t. refl; founder = λ t. refl; blank = λ t. absurd (cc); begins = λ t. record { some = omega arith; founder = λ z. refl; joiner = λ z. absurd (cc) } };
+  fronts = record {
+    accepted = omega arith;
+    within = omega arith;
+    taken = omega arith;
+    base = omega arith;
+    told = λ d. omega arith;
+    passed =
+        λ b. absurd (omega arith);
+  };
+  status = record {
+    promise = λ t. refl;
+    founder = λ t. refl;
+    blank = λ t. absurd (cc);
+    begins =
+        λ t. record { some = omega arith; founder = λ z. refl; joiner = λ z. absurd (cc) };
+  };
   sends = All-nil _;
 }
 
@@ -102,12 +117,21 @@ unfolding fold
 stranger_ok rules i none = record {
   who = refl;
   log = record { start = omega arith; image = refl; within = within_none (founders_list rules) 0 (omega arith) };
-  fronts = record { accepted = omega arith; within = omega arith; taken = omega arith; base = omega arith; told = λ d. omega arith; passed = λ b. absurd (omega arith) };
+  fronts = record {
+    accepted = omega arith;
+    within = omega arith;
+    taken = omega arith;
+    base = omega arith;
+    told = λ d. omega arith;
+    passed =
+        λ b. absurd (omega arith);
+  };
   status = record { promise = λ t. absurd (cc); founder = λ t. absurd (cc); blank = λ t. (refl, refl); begins = λ t. absurd (cc) };
   sends = All-nil _;
 }
 
-by_founding : (rules : Rules) (P : ℕ → Node → Type 0) → ((i : ℕ) → has rules.founders i ≡ true → P i (founder rules i)) → ((i : ℕ) → has rules.founders i ≡ false → P i (stranger rules i)) → (i : ℕ) → P i ((start rules).nodes i)
+by_founding : (rules : Rules) (P : ℕ → Node → Type 0) → ((i : ℕ) → has rules.founders i ≡ true → P i (founder rules i))
+    → ((i : ℕ) → has rules.founders i ≡ false → P i (stranger rules i)) → (i : ℕ) → P i ((start rules).nodes i)
 by_founding rules P f g i = split (has rules.founders i) (λ t. rw t (f i t)) (λ h. rw h (g i h))
 
 start_kept : (rules : Rules) → Kept rules (founders_list rules) 1 (start rules)
@@ -115,7 +139,8 @@ start_kept rules = record {
   each = by_founding rules (λ i n. NodeOk rules (founders_list rules) 1 i n) (founder_ok rules) (stranger_ok rules);
   group = refl;
   letters = All-nil _;
-  given = by_founding rules (λ i n. GivenOk (founders_list rules) 1 n []) (λ i t. record { count = omega arith; each = λ k number e is. absurd (cc) }) (λ i t. record { count = omega arith; each = λ k number e is. absurd (cc) });
+  given = by_founding rules (λ i n. GivenOk (founders_list rules) 1 n []) (λ i t. record { count = omega arith; each = λ k number e is. absurd (cc) })
+      (λ i t. record { count = omega arith; each = λ k number e is. absurd (cc) });
   welcomed = by_founding rules (λ i n. has rules.founders i ≡ false → [] ≡ begins_at n) (λ i t f. absurd (cc)) (λ i t f. refl);
   heard = All-nil _;
   accepted = All-nil _;
@@ -151,7 +176,8 @@ start_ok rules may =
 -- ---- runs
 
 pub unballoted : (rules : Rules) (events : List Event) → MayFound rules → Unballoted rules (run rules events)
-unballoted rules events may = runs_keep (Unballoted rules) (each_keeps rules) (start rules) events (record { sent = sent_start rules; ok = λ z. start_ok rules may })
+unballoted rules events may = runs_keep (Unballoted rules) (each_keeps rules) (start rules) events
+    (record { sent = sent_start rules; ok = λ z. start_ok rules may })
 
 pub world_ok : (rules : Rules) (events : List Event) → MayFound rules → NoBallot (run rules events) → WorldOk rules (run rules events)
 world_ok rules events may none = (unballoted rules events may).ok none

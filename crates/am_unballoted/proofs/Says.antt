@@ -1,5 +1,6 @@
 -- What each letter says is so, in a run without a ballot.
-use Rattle.std.proofs.Common.{◌≡◌, ◌≢◌, ⊎_elim, ℕ, ◌+◌, ◌-◌, ◌<◌, ◌≤◌, ◌==◌, true, List, [], ◌∷◌, ◌++◌, length, take, Some, None, slice_get, slice_index, refl, sym, ap, ◌∙◌, subst, arith}
+use Rattle.std.proofs.Common.{◌≡◌, ◌≢◌, ⊎_elim, ℕ, ◌+◌, ◌-◌, ◌<◌, ◌≤◌, ◌==◌, true, List, [], ◌∷◌, ◌++◌, length, take, Some, None, slice_get, slice_index, refl}
+use Rattle.std.proofs.Common.{sym, ap, ◌∙◌, subst, arith}
 use Rattle.std.proofs.lemmas.Bool.Decides.{nat_tests}
 use Rattle.std.proofs.lemmas.List.{get_or-replicate, get_or-set_same, get_or-set_other}
 use Rattle.am_base.specs.declared.name.Stamp.{Stamp}
@@ -24,7 +25,8 @@ use Rattle.am_chain_lists.proofs.Rows.{row_at, row_set}
 use Rattle.am_chain_lists.proofs.Members.{told_push, long_told}
 use Rattle.am_chain_lists.proofs.Prefixes.{begins_take, begins_push, begins_same, length_take, length_push}
 use Rattle.am_effects.specs.Causes.{Cause, hears}
-use Rattle.am_effects.specs.Letters.{Stands, MayWelcome, just_joined, asks_again, has_begun, goes_on, leads, decided, Says, request, spread, bcast, order, accept, ack, nack, hold, join_ask, welcome, leave_ask, gone, invite, vote, fetch, piece, result, hand_over, LetterSays}
+use Rattle.am_effects.specs.Letters.{Stands, MayWelcome, just_joined, asks_again, has_begun, goes_on, leads, decided, Says, request, spread, bcast, order}
+use Rattle.am_effects.specs.Letters.{accept, ack, nack, hold, join_ask, welcome, leave_ask, gone, invite, vote, fetch, piece, result, hand_over, LetterSays}
 use Rattle.am_effects.proofs.Ballots.{entry_is}
 use Rattle.am_unballoted.proofs.Lists.{get_item, within_get}
 use Rattle.am_unballoted.proofs.Kept.{first_of, ListOk, FrontsOk, PacketOk, WelcomeOk, LetterOk, CauseOk}
@@ -42,12 +44,14 @@ only_is name other t =
     split (place_of other == place_of name)
     (λ p.
     let at : place_of other ≡ place_of name = grind (arith, nat_tests) in
-    let here : slice_index (only_name name) (place_of other) ≡ life_of name = ap (slice_index (only_name name)) at ∙ get_or-set_same nobody (place_of name) (life_of name) 0 (omega arith) in
+    let here : slice_index (only_name name) (place_of other) ≡ life_of name = ap (slice_index (only_name name)) at
+    ∙ get_or-set_same nobody (place_of name) (life_of name) 0 (omega arith) in
     let lives : life_of other ≡ life_of name = grind (arith, nat_tests) in
     omega arith)
     (λ f.
     let ne : place_of other ≢ place_of name = (λ e. let z : ⊥ = grind (arith, nat_tests) in z) in
-    let there : slice_index (only_name name) (place_of other) ≡ 0 = get_or-set_other nobody (place_of name) (place_of other) (life_of name) 0 ne ∙ get_or-replicate 16 (place_of other) 0 0 low_ in
+    let there : slice_index (only_name name) (place_of other) ≡ 0 = get_or-set_other nobody (place_of name) (place_of other) (life_of name) 0 ne
+    ∙ get_or-replicate 16 (place_of other) 0 0 low_ in
     absurd (let z : ⊥ = grind (arith, nat_tests) in z))
 
 -- ---- who sends
@@ -80,13 +84,15 @@ sequencer_first rules list acc i m n h t =
     let by : n.core.promise.by ≡ n.core.who = (let v = nodes.view n in let c = a.1 in grind (arith, nat_tests)) in
     sym h.who ∙ sym by ∙ ap (λ (s : Stamp). s.by) p
 
-stands_item : (rules : Rules) (list : List Entry) (acc i : ℕ) (m n : Node) (number : ℕ) (e : Entry) → Sends rules list acc i m n → n.core.log.start ≤ m.core.base → Stands n.core.log m.core.base number e → item_at list number ≡ Some e
+stands_item : (rules : Rules) (list : List Entry) (acc i : ℕ) (m n : Node) (number : ℕ) (e : Entry) → Sends rules list acc i m n
+    → n.core.log.start ≤ m.core.base → Stands n.core.log m.core.base number e → item_at list number ≡ Some e
 stands_item rules list acc i m n number e h low s =
     get_item list number (n.core.log.start + s.index) e (s.at low) (within_get list n.core.log.start n.core.log.entries s.index e h.log.within s.there)
 
 -- ---- what the first founder tells
 
-first_image : (rules : Rules) (list : List Entry) (acc i : ℕ) (m n : Node) (base : ℕ) → Sends rules list acc i m n → IsFirst rules list acc m n → image_at n.core.log base ≡ told (take base list)
+first_image : (rules : Rules) (list : List Entry) (acc i : ℕ) (m n : Node) (base : ℕ) → Sends rules list acc i m n → IsFirst rules list acc m n
+    → image_at n.core.log base ≡ told (take base list)
 unfolding fold
 first_image rules list acc i m n base h f =
     let image : n.core.log.image ≡ blank = h.log.image ∙ ap (λ k. told (take k list)) f.start in
@@ -123,11 +129,14 @@ join_row list k name there long =
     (λ (x : (place_of name ≡ place_of name) × (row_at (with_row (told a) name r) (place_of name) ≡ r)). x.1)
     (λ (x : (place_of name ≢ place_of name) × (row_at (with_row (told a) name r) (place_of name) ≡ row_at (told a) (place_of name))). absurd (x.0 refl))
     (row_set (told a) name (place_of name) r (long_told a)) in
-    let alive : ((at_place (told list) name).life == life_of name) ≡ true = (let l = ap (λ x. (at_place x name).life) image ∙ ap (λ (y : Row). y.life) row in grind (arith, nat_tests)) in
+    let alive : ((at_place (told list) name).life == life_of name) ≡ true =
+    (let l = ap (λ x. (at_place x name).life) image ∙ ap (λ (y : Row). y.life) row in grind (arith, nat_tests)) in
     let is : row_of (told list) name ≡ r = rw alive (ap (λ x. at_place x name) image ∙ row) in
     ap (λ (y : Row). y.joined) is ∙ omega arith
 
-welcome_says : (rules : Rules) (list : List Entry) (acc i : ℕ) (m n : Node) (s : ℕ) → Sends rules list acc i m n → IsFirst rules list acc m n → is_sequencer n ≡ true → MayWelcome m n s → WelcomeOk rules list acc s n.core.promise n.core.base (row_of (nodes.told n) s).joined (image_at n.core.log n.core.base)
+welcome_says : (rules : Rules) (list : List Entry) (acc i : ℕ) (m n : Node) (s : ℕ) → Sends rules list acc i m n → IsFirst rules list acc m n
+    → is_sequencer n ≡ true → MayWelcome m n s → WelcomeOk rules list acc s n.core.promise n.core.base (row_of (nodes.told n) s).joined
+    (image_at n.core.log n.core.base)
 welcome_says rules list acc i m n s h f t (just_joined number next high low stands) =
     let told_ = first_told rules list acc i m n h f in
     let same = ap (λ x. (row_of x s).joined) told_ in
@@ -167,11 +176,13 @@ welcome_says rules list acc i m n s h f t (asks_again same lives some stays low 
       stamp = h.promise (sequencer_member n t);
       low = omega arith;
       tells = λ b. first_image rules list acc i m n n.core.base h f;
-      joined = λ z. ⊎_elim (λ (x : has rules.founders s ≡ true). absurd (cc)) (λ (x : item_at list (at_place (told list) s).joined ≡ Some (Join s)). ap (item_at list) joined ∙ x) (row.joined s refl up life);
+      joined = λ z. ⊎_elim (λ (x : has rules.founders s ≡ true). absurd (cc))
+          (λ (x : item_at list (at_place (told list) s).joined ≡ Some (Join s)). ap (item_at list) joined ∙ x) (row.joined s refl up life);
     }
 
 -- the founders' View, as it is told again
-result_says : (rules : Rules) (list : List Entry) (acc i : ℕ) (m n : Node) (number : ℕ) (names : List ℕ) → Sends rules list acc i m n → IsFirst rules list acc m n → is_sequencer n ≡ true → number ≡ (nodes.told n).view_number → viewed_by (entry_at n.core.log number) ≡ names
+result_says : (rules : Rules) (list : List Entry) (acc i : ℕ) (m n : Node) (number : ℕ) (names : List ℕ) → Sends rules list acc i m n
+    → IsFirst rules list acc m n → is_sequencer n ≡ true → number ≡ (nodes.told n).view_number → viewed_by (entry_at n.core.log number) ≡ names
     → (n.core.promise ≡ founding_stamp rules) × (item_at list number ≡ Some (View n.core.promise names (nodes.told n).resilience))
 result_says rules list acc i m n number names h f t high named =
     let told_ = first_told rules list acc i m n h f in
@@ -180,7 +191,8 @@ result_says rules list acc i m n number names h f t high named =
     let one : number ≡ 1 = high ∙ ap (λ (x : Image). x.view_number) told_ ∙ v.number in
     let start = f.start in
     let first : slice_get list 0 ≡ Some (founders_view rules) = ap (λ l. slice_get l 0) f.group.is in
-    let there : entry_at n.core.log number ≡ Some (founders_view rules) = entry_is n.core.log number 0 (omega arith) ∙ (ap (λ l. slice_get l 0) (sym f.list_) ∙ first) in
+    let there : entry_at n.core.log number ≡ Some (founders_view rules) = entry_is n.core.log number 0 (omega arith)
+    ∙ (ap (λ l. slice_get l 0) (sym f.list_) ∙ first) in
     let founders : rules.founders ≡ names = sym (ap viewed_by there) ∙ named in
     let strong : (nodes.told n).resilience ≡ rules.resilience = ap (λ (x : Image). x.resilience) told_ ∙ v.resilience in
     (stamp, get_item list number 0 (founders_view rules) (omega arith) first ∙ (λ j. Some (View (sym stamp j) (founders j) (sym strong j))))
@@ -195,18 +207,22 @@ Right rules list acc to p = (i : ℕ) → has to i ≡ true → PacketOk rules l
 abbrev pub Firsts : Rules → List Entry → ℕ → ℕ → Node → Node → Type 0
 Firsts rules list acc i m n = i ≡ first_of rules → IsFirst rules list acc m n
 
-at_first : (rules : Rules) (list : List Entry) (acc i : ℕ) (m n : Node) → Sends rules list acc i m n → Firsts rules list acc i m n → is_sequencer n ≡ true → n.core.log.start ≤ m.core.base
+at_first : (rules : Rules) (list : List Entry) (acc i : ℕ) (m n : Node) → Sends rules list acc i m n → Firsts rules list acc i m n → is_sequencer n ≡ true
+    → n.core.log.start ≤ m.core.base
 at_first rules list acc i m n h f t = let s = (f (sequencer_first rules list acc i m n h t)).start in omega arith
 
 -- who is asked for entries has the list that it had
 abbrev pub Fetched : Cause → Node → Node → Type 0
 Fetched c m n = (s : ℕ) (v : Stamp) (stored : ℕ) → c ≡ hears (packet.Fetch s v stored) → n.core.log.start ≤ m.core.base
 
-said : (rules : Rules) (list from : List Entry) (acc low i : ℕ) (m n : Node) (c : Cause) (to : List ℕ) (p : Packet) → Sends rules list acc i m n → Firsts rules list acc i m n → Fetched c m n → CauseOk rules from low i c → Says m c n to p → Right rules list acc to p
+said : (rules : Rules) (list from : List Entry) (acc low i : ℕ) (m n : Node) (c : Cause) (to : List ℕ) (p : Packet) → Sends rules list acc i m n
+    → Firsts rules list acc i m n → Fetched c m n → CauseOk rules from low i c → Says m c n to p → Right rules list acc to p
 said rules list from acc low i m n c to p h f g w (request x req body a b s) j t = tt
 said rules list from acc low i m n c to p h f g w (spread x req body a b s) j t = tt
-said rules list from acc low i m n c to p h f g w (bcast x number e a s) j t = (h.fronts.accepted, stands_item rules list acc i m n number e h (at_first rules list acc i m n h f a) s)
-said rules list from acc low i m n c to p h f g w (order x number name req v report body a b s) j t = (h.fronts.accepted, body, stands_item rules list acc i m n number (Data name req body) h (at_first rules list acc i m n h f b) s)
+said rules list from acc low i m n c to p h f g w (bcast x number e a s) j t =
+    (h.fronts.accepted, stands_item rules list acc i m n number e h (at_first rules list acc i m n h f a) s)
+said rules list from acc low i m n c to p h f g w (order x number name req v report body a b s) j t =
+    (h.fronts.accepted, body, stands_item rules list acc i m n number (Data name req body) h (at_first rules list acc i m n h f b) s)
 said rules list from acc low i m n c to p h f g w (accept x poll a) j t = h.fronts.accepted
 said rules list from acc low i m n c to p h f g w (ack x a) j t = tt
 said rules list from acc low i m n c to p h f g w (nack x a) j t = tt
@@ -215,7 +231,8 @@ said rules list from acc low i m n c to p h f g w (join_ask x a) j t = tt
 said rules list from acc low i m n c to p h f g w (welcome s a b) j t =
     let same = only_is s j t in
     let first = f (sequencer_first rules list acc i m n h a) in
-    subst (λ x. WelcomeOk rules list acc x n.core.promise n.core.base (row_of (nodes.told n) s).joined (image_at n.core.log n.core.base)) (sym same) (welcome_says rules list acc i m n s h first a b)
+    subst (λ x. WelcomeOk rules list acc x n.core.promise n.core.base (row_of (nodes.told n) s).joined (image_at n.core.log n.core.base)) (sym same)
+    (welcome_says rules list acc i m n s h first a b)
 said rules list from acc low i m n c to p h f g w (leave_ask x a b) j t = tt
 said rules list from acc low i m n c to p h f g w (gone s a b) j t = tt
 said rules list from acc low i m n c to p h f g w (invite x (has_begun b is stamp)) j t = let z = h.none in absurd (cc)
@@ -249,5 +266,10 @@ any_says rules list acc i (packet.Piece s v base number e) t = absurd (cc)
 any_says rules list acc i (packet.Result s v base number names resilience) t = absurd (cc)
 any_says rules list acc i (packet.HandOver s v) t = tt
 
-pub letter_says : (rules : Rules) (list from : List Entry) (acc low i : ℕ) (m n : Node) (c : Cause) (letter : Letter) → Sends rules list acc i m n → Firsts rules list acc i m n → Fetched c m n → CauseOk rules from low i c → LetterSays m c n letter → LetterOk rules list acc letter
-letter_says rules list from acc low i m n c letter h f g w s = record { heard = λ j t. split letter.any (λ a. any_says rules list acc j letter.packet (sym s.any ∙ a)) (λ a. said rules list from acc low i m n c letter.to letter.packet h f g w s.says j (rw a at t)) }
+pub letter_says : (rules : Rules) (list from : List Entry) (acc low i : ℕ) (m n : Node) (c : Cause) (letter : Letter) → Sends rules list acc i m n
+    → Firsts rules list acc i m n → Fetched c m n → CauseOk rules from low i c → LetterSays m c n letter → LetterOk rules list acc letter
+letter_says rules list from acc low i m n c letter h f g w s =
+    record {
+      heard = λ j t. split letter.any (λ a. any_says rules list acc j letter.packet (sym s.any ∙ a))
+          (λ a. said rules list from acc low i m n c letter.to letter.packet h f g w s.says j (rw a at t));
+    }

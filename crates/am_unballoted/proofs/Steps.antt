@@ -1,5 +1,6 @@
 -- What a step of a name makes of what a world keeps.
-use Rattle.std.proofs.Common.{◌≡◌, ◌⊎◌, ⊎_elim, inl, inr, ℕ, suc, ◌+◌, ◌-◌, ◌<◌, ◌≤◌, nat_le, List, [], ◌∷◌, ◌++◌, length, Some, None, slice_get, refl, sym, ap, ◌∙◌, subst, append-nil, length-append, arith}
+use Rattle.std.proofs.Common.{◌≡◌, ◌⊎◌, ⊎_elim, inl, inr, ℕ, suc, ◌+◌, ◌-◌, ◌<◌, ◌≤◌, nat_le, List, [], ◌∷◌, ◌++◌, length, Some, None, slice_get, refl, sym, ap}
+use Rattle.std.proofs.Common.{◌∙◌, subst, append-nil, length-append, arith}
 use Rattle.std.specs.Prelude.{All}
 use Rattle.std.proofs.lemmas.Bool.Decides.{nat_tests}
 use Rattle.std.proofs.lemmas.List.Elements.{All-nil, All-cons}
@@ -32,8 +33,10 @@ taken_or _ = inl refl
 pub not_asked : (m : Node) (c : Cause) (o : Outcome) → m.ballot ≡ None → AnswersAsk m c o → ⊥
 not_asked m c o none h = let z = h.last in absurd (cc)
 
-pub has_taken : (m : Node) (c : Cause) (n : Node) (o : Outcome) (number : ℕ) (e : Entry) → m.ballot ≡ None → o ≡ said.Took number e → Answers m c n o → HasTaken m c n number e
-has_taken m c n o number e none is h = ⊎_elim (λ (x : HasTaken m c n number e). x) (λ (x : AnswersAsk m c (said.Took number e)). absurd (not_asked m c _ none x)) (subst (Answers m c n) is h)
+pub has_taken : (m : Node) (c : Cause) (n : Node) (o : Outcome) (number : ℕ) (e : Entry) → m.ballot ≡ None → o ≡ said.Took number e → Answers m c n o
+    → HasTaken m c n number e
+has_taken m c n o number e none is h = ⊎_elim (λ (x : HasTaken m c n number e). x)
+    (λ (x : AnswersAsk m c (said.Took number e)). absurd (not_asked m c _ none x)) (subst (Answers m c n) is h)
 
 -- ---- what was given
 
@@ -43,7 +46,8 @@ entry_low log number e is = split (nat_le log.start number) (λ t. grind (arith,
     let at : entry_at log (suc number) ≡ Some e = ap (entry_at log) (sym z) ∙ is in
     let none = rw f at at in absurd (cc))
 
-pub entry_item : (rules : Rules) (list : List Entry) (acc i : ℕ) (m : Node) (number : ℕ) (e : Entry) → NodeOk rules list acc i m → entry_at m.core.log (number + 1) ≡ Some e → item_at list (number + 1) ≡ Some e
+pub entry_item : (rules : Rules) (list : List Entry) (acc i : ℕ) (m : Node) (number : ℕ) (e : Entry) → NodeOk rules list acc i m
+    → entry_at m.core.log (number + 1) ≡ Some e → item_at list (number + 1) ≡ Some e
 entry_item rules list acc i m number e h is =
     let low = entry_low m.core.log number e is in
     let at = entry-get m.core.log number e low is in
@@ -54,14 +58,16 @@ pub nil_of : {A : Type 0} (xs : List A) → length xs ≡ 0 → xs ≡ []
 nil_of [] h = refl
 nil_of (x ∷ xs) h = absurd (omega arith)
 
-given_push : (list : List Entry) (acc : ℕ) (m n : Node) (given : List (ℕ × Entry)) (k : ℕ) (e : Entry) → GivenOk list acc m given → n.core.start ≡ m.core.start → front m ≡ k → front n ≡ k + 1 → 0 < m.core.start → m.core.start - 1 ≤ k → At list acc (k + 1) e → GivenOk list acc n (given ++ (k + 1, e) ∷ [])
+given_push : (list : List Entry) (acc : ℕ) (m n : Node) (given : List (ℕ × Entry)) (k : ℕ) (e : Entry) → GivenOk list acc m given → n.core.start ≡ m.core.start
+    → front m ≡ k → front n ≡ k + 1 → 0 < m.core.start → m.core.start - 1 ≤ k → At list acc (k + 1) e → GivenOk list acc n (given ++ (k + 1, e) ∷ [])
 given_push list acc m n given k e h start a b some low at =
     let count = h.count in
     let long = length-append given ((k + 1, e) ∷ []) in
     record {
       count = omega arith;
       each = λ j number x is. ⊎_elim
-          (λ (y : slice_get given j ≡ Some (number, x)). (let z = h.each j number x y in (z.0 ∙ ap (λ t. t + j) (sym start), subst (λ t. At list acc (t + j) x) (sym start) z.1)))
+          (λ (y : slice_get given j ≡ Some (number, x)). (let z = h.each j number x y in
+          (z.0 ∙ ap (λ t. t + j) (sym start), subst (λ t. At list acc (t + j) x) (sym start) z.1)))
           (λ (y : (j ≡ length given) × ((k + 1, e) ≡ (number, x))). (
           let n_ : k + 1 ≡ number = ap (λ (p : ℕ × Entry). p.0) y.1 in
           let e_ : e ≡ x = ap (λ (p : ℕ × Entry). p.1) y.1 in
@@ -72,13 +78,16 @@ given_push list acc m n given k e h start a b some low at =
     }
 
 -- of the name that did the step
-pub given_step : (rules : Rules) (list more : List Entry) (acc to i : ℕ) (m n : Node) (c : Cause) (o : Outcome) (given : List (ℕ × Entry)) → NodeOk rules list acc i m → NodeOk rules (list ++ more) to i n → m.ballot ≡ None → Answers m c n o → GivenOk (list ++ more) to m given → Gave c o m n → GivenOk (list ++ more) to n (given ++ taken_in o)
+pub given_step : (rules : Rules) (list more : List Entry) (acc to i : ℕ) (m n : Node) (c : Cause) (o : Outcome) (given : List (ℕ × Entry))
+    → NodeOk rules list acc i m → NodeOk rules (list ++ more) to i n → m.ballot ≡ None → Answers m c n o → GivenOk (list ++ more) to m given → Gave c o m n
+    → GivenOk (list ++ more) to n (given ++ taken_in o)
 given_step rules list more acc to i m n c o given hm hn none answer h (nothing f start log) = ⊎_elim
     (λ (x : taken_in o ≡ []). subst (GivenOk (list ++ more) to n) (ap (λ l. given ++ l) (sym x))
     (subst (GivenOk (list ++ more) to n) (sym (append-nil given))
     (record {
       count = ap (λ t. length given + (t - 1)) start ∙ h.count ∙ sym f;
-      each = λ k number e is. (let z = h.each k number e is in (z.0 ∙ ap (λ t. t + k) (sym start), subst (λ t. At (list ++ more) to (t + k) e) (sym start) z.1));
+      each = λ k number e is. (let z = h.each k number e is in
+          (z.0 ∙ ap (λ t. t + k) (sym start), subst (λ t. At (list ++ more) to (t + k) e) (sym start) z.1));
     })))
     (λ (x : (number : ℕ) × (e : Entry) × (o ≡ said.Took number e)). (
     let t = has_taken m c n o x.0 x.1 none x.2 answer in
@@ -112,7 +121,8 @@ given_step rules list more acc to i m n c o given hm hn none answer h (began s v
 
 -- ---- sends that are answered
 
-pub sent_step : (rules : Rules) (list more : List Entry) (acc to i : ℕ) (m n : Node) (c : Cause) (o : Outcome) → NodeOk rules list acc i m → acc ≤ to → m.ballot ≡ None → Answers m c n o → All (StandsAt (list ++ more) to) (sent_in i o)
+pub sent_step : (rules : Rules) (list more : List Entry) (acc to i : ℕ) (m n : Node) (c : Cause) (o : Outcome) → NodeOk rules list acc i m → acc ≤ to
+    → m.ballot ≡ None → Answers m c n o → All (StandsAt (list ++ more) to) (sent_in i o)
 sent_step rules list more acc to i m n c (said.Sent req number) h up none answer = ⊎_elim
     (λ (x : WasSettled m c req number). (
     let ok = all_get (SendOk list acc i) m.sends.queue x.index x.send h.sends x.there in

@@ -1,5 +1,6 @@
 -- What a world keeps in a run without a ballot.
-use Rattle.std.proofs.Common.{◌≡◌, ◌≢◌, ⊎_elim, ℕ, ◌+◌, ◌-◌, ◌≤◌, ◌==◌, true, false, if◌then◌else◌, List, [], ◌∷◌, ◌++◌, length, take, Some, slice_get, refl, sym, ap, ◌∙◌, subst, arith}
+use Rattle.std.proofs.Common.{◌≡◌, ◌≢◌, ⊎_elim, ℕ, ◌+◌, ◌-◌, ◌≤◌, ◌==◌, true, false, if◌then◌else◌, List, [], ◌∷◌, ◌++◌, length, take, Some, slice_get, refl}
+use Rattle.std.proofs.Common.{sym, ap, ◌∙◌, subst, arith}
 use Rattle.std.specs.Prelude.{All}
 use Rattle.std.proofs.lemmas.Bool.Decides.{nat_tests}
 use Rattle.am_base.specs.declared.entry.Entry.{Entry}
@@ -45,7 +46,8 @@ StandsAt list acc s = (body : List ℕ) × At list acc s.number (Data s.name s.r
 -- each request number was given out once, and is no greater than the last
 pub record AskedOk (records : List Record) (nodes : ℕ → Node) : Type 0 where
   pub low : (k : ℕ) (r : Record) (name req : ℕ) (body : List ℕ) → slice_get records k ≡ Some r → IsSend r name req body → req ≤ (nodes name).sends.last
-  pub once : (k l : ℕ) (r s : Record) (name req : ℕ) (body other : List ℕ) → slice_get records k ≡ Some r → slice_get records l ≡ Some s → IsSend r name req body → IsSend s name req other → k ≡ l
+  pub once : (k l : ℕ) (r s : Record) (name req : ℕ) (body other : List ℕ) → slice_get records k ≡ Some r → slice_get records l ≡ Some s
+      → IsSend r name req body → IsSend s name req other → k ≡ l
 
 body_in : Act → List ℕ
 body_in (act.Send body) = body
@@ -66,19 +68,23 @@ unique records nodes h = record {
 }
 
 -- a record more that is no Send
-pub asked_other : (records : List Record) (nodes : ℕ → Node) (new : Record) → ((name req : ℕ) (body : List ℕ) → IsSend new name req body → ⊥) → AskedOk records nodes → AskedOk (records ++ new ∷ []) nodes
+pub asked_other : (records : List Record) (nodes : ℕ → Node) (new : Record) → ((name req : ℕ) (body : List ℕ) → IsSend new name req body → ⊥)
+    → AskedOk records nodes → AskedOk (records ++ new ∷ []) nodes
 asked_other records nodes new isnt h = record {
   low = λ k r name req body there is. ⊎_elim (λ (x : slice_get records k ≡ Some r). h.low k r name req body x is)
-      (λ (x : (k ≡ length records) × (new ≡ r)). absurd (isnt name req body (subst (λ y. IsSend y name req body) (sym x.1) is))) (get_push records new k r there);
+      (λ (x : (k ≡ length records) × (new ≡ r)). absurd (isnt name req body (subst (λ y. IsSend y name req body) (sym x.1) is)))
+      (get_push records new k r there);
   once = λ k l r s name req body other a b is also. ⊎_elim
       (λ (x : slice_get records k ≡ Some r). ⊎_elim (λ (y : slice_get records l ≡ Some s). h.once k l r s name req body other x y is also)
-      (λ (y : (l ≡ length records) × (new ≡ s)). absurd (isnt name req other (subst (λ z. IsSend z name req other) (sym y.1) also))) (get_push records new l s b))
+      (λ (y : (l ≡ length records) × (new ≡ s)). absurd (isnt name req other (subst (λ z. IsSend z name req other) (sym y.1) also)))
+      (get_push records new l s b))
       (λ (x : (k ≡ length records) × (new ≡ r)). absurd (isnt name req body (subst (λ z. IsSend z name req body) (sym x.1) is))) (get_push records new k r a);
 }
 
 -- a record more of a name whose last request number is greater by it
 pub asked_more : (records : List Record) (nodes : ℕ → Node) (i : ℕ) (n : Node) (new : Record) → name_of new ≡ i → (nodes i).sends.last ≤ n.sends.last
-    → ((req : ℕ) (body : List ℕ) → IsSend new i req body → (req ≡ (nodes i).sends.last + 1) × (req ≤ n.sends.last)) → AskedOk records nodes → AskedOk (records ++ new ∷ []) (set_at nodes i n)
+    → ((req : ℕ) (body : List ℕ) → IsSend new i req body → (req ≡ (nodes i).sends.last + 1) × (req ≤ n.sends.last)) → AskedOk records nodes
+    → AskedOk (records ++ new ∷ []) (set_at nodes i n)
 asked_more records nodes i n new by up may h = record {
   low = λ k r name req body there is. ⊎_elim (λ (x : slice_get records k ≡ Some r). old name req (h.low k r name req body x is))
       (λ (x : (k ≡ length records) × (new ≡ r)). (let mine = subst (λ y. IsSend y name req body) (sym x.1) is in
@@ -87,8 +93,10 @@ asked_more records nodes i n new by up may h = record {
       let self : (name == i) ≡ true = grind (arith, nat_tests) in rw self low)) (get_push records new k r there);
   once = λ k l r s name req body other a b is also. ⊎_elim
       (λ (x : slice_get records k ≡ Some r). ⊎_elim (λ (y : slice_get records l ≡ Some s). h.once k l r s name req body other x y is also)
-      (λ (y : (l ≡ length records) × (new ≡ s)). absurd (twice k r name req body other x is (subst (λ z. IsSend z name req other) (sym y.1) also))) (get_push records new l s b))
-      (λ (x : (k ≡ length records) × (new ≡ r)). ⊎_elim (λ (y : slice_get records l ≡ Some s). absurd (twice l s name req other body y also (subst (λ z. IsSend z name req body) (sym x.1) is)))
+      (λ (y : (l ≡ length records) × (new ≡ s)). absurd (twice k r name req body other x is (subst (λ z. IsSend z name req other) (sym y.1) also)))
+      (get_push records new l s b))
+      (λ (x : (k ≡ length records) × (new ≡ r)). ⊎_elim (λ (y : slice_get records l
+      ≡ Some s). absurd (twice l s name req other body y also (subst (λ z. IsSend z name req body) (sym x.1) is)))
       (λ (y : (l ≡ length records) × (new ≡ s)). x.0 ∙ sym y.0) (get_push records new l s b)) (get_push records new k r a);
 }
   where

@@ -20,7 +20,8 @@ both_each f g h (x ∷ xs) = ap (λ y. y ∷ map f xs) (h x) ∙ ap (λ ys. g x 
 
 none_placed : (k : Watching) (number : ℕ) (e : Entry) → ((s : Stamp) → number_of s number (e ∷ []) ≡ None) → accepted k number (e ∷ []) ≡ k
 none_placed k number e h =
-    let none : (v : Pending) → placed number (e ∷ []) v ≡ v = λ v. ap (λ o. record v { number_in_group = o }) (ap (or_else v.number_in_group) (h v.view.stamp) ∙ or_none v.number_in_group) in
+    let none : (v : Pending) → placed number (e ∷ []) v ≡ v =
+    λ v. ap (λ o. record v { number_in_group = o }) (ap (or_else v.number_in_group) (h v.view.stamp) ∙ or_none v.number_in_group) in
     ap (λ ps. record k { pending = ps }) (same_each (placed number (e ∷ [])) none k.pending)
 
 pub accepts_data : (k : Watching) (number from req : ℕ) (body : List ℕ) → accepted k number (Data from req body ∷ []) ≡ k
@@ -35,6 +36,8 @@ pub accepts_leave : (k : Watching) (number name : ℕ) → accepted k number (Le
 unfolding number_of
 accepts_leave k number name = none_placed k number (Leave name) (λ s. refl)
 
-pub accepts_view : (k : Watching) (number : ℕ) (stamp : Stamp) (members : List ℕ) (resilience : ℕ) → accepted k number (View stamp members resilience ∷ []) ≡ record k { pending = map (placed_by number stamp) k.pending }
+pub accepts_view : (k : Watching) (number : ℕ) (stamp : Stamp) (members : List ℕ) (resilience : ℕ)
+    → accepted k number (View stamp members resilience ∷ []) ≡ record k { pending = map (placed_by number stamp) k.pending }
 unfolding number_of
-accepts_view k number stamp members resilience = ap (λ ps. record k { pending = ps }) (both_each (placed number (View stamp members resilience ∷ [])) (placed_by number stamp) (λ v. refl) k.pending)
+accepts_view k number stamp members resilience = ap (λ ps. record k { pending = ps })
+    (both_each (placed number (View stamp members resilience ∷ [])) (placed_by number stamp) (λ v. refl) k.pending)

@@ -18,7 +18,8 @@ use Rattle.am_watch.specs.Watching.{unseen, standing, first_standing, first_view
 use Rattle.am_watch.specs.Watches.{standing_of, Each, BeginningIsWatched}
 use Rattle.am_watch.proofs.Order.{lt_self}
 
-founder_shown : (rules : Rules) (name : ℕ) → standing_of (founder rules name) ≡ record { status = (founder rules name).status; view = (first_view rules).stamp; start = 1; from = 0 }
+founder_shown : (rules : Rules) (name : ℕ) → standing_of (founder rules name)
+    ≡ record { status = (founder rules name).status; view = (first_view rules).stamp; start = 1; from = 0 }
 unfolding fold after
 founder_shown rules name = refl
 
@@ -47,7 +48,8 @@ standing_first rules name may = elim (cases_lt name 256) [
   | inr high ↦ (
       let long = length-map-range_with_len (first_standing rules) 0 256 in
       let past : standing (begun rules) name ≡ unseen = get_or_past (map (first_standing rules) (range_with_len 0 256)) name unseen (omega arith) in
-      past ∙ ap (λ b. if b then record { status = Member; view = founding_stamp rules; start = 1; from = 0 } else unseen) (sym (nobody_else rules name may high)) ∙ first_shown rules name)
+      past ∙ ap (λ b. if b then record { status = Member; view = founding_stamp rules; start = 1; from = 0 } else unseen)
+      (sym (nobody_else rules name may high)) ∙ first_shown rules name)
 ]
 
 begins_within : (rules : Rules) (name : ℕ) → (first_node rules name).core.log.start ≤ 1

@@ -20,24 +20,33 @@ use Rattle.am_watch.proofs.Folds.{IsKept, each_of}
 use Rattle.am_watch.proofs.Numbers.{number_by}
 
 -- the group list up to where a name's list begins
-begin_is : (k : Watching) (w : World) (group : List Entry) (name : ℕ) → Sees k w group → take (w.nodes name).core.log.start w.group ≡ take (w.nodes name).core.log.start group
-begin_is k w group name sees = ap (take (w.nodes name).core.log.start) sees.goes_on ∙ take-append-le (w.nodes name).core.log.start group sees.more (sees.within name)
+begin_is : (k : Watching) (w : World) (group : List Entry) (name : ℕ) → Sees k w group
+    → take (w.nodes name).core.log.start w.group ≡ take (w.nodes name).core.log.start group
+begin_is k w group name sees = ap (take (w.nodes name).core.log.start) sees.goes_on
+    ∙ take-append-le (w.nodes name).core.log.start group sees.more (sees.within name)
 
-stored_one : (k : Watching) (w : World) (group : List Entry) (v : Pending) (name : ℕ) → Sees k w group → IsNoted w group v → kept.has_stored k v name ≡ law.has_stored w v.view.stamp name
+stored_one : (k : Watching) (w : World) (group : List Entry) (v : Pending) (name : ℕ) → Sees k w group → IsNoted w group v
+    → kept.has_stored k v name ≡ law.has_stored w v.view.stamp name
 stored_one k w group v name sees noted =
     let p = is_view_of v.view.stamp in
     let n = w.nodes name in
-    let from : is_by v.number_in_group (standing k name).from ≡ list_any p (take n.core.log.start w.group) = ap (λ o. is_by o (standing k name).from) noted.placed ∙ ap (λ (m : Standing). is_by (number_of v.view.stamp 1 group) m.from) (sees.names name) ∙ number_by v.view.stamp n.core.log.start group ∙ ap (list_any p) (sym (begin_is k w group name sees)) in
-    ap (λ b. b || slice_index_or v.stored name false) from ∙ ap (λ b. list_any p (take n.core.log.start w.group) || b) (noted.stored name) ∙ sym (list_any-append p (take n.core.log.start w.group) n.core.log.entries)
+    let from : is_by v.number_in_group (standing k name).from ≡ list_any p (take n.core.log.start w.group) =
+    ap (λ o. is_by o (standing k name).from) noted.placed ∙ ap (λ (m : Standing). is_by (number_of v.view.stamp 1 group) m.from) (sees.names name)
+    ∙ number_by v.view.stamp n.core.log.start group ∙ ap (list_any p) (sym (begin_is k w group name sees)) in
+    ap (λ b. b || slice_index_or v.stored name false) from ∙ ap (λ b. list_any p (take n.core.log.start w.group) || b) (noted.stored name)
+    ∙ sym (list_any-append p (take n.core.log.start w.group) n.core.log.entries)
 
-pub stored_is : (k : Watching) (w : World) (group : List Entry) (v : Pending) → Sees k w group → IsNoted w group v → kept.has_stored k v ≡ law.has_stored w v.view.stamp
+pub stored_is : (k : Watching) (w : World) (group : List Entry) (v : Pending) → Sees k w group → IsNoted w group v
+    → kept.has_stored k v ≡ law.has_stored w v.view.stamp
 stored_is k w group v sees noted = λ i name. stored_one k w group v name sees noted i
 
 pub lags_is : (k : Watching) (w : World) (group : List Entry) (v : Stamp) → Sees k w group → kept.lags k v ≡ law.lags w v
-lags_is k w group v sees = λ i name. (ap (λ gone. not (list_any (λ other. other == name) gone) && (not (has_departed (standing k name).status) && stamp_lt (standing k name).view v)) sees.stopped
+lags_is k w group v sees = λ i name. (ap (λ gone. not (list_any (λ other. other == name) gone)
+    && (not (has_departed (standing k name).status) && stamp_lt (standing k name).view v)) sees.stopped
     ∙ ap (λ (m : Standing). not (list_any (λ other. other == name) w.stopped) && (not (has_departed m.status) && stamp_lt m.view v)) (sees.names name)) i
 
-pub complete_is : (k : Watching) (w : World) (group : List Entry) (v : Pending) → Sees k w group → IsNoted w group v → kept.is_complete k v ≡ law.is_complete w (decided_of v.view)
+pub complete_is : (k : Watching) (w : World) (group : List Entry) (v : Pending) → Sees k w group → IsNoted w group v
+    → kept.is_complete k v ≡ law.is_complete w (decided_of v.view)
 unfolding kept.is_complete law.is_complete
 complete_is k w group v sees noted =
     let names = names_of v.view.members in

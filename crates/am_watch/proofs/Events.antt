@@ -28,7 +28,8 @@ unfolding unchanged
 same_stopped w e o gone = record { nodes = refl; stopped = refl; views = refl; group = refl }
 
 -- a return: the name before counts as stopped, if it didn't before
-pub same_lives : (w : World) (e : Event) (o : Outcome) (place : ℕ) → SameBut w (lives_on (unchanged w e o) place) (if is_stopped w (current w place) then w.stopped else w.stopped ++ current w place ∷ [])
+pub same_lives : (w : World) (e : Event) (o : Outcome) (place : ℕ)
+    → SameBut w (lives_on (unchanged w e o) place) (if is_stopped w (current w place) then w.stopped else w.stopped ++ current w place ∷ [])
 unfolding unchanged
 same_lives w e o place = record { nodes = refl; stopped = refl; views = refl; group = refl }
 

@@ -74,15 +74,20 @@ left_one : (k : Watching) (best : DecidedView) (v : Pending) (end : Stamp) → I
 left_one k best v end h = record {
   waits = λ above. split (kept.is_complete k v)
       (λ c. split (stamp_lt best.stamp v.view.stamp)
-      (λ t. let e : greater k best v ≡ v.view = rw t (rw c refl) in let g : IsUpTo v.view.stamp end = rw e at h in not_both (stamp_lt end v.view.stamp) above (g.keeps v.view.stamp (lt_self v.view.stamp)))
-      (λ t. let e : greater k best v ≡ best = rw t refl in let g : IsUpTo best.stamp end = rw e at h in not_both (stamp_lt end v.view.stamp) above (g.keeps v.view.stamp t)))
+      (λ t. let e : greater k best v ≡ v.view = rw t (rw c refl) in let g : IsUpTo v.view.stamp end = rw e at h in
+      not_both (stamp_lt end v.view.stamp) above (g.keeps v.view.stamp (lt_self v.view.stamp)))
+      (λ t. let e : greater k best v ≡ best = rw t refl in let g : IsUpTo best.stamp end = rw e at h in
+      not_both (stamp_lt end v.view.stamp) above (g.keeps v.view.stamp t)))
       (λ c. c);
 }
 
 pub each_left : (k : Watching) (best : DecidedView) (vs : List Pending) → Each (IsLeft k (greatest k best vs).stamp) vs
 unfolding greatest Each
 each_left k best [] = tt
-each_left k best (v ∷ vs) = (left_one k best v (greatest k (greater k best v) vs).stamp (up_greatest k (greater k best v) vs), each_left k (greater k best v) vs)
+each_left k best (v ∷ vs) = (
+  left_one k best v (greatest k (greater k best v) vs).stamp (up_greatest k (greater k best v) vs),
+  each_left k (greater k best v) vs,
+)
 
 -- ---- the same among all views
 
@@ -94,11 +99,14 @@ choice_of false x y = refl
 pub record IsKept (k : Watching) (w : World) (v : Pending) : Type 0 where
   pub is : kept.is_complete k v ≡ law.is_complete w (decided_of v.view)
 
-pub greatest_is : (k : Watching) (w : World) (best : DecidedView) (vs : List Pending) → Each (IsKept k w) vs → decided_of (greatest k best vs) ≡ law.greatest_complete w (decided_of best) (map (λ v. decided_of v.view) vs)
+pub greatest_is : (k : Watching) (w : World) (best : DecidedView) (vs : List Pending) → Each (IsKept k w) vs
+    → decided_of (greatest k best vs) ≡ law.greatest_complete w (decided_of best) (map (λ v. decided_of v.view) vs)
 unfolding greatest law.greatest_complete Each
 greatest_is k w best [] h = refl
 greatest_is k w best (v ∷ vs) (h, hs) =
-    let step : decided_of (greater k best v) ≡ law.greater_complete w (decided_of best) (decided_of v.view) = choice_of (stamp_lt best.stamp v.view.stamp && kept.is_complete k v) v.view best ∙ ap (λ c. if stamp_lt best.stamp v.view.stamp && c then decided_of v.view else decided_of best) h.is in
+    let step : decided_of (greater k best v) ≡ law.greater_complete w (decided_of best) (decided_of v.view) =
+    choice_of (stamp_lt best.stamp v.view.stamp && kept.is_complete k v) v.view best
+    ∙ ap (λ c. if stamp_lt best.stamp v.view.stamp && c then decided_of v.view else decided_of best) h.is in
     greatest_is k w (greater k best v) vs hs ∙ ap (λ b. law.greatest_complete w b (map (λ v. decided_of v.view) vs)) step
 
 up_complete : (w : World) (best v : Decided) → IsUpTo best.stamp (law.greater_complete w best v).stamp
@@ -107,7 +115,8 @@ up_complete w best v = split (stamp_lt best.stamp v.stamp && law.is_complete w v
     (λ t. rw t (up_self best.stamp))
 
 -- the views that aren't above one that is complete don't count
-pub greatest_above : (w : World) (low : Stamp) (best : Decided) (vs : List Decided) → IsUpTo low best.stamp → law.greatest_complete w best (filter (comes_after low) vs) ≡ law.greatest_complete w best vs
+pub greatest_above : (w : World) (low : Stamp) (best : Decided) (vs : List Decided) → IsUpTo low best.stamp
+    → law.greatest_complete w best (filter (comes_after low) vs) ≡ law.greatest_complete w best vs
 unfolding law.greatest_complete
 greatest_above w low best [] h = refl
 greatest_above w low best (v ∷ vs) h = split (comes_after low v)
@@ -117,7 +126,8 @@ greatest_above w low best (v ∷ vs) h = split (comes_after low v)
     let e : law.greater_complete w best v ≡ best = rw below refl in
     rw t (rw e (greatest_above w low best vs h)))
 
-pub filter_above : (low high : Stamp) (vs : List Decided) → IsUpTo low high → filter (comes_after high) (filter (comes_after low) vs) ≡ filter (comes_after high) vs
+pub filter_above : (low high : Stamp) (vs : List Decided) → IsUpTo low high
+    → filter (comes_after high) (filter (comes_after low) vs) ≡ filter (comes_after high) vs
 filter_above low high [] h = refl
 filter_above low high (v ∷ vs) h = split (comes_after low v)
     (λ t. split (comes_after high v)

@@ -23,7 +23,8 @@ pub record IsReady (group : List Entry) (k : Watching) (s : Watch) (w : World) :
   pub count : k.count ≡ s.count
   pub broken : k.broken ≡ s.broken
 
-best_is : (group : List Entry) (k : Watching) (s : Watch) (w : World) → IsReady group k s w → decided_of (greatest k k.complete k.pending) ≡ law.greatest_complete w s.complete w.views
+best_is : (group : List Entry) (k : Watching) (s : Watch) (w : World) → IsReady group k s w
+    → decided_of (greatest k k.complete k.pending) ≡ law.greatest_complete w s.complete w.views
 best_is group k s w r =
     greatest_is k w k.complete k.pending (each_kept k w group k.pending r.sees r.noted)
     ∙ ap (law.greatest_complete w (decided_of k.complete)) r.pending
@@ -32,9 +33,11 @@ best_is group k s w r =
 
 -- ---- whether it broke
 
-broken_cases : (k : Watching) (w : World) (v : DecidedView) (count : ℕ) (broken : Option ℕ) → k.count ≡ count → kept.is_lawful k v ≡ law.is_lawful w (decided_of v) → kept.broken_now k v broken ≡ law.broken_now w (decided_of v) (count + 1) broken
+broken_cases : (k : Watching) (w : World) (v : DecidedView) (count : ℕ) (broken : Option ℕ) → k.count ≡ count
+    → kept.is_lawful k v ≡ law.is_lawful w (decided_of v) → kept.broken_now k v broken ≡ law.broken_now w (decided_of v) (count + 1) broken
 broken_cases k w v count (Some at) h g = refl
-broken_cases k w v count None h g = ap (λ b. if b then None else Some (k.count + 1)) g ∙ ap (λ c. if law.is_lawful w (decided_of v) then None else Some (c + 1)) h
+broken_cases k w v count None h g = ap (λ b. if b then None else Some (k.count + 1)) g
+    ∙ ap (λ c. if law.is_lawful w (decided_of v) then None else Some (c + 1)) h
 
 some_none : {G : Type 0} (n : ℕ) → Some n ≡ None → G
 some_none n h = absurd (cc)
@@ -56,7 +59,8 @@ unfolding kept.is_lawful
 same_lawful k best v = refl
 
 left_over : (group : List Entry) (k : Watching) (s : Watch) (w : World) → IsReady group k s w
-    → let best = greatest k k.complete k.pending in map (λ v. decided_of v.view) (filter (is_above best.stamp) k.pending) ≡ filter (comes_after (law.greatest_complete w s.complete w.views).stamp) w.views
+    → let best = greatest k k.complete k.pending in map (λ v. decided_of v.view) (filter (is_above best.stamp) k.pending)
+    ≡ filter (comes_after (law.greatest_complete w s.complete w.views).stamp) w.views
 left_over group k s w r =
     let best = greatest k k.complete k.pending in
     let up : IsUpTo s.complete.stamp best.stamp = subst (λ (v : Decided). IsUpTo v.stamp best.stamp) r.complete (up_greatest k k.complete k.pending) in
@@ -71,14 +75,24 @@ looks group k s w r =
     let best = greatest k k.complete k.pending in
     let is = best_is group k s w r in
     record {
-      sees = record { names = r.sees.names; places = r.sees.places; stopped = r.sees.stopped; within = r.sees.within; more = r.sees.more; goes_on = r.sees.goes_on };
+      sees = record {
+        names = r.sees.names;
+        places = r.sees.places;
+        stopped = r.sees.stopped;
+        within = r.sees.within;
+        more = r.sees.more;
+        goes_on =
+            r.sees.goes_on;
+      };
       due = refl;
       noted = each_of _ (IsNoted w group) (λ v h. h.0) _ (each_filter (IsNoted w group) (is_above best.stamp) k.pending r.noted);
       pending = left_over group k s w r;
-      rest = each_of _ (λ v. kept.is_complete (ended k best) v ≡ false) (λ v h. same_complete k best v ∙ h.0.waits h.1) _ (each_filter (IsLeft k best.stamp) (is_above best.stamp) k.pending (each_left k k.complete k.pending));
+      rest = each_of _ (λ v. kept.is_complete (ended k best) v ≡ false) (λ v h. same_complete k best v
+          ∙ h.0.waits h.1) _ (each_filter (IsLeft k best.stamp) (is_above best.stamp) k.pending (each_left k k.complete k.pending));
       complete = is;
       count = ap (λ c. c + 1) r.count;
-      broken = ap (kept.broken_now k best) r.broken ∙ broken_cases k w best s.count s.broken r.count (lawful_is k w group best r.sees) ∙ ap (λ v. law.broken_now w v (s.count + 1) s.broken) is;
+      broken = ap (kept.broken_now k best) r.broken ∙ broken_cases k w best s.count s.broken r.count (lawful_is k w group best r.sees)
+          ∙ ap (λ v. law.broken_now w v (s.count + 1) s.broken) is;
       lawful = λ h. same_lawful k best best ∙ lawful_cases k best k.broken h;
     }
 
@@ -107,18 +121,29 @@ unbroken : (w : World) (v : Decided) (count : ℕ) (broken : Option ℕ) → (br
 unbroken w v count (Some at) h = refl
 unbroken w v count None h = let t = h refl in rw t refl
 
-pub passes : (group : List Entry) (k : Watching) (s : Watch) (w : World) → IsReady group k s w → k.is_due ≡ false → Each (λ v. kept.is_complete k v ≡ false) k.pending → (k.broken ≡ None → kept.is_lawful k k.complete ≡ true) → WatchesUpTo group (passed k) (after s w)
+pub passes : (group : List Entry) (k : Watching) (s : Watch) (w : World) → IsReady group k s w → k.is_due ≡ false
+    → Each (λ v. kept.is_complete k v ≡ false) k.pending → (k.broken ≡ None → kept.is_lawful k k.complete ≡ true) → WatchesUpTo group (passed k) (after s w)
 passes group k s w r due rest lawful =
-    let is : decided_of k.complete ≡ law.greatest_complete w s.complete w.views = ap decided_of (sym (stays k k.complete k.pending rest)) ∙ best_is group k s w r in
+    let is : decided_of k.complete ≡ law.greatest_complete w s.complete w.views = ap decided_of (sym (stays k k.complete k.pending rest))
+    ∙ best_is group k s w r in
     let same : s.complete ≡ law.greatest_complete w s.complete w.views = sym r.complete ∙ is in
     record {
-      sees = record { names = r.sees.names; places = r.sees.places; stopped = r.sees.stopped; within = r.sees.within; more = r.sees.more; goes_on = r.sees.goes_on };
+      sees = record {
+        names = r.sees.names;
+        places = r.sees.places;
+        stopped = r.sees.stopped;
+        within = r.sees.within;
+        more = r.sees.more;
+        goes_on =
+            r.sees.goes_on;
+      };
       due = due;
       noted = r.noted;
       pending = r.pending ∙ ap (λ (v : Decided). filter (comes_after v.stamp) w.views) same;
       rest = each_of (λ v. kept.is_complete k v ≡ false) (λ v. kept.is_complete (passed k) v ≡ false) (λ v h. passed_complete k v ∙ h) k.pending rest;
       complete = is;
       count = ap (λ c. c + 1) r.count;
-      broken = r.broken ∙ unbroken w (law.greatest_complete w s.complete w.views) (s.count + 1) s.broken (λ h. ap (law.is_lawful w) (sym is) ∙ sym (lawful_is k w group k.complete r.sees) ∙ lawful (r.broken ∙ h));
+      broken = r.broken ∙ unbroken w (law.greatest_complete w s.complete w.views) (s.count + 1) s.broken (λ h. ap (law.is_lawful w) (sym is)
+          ∙ sym (lawful_is k w group k.complete r.sees) ∙ lawful (r.broken ∙ h));
       lawful = λ h. passed_lawful k k.complete ∙ lawful h;
     }

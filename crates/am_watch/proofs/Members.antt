@@ -9,7 +9,9 @@ use Rattle.am_watch.specs.declared.views.DecidedView.{DecidedView}
 use Rattle.am_watch.specs.declared.views.Pending.{Pending}
 use Rattle.am_watch.specs.Watching.{Watching, greater, greatest}
 
-pub any_more : (p : ℕ → Bool) (set : List ℕ) (place : ℕ) → place < length set → list_any p (names_from place (drop place set)) ≡ ((nat_lt 0 (slice_index set place) && p (name_at place (slice_index set place))) || list_any p (names_from (place + 1) (drop (place + 1) set)))
+pub any_more : (p : ℕ → Bool) (set : List ℕ) (place : ℕ) → place < length set
+    → list_any p (names_from place (drop place set)) ≡ ((nat_lt 0 (slice_index set place) && p (name_at place (slice_index set place)))
+    || list_any p (names_from (place + 1) (drop (place + 1) set)))
 any_more p set place h =
     let name = name_at place (slice_index set place) in
     let rest = names_from (place + 1) (drop (place + 1) set) in
@@ -24,7 +26,8 @@ pub ruleset any_laws = (any_more, any_end)
 
 -- ---- the greatest complete view, one after another
 
-pub greatest_more : (k : Watching) (best : DecidedView) (vs : List Pending) (i : ℕ) (d : Pending) → i < length vs → greatest k best (drop i vs) ≡ greatest k (greater k best (slice_index_or vs i d)) (drop (i + 1) vs)
+pub greatest_more : (k : Watching) (best : DecidedView) (vs : List Pending) (i : ℕ) (d : Pending) → i < length vs
+    → greatest k best (drop i vs) ≡ greatest k (greater k best (slice_index_or vs i d)) (drop (i + 1) vs)
 unfolding greatest
 greatest_more k best vs i d h = ap (greatest k best) (drop_more vs i d h)
 

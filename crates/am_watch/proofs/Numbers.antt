@@ -47,9 +47,11 @@ number_none s number (e ∷ es) h = split (is_view_of s e)
 same_none : (o : Option ℕ) → o ≡ or_else None o
 same_none o = refl
 
-pub number_append : (s : Stamp) (number : ℕ) (xs ys : List Entry) → number_of s number (xs ++ ys) ≡ or_else (number_of s number xs) (number_of s (number + length xs) ys)
+pub number_append : (s : Stamp) (number : ℕ) (xs ys : List Entry)
+    → number_of s number (xs ++ ys) ≡ or_else (number_of s number xs) (number_of s (number + length xs) ys)
 unfolding number_of
 number_append s number [] ys = let z : number ≡ number + length (let none : List Entry = [] in none) = omega arith in ap (λ n. number_of s n ys) z
 number_append s number (e ∷ es) ys = split (is_view_of s e)
     (λ t. rw t refl)
-    (λ t. let z : number + 1 + length es ≡ number + length (e ∷ es) = omega arith in rw t (number_append s (number + 1) es ys ∙ ap (λ n. or_else (number_of s (number + 1) es) (number_of s n ys)) z))
+    (λ t. let z : number + 1 + length es ≡ number + length (e ∷ es) = omega arith in
+    rw t (number_append s (number + 1) es ys ∙ ap (λ n. or_else (number_of s (number + 1) es) (number_of s n ys)) z))

@@ -1,6 +1,9 @@
 -- A step of a name, a stop, and any other event: what is kept afterwards is that of the world afterwards.
-use Rattle.std.proofs.Common.{◌≡◌, ◌≢◌, ℕ, ◌+◌, ◌<◌, ◌≤◌, Bool, true, false, not, ◌&&◌, ◌||◌, ◌==◌, if◌then◌else◌, List, [], ◌∷◌, ◌++◌, length, map, filter, replicate, count_by, min, nat_le, nat_lt, Option, Some, None, slice_index_or, slice_set, refl, sym, ap, ◌∙◌, subst, inl, inr, arith}
-use Rattle.std.proofs.lemmas.List.{set-set, get_or-set_same, get_or-set_other, length-set, length-append, length-replicate, get_or-replicate, append-nil, map-append, get_or_past}
+use Rattle.std.proofs.Common.{◌≡◌, ◌≢◌, ℕ, ◌+◌, ◌<◌, ◌≤◌, Bool, true, false, not, ◌&&◌, ◌||◌, ◌==◌, if◌then◌else◌, List, [], ◌∷◌, ◌++◌, length, map, filter}
+use Rattle.std.proofs.Common.{replicate, count_by, min, nat_le, nat_lt, Option, Some, None, slice_index_or, slice_set, refl, sym, ap, ◌∙◌, subst, inl, inr}
+use Rattle.std.proofs.Common.{arith}
+use Rattle.std.proofs.lemmas.List.{set-set, get_or-set_same, get_or-set_other, length-set, length-append, length-replicate, get_or-replicate, append-nil}
+use Rattle.std.proofs.lemmas.List.{map-append, get_or_past}
 use Rattle.std.proofs.lemmas.List.Elements.{filter-append}
 use Rattle.std.proofs.lemmas.Bool.{cases_lt}
 use Rattle.std.proofs.lemmas.List.Folds.{list_any-append}
@@ -20,8 +23,10 @@ use Rattle.am_watch.specs.declared.views.DecidedView.{DecidedView}
 use Rattle.am_watch.specs.declared.views.Standing.{Standing}
 use Rattle.am_watch.specs.declared.views.Pending.{Pending}
 use Rattle.am_watch.specs.Watching as kept
-use Rattle.am_watch.specs.Watching.{Watching, unseen, standing, is_by, number_of, or_else, same_flag, is_alike, with_standing, unstored, decided, with_decided, with_entries, stored_by, noted, noted_entry, is_view, finished, stepped, stopped, passed, looked, placed, accepted}
-use Rattle.am_watch.specs.Watches.{standing_of, view_of, decided_of, has_in_list, comes_after, Each, Sees, IsNoted, WatchesUpTo, Watches, after, IsNew, Steps, SteppedTo, SameBut, StepsAreWatched, StopsAreWatched, OthersAreWatched, EntriesGoOn, AcceptedGoesOn}
+use Rattle.am_watch.specs.Watching.{Watching, unseen, standing, is_by, number_of, or_else, same_flag, is_alike, with_standing, unstored, decided, with_decided}
+use Rattle.am_watch.specs.Watching.{with_entries, stored_by, noted, noted_entry, is_view, finished, stepped, stopped, passed, looked, placed, accepted}
+use Rattle.am_watch.specs.Watches.{standing_of, view_of, decided_of, has_in_list, comes_after, Each, Sees, IsNoted, WatchesUpTo, Watches, after, IsNew, Steps}
+use Rattle.am_watch.specs.Watches.{SteppedTo, SameBut, StepsAreWatched, StopsAreWatched, OthersAreWatched, EntriesGoOn, AcceptedGoesOn}
 use Rattle.am_watch.proofs.Order.{same_stamp}
 use Rattle.am_watch.proofs.Folds.{each_of}
 use Rattle.am_watch.proofs.Numbers.{number_none, number_append}
@@ -54,7 +59,8 @@ or_true : (b : Bool) → (b || true) ≡ true
 or_true true = refl
 or_true false = refl
 
-standing_one : (k : Watching) (name other : ℕ) (after : Standing) → name < length k.names → standing (with_standing k name after) other ≡ (if other == name then after else standing k other)
+standing_one : (k : Watching) (name other : ℕ) (after : Standing) → name < length k.names
+    → standing (with_standing k name after) other ≡ (if other == name then after else standing k other)
 standing_one k name other after h = split (other == name)
     (λ t. let e : other ≡ name = grind (arith, nat_tests) in rw t (rw e (get_or-set_same k.names name after unseen h)))
     (λ t. let e : other ≢ name = λ e. not_same other name e t in rw t (get_or-set_other k.names name other after unseen e))
@@ -70,14 +76,17 @@ within_either : (b : Bool) (m n : Node) (most : ℕ) → n.core.log.start ≤ mo
 within_either true m n most h g = h
 within_either false m n most h g = g
 
-sees_step : (k : Watching) (w v : World) (name : ℕ) (n : Node) (entries more : List Entry) → Sees k w w.group → Steps w name n entries → SteppedTo w v name n more → Sees (with_standing k name (standing_of n)) v w.group
+sees_step : (k : Watching) (w v : World) (name : ℕ) (n : Node) (entries more : List Entry) → Sees k w w.group → Steps w name n entries
+    → SteppedTo w v name n more → Sees (with_standing k name (standing_of n)) v w.group
 sees_step k w v name n entries more sees steps to = record {
   names = λ other.
       let h : name < length k.names = let p = sees.places in let q = steps.within in omega arith in
-      standing_one k name other (standing_of n) h ∙ ap (λ (m : Standing). if other == name then standing_of n else m) (sees.names other) ∙ shown (other == name) (w.nodes other) n ∙ ap (λ (f : ℕ → Node). standing_of (f other)) (sym to.nodes);
+      standing_one k name other (standing_of n) h ∙ ap (λ (m : Standing). if other == name then standing_of n else m) (sees.names other)
+      ∙ shown (other == name) (w.nodes other) n ∙ ap (λ (f : ℕ → Node). standing_of (f other)) (sym to.nodes);
   places = length-set k.names name (standing_of n) ∙ sees.places;
   stopped = sees.stopped ∙ sym to.stopped;
-  within = λ other. let e = within_either (other == name) (w.nodes other) n (length w.group) steps.begins (sees.within other) in subst (λ (f : ℕ → Node). (f other).core.log.start ≤ length w.group) (sym to.nodes) e;
+  within = λ other. let e = within_either (other == name) (w.nodes other) n (length w.group) steps.begins (sees.within other) in
+      subst (λ (f : ℕ → Node). (f other).core.log.start ≤ length w.group) (sym to.nodes) e;
   more = more;
   goes_on = to.group;
 }
@@ -88,7 +97,8 @@ sees_step k w v name n entries more sees steps to = record {
 abbrev pub entered : ℕ → List Entry → Pending → Pending
 entered name entries v = if list_any (is_view_of v.view.stamp) entries then record v { stored = slice_set v.stored name true } else v
 
-set_one : (entries : List Entry) (name other : ℕ) (v : Pending) (old : Bool) → name < length v.stored → slice_index_or v.stored other false ≡ old → slice_index_or (entered name entries v).stored other false ≡ (if other == name then old || list_any (is_view_of v.view.stamp) entries else old)
+set_one : (entries : List Entry) (name other : ℕ) (v : Pending) (old : Bool) → name < length v.stored → slice_index_or v.stored other false ≡ old
+    → slice_index_or (entered name entries v).stored other false ≡ (if other == name then old || list_any (is_view_of v.view.stamp) entries else old)
 set_one entries name other v old h is = split (list_any (is_view_of v.view.stamp) entries)
     (λ t. split (other == name)
     (λ e. let same : other ≡ name = grind (arith, nat_tests) in rw t (rw e (rw same (get_or-set_same v.stored name true false h) ∙ sym (or_true old))))
@@ -109,16 +119,19 @@ same_number entries name v = split (list_any (is_view_of v.view.stamp) entries) 
 same_places : (entries : List Entry) (name : ℕ) (v : Pending) → length (entered name entries v).stored ≡ length v.stored
 same_places entries name v = split (list_any (is_view_of v.view.stamp) entries) (λ t. rw t (length-set v.stored name true)) (λ t. rw t refl)
 
-in_list_one : (w v : World) (name other : ℕ) (n : Node) (entries more : List Entry) (s : Stamp) → Steps w name n entries → SteppedTo w v name n more → has_in_list v s other ≡ (if other == name then has_in_list w s other || list_any (is_view_of s) entries else has_in_list w s other)
+in_list_one : (w v : World) (name other : ℕ) (n : Node) (entries more : List Entry) (s : Stamp) → Steps w name n entries → SteppedTo w v name n more
+    → has_in_list v s other ≡ (if other == name then has_in_list w s other || list_any (is_view_of s) entries else has_in_list w s other)
 in_list_one w v name other n entries more s steps to =
-    let it : has_in_list v s other ≡ list_any (is_view_of s) (set_at w.nodes name n other).core.log.entries = ap (λ (f : ℕ → Node). list_any (is_view_of s) (f other).core.log.entries) to.nodes in
+    let it : has_in_list v s other ≡ list_any (is_view_of s) (set_at w.nodes name n other).core.log.entries =
+    ap (λ (f : ℕ → Node). list_any (is_view_of s) (f other).core.log.entries) to.nodes in
     split (other == name)
     (λ e.
     let same : other ≡ name = grind (arith, nat_tests) in
     rw e (it ∙ rw e (steps.views s ∙ ap (λ x. has_in_list w s x || list_any (is_view_of s) entries) (sym same))))
     (λ e. rw e (it ∙ rw e refl))
 
-noted_one : (w v : World) (name : ℕ) (n : Node) (entries more : List Entry) (p : Pending) → Steps w name n entries → SteppedTo w v name n more → IsNoted w w.group p → IsNoted v w.group (entered name entries p)
+noted_one : (w v : World) (name : ℕ) (n : Node) (entries more : List Entry) (p : Pending) → Steps w name n entries → SteppedTo w v name n more
+    → IsNoted w w.group p → IsNoted v w.group (entered name entries p)
 noted_one w v name n entries more p steps to noted =
     let same = same_view entries name p in
     record {
@@ -145,8 +158,10 @@ is_new w n new = record {
     ]
 
 -- the standings tell which steps decide
-decides_is : (k : Watching) (w : World) (name : ℕ) (n : Node) → standing k name ≡ standing_of (w.nodes name) → n.core.who ≡ name → kept.decides (standing k name) name (standing_of n) ≡ run.decides (w.nodes name) n
-decides_is k w name n h own = ap (λ (m : Standing). is_member m.status && (((view n).by == name) && not (stamp_eq m.view (view n)))) h ∙ ap (λ who. is_member (w.nodes name).status && (((view n).by == who) && not (stamp_eq (view (w.nodes name)) (view n)))) (sym own)
+decides_is : (k : Watching) (w : World) (name : ℕ) (n : Node) → standing k name ≡ standing_of (w.nodes name) → n.core.who ≡ name
+    → kept.decides (standing k name) name (standing_of n) ≡ run.decides (w.nodes name) n
+decides_is k w name n h own = ap (λ (m : Standing). is_member m.status && (((view n).by == name) && not (stamp_eq m.view (view n)))) h
+    ∙ ap (λ who. is_member (w.nodes name).status && (((view n).by == who) && not (stamp_eq (view (w.nodes name)) (view n)))) (sym own)
 
 -- ---- the views that may become complete
 
@@ -159,7 +174,8 @@ map_twice f g h e [] = refl
 map_twice f g h e (x ∷ xs) = ap (λ y. y ∷ map f (map g xs)) (e x) ∙ ap (λ ys. h x ∷ ys) (map_twice f g h e xs)
 
 -- one entry and then the others
-entered_twice : (name : ℕ) (stamp : Stamp) (members : List ℕ) (resilience : ℕ) (es : List Entry) (v : Pending) → entered name es (stored_by name stamp v) ≡ entered name (View stamp members resilience ∷ es) v
+entered_twice : (name : ℕ) (stamp : Stamp) (members : List ℕ) (resilience : ℕ) (es : List Entry) (v : Pending)
+    → entered name es (stored_by name stamp v) ≡ entered name (View stamp members resilience ∷ es) v
 entered_twice name stamp members resilience es v = split (stamp_eq stamp v.view.stamp)
     (λ t. split (list_any (is_view_of v.view.stamp) es)
     (λ u. rw t (rw u (ap (λ stored. record v { stored = stored }) (set-set v.stored name true true))))
@@ -172,32 +188,38 @@ noted_is name [] ps = map_self ps
 noted_is name (Data from req body ∷ es) ps = noted_is name es ps
 noted_is name (Join joiner ∷ es) ps = noted_is name es ps
 noted_is name (Leave leaver ∷ es) ps = noted_is name es ps
-noted_is name (View stamp members resilience ∷ es) ps = noted_is name es (map (stored_by name stamp) ps) ∙ map_twice (entered name es) (stored_by name stamp) (entered name (View stamp members resilience ∷ es)) (entered_twice name stamp members resilience es) ps
+noted_is name (View stamp members resilience ∷ es) ps = noted_is name es (map (stored_by name stamp) ps)
+    ∙ map_twice (entered name es) (stored_by name stamp) (entered name (View stamp members resilience ∷ es)) (entered_twice name stamp members resilience es) ps
 
-views_noted : (name : ℕ) (entries : List Entry) (ps : List Pending) → map (λ (p : Pending). decided_of p.view) (map (entered name entries) ps) ≡ map (λ (p : Pending). decided_of p.view) ps
+views_noted : (name : ℕ) (entries : List Entry) (ps : List Pending)
+    → map (λ (p : Pending). decided_of p.view) (map (entered name entries) ps) ≡ map (λ (p : Pending). decided_of p.view) ps
 views_noted name entries ps = map_same (entered name entries) (λ (p : Pending). decided_of p.view) (λ p. ap decided_of (same_view entries name p)) ps
 
 -- a decided view, where it is above another
 abbrev pub one_above : Bool → Bool → Decided → List Decided
 one_above decides above d = if decides then (if above then d ∷ [] else []) else []
 
-decided_cases : (a c : Bool) (v : DecidedView) → map (λ (p : Pending). decided_of p.view) (if a && c then unstored v ∷ [] else []) ≡ one_above a c (decided_of v)
+decided_cases : (a c : Bool) (v : DecidedView) → map (λ (p : Pending). decided_of p.view) (if a && c then unstored v ∷ [] else [])
+    ≡ one_above a c (decided_of v)
 decided_cases true true v = refl
 decided_cases true false v = refl
 decided_cases false c v = refl
 
-after_cases : (decides : Bool) (c : Stamp) (views : List Decided) (d : Decided) → filter (comes_after c) views ++ one_above decides (stamp_lt c d.stamp) d ≡ filter (comes_after c) (if decides then views ++ d ∷ [] else views)
+after_cases : (decides : Bool) (c : Stamp) (views : List Decided) (d : Decided)
+    → filter (comes_after c) views ++ one_above decides (stamp_lt c d.stamp) d ≡ filter (comes_after c) (if decides then views ++ d ∷ [] else views)
 after_cases true c views d = sym (filter-append (comes_after c) views (d ∷ []))
 after_cases false c views d = append-nil (filter (comes_after c) views)
 
-pending_step : (k : Watching) (s : Watch) (w : World) (name : ℕ) (n : Node) (entries more : List Entry) → Watches k s → Steps s.world name n entries → SteppedTo s.world w name n more
+pending_step : (k : Watching) (s : Watch) (w : World) (name : ℕ) (n : Node) (entries more : List Entry) → Watches k s → Steps s.world name n entries
+    → SteppedTo s.world w name n more
     → map (λ (p : Pending). decided_of p.view) (k.pending ++ decided k name (standing_of n) (view_of n)) ≡ filter (comes_after s.complete.stamp) w.views
 pending_step k s w name n entries more is steps to =
     let dec : Pending → Decided = λ p. decided_of p.view in
     let m = s.world.nodes name in
     map-append dec k.pending (decided k name (standing_of n) (view_of n))
     ∙ ap (λ vs. vs ++ map dec (decided k name (standing_of n) (view_of n))) is.pending
-    ∙ ap (λ vs. filter (comes_after s.complete.stamp) s.world.views ++ vs) (decided_cases (kept.decides (standing k name) name (standing_of n)) (stamp_lt k.complete.stamp (view n)) (view_of n)
+    ∙ ap (λ vs. filter (comes_after s.complete.stamp) s.world.views ++ vs)
+    (decided_cases (kept.decides (standing k name) name (standing_of n)) (stamp_lt k.complete.stamp (view n)) (view_of n)
     ∙ ap (λ a. one_above a (stamp_lt k.complete.stamp (view n)) (last_view n)) (decides_is k s.world name n (is.sees.names name) steps.own)
     ∙ ap (λ (c : Decided). one_above (run.decides m n) (stamp_lt c.stamp (view n)) (last_view n)) is.complete)
     ∙ after_cases (run.decides m n) s.complete.stamp s.world.views (last_view n)
@@ -215,16 +237,20 @@ decided_each false c w n new = tt
 abbrev pub stepping : Watching → ℕ → Standing → DecidedView → List Entry → Watching
 stepping k name after view entries = with_standing (with_entries (with_decided k name after view) name entries) name after
 
-stepping_ready : (k : Watching) (s : Watch) (w : World) (name : ℕ) (n : Node) (entries more : List Entry) → Watches k s → Steps s.world name n entries → SteppedTo s.world w name n more → IsReady s.world.group (stepping k name (standing_of n) (view_of n) entries) s w
+stepping_ready : (k : Watching) (s : Watch) (w : World) (name : ℕ) (n : Node) (entries more : List Entry) → Watches k s → Steps s.world name n entries
+    → SteppedTo s.world w name n more → IsReady s.world.group (stepping k name (standing_of n) (view_of n) entries) s w
 stepping_ready k s w name n entries more is steps to =
     let sees = sees_step k s.world w name n entries more is.sees steps to in
     let all = k.pending ++ decided k name (standing_of n) (view_of n) in
     let e : noted name entries all ≡ map (entered name entries) all = noted_is name entries all in
-    let new = decided_each (kept.decides (standing k name) name (standing_of n)) (stamp_lt k.complete.stamp (view n)) s.world n (λ t. steps.new (sym (decides_is k s.world name n (is.sees.names name) steps.own) ∙ t)) in
+    let new = decided_each (kept.decides (standing k name) name (standing_of n)) (stamp_lt k.complete.stamp (view n)) s.world n
+    (λ t. steps.new (sym (decides_is k s.world name n (is.sees.names name) steps.own) ∙ t)) in
     let each = each_append (IsNoted s.world s.world.group) k.pending (decided k name (standing_of n) (view_of n)) is.noted new in
     record {
       sees = record { names = sees.names; places = sees.places; stopped = sees.stopped; within = sees.within; more = sees.more; goes_on = sees.goes_on };
-      noted = subst (Each (IsNoted w s.world.group)) (sym e) (each_map (IsNoted s.world s.world.group) (IsNoted w s.world.group) (entered name entries) (λ p h. noted_one s.world w name n entries more p steps to h) all each);
+      noted = subst (Each (IsNoted w s.world.group)) (sym e)
+          (each_map (IsNoted s.world s.world.group) (IsNoted w s.world.group) (entered name entries)
+          (λ p h. noted_one s.world w name n entries more p steps to h) all each);
       pending = ap (map (λ (p : Pending). decided_of p.view)) e ∙ views_noted name entries all ∙ pending_step k s w name n entries more is steps to;
       complete = is.complete;
       count = is.count;
@@ -252,7 +278,13 @@ alike_parts before after h =
     let a = and_both _ _ h in
     let b = and_both _ _ a.1 in
     let c = and_both _ _ b.1 in
-    record { view = sym (same_stamp before.view after.view a.0); gone = same_both _ _ b.0; from = number_same before.from after.from c.0; start = number_same before.start after.start c.1 }
+    record {
+      view = sym (same_stamp before.view after.view a.0);
+      gone = same_both _ _ b.0;
+      from = number_same before.from after.from c.0;
+      start =
+          number_same before.start after.start c.1;
+    }
 
 alike_self : (m : Standing) → IsAlike m m
 alike_self m = record { view = refl; gone = refl; from = refl; start = refl }
@@ -261,7 +293,8 @@ alike_either : (b : Bool) (m after : Standing) → IsAlike m after → IsAlike m
 alike_either true m after h = h
 alike_either false m after h = alike_self m
 
-standings_alike : (k : Watching) (name other : ℕ) (after : Standing) → name < length k.names → IsAlike (standing k name) after → IsAlike (standing k other) (standing (with_standing k name after) other)
+standings_alike : (k : Watching) (name other : ℕ) (after : Standing) → name < length k.names → IsAlike (standing k name) after
+    → IsAlike (standing k other) (standing (with_standing k name after) other)
 standings_alike k name other after h alike =
     let e = standing_one k name other after h in
     split (other == name)
@@ -276,22 +309,29 @@ standings_alike k name other after h alike =
 abbrev pub AreAlike : Watching → ℕ → Standing → Type 0
 AreAlike k name after = (other : ℕ) → IsAlike (standing k other) (standing (with_standing k name after) other)
 
-complete_alike : (k : Watching) (name : ℕ) (after : Standing) (v : Pending) → AreAlike k name after → kept.is_complete (with_standing k name after) v ≡ kept.is_complete k v
+complete_alike : (k : Watching) (name : ℕ) (after : Standing) (v : Pending) → AreAlike k name after
+    → kept.is_complete (with_standing k name after) v ≡ kept.is_complete k v
 unfolding kept.is_complete
 complete_alike k name after v alike =
     let j = with_standing k name after in
     let names = names_of v.view.members in
     let need = min (v.view.resilience + 1) (size v.view.members) in
-    let stored : kept.has_stored j v ≡ kept.has_stored k v = λ i other. ap (λ from. is_by v.number_in_group from || slice_index_or v.stored other false) (alike other).from i in
-    let lags : kept.lags j v.view.stamp ≡ kept.lags k v.view.stamp = λ i other. (ap (λ gone. not (kept.has_stopped k other) && (not gone && stamp_lt (standing j other).view v.view.stamp)) (alike other).gone ∙ ap (λ stamp. not (kept.has_stopped k other) && (not (has_departed (standing k other).status) && stamp_lt stamp v.view.stamp)) (alike other).view) i in
+    let stored : kept.has_stored j v ≡ kept.has_stored k v =
+    λ i other. ap (λ from. is_by v.number_in_group from || slice_index_or v.stored other false) (alike other).from i in
+    let lags : kept.lags j v.view.stamp ≡ kept.lags k v.view.stamp =
+    λ i other. (ap (λ gone. not (kept.has_stopped k other) && (not gone && stamp_lt (standing j other).view v.view.stamp)) (alike other).gone
+    ∙ ap (λ stamp. not (kept.has_stopped k other) && (not (has_departed (standing k other).status) && stamp_lt stamp v.view.stamp)) (alike other).view) i in
     ap (λ (f : ℕ → Bool). nat_le need (count_by f names) && not (list_any (kept.lags j v.view.stamp) names)) stored
     ∙ ap (λ (f : ℕ → Bool). nat_le need (count_by (kept.has_stored k v) names) && not (list_any f names)) lags
 
-lawful_alike : (k : Watching) (name : ℕ) (after : Standing) (v : DecidedView) → AreAlike k name after → kept.is_lawful (with_standing k name after) v ≡ kept.is_lawful k v
+lawful_alike : (k : Watching) (name : ℕ) (after : Standing) (v : DecidedView) → AreAlike k name after
+    → kept.is_lawful (with_standing k name after) v ≡ kept.is_lawful k v
 unfolding kept.is_lawful
 lawful_alike k name after v alike =
     let j = with_standing k name after in
-    let lost : kept.is_lost j v ≡ kept.is_lost k v = λ i other. (ap (λ start. (has v.members other || nat_lt v.number start) && not (has_departed (standing j other).status)) (alike other).start ∙ ap (λ gone. (has v.members other || nat_lt v.number (standing k other).start) && not gone) (alike other).gone) i in
+    let lost : kept.is_lost j v ≡ kept.is_lost k v = λ i other.
+    (ap (λ start. (has v.members other || nat_lt v.number start) && not (has_departed (standing j other).status)) (alike other).start
+    ∙ ap (λ gone. (has v.members other || nat_lt v.number (standing k other).start) && not gone) (alike other).gone) i in
     ap (λ (f : ℕ → Bool). nat_le (count_by f k.stopped) v.resilience) lost
 
 not_decided : (a b c : Bool) → c ≡ true → (a && (b && not c)) ≡ false
@@ -333,22 +373,27 @@ noted_none name (e ∷ es) ps h =
     let both = or_parts (is_view e) (list_any is_view es) h in
     noted_none name es (noted_entry name e ps) both.1 ∙ entry_none name e ps both.0
 
-stepping_complete : (k : Watching) (name : ℕ) (after : Standing) (view : DecidedView) (entries : List Entry) (v : Pending) → kept.is_complete (stepping k name after view entries) v ≡ kept.is_complete (with_standing k name after) v
+stepping_complete : (k : Watching) (name : ℕ) (after : Standing) (view : DecidedView) (entries : List Entry) (v : Pending)
+    → kept.is_complete (stepping k name after view entries) v ≡ kept.is_complete (with_standing k name after) v
 unfolding kept.is_complete
 stepping_complete k name after view entries v = refl
 
-stepping_lawful : (k : Watching) (name : ℕ) (after : Standing) (view : DecidedView) (entries : List Entry) (v : DecidedView) → kept.is_lawful (stepping k name after view entries) v ≡ kept.is_lawful (with_standing k name after) v
+stepping_lawful : (k : Watching) (name : ℕ) (after : Standing) (view : DecidedView) (entries : List Entry) (v : DecidedView)
+    → kept.is_lawful (stepping k name after view entries) v ≡ kept.is_lawful (with_standing k name after) v
 unfolding kept.is_lawful
 stepping_lawful k name after view entries v = refl
 
 -- the views that wait are as before
-stepping_same : (k : Watching) (name : ℕ) (after : Standing) (view : DecidedView) (entries : List Entry) → stamp_eq (standing k name).view after.view ≡ true → list_any is_view entries ≡ false → (stepping k name after view entries).pending ≡ k.pending
+stepping_same : (k : Watching) (name : ℕ) (after : Standing) (view : DecidedView) (entries : List Entry) → stamp_eq (standing k name).view after.view ≡ true
+    → list_any is_view entries ≡ false → (stepping k name after view entries).pending ≡ k.pending
 stepping_same k name after view entries same none =
     let test : kept.decides (standing k name) name after ≡ false = not_decided _ _ _ same in
     let no : decided k name after view ≡ [] = ap (λ b. if b && stamp_lt k.complete.stamp view.stamp then unstored view ∷ [] else []) test in
     noted_none name entries (k.pending ++ decided k name after view) none ∙ ap (λ vs. k.pending ++ vs) no ∙ append-nil k.pending
 
-alike_step : (k : Watching) (s : Watch) (w : World) (name : ℕ) (n : Node) (entries more : List Entry) → Watches k s → Steps s.world name n entries → SteppedTo s.world w name n more → (is_alike (standing k name) (standing_of n) && not (k.is_due || list_any is_view entries)) ≡ true → WatchesUpTo s.world.group (passed (stepping k name (standing_of n) (view_of n) entries)) (after s w)
+alike_step : (k : Watching) (s : Watch) (w : World) (name : ℕ) (n : Node) (entries more : List Entry) → Watches k s → Steps s.world name n entries
+    → SteppedTo s.world w name n more → (is_alike (standing k name) (standing_of n) && not (k.is_due || list_any is_view entries)) ≡ true
+    → WatchesUpTo s.world.group (passed (stepping k name (standing_of n) (view_of n) entries)) (after s w)
 alike_step k s w name n entries more is steps to both =
     let n1 = standing_of n in
     let h : name < length k.names = let p = is.sees.places in let q = steps.within in omega arith in
@@ -358,20 +403,24 @@ alike_step k s w name n entries more is steps to both =
     let same : stamp_eq (standing k name).view n1.view ≡ true = (and_both _ _ alike).0 in
     let each : AreAlike k name n1 = λ other. standings_alike k name other n1 h (alike_parts _ _ alike) in
     let j = stepping k name n1 (view_of n) entries in
-    let rest = each_of (λ v. kept.is_complete k v ≡ false) (λ v. kept.is_complete j v ≡ false) (λ v g. stepping_complete k name n1 (view_of n) entries v ∙ complete_alike k name n1 v each ∙ g) k.pending is.rest in
+    let rest = each_of (λ v. kept.is_complete k v ≡ false) (λ v. kept.is_complete j v ≡ false) (λ v g. stepping_complete k name n1 (view_of n) entries v
+    ∙ complete_alike k name n1 v each ∙ g) k.pending is.rest in
     passes s.world.group j s w (stepping_ready k s w name n entries more is steps to) due
     (subst (Each (λ v. kept.is_complete j v ≡ false)) (sym (stepping_same k name n1 (view_of n) entries same none)) rest)
     (λ g. stepping_lawful k name n1 (view_of n) entries k.complete ∙ lawful_alike k name n1 k.complete each ∙ is.lawful g)
 
 -- ---- the group list
 
-accepted_view : (w : World) (group more : List Entry) (p : Pending) → w.group ≡ group ++ more → IsNoted w group p → IsNoted w w.group (placed (length group + 1) more p)
+accepted_view : (w : World) (group more : List Entry) (p : Pending) → w.group ≡ group ++ more → IsNoted w group p
+    → IsNoted w w.group (placed (length group + 1) more p)
 accepted_view w group more p e noted =
     let z : length group + 1 ≡ 1 + length group = omega arith in
     record {
       stored = noted.stored;
       places = noted.places;
-      placed = ap (λ o. or_else o (number_of p.view.stamp (length group + 1) more)) noted.placed ∙ ap (λ n. or_else (number_of p.view.stamp 1 group) (number_of p.view.stamp n more)) z ∙ sym (number_append p.view.stamp 1 group more) ∙ ap (number_of p.view.stamp 1) (sym e);
+      placed = ap (λ o. or_else o (number_of p.view.stamp (length group + 1) more)) noted.placed
+          ∙ ap (λ n. or_else (number_of p.view.stamp 1 group) (number_of p.view.stamp n more)) z ∙ sym (number_append p.view.stamp 1 group more)
+          ∙ ap (number_of p.view.stamp 1) (sym e);
     }
 
 accepted_lawful : (k : Watching) (number : ℕ) (more : List Entry) (v : DecidedView) → kept.is_lawful (accepted k number more) v ≡ kept.is_lawful k v
@@ -383,23 +432,36 @@ record IsWaiting (k : Watching) (w : World) (group : List Entry) (v : Pending) :
   noted : IsNoted w group v
   waits : kept.is_complete k v ≡ false
 
-waiting_each : (k : Watching) (w : World) (group : List Entry) (vs : List Pending) → Each (IsNoted w group) vs → Each (λ v. kept.is_complete k v ≡ false) vs → Each (IsWaiting k w group) vs
+waiting_each : (k : Watching) (w : World) (group : List Entry) (vs : List Pending) → Each (IsNoted w group) vs → Each (λ v. kept.is_complete k v ≡ false) vs
+    → Each (IsWaiting k w group) vs
 unfolding Each
 waiting_each k w group [] h g = tt
 waiting_each k w group (v ∷ vs) (h, hs) (g, gs) = (record { noted = h; waits = g }, waiting_each k w group vs hs gs)
 
-accepts : (group more : List Entry) (k : Watching) (s : Watch) → WatchesUpTo group k s → s.world.group ≡ group ++ more → Watches (accepted k (length group + 1) more) s
+accepts : (group more : List Entry) (k : Watching) (s : Watch) → WatchesUpTo group k s → s.world.group ≡ group ++ more
+    → Watches (accepted k (length group + 1) more) s
 accepts group more k s is e =
     let w = s.world in
     let j = accepted k (length group + 1) more in
     let longer : length w.group ≡ length group + length more = ap length e ∙ length-append group more in
-    let sees : Sees j w w.group = record { names = is.sees.names; places = is.sees.places; stopped = is.sees.stopped; within = λ name. (let h = is.sees.within name in omega arith); more = []; goes_on = sym (append-nil w.group) } in
+    let sees : Sees j w w.group = record {
+      names = is.sees.names;
+      places = is.sees.places;
+      stopped = is.sees.stopped;
+      within =
+          λ name. (let h = is.sees.within name in omega arith);
+      more = [];
+      goes_on = sym (append-nil w.group);
+    } in
     record {
       sees = sees;
       due = is.due;
       noted = each_map (IsNoted w group) (IsNoted w w.group) (placed (length group + 1) more) (λ p h. accepted_view w group more p e h) k.pending is.noted;
       pending = map_same (placed (length group + 1) more) (λ (p : Pending). decided_of p.view) (λ p. refl) k.pending ∙ is.pending;
-      rest = each_map (IsWaiting k w group) (λ v. kept.is_complete j v ≡ false) (placed (length group + 1) more) (λ p h. complete_is j w w.group (placed (length group + 1) more p) sees (accepted_view w group more p e h.noted) ∙ sym (complete_is k w group p is.sees h.noted) ∙ h.waits) k.pending (waiting_each k w group k.pending is.noted is.rest);
+      rest = each_map (IsWaiting k w group) (λ v. kept.is_complete j v
+          ≡ false) (placed (length group + 1) more) (λ p h. complete_is j w w.group (placed (length group + 1) more p) sees
+          (accepted_view w group more p e h.noted) ∙ sym (complete_is k w group p is.sees h.noted)
+          ∙ h.waits) k.pending (waiting_each k w group k.pending is.noted is.rest);
       complete = is.complete;
       count = is.count;
       broken = is.broken;
@@ -408,18 +470,24 @@ accepts group more k s is e =
 
 -- ---- the laws
 
-step_is : (k : Watching) (s : Watch) (w : World) (name : ℕ) (n : Node) (entries more : List Entry) → Watches k s → Steps s.world name n entries → SteppedTo s.world w name n more → WatchesUpTo s.world.group (stepped k name (standing_of n) (view_of n) entries) (after s w)
+step_is : (k : Watching) (s : Watch) (w : World) (name : ℕ) (n : Node) (entries more : List Entry) → Watches k s → Steps s.world name n entries
+    → SteppedTo s.world w name n more → WatchesUpTo s.world.group (stepped k name (standing_of n) (view_of n) entries) (after s w)
 unfolding finished
 step_is k s w name n entries more is steps to = split (is_alike (standing k name) (standing_of n) && not (k.is_due || list_any is_view entries))
     (λ t. rw t (alike_step k s w name n entries more is steps to t))
     (λ t. rw t (looks s.world.group (stepping k name (standing_of n) (view_of n) entries) s w (stepping_ready k s w name n entries more is steps to)))
 
 pub steps_are_watched : StepsAreWatched
-steps_are_watched k s w name n entries more is steps to = accepts s.world.group more (stepped k name (standing_of n) (view_of n) entries) (after s w) (step_is k s w name n entries more is steps to) to.group
+steps_are_watched k s w name n entries more is steps to = accepts s.world.group more (stepped k name (standing_of n) (view_of n) entries) (after s w)
+    (step_is k s w name n entries more is steps to) to.group
 
 -- a world in which the lists and the views are the same
 same_noted : (w v : World) (p : Pending) → v.nodes ≡ w.nodes → IsNoted w w.group p → IsNoted v w.group p
-same_noted w v p e h = record { stored = λ name. h.stored name ∙ ap (λ (f : ℕ → Node). list_any (is_view_of p.view.stamp) (f name).core.log.entries) (sym e); places = h.places; placed = h.placed }
+same_noted w v p e h = record {
+  stored = λ name. h.stored name ∙ ap (λ (f : ℕ → Node). list_any (is_view_of p.view.stamp) (f name).core.log.entries) (sym e);
+  places = h.places;
+  placed = h.placed;
+}
 
 same_ready : (k : Watching) (s : Watch) (w : World) (gone : List ℕ) → Watches k s → SameBut s.world w gone → IsReady w.group (record k { stopped = gone }) s w
 same_ready k s w gone is same =
@@ -430,11 +498,13 @@ same_ready k s w gone is same =
         names = λ name. is.sees.names name ∙ ap (λ (f : ℕ → Node). standing_of (f name)) (sym same.nodes);
         places = is.sees.places;
         stopped = sym same.stopped;
-        within = λ name. subst (λ (f : ℕ → Node). (f name).core.log.start ≤ length w.group) (sym same.nodes) (subst (λ (g : List Entry). (v.nodes name).core.log.start ≤ length g) (sym e) (is.sees.within name));
+        within = λ name. subst (λ (f : ℕ → Node). (f name).core.log.start ≤ length w.group) (sym same.nodes)
+            (subst (λ (g : List Entry). (v.nodes name).core.log.start ≤ length g) (sym e) (is.sees.within name));
         more = [];
         goes_on = sym (append-nil w.group);
       };
-      noted = subst (λ (g : List Entry). Each (IsNoted w g) k.pending) (sym e) (each_of (IsNoted v v.group) (IsNoted w v.group) (λ p h. same_noted v w p same.nodes h) k.pending is.noted);
+      noted = subst (λ (g : List Entry). Each (IsNoted w g) k.pending) (sym e)
+          (each_of (IsNoted v v.group) (IsNoted w v.group) (λ p h. same_noted v w p same.nodes h) k.pending is.noted);
       pending = is.pending ∙ ap (filter (comes_after s.complete.stamp)) (sym same.views);
       complete = is.complete;
       count = is.count;
@@ -444,21 +514,26 @@ same_ready k s w gone is same =
 pub stops_are_watched : StopsAreWatched
 stops_are_watched k s w name is same =
     let gone : k.stopped ++ name ∷ [] ≡ s.world.stopped ++ name ∷ [] = ap (λ g. g ++ name ∷ []) is.sees.stopped in
-    looks w.group (record k { stopped = k.stopped ++ name ∷ [] }) s w (subst (λ (g : List ℕ). IsReady w.group (record k { stopped = g }) s w) (sym gone) (same_ready k s w (s.world.stopped ++ name ∷ []) is same))
+    looks w.group (record k { stopped = k.stopped ++ name ∷ [] }) s w
+    (subst (λ (g : List ℕ). IsReady w.group (record k { stopped = g }) s w) (sym gone) (same_ready k s w (s.world.stopped ++ name ∷ []) is same))
 
 pub others_are_watched : OthersAreWatched
-others_are_watched k s w is same = passes w.group k s w (subst (λ (g : List ℕ). IsReady w.group (record k { stopped = g }) s w) (sym is.sees.stopped) (same_ready k s w s.world.stopped is same)) is.due is.rest is.lawful
+others_are_watched k s w is same = passes w.group k s w (subst (λ (g : List ℕ). IsReady w.group (record k { stopped = g }) s w) (sym is.sees.stopped)
+    (same_ready k s w s.world.stopped is same)) is.due is.rest is.lawful
 
-placed_twice : (number : ℕ) (xs ys : List Entry) (ps : List Pending) → map (placed number (xs ++ ys)) ps ≡ map (placed (number + length xs) ys) (map (placed number xs) ps)
+placed_twice : (number : ℕ) (xs ys : List Entry) (ps : List Pending)
+    → map (placed number (xs ++ ys)) ps ≡ map (placed (number + length xs) ys) (map (placed number xs) ps)
 placed_twice number xs ys [] = refl
-placed_twice number xs ys (p ∷ ps) = ap (λ q. q ∷ map (placed number (xs ++ ys)) ps) (one number xs ys p) ∙ ap (λ qs. placed (number + length xs) ys (placed number xs p) ∷ qs) (placed_twice number xs ys ps)
+placed_twice number xs ys (p ∷ ps) = ap (λ q. q ∷ map (placed number (xs ++ ys)) ps) (one number xs ys p)
+    ∙ ap (λ qs. placed (number + length xs) ys (placed number xs p) ∷ qs) (placed_twice number xs ys ps)
   where
     assoc : (a b c : Option ℕ) → or_else a (or_else b c) ≡ or_else (or_else a b) c
     assoc None b c = refl
     assoc (Some x) b c = refl
 
     one : (number : ℕ) (xs ys : List Entry) (p : Pending) → placed number (xs ++ ys) p ≡ placed (number + length xs) ys (placed number xs p)
-    one number xs ys p = ap (λ o. record p { number_in_group = o }) (ap (or_else p.number_in_group) (number_append p.view.stamp number xs ys) ∙ assoc p.number_in_group (number_of p.view.stamp number xs) (number_of p.view.stamp (number + length xs) ys))
+    one number xs ys p = ap (λ o. record p { number_in_group = o }) (ap (or_else p.number_in_group) (number_append p.view.stamp number xs ys)
+        ∙ assoc p.number_in_group (number_of p.view.stamp number xs) (number_of p.view.stamp (number + length xs) ys))
 
 pub accepted_goes_on : AcceptedGoesOn
 accepted_goes_on k number xs ys = ap (λ ps. record k { pending = ps }) (placed_twice number xs ys k.pending)

@@ -4,7 +4,15 @@ use Rattle.am_watch.specs.Watching.{Watching}
 use Rattle.am_watch.specs.declared.watcher.Watcher.{Watcher}
 
 abbrev pub watching_of : Watcher → Watching
-watching_of w = record { names = w.names; stopped = w.stopped.items; pending = w.pending.items; is_due = w.is_due; complete = w.complete; count = w.count; broken = w.broken }
+watching_of w = record {
+  names = w.names;
+  stopped = w.stopped.items;
+  pending = w.pending.items;
+  is_due = w.is_due;
+  complete = w.complete;
+  count = w.count;
+  broken = w.broken;
+}
 
 -- there is memory for one more stopped name and one more view
 pub record HasRoom (w : Watcher) : Type 0 where

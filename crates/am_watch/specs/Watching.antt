@@ -1,7 +1,8 @@
 -- What is kept of a run to say whether it is lawful, event by event: of each name what its node shows, who stopped, and of each
 -- view that may still become the greatest complete one who stored it. Only the views above that one are looked at, and only
 -- where an event changed something that they ask for.
-use Rattle.std.specs.Prelude.{ℕ, ◌+◌, min, List, [], ◌∷◌, ◌++◌, map, filter, replicate, Option, Some, None, Bool, true, false, not, ◌&&◌, ◌||◌, ◌==◌, nat_lt, nat_le, if◌then◌else◌, slice_index_or, slice_set, count_by}
+use Rattle.std.specs.Prelude.{ℕ, ◌+◌, min, List, [], ◌∷◌, ◌++◌, map, filter, replicate, Option, Some, None, Bool, true, false, not, ◌&&◌, ◌||◌, ◌==◌, nat_lt}
+use Rattle.std.specs.Prelude.{nat_le, if◌then◌else◌, slice_index_or, slice_set, count_by}
 use Rattle.std.specs.List.{list_any, range_with_len}
 use Rattle.am_base.specs.declared.name.Stamp.{Stamp}
 use Rattle.am_base.specs.declared.entry.Entry.{Entry}
@@ -86,7 +87,14 @@ is_above stamp v = stamp_lt stamp v.view.stamp
 
 -- an event is over, and this is the greatest complete view
 abbrev pub ended : Watching → DecidedView → Watching
-ended k best = record k { pending = filter (is_above best.stamp) k.pending; is_due = false; complete = best; count = k.count + 1; broken = broken_now k best k.broken }
+ended k best = record k {
+  pending = filter (is_above best.stamp) k.pending;
+  is_due = false;
+  complete = best;
+  count = k.count + 1;
+  broken =
+      broken_now k best k.broken;
+}
 
 -- an event is over after which a view may have become complete, or somebody was lost
 unfoldable pub looked : Watching → Watching
@@ -152,7 +160,8 @@ same_flag true b = b
 same_flag false b = not b
 
 abbrev pub is_alike : Standing → Standing → Bool
-is_alike before after = stamp_eq before.view after.view && (same_flag (has_departed before.status) (has_departed after.status) && ((before.from == after.from) && (before.start == after.start)))
+is_alike before after = stamp_eq before.view after.view && (same_flag (has_departed before.status) (has_departed after.status)
+    && ((before.from == after.from) && (before.start == after.start)))
 
 -- what the name shows now
 abbrev pub with_standing : Watching → ℕ → Standing → Watching

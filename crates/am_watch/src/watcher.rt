@@ -146,7 +146,8 @@ impl Watcher {
     /// Whether a life of a place, which may be none, has stored a view.
     fn life_has_stored(&self, v: &Pending, place: u8, life: u8) -> bool
         requires { (place < 16) × (life ≤ 16) }
-        ensures { result ≡ (nat_lt 0 life && has_stored (watching_of self.now) v.now (name_at place life)) }
+        ensures { result ≡ (nat_lt 0 life
+            && has_stored (watching_of self.now) v.now (name_at place life)) }
     {
         match Name::of(place, life) {
             Some(name) => self.has_stored(v, name),
@@ -157,7 +158,8 @@ impl Watcher {
     /// Whether a life of a place, which may be none, lags behind a view.
     fn life_lags(&self, v: &Stamp, place: u8, life: u8) -> bool
         requires { (place < 16) × (life ≤ 16) }
-        ensures { result ≡ (nat_lt 0 life && lags (watching_of self.now) v.now (name_at place life)) }
+        ensures { result ≡ (nat_lt 0 life
+            && lags (watching_of self.now) v.now (name_at place life)) }
     {
         match Name::of(place, life) {
             Some(name) => self.lags(v, name),
@@ -168,7 +170,8 @@ impl Watcher {
     /// How many of a view's members have stored it.
     #[tactic(auto, using(am_fronts::proofs::ReportLaws::count_laws))]
     fn holders(&self, v: &Pending) -> u32
-        ensures { result ≡ count_by (has_stored (watching_of self.now) v.now) (names_of v.now.view.members) }
+        ensures { result ≡ count_by (has_stored (watching_of self.now) v.now)
+            (names_of v.now.view.members) }
     {
         let lives = v.view.members.each_life();
         let mut held = 0;
@@ -181,7 +184,8 @@ impl Watcher {
     /// Whether a running member's list hasn't reached a view.
     #[tactic(auto, using(crate::proofs::Members::any_laws))]
     fn is_lagged(&self, v: &Pending) -> bool
-        ensures { result ≡ list_any (lags (watching_of self.now) v.now.view.stamp) (names_of v.now.view.members) }
+        ensures { result ≡ list_any (lags (watching_of self.now) v.now.view.stamp)
+            (names_of v.now.view.members) }
     {
         let lives = v.view.members.each_life();
         for place in 0..16u8 {
@@ -215,7 +219,8 @@ impl Watcher {
     /// The greatest view that is complete now.
     #[tactic(auto, using(crate::proofs::Members::greatest_laws))]
     fn greatest(&self) -> DecidedView
-        ensures { result ≡ greatest (watching_of self.now) (watching_of self.now).complete (watching_of self.now).pending }
+        ensures { result ≡ greatest (watching_of self.now) (watching_of self.now).complete
+            (watching_of self.now).pending }
     {
         let mut best = self.complete;
         for v in self.pending.as_slice() {
@@ -246,7 +251,8 @@ impl Watcher {
 
     fn broken_after(&self, best: &DecidedView) -> Option<u32>
         requires { (watching_of self.now).count < 4294967295 }
-        ensures { result ≡ broken_now (watching_of self.now) best.now (watching_of self.now).broken }
+        ensures { result ≡ broken_now (watching_of self.now) best.now
+            (watching_of self.now).broken }
     {
         match self.broken {
             Some(count) => Some(count),
@@ -296,7 +302,8 @@ impl Watcher {
     /// entries that the name stored in the step; and then the step is finished. It takes no memory.
     pub fn decide(&mut self, name: Name, after: &Standing, view: &DecidedView)
         requires { HasRoom self.old }
-        ensures { watching_of self.new ≡ with_decided (watching_of self.old) name after.now view.now }
+        ensures { watching_of self.new ≡ with_decided
+            (watching_of self.old) name after.now view.now }
     {
         if decides(&self.standing(name), name, after) && self.complete.stamp.is_below(view.stamp) {
             self.pending.push_reserved(unstored(view));
@@ -326,7 +333,8 @@ impl Watcher {
 
     /// Whether the step changed nothing of what views ask for.
     fn is_quiet(&self, name: Name, after: &Standing) -> bool
-        ensures { result ≡ (is_alike (standing (watching_of self.now) name) after.now && not (watching_of self.now).is_due) }
+        ensures { result ≡ (is_alike (standing (watching_of self.now) name) after.now
+            && not (watching_of self.now).is_due) }
     {
         is_alike(&self.standing(name), after) && !self.is_due
     }

@@ -17,8 +17,11 @@ use Rattle.am_model.specs.Hearing.{hears_member, hears_in_view, hears_sequencer}
 use Rattle.am_model.specs.Group.{has_log}
 use Rattle.am_model.proofs.Greatest.{split, and_both}
 use Rattle.am_effects.specs.Causes.{Cause, hears}
-use Rattle.am_effects.specs.Looks.{HasOpen, Balloting, with_more, without_one, as_it_is, Looks, finds_itself_out, waits, fetches_from_best, finds_too_few, finds_no_room, decides}
-use Rattle.am_effects.specs.Changes.{MayBeWelcomed, Change, refreshes, settles, takes_report, admits, numbers, keeps_body, notes, stores, begins_list, departs, promises, opens, looks, fetches, stores_view, queues, collects, takes, asks_to_join, asks_to_leave, closes, Changes, unchanged, changed}
+use Rattle.am_effects.specs.Looks.{HasOpen, Balloting, with_more, without_one, as_it_is, Looks, finds_itself_out, waits, fetches_from_best, finds_too_few}
+use Rattle.am_effects.specs.Looks.{finds_no_room, decides}
+use Rattle.am_effects.specs.Changes.{MayBeWelcomed, Change, refreshes, settles, takes_report, admits, numbers, keeps_body, notes, stores, begins_list, departs}
+use Rattle.am_effects.specs.Changes.{promises, opens, looks, fetches, stores_view, queues, collects, takes, asks_to_join, asks_to_leave, closes, Changes}
+use Rattle.am_effects.specs.Changes.{unchanged, changed}
 use Rattle.am_effects.proofs.Rests.{rests_refresh, rests_at_end, settle_is}
 use Rattle.am_laws.proofs.ViewNames.{HasNames, HeardNames}
 use Rattle.am_laws.proofs.ViewChanges.{Balloted, log_of_member, changes_do}
@@ -41,7 +44,8 @@ none_of_asking status.Member f h = absurd (cc)
 none_of_asking status.Departed f h = absurd (cc)
 
 pub welcomed_none : (m : Node) (s : ℕ) (v : Stamp) (base join : ℕ) (image : Image) → MayBeWelcomed m s v base join image → has_log m.status ≡ false
-welcomed_none m s v base join image may = none_of_asking m.status may.no_member (and_both (not (s == m.core.who)) (is_member m.status || is_asking m.status) may.asks).1
+welcomed_none m s v base join image may = none_of_asking m.status may.no_member
+    (and_both (not (s == m.core.who)) (is_member m.status || is_asking m.status) may.asks).1
 
 ballot_log : (m : Node) (b : Ballot) → HasOpen m b → Balloted m → has_log m.status ≡ true
 ballot_log m b open_ h = split (has_log m.status) (λ t. t) (λ f. absurd (let none = h.none f in let is = open_.last in cc))
@@ -98,7 +102,8 @@ change_longer m x y (promises v low why) k h = longer_same m x y refl refl h
 change_longer m x y (opens least resilience by may) k h = longer_same m x y refl refl h
 change_longer m x y (looks b verdict over why look is) k h = look_longer m x b verdict look (looked_log x b why k) h
 change_longer m x y (fetches s v base number e is by promise below from may) k h = longer_pushed m x y e (hears_log x s by) refl h
-change_longer m x y (stores_view s v base number names resilience is by own other promise below may) k h = longer_pushed m x y (View v names resilience) (hears_log x s by) refl h
+change_longer m x y (stores_view s v base number names resilience is by own other promise below may) k h =
+    longer_pushed m x y (View v names resilience) (hears_log x s by) refl h
 change_longer m x y (queues body is o member stays few) k h = longer_same m x y refl refl h
 change_longer m x y (collects req is) k h = longer_same m x y refl refl h
 change_longer m x y (takes e is o member some there) k h = longer_same m x y refl refl h
@@ -184,7 +189,8 @@ change_stays x y (asks_to_join is was) t = refl
 change_stays x y (asks_to_leave is was stays done) t = refl
 change_stays x y (closes leads leaves alone room) t = ap (λ (l : Log). l.start) (rests_at_end (pushed x (Leave x.core.who))).log
 
-pub changes_stay : {c : Cause} {o : Outcome} (x n : Node) → HeardNames c → Changes c o x n → HasNames x → Balloted x → has_log x.status ≡ true → n.core.log.start ≡ x.core.log.start
+pub changes_stay : {c : Cause} {o : Outcome} (x n : Node) → HeardNames c → Changes c o x n → HasNames x → Balloted x → has_log x.status ≡ true
+    → n.core.log.start ≡ x.core.log.start
 changes_stay x n heard unchanged k b t = refl
 changes_stay x n heard (changed {n = y} one more) k b t =
     let g = changes_do x y heard (changed one unchanged) k b in

@@ -36,12 +36,14 @@ pub record AllLists (rules : Rules) (w : World) : Type 0 where
   pub bare : (name : ℕ) → name < 256 → IsBare (w.nodes name)
 
 -- what a step adds
-pub step_longer : (rules : Rules) (w : World) (e : Event) (c : Cause) (s : Step) → IsCause w (actor w e) e.act c → Effect (w.nodes (actor w e)) c s → AllLists rules w → IsLonger (w.nodes (actor w e)) s.node
+pub step_longer : (rules : Rules) (w : World) (e : Event) (c : Cause) (s : Step) → IsCause w (actor w e) e.act c → Effect (w.nodes (actor w e)) c s
+    → AllLists rules w → IsLonger (w.nodes (actor w e)) s.node
 step_longer rules w e c s cause effect h =
     let m = w.nodes (actor w e) in
     let few = few_names rules w e h.views.named in
     let kept = h.views.each (actor w e) few in
-    changes_longer m m s.node (heard_names rules w e c h.views cause) effect.changes kept.names kept.balloted (record { bare = h.bare (actor w e) few; more = []; is = sym (append-nil m.core.log.entries) })
+    changes_longer m m s.node (heard_names rules w e c h.views cause) effect.changes kept.names kept.balloted
+    (record { bare = h.bare (actor w e) few; more = []; is = sym (append-nil m.core.log.entries) })
 
 pub each_lists : (rules : Rules) → EachKeeps (AllLists rules)
 unfolding unchanged stepped
@@ -67,7 +69,8 @@ pub run_lists : (rules : Rules) (events : List Event) → MayFound rules → All
 run_lists rules events may = runs_keep (AllLists rules) (each_lists rules) (start rules) events (lists_start rules may)
 
 -- a Welcome tells of what the group has accepted
-heard_low : (rules : Rules) (events : List Event) (e : Event) (c : Cause) → IsCause (run rules events) (actor (run rules events) e) e.act c → HeardLow c (length (run rules events).group)
+heard_low : (rules : Rules) (events : List Event) (e : Event) (c : Cause) → IsCause (run rules events) (actor (run rules events) e) e.act c
+    → HeardLow c (length (run rules events).group)
 heard_low rules events e c cause = record {
   welcome = λ s v base join image is.
       (let w = run rules events in
@@ -96,7 +99,9 @@ lists_go_on rules events e c s may runs cause effect =
     record {
       within = few_names rules w e h.views.named;
       own = ap (λ (b : Bool). (if b then n else m).core.who) (sym (is_itself name)) ∙ named.who name;
-      adds = longer.is ∙ ap (λ more. m.core.log.entries ++ more) (sym (ap (drop (length m.core.log.entries)) longer.is ∙ drop-append_seam m.core.log.entries longer.more));
+      adds = longer.is ∙ ap (λ more. m.core.log.entries ++ more)
+          (sym (ap (drop (length m.core.log.entries)) longer.is ∙ drop-append_seam m.core.log.entries longer.more));
       begins = along (λ (x : Node). x.core.log.start ≤ length w.group) (change_begins (length w.group) (heard_low rules events e c cause)) effect.changes first;
-      stays = λ t. (let kept = h.views.each name (few_names rules w e h.views.named) in changes_stay m n (heard_names rules w e c h.views cause) effect.changes kept.names kept.balloted t);
+      stays = λ t. (let kept = h.views.each name (few_names rules w e h.views.named) in
+          changes_stay m n (heard_names rules w e c h.views cause) effect.changes kept.names kept.balloted t);
     }

@@ -1,5 +1,6 @@
 -- A view is noted with the members that its View names: in the step that decides it nothing changes them any more.
-use Rattle.std.proofs.Common.{◌≡◌, ◌⊎◌, inl, inr, ⊎_elim, ℕ, ◌+◌, ◌<◌, ◌==◌, ◌&&◌, ◌||◌, not, max, nat_lt, Bool, true, false, List, length, slice_index, Option, Some, None, refl, sym, ap, ◌∙◌, subst, arith}
+use Rattle.std.proofs.Common.{◌≡◌, ◌⊎◌, inl, inr, ⊎_elim, ℕ, ◌+◌, ◌<◌, ◌==◌, ◌&&◌, ◌||◌, not, max, nat_lt, Bool, true, false, List, length, slice_index, Option}
+use Rattle.std.proofs.Common.{Some, None, refl, sym, ap, ◌∙◌, subst, arith}
 use Rattle.std.proofs.lemmas.Bool.Decides.{nat_tests}
 use Rattle.am_base.specs.declared.entry.Entry.{Entry}
 use Rattle.am_base.specs.declared.entry.Entry.TheVariants.{Data, Join, Leave, View}
@@ -19,8 +20,11 @@ use Rattle.am_model.specs.Receiving.{is_view}
 use Rattle.am_model.specs.Refresh.{refresh}
 use Rattle.am_model.proofs.Greatest.{split, and_both}
 use Rattle.am_effects.specs.Causes.{Cause, calls, hears}
-use Rattle.am_effects.specs.Looks.{was_reset, was_handed, was_fetched, HasOpen, Balloting, with_more, without_one, as_it_is, Looks, finds_itself_out, waits, fetches_from_best, finds_too_few, finds_no_room, decides}
-use Rattle.am_effects.specs.Changes.{Numbers, asked_send, own_send, asked_join, asked_leave, Carries, whole_entry, by_number, Change, refreshes, settles, takes_report, admits, numbers, keeps_body, notes, stores, begins_list, departs, promises, opens, looks, fetches, stores_view, queues, collects, takes, asks_to_join, asks_to_leave, closes}
+use Rattle.am_effects.specs.Looks.{was_reset, was_handed, was_fetched, HasOpen, Balloting, with_more, without_one, as_it_is, Looks, finds_itself_out, waits}
+use Rattle.am_effects.specs.Looks.{fetches_from_best, finds_too_few, finds_no_room, decides}
+use Rattle.am_effects.specs.Changes.{Numbers, asked_send, own_send, asked_join, asked_leave, Carries, whole_entry, by_number, Change, refreshes, settles}
+use Rattle.am_effects.specs.Changes.{takes_report, admits, numbers, keeps_body, notes, stores, begins_list, departs, promises, opens, looks, fetches}
+use Rattle.am_effects.specs.Changes.{stores_view, queues, collects, takes, asks_to_join, asks_to_leave, closes}
 use Rattle.am_effects.proofs.Rests.{rests_refresh, rests_at_end, settle_is}
 use Rattle.am_effects.proofs.Says.{told_pushed, view_pushed}
 use Rattle.am_laws.proofs.Stamps.{same_stamp, at_most_below}
@@ -64,7 +68,8 @@ piece_stamp : Cause → Stamp → Stamp
 piece_stamp (hears (packet.Piece s u base number e)) v = u
 piece_stamp _ v = v
 
-fetched_for : (c : Cause) (v : Stamp) → LooksBy c v → (s : ℕ) (u : Stamp) (base number : ℕ) (e : Entry) → c ≡ hears (packet.Piece s u base number e) → stamp_eq v u ≡ false → ⊥
+fetched_for : (c : Cause) (v : Stamp) → LooksBy c v → (s : ℕ) (u : Stamp) (base number : ℕ) (e : Entry) → c ≡ hears (packet.Piece s u base number e)
+    → stamp_eq v u ≡ false → ⊥
 unfolding piece_stamp
 fetched_for c v (by_vote s u shown is) s2 u2 base number e also below = absurd (cc)
 fetched_for c v (by_giving_up name is) s2 u2 base number e also below = absurd (cc)
@@ -81,7 +86,8 @@ looks_by c m b (without_one old name is open_ other) promised = by_giving_up nam
 looks_by c m b (as_it_is old open_ (was_reset least resilience is)) promised = by_reset least resilience is
 looks_by c m b (as_it_is old open_ (was_handed s v is)) promised = by_hand_over s v is
 looks_by c m b (as_it_is old open_ (was_fetched s v base number e is at)) promised =
-    by_piece s v base number e is (subst (λ x. stamp_eq x v ≡ true) promised (let same = same_stamp v m.core.promise at in subst (λ x. stamp_eq x v ≡ true) same (same_is_equal v)))
+    by_piece s v base number e is (subst (λ x. stamp_eq x v ≡ true) promised (let same = same_stamp v m.core.promise at in
+    subst (λ x. stamp_eq x v ≡ true) same (same_is_equal v)))
 
 -- ---- a view along a step
 
@@ -100,15 +106,23 @@ pub data Viewed (c : Cause) (old : Stamp) (x : Node) : Type 0 where
   of_other : ((view x).by == x.core.who) ≡ false → Viewed c old x
   decided : IsFresh c x → Viewed c old x
 
-viewed_same : (c : Cause) (old : Stamp) (x y : Node) → y.core.who ≡ x.core.who → y.core.log ≡ x.core.log → (y.leaving ≡ x.leaving) → Viewed c old x → Viewed c old y
+viewed_same : (c : Cause) (old : Stamp) (x y : Node) → y.core.who ≡ x.core.who → y.core.log ≡ x.core.log → (y.leaving ≡ x.leaving) → Viewed c old x
+    → Viewed c old y
 viewed_same c old x y who log stays (as_before h) = as_before (ap (λ (l : Log). (told_by l).view) log ∙ h)
 viewed_same c old x y who log stays (of_other h) = of_other ((λ i. (told_by (log i)).view.by == who i) ∙ h)
-viewed_same c old x y who log stays (decided h) = decided (record { whole = subst Whole (sym log) h.whole; by = subst (λ (l : Log). LooksBy c (told_by l).view) (sym log) h.by; stays = stays ∙ h.stays })
+viewed_same c old x y who log stays (decided h) = decided (record {
+  whole = subst Whole (sym log) h.whole;
+  by =
+      subst (λ (l : Log). LooksBy c (told_by l).view) (sym log) h.by;
+  stays = stays ∙ h.stays;
+})
 
 -- an entry that is no View, where a decided view stays whole
-viewed_plain : (c : Cause) (old : Stamp) (x y : Node) (e : Entry) → is_view e ≡ false → y.core.who ≡ x.core.who → y.core.log ≡ (pushed x e).core.log → (IsFresh c x → IsFresh c y) → Viewed c old x → Viewed c old y
+viewed_plain : (c : Cause) (old : Stamp) (x y : Node) (e : Entry) → is_view e ≡ false → y.core.who ≡ x.core.who → y.core.log ≡ (pushed x e).core.log
+    → (IsFresh c x → IsFresh c y) → Viewed c old x → Viewed c old y
 viewed_plain c old x y e plain who log f (as_before h) = as_before (ap (λ (l : Log). (told_by l).view) log ∙ view_pushed x e plain ∙ h)
-viewed_plain c old x y e plain who log f (of_other h) = of_other ((λ i. (told_by (log i)).view.by == who i) ∙ ap (λ (s : Stamp). s.by == x.core.who) (view_pushed x e plain) ∙ h)
+viewed_plain c old x y e plain who log f (of_other h) = of_other ((λ i. (told_by (log i)).view.by == who i)
+    ∙ ap (λ (s : Stamp). s.by == x.core.who) (view_pushed x e plain) ∙ h)
 viewed_plain c old x y e plain who log f (decided h) = decided (f h)
 
 -- a send more
@@ -124,7 +138,8 @@ whole_sent x from req body long h =
     ap (entry_at (pushed x e).core.log) number ∙ entry_stays x.core.log e _ (told x).view_number h ∙ (λ i. Some (View (sym v i) (sym m i) (sym r i)))
 
 -- the View that is decided
-whole_decided : (x : Node) (stamp : Stamp) (names : List ℕ) (resilience : ℕ) → members (pushed x (View stamp names resilience)) ≡ names → Whole (pushed x (View stamp names resilience)).core.log
+whole_decided : (x : Node) (stamp : Stamp) (names : List ℕ) (resilience : ℕ) → members (pushed x (View stamp names resilience)) ≡ names
+    → Whole (pushed x (View stamp names resilience)).core.log
 whole_decided x stamp names resilience same =
     let e = View stamp names resilience in
     let is = told_pushed x e in
@@ -184,7 +199,8 @@ change_quiet m n (collects req is) h = h
 change_quiet m n (takes e is o member some there) h = h
 change_quiet m n (asks_to_join is was) h = h
 change_quiet m n (asks_to_leave is was stays done) h = λ t. absurd (let f = or_last (nat_lt 0 (unsettled m)) (is_unfinished m.ballot) done in cc)
-change_quiet m n (closes leads leaves alone room) h = let r = (rests_at_end (pushed m (Leave m.core.who))).rests in λ t. r.leaving ∙ h (sym (ap is_unfinished r.ballot) ∙ t)
+change_quiet m n (closes leads leaves alone room) h = let r = (rests_at_end (pushed m (Leave m.core.who))).rests in
+    λ t. r.leaving ∙ h (sym (ap is_unfinished r.ballot) ∙ t)
 
 -- ---- each change
 
@@ -195,8 +211,14 @@ numbers_plain c m e (asked_join s v is other fit) = refl
 numbers_plain c m e (asked_leave s v report is other known stays) = refl
 
 fresh_numbered : (c : Cause) (m : Node) (e : Entry) → Numbers c m e → length (told m).rows ≡ 16 → IsFresh c m → IsFresh c (pushed m e)
-fresh_numbered c m e (asked_send s v report req body by known stays next) long h = record { whole = whole_sent m s req body long h.whole; by = subst (LooksBy c) (sym (view_pushed m e refl)) h.by; stays = h.stays }
-fresh_numbered c m e (own_send s is last) long h = record { whole = whole_sent m m.core.who s.req s.body long h.whole; by = subst (LooksBy c) (sym (view_pushed m e refl)) h.by; stays = h.stays }
+fresh_numbered c m e (asked_send s v report req body by known stays next) long h =
+    record { whole = whole_sent m s req body long h.whole; by = subst (LooksBy c) (sym (view_pushed m e refl)) h.by; stays = h.stays }
+fresh_numbered c m e (own_send s is last) long h = record {
+  whole = whole_sent m m.core.who s.req s.body long h.whole;
+  by =
+      subst (LooksBy c) (sym (view_pushed m e refl)) h.by;
+  stays = h.stays;
+}
 fresh_numbered c m e (asked_join s v is other fit) long h = absurd (never_both c (view m) h.by (subst Alters (sym is) tt))
 fresh_numbered c m e (asked_leave s v report is other known stays) long h = absurd (never_both c (view m) h.by (subst Alters (sym is) tt))
 
@@ -204,7 +226,8 @@ carried_alters : (c : Cause) (m : Node) (s : ℕ) (v : Stamp) (base acc number :
 carried_alters c m s v base acc number e (whole_entry x is) = subst Alters (sym is) tt
 carried_alters c m s v base acc number e (by_number from req body is found) = subst Alters (sym is) tt
 
-look_viewed : (c : Cause) (old : Stamp) (m : Node) (b : Ballot) (v : Verdict) → Looks m b v → LooksBy c b.stamp → m.leaving ≡ false → length (told m).rows ≡ 16 → b.votes m.core.who ≡ None → Viewed c old m → Viewed c old v.node
+look_viewed : (c : Cause) (old : Stamp) (m : Node) (b : Ballot) (v : Verdict) → Looks m b v → LooksBy c b.stamp → m.leaving ≡ false → length (told m).rows ≡ 16
+    → b.votes m.core.who ≡ None → Viewed c old m → Viewed c old v.node
 look_viewed c old m b v (finds_itself_out x) by stays long none h = viewed_same c old m v.node refl refl refl h
 look_viewed c old m b v (waits x y) by stays long none h = viewed_same c old m v.node refl refl refl h
 look_viewed c old m b v (fetches_from_best x y z) by stays long none h = viewed_same c old m v.node refl refl refl h
@@ -218,8 +241,11 @@ look_viewed c old m b v (decides may) by stays long none h =
     let e = View b.stamp names r in
     let need = own_need m b may.learned.own none in
     let some : (place : ℕ) → place < 16 → (slice_index names place ≡ 0) ⊎ (slice_index names place ≡ slice_index (members m) place) =
-    λ place low. ⊎_elim (λ (z : slice_index names place ≡ 0). inl z) (λ (z : slice_index names place ≡ slice_index (need_of m b) place). inr (z ∙ ap (λ set. slice_index set place) need)) (those_some test (need_of m b) place low) in
-    let same : members (pushed before e) ≡ names = ap members_of (told_pushed before e) ∙ viewed_members (told m) (top m + 1) b.stamp names r long (omega arith) (those_long test (need_of m b)) some in
+    λ place low. ⊎_elim (λ (z : slice_index names place ≡ 0). inl z)
+    (λ (z : slice_index names place ≡ slice_index (need_of m b) place). inr (z ∙ ap (λ set. slice_index set place) need))
+    (those_some test (need_of m b) place low) in
+    let same : members (pushed before e) ≡ names = ap members_of (told_pushed before e)
+    ∙ viewed_members (told m) (top m + 1) b.stamp names r long (omega arith) (those_long test (need_of m b)) some in
     decided (record {
       whole = whole_decided before b.stamp names r same;
       by = subst (LooksBy c) (sym (view_last before b.stamp names r)) by;
@@ -227,11 +253,19 @@ look_viewed c old m b v (decides may) by stays long none h =
     })
 
 -- a fetched entry
-fetch_viewed : (c : Cause) (old : Stamp) (nodes : ℕ → Node) (name : ℕ) (m : Node) (s : ℕ) (v : Stamp) (base number : ℕ) (e : Entry) → c ≡ hears (packet.Piece s v base number e) → stamp_eq (view m) v ≡ false → m.core.who ≡ name → Known nodes e → stamp_lt (view m) (view (nodes name)) ≡ false → fits (told m) e ≡ true → Viewed c old m → Viewed c old (pushed (trimmed m base) e)
+fetch_viewed : (c : Cause) (old : Stamp) (nodes : ℕ → Node) (name : ℕ) (m : Node) (s : ℕ) (v : Stamp) (base number : ℕ) (e : Entry)
+    → c ≡ hears (packet.Piece s v base number e) → stamp_eq (view m) v ≡ false → m.core.who ≡ name → Known nodes e
+    → stamp_lt (view m) (view (nodes name)) ≡ false → fits (told m) e ≡ true → Viewed c old m → Viewed c old (pushed (trimmed m base) e)
 unfolding fits
-fetch_viewed c old nodes name m s v base number (Data from req body) is below who known up fit h = viewed_plain c old m (pushed (trimmed m base) (Data from req body)) (Data from req body) refl refl refl (λ k. absurd (fetched_for c (view m) k.by s v base number _ is below)) h
-fetch_viewed c old nodes name m s v base number (Join joiner) is below who known up fit h = viewed_plain c old m (pushed (trimmed m base) (Join joiner)) (Join joiner) refl refl refl (λ k. absurd (fetched_for c (view m) k.by s v base number _ is below)) h
-fetch_viewed c old nodes name m s v base number (Leave leaver) is below who known up fit h = viewed_plain c old m (pushed (trimmed m base) (Leave leaver)) (Leave leaver) refl refl refl (λ k. absurd (fetched_for c (view m) k.by s v base number _ is below)) h
+fetch_viewed c old nodes name m s v base number (Data from req body) is below who known up fit h =
+    viewed_plain c old m (pushed (trimmed m base) (Data from req body)) (Data from req body) refl refl refl
+    (λ k. absurd (fetched_for c (view m) k.by s v base number _ is below)) h
+fetch_viewed c old nodes name m s v base number (Join joiner) is below who known up fit h =
+    viewed_plain c old m (pushed (trimmed m base) (Join joiner)) (Join joiner) refl refl refl
+    (λ k. absurd (fetched_for c (view m) k.by s v base number _ is below)) h
+fetch_viewed c old nodes name m s v base number (Leave leaver) is below who known up fit h =
+    viewed_plain c old m (pushed (trimmed m base) (Leave leaver)) (Leave leaver) refl refl refl
+    (λ k. absurd (fetched_for c (view m) k.by s v base number _ is below)) h
 fetch_viewed c old nodes name m s v base number (View stamp names resilience) is below who known up fit h =
     let e = View stamp names resilience in
     let above = (and_both (stamp_lt (view m) stamp) _ fit).0 in
@@ -244,30 +278,40 @@ fetch_viewed c old nodes name m s v base number (View stamp names resilience) is
     absurd (cc))
     (λ f. of_other (ap (λ (x : Stamp). x.by == m.core.who) last ∙ f))
 
-pub change_viewed : (nodes : ℕ → Node) (name : ℕ) (c : Cause) (o : Outcome) (old : Stamp) (m n : Node) → HeardOwn nodes c → Change c o m n → has_log m.status ≡ true → m.core.who ≡ name → stamp_lt (view m) (view (nodes name)) ≡ false → length (told m).rows ≡ 16 → NoOwnVote m.core.who m.ballot → Balloted m → Quiet m → Viewed c old m → Viewed c old n
-change_viewed nodes name c o old m n heard refreshes log who up long none k q h = let r = rests_refresh m in viewed_same c old m (refresh m) r.rests.who r.log r.rests.leaving h
-change_viewed nodes name c o old m n heard settles log who up long none k q h = subst (Viewed c old) (sym (settle_is m)) (viewed_same c old m _ refl refl refl h)
+pub change_viewed : (nodes : ℕ → Node) (name : ℕ) (c : Cause) (o : Outcome) (old : Stamp) (m n : Node) → HeardOwn nodes c → Change c o m n
+    → has_log m.status ≡ true → m.core.who ≡ name → stamp_lt (view m) (view (nodes name)) ≡ false → length (told m).rows ≡ 16 → NoOwnVote m.core.who m.ballot
+    → Balloted m → Quiet m → Viewed c old m → Viewed c old n
+change_viewed nodes name c o old m n heard refreshes log who up long none k q h = let r = rests_refresh m in
+    viewed_same c old m (refresh m) r.rests.who r.log r.rests.leaving h
+change_viewed nodes name c o old m n heard settles log who up long none k q h =
+    subst (Viewed c old) (sym (settle_is m)) (viewed_same c old m _ refl refl refl h)
 change_viewed nodes name c o old m n heard (takes_report s v report by may) log who up long none k q h = viewed_same c old m n refl refl refl h
 change_viewed nodes name c o old m n heard (admits s v is leads fit) log who up long none k q h = viewed_same c old m n refl refl refl h
-change_viewed nodes name c o old m n heard (numbers e leads room why) log who up long none k q h = viewed_plain c old m n e (numbers_plain c m e why) refl refl (fresh_numbered c m e why long) h
+change_viewed nodes name c o old m n heard (numbers e leads room why) log who up long none k q h =
+    viewed_plain c old m n e (numbers_plain c m e why) refl refl (fresh_numbered c m e why long) h
 change_viewed nodes name c o old m n heard (keeps_body s v report req body is by) log who up long none k q h = viewed_same c old m n refl refl refl h
 change_viewed nodes name c o old m n heard (notes s v base acc by from) log who up long none k q h = viewed_same c old m n refl refl refl h
-change_viewed nodes name c o old m n heard (stores s v base acc number e by from plain may) log who up long none k q h = viewed_plain c old m n e plain refl refl (λ z. absurd (never_both c (view m) z.by (carried_alters c m s v base acc number e by))) h
-change_viewed nodes name c o old m n heard (begins_list s v base join image is says may) log who up long none k q h = absurd (let f = welcomed_none m s v base join image may in cc)
+change_viewed nodes name c o old m n heard (stores s v base acc number e by from plain may) log who up long none k q h =
+    viewed_plain c old m n e plain refl refl (λ z. absurd (never_both c (view m) z.by (carried_alters c m s v base acc number e by))) h
+change_viewed nodes name c o old m n heard (begins_list s v base join image is says may) log who up long none k q h =
+    absurd (let f = welcomed_none m s v base join image may in cc)
 change_viewed nodes name c o old m n heard (departs s v number is by leaves) log who up long none k q h = viewed_same c old m n refl refl refl h
 change_viewed nodes name c o old m n heard (promises v low why) log who up long none k q h = viewed_same c old m n refl refl refl h
 change_viewed nodes name c o old m n heard (opens least resilience by may) log who up long none k q h = viewed_same c old m n refl refl refl h
 change_viewed nodes name c o old m n heard (looks b verdict over why look is) log who up long none k q h =
     look_viewed c old m b verdict look (looks_by c m b why (looked_open m b why k).promised) (looked_quiet c m b why q) long (looked_vote c m b why none) h
-change_viewed nodes name c o old m n heard (fetches s v base number e is by promise below from may) log who up long none k q h = fetch_viewed c old nodes name m s v base number e is below who (heard.piece s v base number e is) up may.fits h
-change_viewed nodes name c o old m n heard (stores_view s v base number names resilience is by own other promise below may) log who up long none k q h = of_other (ap (λ (x : Stamp). x.by == m.core.who) (view_last (trimmed m base) v names resilience) ∙ other)
+change_viewed nodes name c o old m n heard (fetches s v base number e is by promise below from may) log who up long none k q h =
+    fetch_viewed c old nodes name m s v base number e is below who (heard.piece s v base number e is) up may.fits h
+change_viewed nodes name c o old m n heard (stores_view s v base number names resilience is by own other promise below may) log who up long none k q h =
+    of_other (ap (λ (x : Stamp). x.by == m.core.who) (view_last (trimmed m base) v names resilience) ∙ other)
 change_viewed nodes name c o old m n heard (queues body is says member stays few) log who up long none k q h = viewed_same c old m n refl refl refl h
 change_viewed nodes name c o old m n heard (collects req is) log who up long none k q h = viewed_same c old m n refl refl refl h
 change_viewed nodes name c o old m n heard (takes e is says member some there) log who up long none k q h = viewed_same c old m n refl refl refl h
 change_viewed nodes name c o old m n heard (asks_to_join is was) log who up long none k q h = viewed_same c old m n refl refl refl h
 change_viewed nodes name c o old m n heard (asks_to_leave is was stays done) log who up long none k q (as_before x) = as_before x
 change_viewed nodes name c o old m n heard (asks_to_leave is was stays done) log who up long none k q (of_other x) = of_other x
-change_viewed nodes name c o old m n heard (asks_to_leave is was stays done) log who up long none k q (decided x) = absurd (never_both c (view m) x.by (subst Alters (sym is) tt))
+change_viewed nodes name c o old m n heard (asks_to_leave is was stays done) log who up long none k q (decided x) =
+    absurd (never_both c (view m) x.by (subst Alters (sym is) tt))
 change_viewed nodes name c o old m n heard (closes leads leaves alone room) log who up long none k q h =
     let e = Leave m.core.who in
     let r = rests_at_end (pushed m e) in

@@ -46,7 +46,8 @@ record Going (rules : Rules) (name : ℕ) (c : Cause) (m x : Node) : Type 0 wher
   quiet : Quiet x
   viewed : Viewed c (view m) x
 
-going : (rules : Rules) (nodes : ℕ → Node) (name : ℕ) (c : Cause) (o : Outcome) (m x n : Node) → m ≡ nodes name → HeardOwn nodes c → HeardNames c → HeardUsed c → Changes c o x n → Going rules name c m x → Going rules name c m n
+going : (rules : Rules) (nodes : ℕ → Node) (name : ℕ) (c : Cause) (o : Outcome) (m x n : Node) → m ≡ nodes name → HeardOwn nodes c → HeardNames c → HeardUsed c
+    → Changes c o x n → Going rules name c m x → Going rules name c m n
 going rules nodes name c o m x n is heard names used no_change h = h
 going rules nodes name c o m x n is heard names used (changed {n = y} one more) h =
     let a = h.along in
@@ -77,14 +78,17 @@ still_whole nodes name n v d h = split (v.stamp.by == name)
     (λ t.
     let same : v.stamp.by ≡ name = grind (arith, nat_tests) in
     let log : has_log (nodes name).status ≡ true = subst (λ k. has_log (nodes k).status ≡ true) same h.log_ in
-    let there : entry_at (nodes name).core.log v.number ≡ Some (View v.stamp v.members v.resilience) = subst (λ k. entry_at (nodes k).core.log v.number ≡ Some (View v.stamp v.members v.resilience)) same h.there in
+    let there : entry_at (nodes name).core.log v.number ≡ Some (View v.stamp v.members v.resilience) =
+    subst (λ k. entry_at (nodes k).core.log v.number ≡ Some (View v.stamp v.members v.resilience)) same h.there in
     record { log_ = rw t (d.log_ log); there = rw t ((d.goes log).stays v.number _ there) })
     (λ f. record { log_ = rw f h.log_; there = rw f h.there })
 
 is_itself : (name : ℕ) → (name == name) ≡ true
 is_itself name = grind (arith, nat_tests)
 
-views_whole : (nodes : ℕ → Node) (name : ℕ) (n : Node) (views : List Decided) → Does (nodes name) n → n.core.who ≡ name → (runs.decides (nodes name) n ≡ true → Whole n.core.log) → All (WholeView nodes) views → All (WholeView (set_at nodes name n)) (views_after views (nodes name) n)
+views_whole : (nodes : ℕ → Node) (name : ℕ) (n : Node) (views : List Decided) → Does (nodes name) n → n.core.who ≡ name
+    → (runs.decides (nodes name) n ≡ true → Whole n.core.log) → All (WholeView nodes) views
+    → All (WholeView (set_at nodes name n)) (views_after views (nodes name) n)
 views_whole nodes name n views d who new h =
     let m = nodes name in
     let old = All-weaker (WholeView nodes) (WholeView (set_at nodes name n)) (λ v x. still_whole nodes name n v d x) views h in
@@ -98,7 +102,8 @@ views_whole nodes name n views d who new h =
       log_ = ap (λ (x : Node). has_log x.status) at ∙ d.log_ (log_of_member m.status a.0);
       there = ap (λ (x : Node). entry_at x.core.log (told n).view_number) at ∙ new t;
     } in
-    rw t (All-append (WholeView (set_at nodes name n)) views (last_view n ∷ []) old (All-cons (WholeView (set_at nodes name n)) (last_view n) [] one (All-nil (WholeView (set_at nodes name n))))))
+    rw t (All-append (WholeView (set_at nodes name n)) views (last_view n ∷ []) old
+    (All-cons (WholeView (set_at nodes name n)) (last_view n) [] one (All-nil (WholeView (set_at nodes name n))))))
     (λ f. rw f old)
 
 -- ---- worlds
@@ -124,7 +129,8 @@ decided_whole c m n t (of_other f) = absurd (
     cc)
 decided_whole c m n t (decided fresh) = fresh.whole
 
-members_step : (rules : Rules) (w : World) (e : Event) (c : Cause) (s : Step) → IsCause w (actor w e) e.act c → Effect (w.nodes (actor w e)) c s → AllOwn rules (stepped w e (actor w e) s) → AllOwned rules (stepped w e (actor w e) s) → AllMembers rules w → AllMembers rules (stepped w e (actor w e) s)
+members_step : (rules : Rules) (w : World) (e : Event) (c : Cause) (s : Step) → IsCause w (actor w e) e.act c → Effect (w.nodes (actor w e)) c s
+    → AllOwn rules (stepped w e (actor w e) s) → AllOwned rules (stepped w e (actor w e) s) → AllMembers rules w → AllMembers rules (stepped w e (actor w e) s)
 unfolding stepped
 members_step rules w e c s cause effect own owned h =
     let name = actor w e in
@@ -156,15 +162,20 @@ members_step rules w e c s cause effect own owned h =
       whole = views_whole w.nodes name n w.views d who new h.whole;
     }
 
-members_same : (rules : Rules) (w v : World) → v.nodes ≡ w.nodes → v.views ≡ w.views → AllOwn rules v → AllOwned rules v → AllMembers rules w → AllMembers rules v
+members_same : (rules : Rules) (w v : World) → v.nodes ≡ w.nodes → v.views ≡ w.views → AllOwn rules v → AllOwned rules v → AllMembers rules w
+    → AllMembers rules v
 members_same rules w v nodes views own owned h = record { own = own; owned = owned; quiet = rw nodes h.quiet; whole = rw (nodes, views) h.whole }
 
 each_members : (rules : Rules) → EachKeeps (AllMembers rules)
 unfolding unchanged
-each_members rules w e v (idles o idle) h = members_same rules w v refl refl (each_own rules w e v (idles o idle) h.own) (each_owned rules w e v (idles o idle) h.owned) h
-each_members rules w e v (stops runs_) h = members_same rules w v refl refl (each_own rules w e v (stops runs_) h.own) (each_owned rules w e v (stops runs_) h.owned) h
-each_members rules w e v (returns place is left more) h = members_same rules w v refl refl (each_own rules w e v (returns place is left more) h.own) (each_owned rules w e v (returns place is left more) h.owned) h
-each_members rules w e v (steps c s runs_ cause effect) h = members_step rules w e c s cause effect (each_own rules w e v (steps c s runs_ cause effect) h.own) (each_owned rules w e v (steps c s runs_ cause effect) h.owned) h
+each_members rules w e v (idles o idle) h = members_same rules w v refl refl (each_own rules w e v (idles o idle) h.own)
+    (each_owned rules w e v (idles o idle) h.owned) h
+each_members rules w e v (stops runs_) h = members_same rules w v refl refl (each_own rules w e v (stops runs_) h.own)
+    (each_owned rules w e v (stops runs_) h.owned) h
+each_members rules w e v (returns place is left more) h = members_same rules w v refl refl (each_own rules w e v (returns place is left more) h.own)
+    (each_owned rules w e v (returns place is left more) h.owned) h
+each_members rules w e v (steps c s runs_ cause effect) h = members_step rules w e c s cause effect (each_own rules w e v (steps c s runs_ cause effect) h.own)
+    (each_owned rules w e v (steps c s runs_ cause effect) h.owned) h
 
 -- ---- the start
 

@@ -25,7 +25,8 @@ use Rattle.am_model.specs.Lawful.{is_view_of}
 use Rattle.am_model.specs.Claims.{heard_by}
 use Rattle.am_model.proofs.Greatest.{split, and_both}
 use Rattle.am_effects.specs.Causes.{Cause}
-use Rattle.am_effects.specs.Letters.{MayTell, leads, decided, Says, request, spread, bcast, order, accept, ack, nack, hold, join_ask, welcome, leave_ask, gone, invite, vote, fetch, piece, result, hand_over, LetterSays}
+use Rattle.am_effects.specs.Letters.{MayTell, leads, decided, Says, request, spread, bcast, order, accept, ack, nack, hold, join_ask, welcome, leave_ask, gone}
+use Rattle.am_effects.specs.Letters.{invite, vote, fetch, piece, result, hand_over, LetterSays}
 use Rattle.am_effects.specs.Effects.{Effect}
 use Rattle.am_effects.specs.Events.{actor, WasSentTo, IsCause, idles, stops, returns, steps}
 use Rattle.am_effects.proofs.Items.{all_get, all_item}
@@ -132,14 +133,17 @@ says_known nodes m x c to p entries told own (result _ number names is viewed ma
     own may mine (may_view x may told mine))
   where
     may_view : (x : Node) → MayTell x → ToldNode x → x.core.promise.by ≡ x.core.who → view x ≡ x.core.promise
-    may_view x (leads l) told mine = sym (same_stamp x.core.promise (view x) (and_both (is_member x.status) (stamp_eq x.core.promise (view x)) (and_both (acts x) ((view x).by == x.core.who) l).0).1)
+    may_view x (leads l) told mine = sym (same_stamp x.core.promise (view x)
+        (and_both (is_member x.status) (stamp_eq x.core.promise (view x)) (and_both (acts x) ((view x).by == x.core.who) l).0).1)
     may_view x (decided b number names there answer at) told mine = at ∙ sym (told.is b number names there answer mine)
 says_known nodes m x c to p entries told own (hand_over _ l leaves) = tt
 
 -- who may tell has a list, also where it departs
-tells_list : (n x : Node) → n ≡ record x { status = n.status } → (n.status ≡ x.status) ⊎ (n.status ≡ status.Departed) → Balloted n → MayTell x → has_log n.status ≡ true
+tells_list : (n x : Node) → n ≡ record x { status = n.status } → (n.status ≡ x.status) ⊎ (n.status ≡ status.Departed) → Balloted n → MayTell x
+    → has_log n.status ≡ true
 tells_list n x is stays b (leads l) = ⊎_elim
-    (λ (e : n.status ≡ x.status). ap has_log e ∙ log_of_member x.status (and_both (is_member x.status) (stamp_eq x.core.promise (view x)) (and_both (acts x) ((view x).by == x.core.who) l).0).0)
+    (λ (e : n.status ≡ x.status). ap has_log e ∙ log_of_member x.status
+    (and_both (is_member x.status) (stamp_eq x.core.promise (view x)) (and_both (acts x) ((view x).by == x.core.who) l).0).0)
     (λ (e : n.status ≡ status.Departed). ap has_log e)
     stays
 tells_list n x is stays b (decided ballot number names there answer at) = split (has_log n.status)
@@ -151,9 +155,11 @@ tells_list n x is stays b (decided ballot number names there answer at) = split 
 is_itself : (name : ℕ) → (name == name) ≡ true
 is_itself name = grind (arith, nat_tests)
 
-grown_known : (nodes : ℕ → Node) (group : List Entry) (n : Node) → All (Known nodes) group → All (Known nodes) n.core.log.entries → All (Known nodes) (group_after group n)
+grown_known : (nodes : ℕ → Node) (group : List Entry) (n : Node) → All (Known nodes) group → All (Known nodes) n.core.log.entries
+    → All (Known nodes) (group_after group n)
 grown_known nodes group n h g = split ((view n).by == n.core.who)
-    (λ t. rw t (All-append (Known nodes) group _ h (All-take (Known nodes) (n.core.acc - length group) _ (All-drop (Known nodes) (length group - n.core.log.start) n.core.log.entries g))))
+    (λ t. rw t (All-append (Known nodes) group _ h (All-take (Known nodes) (n.core.acc - length group) _
+    (All-drop (Known nodes) (length group - n.core.log.start) n.core.log.entries g))))
     (λ f. rw f h)
 
 pub heard_own : (rules : Rules) (w : World) (e : Event) (c : Cause) → AllOwn rules w → IsCause w (actor w e) e.act c → HeardOwn w.nodes c
@@ -161,9 +167,12 @@ heard_own rules w e c h cause = record {
   stamp = λ p is. (let was : WasSentTo w (actor w e) e.act p = subst (IsCause w (actor w e) e.act) is cause in
       subst (λ (x : Packet). Below w.nodes (stamp_of x)) was.is (all_item (StampBelow w.nodes) w.letters (heard_by e.act) was.letter h.stamps was.there));
   piece = λ s v base number x is. (let was : WasSentTo w (actor w e) e.act (packet.Piece s v base number x) = subst (IsCause w (actor w e) e.act) is cause in
-      let known : PacketKnown w.nodes (packet.Piece s v base number x) = subst (PacketKnown w.nodes) was.is (all_item (LetterKnown w.nodes) w.letters (heard_by e.act) was.letter h.heard was.there) in known);
-  result = λ s v base number names resilience is. (let was : WasSentTo w (actor w e) e.act (packet.Result s v base number names resilience) = subst (IsCause w (actor w e) e.act) is cause in
-      let known : PacketKnown w.nodes (packet.Result s v base number names resilience) = subst (PacketKnown w.nodes) was.is (all_item (LetterKnown w.nodes) w.letters (heard_by e.act) was.letter h.heard was.there) in known);
+      let known : PacketKnown w.nodes (packet.Piece s v base number x) =
+      subst (PacketKnown w.nodes) was.is (all_item (LetterKnown w.nodes) w.letters (heard_by e.act) was.letter h.heard was.there) in known);
+  result = λ s v base number names resilience is. (let was : WasSentTo w (actor w e) e.act (packet.Result s v base number names resilience) =
+      subst (IsCause w (actor w e) e.act) is cause in
+      let known : PacketKnown w.nodes (packet.Result s v base number names resilience) =
+      subst (PacketKnown w.nodes) was.is (all_item (LetterKnown w.nodes) w.letters (heard_by e.act) was.letter h.heard was.there) in known);
 }
 
 -- what a step comes to
@@ -172,7 +181,8 @@ record Stepped (w : World) (name : ℕ) (n : Node) : Type 0 where
   balloted : Balloted n
   chain : Along w.nodes name n
 
-step_of : (rules : Rules) (w : World) (e : Event) (c : Cause) (s : Step) → IsCause w (actor w e) e.act c → Effect (w.nodes (actor w e)) c s → AllOwn rules w → Stepped w (actor w e) s.node
+step_of : (rules : Rules) (w : World) (e : Event) (c : Cause) (s : Step) → IsCause w (actor w e) e.act c → Effect (w.nodes (actor w e)) c s → AllOwn rules w
+    → Stepped w (actor w e) s.node
 step_of rules w e c s cause effect h =
     let name = actor w e in
     let m = w.nodes name in
@@ -187,9 +197,15 @@ step_of rules w e c s cause effect h =
       told = h.told name;
       entries = All-weaker (Known w.nodes) (Chained w.nodes name m) (known_chained w.nodes name m) m.core.log.entries (h.entries name);
     } in
-    record { does = g.does; balloted = g.does.balloted; chain = changes_along w.nodes name (heard_own rules w e c h cause) names m s.node effect.changes kept.names kept.balloted first }
+    record {
+      does = g.does;
+      balloted = g.does.balloted;
+      chain =
+          changes_along w.nodes name (heard_own rules w e c h cause) names m s.node effect.changes kept.names kept.balloted first;
+    }
 
-own_step : (rules : Rules) (w : World) (e : Event) (c : Cause) (s : Step) → IsCause w (actor w e) e.act c → Effect (w.nodes (actor w e)) c s → AllLists rules (stepped w e (actor w e) s) → AllOwn rules w → AllOwn rules (stepped w e (actor w e) s)
+own_step : (rules : Rules) (w : World) (e : Event) (c : Cause) (s : Step) → IsCause w (actor w e) e.act c → Effect (w.nodes (actor w e)) c s
+    → AllLists rules (stepped w e (actor w e) s) → AllOwn rules w → AllOwn rules (stepped w e (actor w e) s)
 unfolding stepped
 own_step rules w e c s cause effect lists h =
     let name = actor w e in
@@ -201,13 +217,15 @@ own_step rules w e c s cause effect lists h =
     let a = g.chain in
     let next = set_at w.nodes name n in
     let up : (k : Entry) → Known w.nodes k → Known next k = known_up w.nodes name n d a.rises in
-    let mine : All (Known next) n.core.log.entries = All-weaker (Chained w.nodes name n) (Known next) (chained_known w.nodes name n d a.rises) n.core.log.entries a.entries in
+    let mine : All (Known next) n.core.log.entries = All-weaker (Chained w.nodes name n) (Known next)
+    (chained_known w.nodes name n d a.rises) n.core.log.entries a.entries in
     let promise : Below next n.core.promise = split (n.core.promise.by == name)
     (λ t. rw t (not_above_itself n.core.promise))
     (λ f. below_up w.nodes name n d a.rises n.core.promise (a.below f)) in
     let same : n.core ≡ x.core = ap (λ (y : Node). y.core) effect.is in
     let sender_entries : All (Known next) x.core.log.entries = subst (λ k. All (Known next) k.log.entries) same mine in
-    let sender_told : ToldNode x = let e2 : n.ballot ≡ x.ballot = ap (λ (y : Node). y.ballot) effect.is in subst (λ b. Told x.core.who x.core.promise b) e2 (subst (λ k. Told k.who k.promise n.ballot) same a.told) in
+    let sender_told : ToldNode x = let e2 : n.ballot ≡ x.ballot = ap (λ (y : Node). y.ballot) effect.is in
+    subst (λ b. Told x.core.who x.core.promise b) e2 (subst (λ k. Told k.who k.promise n.ballot) same a.told) in
     let own : MayTell x → x.core.promise.by ≡ x.core.who → view x ≡ x.core.promise → IsKnown next x.core.promise = λ may by viewed.
     (let there : view n ≡ x.core.promise = ap (λ (y : Node). view y) effect.is ∙ viewed in
     own_known w.nodes name n d a.rises x.core.promise (record {
@@ -226,10 +244,12 @@ own_step rules w e c s cause effect lists h =
           (λ f. rw f (All-weaker (Known w.nodes) (Known next) up (w.nodes other).core.log.entries (h.entries other)));
       stamps = All-append (StampBelow next) w.letters s.letters
           (All-weaker (StampBelow w.nodes) (StampBelow next) (λ l k. below_up w.nodes name n d a.rises (stamp_of l.packet) k) w.letters h.stamps)
-          (All-weaker (LetterSays m c x) (StampBelow next) (λ l k. subst (Below next) (ap (λ y. y.promise) same ∙ sym (says_stamp m x c l.to l.packet k.says)) promise) s.letters effect.letters);
+          (All-weaker (LetterSays m c x) (StampBelow next) (λ l k. subst (Below next) (ap (λ y. y.promise) same
+          ∙ sym (says_stamp m x c l.to l.packet k.says)) promise) s.letters effect.letters);
       heard = All-append (LetterKnown next) w.letters s.letters
           (All-weaker (LetterKnown w.nodes) (LetterKnown next) (λ l k. packet_up w.nodes name n d a.rises l.packet k) w.letters h.heard)
-          (All-weaker (LetterSays m c x) (LetterKnown next) (λ l k. says_known next m x c l.to l.packet sender_entries sender_told own k.says) s.letters effect.letters);
+          (All-weaker (LetterSays m c x) (LetterKnown next) (λ l k. says_known next m x c l.to l.packet sender_entries sender_told own k.says) s.letters
+          effect.letters);
       group = grown_known next w.group n (All-weaker (Known w.nodes) (Known next) up w.group h.group) mine;
     }
 
@@ -320,7 +340,8 @@ is_decided name m n who d h =
     g.view
 
 -- no View that is known is its
-other_view : (nodes : ℕ → Node) (name : ℕ) (v : Stamp) → v.by ≡ name → stamp_lt (view (nodes name)) v ≡ true → (e : Entry) → Known nodes e → is_view_of v e ≡ false
+other_view : (nodes : ℕ → Node) (name : ℕ) (v : Stamp) → v.by ≡ name → stamp_lt (view (nodes name)) v ≡ true → (e : Entry) → Known nodes e
+    → is_view_of v e ≡ false
 other_view nodes name v by above (Data from req body) h = refl
 other_view nodes name v by above (Join joiner) h = refl
 other_view nodes name v by above (Leave leaver) h = refl
@@ -342,6 +363,7 @@ decided_are_new rules events e c s may runs_ cause effect decides_ =
     let v = view s.node in
     let none : (k : Entry) → Known w.nodes k → is_view_of v k ≡ false = other_view w.nodes name v is.by is.above in
     record {
-      lists = λ other. list_any_none (is_view_of v) (w.nodes other).core.log.entries (All-weaker (Known w.nodes) (λ k. is_view_of v k ≡ false) none (w.nodes other).core.log.entries (h.entries other));
+      lists = λ other. list_any_none (is_view_of v) (w.nodes other).core.log.entries
+          (All-weaker (Known w.nodes) (λ k. is_view_of v k ≡ false) none (w.nodes other).core.log.entries (h.entries other));
       group = list_any_none (is_view_of v) w.group (All-weaker (Known w.nodes) (λ k. is_view_of v k ≡ false) none w.group h.group);
     }

@@ -1,6 +1,7 @@
 -- Views of a name come from that name alone: along the changes of a step, its promise never falls, what it tells is what it decided, and
 -- each View in its list is of another name's list or is not above its own view.
-use Rattle.std.proofs.Common.{◌≡◌, ◌⊎◌, inl, inr, ⊎_elim, ℕ, ◌+◌, ◌==◌, ◌||◌, not, Bool, true, false, List, [], ◌∷◌, ◌++◌, Option, Some, nat_lt, refl, sym, ap, ◌∙◌, subst, arith}
+use Rattle.std.proofs.Common.{◌≡◌, ◌⊎◌, inl, inr, ⊎_elim, ℕ, ◌+◌, ◌==◌, ◌||◌, not, Bool, true, false, List, [], ◌∷◌, ◌++◌, Option, Some, nat_lt, refl, sym, ap}
+use Rattle.std.proofs.Common.{◌∙◌, subst, arith}
 use Rattle.std.specs.Prelude.{All}
 use Rattle.std.proofs.lemmas.Bool.Decides.{nat_tests}
 use Rattle.std.proofs.lemmas.List.Elements.{All-nil, All-cons, All-append, All-weaker}
@@ -20,8 +21,11 @@ use Rattle.am_model.specs.Receiving.{is_view}
 use Rattle.am_model.specs.Group.{has_log}
 use Rattle.am_model.proofs.Greatest.{and_both}
 use Rattle.am_effects.specs.Causes.{Cause, hears}
-use Rattle.am_effects.specs.Looks.{HasOpen, Balloting, with_more, without_one, as_it_is, Looks, finds_itself_out, waits, fetches_from_best, finds_too_few, finds_no_room, decides}
-use Rattle.am_effects.specs.Changes.{Promises, invited, overtaken as overtaken_by, told_result, Numbers, asked_send, own_send, asked_join, asked_leave, Change, refreshes, settles, takes_report, admits, numbers, keeps_body, notes, stores, begins_list, departs, promises, opens, looks, fetches, stores_view, queues, collects, takes, asks_to_join, asks_to_leave, closes, Changes, unchanged, changed}
+use Rattle.am_effects.specs.Looks.{HasOpen, Balloting, with_more, without_one, as_it_is, Looks, finds_itself_out, waits, fetches_from_best, finds_too_few}
+use Rattle.am_effects.specs.Looks.{finds_no_room, decides}
+use Rattle.am_effects.specs.Changes.{Promises, invited, overtaken as overtaken_by, told_result, Numbers, asked_send, own_send, asked_join, asked_leave, Change}
+use Rattle.am_effects.specs.Changes.{refreshes, settles, takes_report, admits, numbers, keeps_body, notes, stores, begins_list, departs, promises, opens, looks}
+use Rattle.am_effects.specs.Changes.{fetches, stores_view, queues, collects, takes, asks_to_join, asks_to_leave, closes, Changes, unchanged, changed}
 use Rattle.am_effects.proofs.Rests.{rests_refresh, rests_at_end, settle_is}
 use Rattle.am_laws.specs.Packets.{stamp_of}
 use Rattle.am_laws.proofs.Stamps.{at_most, not_above, not_above_itself}
@@ -51,7 +55,8 @@ Known nodes (View stamp names resilience) = IsKnown nodes stamp
 pub record HeardOwn (nodes : ℕ → Node) (c : Cause) : Type 0 where
   pub stamp : (p : Packet) → c ≡ hears p → Below nodes (stamp_of p)
   pub piece : (s : ℕ) (v : Stamp) (base number : ℕ) (e : Entry) → c ≡ hears (packet.Piece s v base number e) → Known nodes e
-  pub result : (s : ℕ) (v : Stamp) (base number : ℕ) (names : List ℕ) (resilience : ℕ) → c ≡ hears (packet.Result s v base number names resilience) → (v.by == s) ≡ true → IsKnown nodes v
+  pub result : (s : ℕ) (v : Stamp) (base number : ℕ) (names : List ℕ) (resilience : ℕ) → c ≡ hears (packet.Result s v base number names resilience)
+      → (v.by == s) ≡ true → IsKnown nodes v
 
 -- ---- what is so along a step
 
@@ -89,7 +94,12 @@ chained_up nodes name x y d (Join joiner) h = tt
 chained_up nodes name x y d (Leave leaver) h = tt
 chained_up nodes name x y d (View stamp names resilience) h = ⊎_elim
     (λ (k : IsKnown nodes stamp). inl k)
-    (λ (o : IsOwn name x stamp). inr (record { by = o.by; low = at_most stamp (view x) (view y) o.low (view_rises x y (d.goes o.has_list)); has_list = d.log_ o.has_list }))
+    (λ (o : IsOwn name x stamp). inr (record {
+      by = o.by;
+      low = at_most stamp (view x) (view y) o.low (view_rises x y (d.goes o.has_list));
+      has_list =
+          d.log_ o.has_list;
+    }))
     h
 
 pub known_chained : (nodes : ℕ → Node) (name : ℕ) (x : Node) (e : Entry) → Known nodes e → Chained nodes name x e
@@ -112,16 +122,19 @@ numbers_plain c m e (asked_leave s v report is other known stays) = refl
 
 -- ---- the kinds of changes
 
-along_same : (nodes : ℕ → Node) (name : ℕ) (x y : Node) → y.core.who ≡ x.core.who → y.core.promise ≡ x.core.promise → y.core.log ≡ x.core.log → y.ballot ≡ x.ballot → Does x y → Along nodes name x → Along nodes name y
+along_same : (nodes : ℕ → Node) (name : ℕ) (x y : Node) → y.core.who ≡ x.core.who → y.core.promise ≡ x.core.promise → y.core.log ≡ x.core.log
+    → y.ballot ≡ x.ballot → Does x y → Along nodes name x → Along nodes name y
 along_same nodes name x y who promise log ballot d h = record {
   who = who ∙ h.who;
   rises = ap (λ (v : Stamp). stamp_lt v (nodes name).core.promise) promise ∙ h.rises;
   below = λ f. subst (Below nodes) (sym promise) (h.below (ap (λ (v : Stamp). v.by == name) (sym promise) ∙ f));
   told = rw (who, promise, ballot) h.told;
-  entries = subst (λ (l : Log). All (Chained nodes name y) l.entries) (sym log) (All-weaker (Chained nodes name x) (Chained nodes name y) (chained_up nodes name x y d) x.core.log.entries h.entries);
+  entries = subst (λ (l : Log). All (Chained nodes name y) l.entries) (sym log)
+      (All-weaker (Chained nodes name x) (Chained nodes name y) (chained_up nodes name x y d) x.core.log.entries h.entries);
 }
 
-along_pushed : (nodes : ℕ → Node) (name : ℕ) (x y : Node) (e : Entry) → y.core.who ≡ x.core.who → y.core.promise ≡ x.core.promise → y.core.log.entries ≡ x.core.log.entries ++ e ∷ [] → y.ballot ≡ x.ballot → Chained nodes name y e → Does x y → Along nodes name x → Along nodes name y
+along_pushed : (nodes : ℕ → Node) (name : ℕ) (x y : Node) (e : Entry) → y.core.who ≡ x.core.who → y.core.promise ≡ x.core.promise
+    → y.core.log.entries ≡ x.core.log.entries ++ e ∷ [] → y.ballot ≡ x.ballot → Chained nodes name y e → Does x y → Along nodes name x → Along nodes name y
 along_pushed nodes name x y e who promise entries ballot new d h = record {
   who = who ∙ h.who;
   rises = ap (λ (v : Stamp). stamp_lt v (nodes name).core.promise) promise ∙ h.rises;
@@ -166,16 +179,62 @@ next_above promise who = let t : nat_lt promise.round (promise.round + 1) ≡ tr
 
 -- ---- looks
 
-look_along : (nodes : ℕ → Node) (name : ℕ) (x : Node) (b : Ballot) (v : Verdict) → Looks x b v → Does x v.node → IsOpen x.core.who x.core.promise (view x) b → has_log x.status ≡ true → Along nodes name x → Along nodes name v.node
-look_along nodes name x b v (finds_itself_out y) d o log h = record { who = h.who; rises = h.rises; below = h.below; told = record { is = λ b2 number names is answer own. absurd (cc) }; entries = All-weaker (Chained nodes name x) (Chained nodes name v.node) (chained_up nodes name x v.node d) x.core.log.entries h.entries }
-look_along nodes name x b v (waits y z) d o log h = record { who = h.who; rises = h.rises; below = h.below; told = record { is = λ b2 number names is answer own. absurd (cc) }; entries = All-weaker (Chained nodes name x) (Chained nodes name v.node) (chained_up nodes name x v.node d) x.core.log.entries h.entries }
-look_along nodes name x b v (fetches_from_best y z u) d o log h = record { who = h.who; rises = h.rises; below = h.below; told = record { is = λ b2 number names is answer own. absurd (cc) }; entries = All-weaker (Chained nodes name x) (Chained nodes name v.node) (chained_up nodes name x v.node d) x.core.log.entries h.entries }
-look_along nodes name x b v (finds_too_few y z) d o log h = record { who = h.who; rises = h.rises; below = h.below; told = record { is = λ b2 number names is answer own. absurd (cc) }; entries = All-weaker (Chained nodes name x) (Chained nodes name v.node) (chained_up nodes name x v.node d) x.core.log.entries h.entries }
-look_along nodes name x b v (finds_no_room y) d o log h = record { who = h.who; rises = h.rises; below = h.below; told = record { is = λ b2 number names is answer own. absurd (cc) }; entries = All-weaker (Chained nodes name x) (Chained nodes name v.node) (chained_up nodes name x v.node d) x.core.log.entries h.entries }
+look_along : (nodes : ℕ → Node) (name : ℕ) (x : Node) (b : Ballot) (v : Verdict) → Looks x b v → Does x v.node → IsOpen x.core.who x.core.promise (view x) b
+    → has_log x.status ≡ true → Along nodes name x → Along nodes name v.node
+look_along nodes name x b v (finds_itself_out y) d o log h =
+    record {
+      who = h.who;
+      rises = h.rises;
+      below = h.below;
+      told = record { is = λ b2 number names is answer own. absurd (cc) };
+      entries =
+          All-weaker (Chained nodes name x) (Chained nodes name v.node) (chained_up nodes name x v.node d) x.core.log.entries h.entries;
+    }
+look_along nodes name x b v (waits y z) d o log h = record {
+  who = h.who;
+  rises = h.rises;
+  below = h.below;
+  told =
+      record { is = λ b2 number names is answer own. absurd (cc) };
+  entries =
+      All-weaker (Chained nodes name x) (Chained nodes name v.node) (chained_up nodes name x v.node d) x.core.log.entries h.entries;
+}
+look_along nodes name x b v (fetches_from_best y z u) d o log h =
+    record {
+      who = h.who;
+      rises = h.rises;
+      below = h.below;
+      told = record { is = λ b2 number names is answer own. absurd (cc) };
+      entries =
+          All-weaker (Chained nodes name x) (Chained nodes name v.node) (chained_up nodes name x v.node d) x.core.log.entries h.entries;
+    }
+look_along nodes name x b v (finds_too_few y z) d o log h = record {
+  who = h.who;
+  rises = h.rises;
+  below = h.below;
+  told =
+      record { is = λ b2 number names is answer own. absurd (cc) };
+  entries =
+      All-weaker (Chained nodes name x) (Chained nodes name v.node) (chained_up nodes name x v.node d) x.core.log.entries h.entries;
+}
+look_along nodes name x b v (finds_no_room y) d o log h = record {
+  who = h.who;
+  rises = h.rises;
+  below = h.below;
+  told =
+      record { is = λ b2 number names is answer own. absurd (cc) };
+  entries =
+      All-weaker (Chained nodes name x) (Chained nodes name v.node) (chained_up nodes name x v.node d) x.core.log.entries h.entries;
+}
 look_along nodes name x b v (decides may) d o log h =
     let names = left_in b (need_of x b) in
     let same : view v.node ≡ b.stamp = view_last (trimmed_for x b names) b.stamp names _ in
-    let own : IsOwn name v.node b.stamp = record { by = o.own ∙ h.who; low = subst (λ (s : Stamp). stamp_lt s b.stamp ≡ false) (sym same) (not_above_itself b.stamp); has_list = log } in
+    let own : IsOwn name v.node b.stamp = record {
+      by = o.own ∙ h.who;
+      low =
+          subst (λ (s : Stamp). stamp_lt s b.stamp ≡ false) (sym same) (not_above_itself b.stamp);
+      has_list = log;
+    } in
     record {
       who = h.who;
       rises = h.rises;
@@ -199,15 +258,21 @@ looked_open m b (as_it_is old open_ on) h = of_open m old open_ h
 
 -- ---- each change
 
-change_along : (nodes : ℕ → Node) (name : ℕ) {c : Cause} {o : Outcome} → HeardOwn nodes c → (x y : Node) → Change c o x y → Does x y → Balloted x → Along nodes name x → Along nodes name y
-change_along nodes name heard x y refreshes d k h = let r = rests_refresh x in along_same nodes name x (refresh x) r.rests.who r.rests.promise r.log r.rests.ballot d h
-change_along nodes name heard x y settles d k h = let e = settle_is x in along_same nodes name x (settle x) (ap (λ (n : Node). n.core.who) e) (ap (λ (n : Node). n.core.promise) e) (ap (λ (n : Node). n.core.log) e) (ap (λ (n : Node). n.ballot) e) d h
+change_along : (nodes : ℕ → Node) (name : ℕ) {c : Cause} {o : Outcome} → HeardOwn nodes c → (x y : Node) → Change c o x y → Does x y → Balloted x
+    → Along nodes name x → Along nodes name y
+change_along nodes name heard x y refreshes d k h = let r = rests_refresh x in
+    along_same nodes name x (refresh x) r.rests.who r.rests.promise r.log r.rests.ballot d h
+change_along nodes name heard x y settles d k h = let e = settle_is x in
+    along_same nodes name x (settle x) (ap (λ (n : Node). n.core.who) e) (ap (λ (n : Node). n.core.promise) e) (ap (λ (n : Node). n.core.log) e)
+    (ap (λ (n : Node). n.ballot) e) d h
 change_along nodes name heard x y (takes_report s v report by may) d k h = along_same nodes name x y refl refl refl refl d h
 change_along nodes name heard x y (admits s v is leads fit) d k h = along_same nodes name x y refl refl refl refl d h
-change_along nodes name heard x y (numbers e leads room why) d k h = along_pushed nodes name x y e refl refl refl refl (plain_chained nodes name y e (numbers_plain _ x e why)) d h
+change_along nodes name heard x y (numbers e leads room why) d k h =
+    along_pushed nodes name x y e refl refl refl refl (plain_chained nodes name y e (numbers_plain _ x e why)) d h
 change_along nodes name heard x y (keeps_body s v report req body is by) d k h = along_same nodes name x y refl refl refl refl d h
 change_along nodes name heard x y (notes s v base acc by from) d k h = along_same nodes name x y refl refl refl refl d h
-change_along nodes name heard x y (stores s v base acc number e by from plain may) d k h = along_pushed nodes name x y e refl refl refl refl (plain_chained nodes name y e plain) d h
+change_along nodes name heard x y (stores s v base acc number e by from plain may) d k h =
+    along_pushed nodes name x y e refl refl refl refl (plain_chained nodes name y e plain) d h
 change_along nodes name heard x y (begins_list s v base join image is o may) d k h =
     let none = k.none (welcomed_none x s v base join image may) in
     record {
@@ -227,14 +292,18 @@ change_along nodes name heard x y (promises v low why) d k h = record {
 }
 change_along nodes name heard x y (opens least resilience by may) d k h = record {
   who = h.who;
-  rises = at_most (nodes name).core.promise x.core.promise (next_stamp x) h.rises (not_above x.core.promise (next_stamp x) (next_above x.core.promise x.core.who));
+  rises = at_most (nodes name).core.promise x.core.promise (next_stamp x) h.rises
+      (not_above x.core.promise (next_stamp x) (next_above x.core.promise x.core.who));
   below = λ f. absurd (not_itself x.core.who name f h.who);
   told = record { is = λ b number names there answer own. absurd (cc) };
   entries = All-weaker (Chained nodes name x) (Chained nodes name y) (chained_up nodes name x y d) x.core.log.entries h.entries;
 }
-change_along nodes name heard x y (looks b verdict over why look is) d k h = look_along nodes name x b verdict look d (looked_open x b why k) (looked_log x b why k) h
-change_along nodes name heard x y (fetches s v base number e is by promise below from may) d k h = along_pushed nodes name x y e refl refl refl refl (known_chained nodes name y e (heard.piece s v base number e is)) d h
-change_along nodes name heard x y (stores_view s v base number names resilience is by own other promise below may) d k h = along_pushed nodes name x y (View v names resilience) refl refl refl refl (inl (heard.result s v base number names resilience is own)) d h
+change_along nodes name heard x y (looks b verdict over why look is) d k h =
+    look_along nodes name x b verdict look d (looked_open x b why k) (looked_log x b why k) h
+change_along nodes name heard x y (fetches s v base number e is by promise below from may) d k h =
+    along_pushed nodes name x y e refl refl refl refl (known_chained nodes name y e (heard.piece s v base number e is)) d h
+change_along nodes name heard x y (stores_view s v base number names resilience is by own other promise below may) d k h =
+    along_pushed nodes name x y (View v names resilience) refl refl refl refl (inl (heard.result s v base number names resilience is own)) d h
 change_along nodes name heard x y (queues body is o member stays few) d k h = along_same nodes name x y refl refl refl refl d h
 change_along nodes name heard x y (collects req is) d k h = along_same nodes name x y refl refl refl refl d h
 change_along nodes name heard x y (takes e is o member some there) d k h = along_same nodes name x y refl refl refl refl d h
@@ -244,7 +313,8 @@ change_along nodes name heard x y (closes leads leaves alone room) d k h =
     let r = rests_at_end (pushed x (Leave x.core.who)) in
     along_pushed nodes name x y (Leave x.core.who) r.rests.who r.rests.promise (ap (λ (l : Log). l.entries) r.log) r.rests.ballot tt d h
 
-pub changes_along : (nodes : ℕ → Node) (name : ℕ) {c : Cause} {o : Outcome} → HeardOwn nodes c → HeardNames c → (x n : Node) → Changes c o x n → HasNames x → Balloted x → Along nodes name x → Along nodes name n
+pub changes_along : (nodes : ℕ → Node) (name : ℕ) {c : Cause} {o : Outcome} → HeardOwn nodes c → HeardNames c → (x n : Node) → Changes c o x n → HasNames x
+    → Balloted x → Along nodes name x → Along nodes name n
 changes_along nodes name heard names x n unchanged k b h = h
 changes_along nodes name heard names x n (changed {n = y} one more) k b h =
     let g = changes_do x y names (changed one unchanged) k b in

@@ -29,16 +29,21 @@ watch_push s [] e = refl
 watch_push s (x ∷ xs) e = watch_push (watch s x) xs e
 
 -- the watched run after an event that makes this of the run's world
-next_watched : (rules : Rules) (events : List Event) (e : Event) (v : World) → happens (run rules events) e ≡ v → after (watched rules events) v ≡ watched rules (events ++ e ∷ [])
+next_watched : (rules : Rules) (events : List Event) (e : Event) (v : World) → happens (run rules events) e ≡ v
+    → after (watched rules events) v ≡ watched rules (events ++ e ∷ [])
 next_watched rules events e v is =
     let s = watched rules events in
-    sym (watch_push (watch_start rules) events e ∙ watched_after s e ∙ ap (λ (w : World). after s (happens w e)) (watched_is_run rules events) ∙ ap (after s) is)
+    sym (watch_push (watch_start rules) events e ∙ watched_after s e ∙ ap (λ (w : World). after s (happens w e)) (watched_is_run rules events)
+    ∙ ap (after s) is)
 
-to_next : (rules : Rules) (events : List Event) (e : Event) (v : World) (k : Watching) → happens (run rules events) e ≡ v → Watches k (after (watched rules events) v) → Watches k (watched rules (events ++ e ∷ []))
+to_next : (rules : Rules) (events : List Event) (e : Event) (v : World) (k : Watching) → happens (run rules events) e ≡ v
+    → Watches k (after (watched rules events) v) → Watches k (watched rules (events ++ e ∷ []))
 to_next rules events e v k is h = subst (Watches k) (next_watched rules events e v is) h
 
 -- a step as a watcher is told it
-steps_of : (w : World) (name : ℕ) (n : Node) (entries : List Entry) → name < 256 → n.core.who ≡ name → n.core.log.entries ≡ (w.nodes name).core.log.entries ++ entries → n.core.log.start ≤ length w.group → (runs.decides (w.nodes name) n ≡ true → IsNew w (view n)) → Steps w name n entries
+steps_of : (w : World) (name : ℕ) (n : Node) (entries : List Entry) → name < 256 → n.core.who ≡ name
+    → n.core.log.entries ≡ (w.nodes name).core.log.entries ++ entries → n.core.log.start ≤ length w.group
+    → (runs.decides (w.nodes name) n ≡ true → IsNew w (view n)) → Steps w name n entries
 steps_of w name n entries within own adds begins new = record {
   within = within;
   own = own;
@@ -54,10 +59,15 @@ step_is_watched rules events e c s k may running cause effect is kept =
     let n = s.node in
     let same : w ≡ (watched rules events).world = sym (watched_is_run rules events) in
     let adds = lists_go_on rules events e c s may running cause effect in
-    let steps : Steps w name n (stored_since (w.nodes name) n) = steps_of w name n (stored_since (w.nodes name) n) adds.within adds.own adds.adds adds.begins (decided_are_new rules events e c s may running cause effect) in
+    let steps : Steps w name n (stored_since (w.nodes name) n) =
+    steps_of w name n (stored_since (w.nodes name) n) adds.within adds.own adds.adds adds.begins
+    (decided_are_new rules events e c s may running cause effect) in
     let to : SteppedTo w (runs.stepped w e name s) name n (added w.group n) = stepped_to w e name s in
-    let P : World → Type 0 = λ x. Watches (accepted (stepped k name (standing_of n) (view_of n) (stored_since (w.nodes name) n)) (length x.group + 1) (added w.group n)) (after (watched rules events) (runs.stepped w e name s)) in
-    let now = steps_are_watched k (watched rules events) (runs.stepped w e name s) name n (stored_since (w.nodes name) n) (added w.group n) kept (subst (λ x. Steps x name n (stored_since (w.nodes name) n)) same steps) (subst (λ x. SteppedTo x (runs.stepped w e name s) name n (added w.group n)) same to) in
+    let P : World → Type 0 = λ x. Watches (accepted (stepped k name (standing_of n) (view_of n) (stored_since (w.nodes name) n)) (length x.group + 1)
+    (added w.group n)) (after (watched rules events) (runs.stepped w e name s)) in
+    let now = steps_are_watched k (watched rules events) (runs.stepped w e name s) name n (stored_since (w.nodes name) n) (added w.group n) kept
+    (subst (λ x. Steps x name n (stored_since (w.nodes name) n)) same steps)
+    (subst (λ x. SteppedTo x (runs.stepped w e name s) name n (added w.group n)) same to) in
     to_next rules events e (runs.stepped w e name s) (after_step k w name n) is (subst P (sym same) now)
 
 pub stop_is_watched : StopIsWatched
@@ -65,14 +75,16 @@ stop_is_watched rules events e o name k is kept =
     let w = run rules events in
     let v = unchanged (record w { stopped = w.stopped ++ name ∷ [] }) e o in
     let same : w ≡ (watched rules events).world = sym (watched_is_run rules events) in
-    to_next rules events e v (stopped k name) is (stops_are_watched k (watched rules events) v name kept (subst (λ (x : World). SameBut x v (x.stopped ++ name ∷ [])) same (same_stopped w e o (w.stopped ++ name ∷ []))))
+    to_next rules events e v (stopped k name) is (stops_are_watched k (watched rules events) v name kept
+    (subst (λ (x : World). SameBut x v (x.stopped ++ name ∷ [])) same (same_stopped w e o (w.stopped ++ name ∷ []))))
 
 pub pass_is_watched : PassIsWatched
 pass_is_watched rules events e o k is kept =
     let w = run rules events in
     let v = unchanged w e o in
     let same : w ≡ (watched rules events).world = sym (watched_is_run rules events) in
-    to_next rules events e v (passed k) is (others_are_watched k (watched rules events) v kept (subst (λ (x : World). SameBut x v x.stopped) same (same_unchanged w e o)))
+    to_next rules events e v (passed k) is (others_are_watched k (watched rules events) v kept
+    (subst (λ (x : World). SameBut x v x.stopped) same (same_unchanged w e o)))
 
 pub return_is_watched : ReturnIsWatched
 return_is_watched rules events e o place k is kept =
@@ -87,7 +99,8 @@ return_is_watched rules events e o place k is kept =
     rw t (to_next rules events e v (passed k) is now))
     (λ f.
     let here : SameBut w v (w.stopped ++ current w place ∷ []) = rw f at but in
-    let now = stops_are_watched k (watched rules events) v (current w place) kept (subst (λ (x : World). SameBut x v (x.stopped ++ current w place ∷ [])) same here) in
+    let now = stops_are_watched k (watched rules events) v (current w place) kept
+    (subst (λ (x : World). SameBut x v (x.stopped ++ current w place ∷ [])) same here) in
     rw f (to_next rules events e v (stopped k (current w place)) is now))
 
 pub beginning_is_kept : BeginningIsKept

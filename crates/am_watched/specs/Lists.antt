@@ -26,7 +26,8 @@ pub record AddsEntries (w : World) (name : ℕ) (n : Node) : Type 0 where
 
 -- in every run
 abbrev pub ListsGoOn : Type 0
-ListsGoOn = (rules : Rules) (events : List Event) (e : Event) (c : Cause) (s : Step) → MayFound rules → is_stopped (run rules events) (actor (run rules events) e) ≡ false
+ListsGoOn = (rules : Rules) (events : List Event) (e : Event) (c : Cause) (s : Step) → MayFound rules
+    → is_stopped (run rules events) (actor (run rules events) e) ≡ false
     → IsCause (run rules events) (actor (run rules events) e) e.act c
     → Effect ((run rules events).nodes (actor (run rules events) e)) c s
     → AddsEntries (run rules events) (actor (run rules events) e) s.node

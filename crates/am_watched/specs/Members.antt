@@ -12,4 +12,5 @@ StandsWhole w v = entry_at (w.nodes v.stamp.by).core.log v.number ≡ Some (View
 
 -- from when it was noted on
 abbrev pub MembersHold : Type 0
-MembersHold = (rules : Rules) (events : List Event) (i : ℕ) (v : Decided) → MayFound rules → slice_get (run rules events).views i ≡ Some v → StandsWhole (run rules events) v
+MembersHold = (rules : Rules) (events : List Event) (i : ℕ) (v : Decided) → MayFound rules → slice_get (run rules events).views i ≡ Some v
+    → StandsWhole (run rules events) v

@@ -12,7 +12,8 @@ use Rattle.am_watch.specs.Watches.{IsNew}
 
 -- nobody had its View
 abbrev pub DecidedAreNew : Type 0
-DecidedAreNew = (rules : Rules) (events : List Event) (e : Event) (c : Cause) (s : Step) → MayFound rules → is_stopped (run rules events) (actor (run rules events) e) ≡ false
+DecidedAreNew = (rules : Rules) (events : List Event) (e : Event) (c : Cause) (s : Step) → MayFound rules
+    → is_stopped (run rules events) (actor (run rules events) e) ≡ false
     → IsCause (run rules events) (actor (run rules events) e) e.act c
     → Effect ((run rules events).nodes (actor (run rules events) e)) c s
     → decides ((run rules events).nodes (actor (run rules events) e)) s.node ≡ true

@@ -49,7 +49,8 @@ StopIsWatched = (rules : Rules) (events : List Event) (e : Event) (o : Outcome) 
 abbrev pub ReturnIsWatched : Type 0
 ReturnIsWatched = (rules : Rules) (events : List Event) (e : Event) (o : Outcome) (place : ℕ) (k : Watching)
     → happens (run rules events) e ≡ lives_on (unchanged (run rules events) e o) place
-    → IsKeptOf rules events k → IsKeptOf rules (events ++ e ∷ []) (if is_stopped (run rules events) (current (run rules events) place) then passed k else stopped k (current (run rules events) place))
+    → IsKeptOf rules events k → IsKeptOf rules (events ++ e ∷ [])
+    (if is_stopped (run rules events) (current (run rules events) place) then passed k else stopped k (current (run rules events) place))
 
 -- after an event that changes nothing
 abbrev pub PassIsWatched : Type 0

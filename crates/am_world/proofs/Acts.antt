@@ -1,5 +1,6 @@
 -- A name's node does a step.
-use Rattle.std.proofs.Common.{◌≡◌, ℕ, ◌+◌, ◌-◌, ◌<◌, ◌≤◌, ◌==◌, max, Bool, true, false, if◌then◌else◌, List, [], ◌∷◌, ◌++◌, length, take, drop, Ok, Some, slice_get, slice_set, refl, sym, ap, ◌∙◌, subst, arith, length-append, length-drop}
+use Rattle.std.proofs.Common.{◌≡◌, ℕ, ◌+◌, ◌-◌, ◌<◌, ◌≤◌, ◌==◌, max, Bool, true, false, if◌then◌else◌, List, [], ◌∷◌, ◌++◌, length, take, drop, Ok, Some}
+use Rattle.std.proofs.Common.{slice_get, slice_set, refl, sym, ap, ◌∙◌, subst, arith, length-append, length-drop}
 use Rattle.std.proofs.lemmas.List.{length-take, length-set, drop-drop}
 use Rattle.std.proofs.lemmas.Bool.Decides.{nat_tests}
 use Rattle.am_base.specs.Most.{most_events}
@@ -60,8 +61,11 @@ grown_end group all m is base_low =
     let base = is.stands.base in
     let lowest = kept.low in
     let at : (m.core.log.start - all.core.log.start) + (length group - m.core.log.start) ≡ length group - all.core.log.start = omega arith in
-    let rest : drop (length group - m.core.log.start) m.core.log.entries ≡ drop (length group - all.core.log.start) all.core.log.entries = ap (drop (length group - m.core.log.start)) kept.entries ∙ drop-drop (length group - m.core.log.start) (m.core.log.start - all.core.log.start) all.core.log.entries ∙ ap (λ k. drop k all.core.log.entries) at in
-    ap (λ a. group ++ take (a - length group) (drop (length group - m.core.log.start) m.core.log.entries)) (end_accepted all m is) ∙ ap (λ es. group ++ take (all.core.acc - length group) es) rest
+    let rest : drop (length group - m.core.log.start) m.core.log.entries ≡ drop (length group - all.core.log.start) all.core.log.entries =
+    ap (drop (length group - m.core.log.start)) kept.entries
+    ∙ drop-drop (length group - m.core.log.start) (m.core.log.start - all.core.log.start) all.core.log.entries ∙ ap (λ k. drop k all.core.log.entries) at in
+    ap (λ a. group ++ take (a - length group) (drop (length group - m.core.log.start) m.core.log.entries)) (end_accepted all m is)
+    ∙ ap (λ es. group ++ take (all.core.acc - length group) es) rest
 
 if_same : {A : Type 0} (b : Bool) (x y z : A) → x ≡ y → (if b then x else z) ≡ (if b then y else z)
 if_same b x y z e = ap (λ v. if b then v else z) e
@@ -83,7 +87,8 @@ group_short group m most g a = go ((view m).by == m.core.who)
     go false = g
 
 -- what the end does, all of it does
-pub step_end : (all m n : protocol.Node) (what : NodeEvent) (outcome : Outcome) (letters : List Letter) → IsEndOf all m → IsInOrder m.core → Does (λ k. row k what) m outcome letters n → ComesTo (step all what) outcome letters n
+pub step_end : (all m n : protocol.Node) (what : NodeEvent) (outcome : Outcome) (letters : List Letter) → IsEndOf all m → IsInOrder m.core
+    → Does (λ k. row k what) m outcome letters n → ComesTo (step all what) outcome letters n
 unfolding step
 step_end all m n what outcome letters is order does =
     let s = ends_step_alike all m what is order in
@@ -95,7 +100,8 @@ step_end all m n what outcome letters is order does =
 abbrev pub next_world : model.World → Event → NodeEvent → model.World
 next_world w e what = comes w e (Ok what)
 
-next_node : (w : model.World) (e : Event) (what : NodeEvent) → (next_world w e what).nodes (current w (place_of e.node)) ≡ (step (w.nodes (current w (place_of e.node))) what).node
+next_node : (w : model.World) (e : Event) (what : NodeEvent)
+    → (next_world w e what).nodes (current w (place_of e.node)) ≡ (step (w.nodes (current w (place_of e.node))) what).node
 unfolding stepped
 next_node w e what = let same : (current w (place_of e.node) == current w (place_of e.node)) ≡ true = grind (arith, nat_tests) in rw same refl
 
@@ -108,7 +114,9 @@ numbers_left events accepted all m few lows is =
     record { entries = omega arith; rounds = omega arith; requests = omega arith }
 
 -- what a step comes to is low, and isn't trimmed beyond the group list
-pub next_low : (p : Play) (e : Event) (what : NodeEvent) (n : protocol.Node) → happens (replay p) e ≡ next_world (replay p) e what → IsEndOf (step ((replay p).nodes (current (replay p) (place_of e.node))) what).node n → IsInOrder n.core → (n.core.base ≤ length (replay p).group) × (n.core.acc ≤ length p.events + 2)
+pub next_low : (p : Play) (e : Event) (what : NodeEvent) (n : protocol.Node) → happens (replay p) e ≡ next_world (replay p) e what
+    → IsEndOf (step ((replay p).nodes (current (replay p) (place_of e.node))) what).node n → IsInOrder n.core → (n.core.base ≤ length (replay p).group)
+    × (n.core.acc ≤ length p.events + 2)
 next_low p e what n is end order =
     let w = replay p in
     let name = current w (place_of e.node) in
@@ -123,7 +131,8 @@ next_low p e what n is end order =
     let accepted = order.accepted in
     (omega arith, omega arith)
 
-pub ready_at : (p : Play) (first : Rules) (nodes : List Node) (lives : List ℕ) (flags : List Bool) (records : List Record) (group : List Entry) (e : Event) (what : NodeEvent) (name stored room : ℕ)
+pub ready_at : (p : Play) (first : Rules) (nodes : List Node) (lives : List ℕ) (flags : List Bool) (records : List Record) (group : List Entry) (e : Event)
+    (what : NodeEvent) (name stored room : ℕ)
     → play_of first records ≡ p → IsRun (play_of first records) nodes lives flags records group → length p.events < most_events
     → name ≡ current (replay p) (place_of e.node) → happens (replay p) e ≡ next_world (replay p) e what
     → stored ≡ length group → max (length p.events + 2) stored ≤ room → IsReadyAt nodes (place_of name) what stored room
@@ -147,7 +156,8 @@ ready_at p first nodes lives flags records group e what name stored room view ok
 
 -- ---- after it
 
-nodes_step : (w : model.World) (e : Event) (what : NodeEvent) (nodes more : List Node) (place : ℕ) (n : Node) → place < 16 → place ≡ place_of e.node → more ≡ slice_set nodes place n → Keeps (step (w.nodes (current w place)) what).node (state_of n) → AreNodes nodes w → AreNodes more (next_world w e what)
+nodes_step : (w : model.World) (e : Event) (what : NodeEvent) (nodes more : List Node) (place : ℕ) (n : Node) → place < 16 → place ≡ place_of e.node
+    → more ≡ slice_set nodes place n → Keeps (step (w.nodes (current w place)) what).node (state_of n) → AreNodes nodes w → AreNodes more (next_world w e what)
 unfolding stepped
 nodes_step w e what nodes more place n within here placed kept h =
     let count = h.count in
@@ -156,12 +166,15 @@ nodes_step w e what nodes more place n within here placed kept h =
       each = λ i k at. go i k (ap (λ ns. slice_get ns i) (sym placed) ∙ at) (i == place) refl;
     }
   where
-    go : (i : ℕ) (k : Node) → slice_get (slice_set nodes place n) i ≡ Some k → (b : Bool) → (i == place) ≡ b → Keeps ((next_world w e what).nodes (current w i)) (state_of k)
+    go : (i : ℕ) (k : Node) → slice_get (slice_set nodes place n) i ≡ Some k → (b : Bool) → (i == place) ≡ b
+        → Keeps ((next_world w e what).nodes (current w i)) (state_of k)
     go i k at true t =
         let same_place : i ≡ place = grind (arith, nat_tests) in
         let count = h.count in
         let same : n ≡ k = get_set_here nodes place n k (omega arith) (ap (slice_get (slice_set nodes place n)) (sym same_place) ∙ at) in
-        let all : (next_world w e what).nodes (current w i) ≡ (step (w.nodes (current w place)) what).node = ap (λ j. (next_world w e what).nodes (current w j)) (same_place ∙ here) ∙ next_node w e what ∙ ap (λ j. (step (w.nodes (current w j)) what).node) (sym here) in
+        let all : (next_world w e what).nodes (current w i) ≡ (step (w.nodes (current w place)) what).node =
+        ap (λ j. (next_world w e what).nodes (current w j)) (same_place ∙ here) ∙ next_node w e what
+        ∙ ap (λ j. (step (w.nodes (current w j)) what).node) (sym here) in
         subst (λ m. Keeps m (state_of k)) (sym all) (subst (λ (x : Node). Keeps (step (w.nodes (current w place)) what).node (state_of x)) same kept)
     go i k at false f =
         let other : i ≡ place → ⊥ = grind (arith, nat_tests) in
@@ -171,11 +184,14 @@ nodes_step w e what nodes more place n within here placed kept h =
         let apart : (current w i == current w (place_of e.node)) ≡ false = grind (arith, nat_tests) in
         rw apart (h.each i k old)
 
-follows_step : (w : model.World) (e : Event) (what : NodeEvent) (outcome : Outcome) (letters : List Letter) → happens w e ≡ next_world w e what → outcome ≡ (step (w.nodes (current w (place_of e.node))) what).outcome → letters ≡ (step (w.nodes (current w (place_of e.node))) what).letters → Follows w (next_world w e what) e outcome letters
+follows_step : (w : model.World) (e : Event) (what : NodeEvent) (outcome : Outcome) (letters : List Letter) → happens w e ≡ next_world w e what
+    → outcome ≡ (step (w.nodes (current w (place_of e.node))) what).outcome → letters ≡ (step (w.nodes (current w (place_of e.node))) what).letters
+    → Follows w (next_world w e what) e outcome letters
 unfolding stepped
 follows_step w e what outcome letters is answer sent = record {
   happens_ = is;
-  records = ap (λ o. w.records ++ record_of w e o (step (w.nodes (current w (place_of e.node))) what).letters ∷ []) (sym answer) ∙ ap (λ ls. w.records ++ record_of w e outcome ls ∷ []) (sym sent);
+  records = ap (λ o. w.records ++ record_of w e o (step (w.nodes (current w (place_of e.node))) what).letters ∷ []) (sym answer)
+      ∙ ap (λ ls. w.records ++ record_of w e outcome ls ∷ []) (sym sent);
   letters_ = ap (λ ls. w.letters ++ ls) (sym sent);
 }
 
@@ -187,11 +203,13 @@ flags_step : (w : model.World) (e : Event) (what : NodeEvent) (flags : List Bool
 unfolding stepped
 flags_step w e what flags h = record { count = h.count; each = h.each }
 
-group_step : (w : model.World) (e : Event) (what : NodeEvent) → (next_world w e what).group ≡ group_after w.group (step (w.nodes (current w (place_of e.node))) what).node
+group_step : (w : model.World) (e : Event) (what : NodeEvent)
+    → (next_world w e what).group ≡ group_after w.group (step (w.nodes (current w (place_of e.node))) what).node
 unfolding stepped
 group_step w e what = refl
 
-pub act_goes_on : (p : Play) (first founding : Rules) (nodes more : List Node) (lives : List ℕ) (flags : List Bool) (records pushed : List Record) (group longer : List Entry) (e : Event) (what : NodeEvent) (outcome : Outcome) (letters : List Letter) (name : ℕ)
+pub act_goes_on : (p : Play) (first founding : Rules) (nodes more : List Node) (lives : List ℕ) (flags : List Bool) (records pushed : List Record)
+    (group longer : List Entry) (e : Event) (what : NodeEvent) (outcome : Outcome) (letters : List Letter) (name : ℕ)
     → play_of first records ≡ p → IsRun (play_of first records) nodes lives flags records group → length p.events < most_events
     → name ≡ current (replay p) (place_of e.node) → StepsAt nodes more group longer (place_of name) what outcome letters
     → IsRecorded (replay p) e outcome letters first founding records pushed → happens (replay p) e ≡ next_world (replay p) e what
@@ -209,8 +227,13 @@ act_goes_on p first founding nodes more lives flags records pushed group longer 
     let done = step_end m (state_of steps.before) new what outcome letters stands.0 stands.1 steps.does in
     let lows = next_low p e what new is done.node steps.order in
     let base_low : new.core.base ≤ length group = subst (λ g. new.core.base ≤ length g) (sym was.agreed) lows.0 in
-    goes_on p first founding nodes more lives lives flags flags records pushed group longer e outcome letters (next_world w e what) view ok few recorded (follows_step w e what outcome letters is done.answer done.sent)
-    (nodes_step w e what nodes more place steps.next within refl (steps.placed ∙ ap (λ k. slice_set nodes k steps.next) placed) (done.node, steps.order) was.standing)
+    goes_on p first founding nodes more lives lives flags flags records pushed group longer e outcome letters (next_world w e what) view ok few recorded
+    (follows_step w e what outcome letters is done.answer done.sent)
+    (nodes_step w e what nodes more place steps.next within refl (steps.placed ∙ ap (λ k. slice_set nodes k steps.next) placed) (
+      done.node,
+      steps.order,
+    ) was.standing)
     (lives_step w e what lives was.living) (flags_step w e what flags was.stopped)
-    (steps.grows ∙ group_end group (step m what).node new done.node base_low ∙ ap (λ g. group_after g (step m what).node) was.agreed ∙ sym (group_step w e what))
+    (steps.grows ∙ group_end group (step m what).node new done.node base_low ∙ ap (λ g. group_after g (step m what).node) was.agreed
+    ∙ sym (group_step w e what))
     (subst (λ g. length g ≤ 2 + length p.events) (sym steps.grows) (group_short group new (2 + length p.events) (omega arith) (let a = lows.1 in omega arith)))

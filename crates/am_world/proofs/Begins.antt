@@ -1,5 +1,6 @@
 -- A world begins as its run.
-use Rattle.std.proofs.Common.{◌≡◌, ⊎_elim, ℕ, zero, suc, ◌+◌, ◌<◌, Bool, true, false, if◌then◌else◌, List, [], ◌∷◌, ◌++◌, length, replicate, Some, slice_get, slice_index, slice_index_or, refl, sym, ap, ◌∙◌, subst, arith, length-append}
+use Rattle.std.proofs.Common.{◌≡◌, ⊎_elim, ℕ, zero, suc, ◌+◌, ◌<◌, Bool, true, false, if◌then◌else◌, List, [], ◌∷◌, ◌++◌, length, replicate, Some, slice_get}
+use Rattle.std.proofs.Common.{slice_index, slice_index_or, refl, sym, ap, ◌∙◌, subst, arith, length-append}
 use Rattle.std.proofs.lemmas.List.{length-replicate}
 use Rattle.am_base.specs.Founding.{Rules, MayFound}
 use Rattle.am_base.specs.Names.{has, name_at}
@@ -39,7 +40,8 @@ first_keeps : (rules : Rules) (name : ℕ) (m : protocol.Node) → m ≡ first_n
 first_keeps rules name m is = subst (Keeps (first_node rules name)) (sym is) (first_case rules name (has rules.founders name))
 
 -- one node more
-pub first_more : (rules : Rules) (many : ℕ) (nodes : List Node) (n : Node) → AreFirst many nodes (start rules) → state_of n ≡ first_node rules many → AreFirst (many + 1) (nodes ++ n ∷ []) (start rules)
+pub first_more : (rules : Rules) (many : ℕ) (nodes : List Node) (n : Node) → AreFirst many nodes (start rules) → state_of n ≡ first_node rules many
+    → AreFirst (many + 1) (nodes ++ n ∷ []) (start rules)
 first_more rules many nodes n h is = record {
   count = omega (arith, length-append nodes (n ∷ []), h.count);
   each = λ i k at. ⊎_elim
@@ -71,7 +73,8 @@ first_flags : (rules : Rules) → AreFlags (replicate 256 false) (start rules)
 first_flags rules = record { count = length-replicate 256 false; each = λ name. none_at 256 name }
 
 -- a group to which nothing has happened
-pub first_run : (rules : Rules) (nodes : List Node) → MayFound rules → AreNodes nodes (start rules) → IsRun (play_of rules []) nodes (replicate 16 1) (replicate 256 false) [] (founders_view rules ∷ [])
+pub first_run : (rules : Rules) (nodes : List Node) → MayFound rules → AreNodes nodes (start rules)
+    → IsRun (play_of rules []) nodes (replicate 16 1) (replicate 256 false) [] (founders_view rules ∷ [])
 unfolding happen
 first_run rules nodes may h = record {
   founded = may;

@@ -1,5 +1,6 @@
 -- What an event asks of a node, or its answer without one, comes to what the run makes of it.
-use Rattle.std.proofs.Common.{◌≡◌, ℕ, ◌+◌, ◌<◌, ◌==◌, ◌||◌, not, Bool, true, false, if◌then◌else◌, List, [], ◌∷◌, ◌++◌, Option, Some, None, Result, Ok, Err, refl, sym, ap, ◌∙◌, subst, arith}
+use Rattle.std.proofs.Common.{◌≡◌, ℕ, ◌+◌, ◌<◌, ◌==◌, ◌||◌, not, Bool, true, false, if◌then◌else◌, List, [], ◌∷◌, ◌++◌, Option, Some, None, Result, Ok, Err}
+use Rattle.std.proofs.Common.{refl, sym, ap, ◌∙◌, subst, arith}
 use Rattle.std.specs.Prelude.{OnOk}
 use Rattle.am_base.specs.Names.{place_of, life_of, name_at}
 use Rattle.am_base.specs.declared.outcome.Outcome.{Outcome}
@@ -34,25 +35,35 @@ life_now place life h l = omega arith
 abbrev pub name_of : World → Event → ℕ
 name_of w e = current w (place_of e.node)
 
-run_case : (w : World) (e : Event) (what : NodeEvent) (b : Bool) → (if b then unchanged w e said.IsStopped else stepped w e (name_of w e) (step (w.nodes (name_of w e)) what)) ≡ comes w e (if_running b what)
+run_case : (w : World) (e : Event) (what : NodeEvent) (b : Bool)
+    → (if b then unchanged w e said.IsStopped else stepped w e (name_of w e) (step (w.nodes (name_of w e)) what)) ≡ comes w e (if_running b what)
 run_case w e what true = refl
 run_case w e what false = refl
 
-give_case : (w : World) (e : Event) (other : ℕ) (b c : Bool) → (if b then unchanged w e said.IsStopped else if c then stepped w e (name_of w e) (step (w.nodes (name_of w e)) (does.GiveUp other)) else unchanged w e said.NotStopped) ≡ comes w e (gives_up b c other)
+give_case : (w : World) (e : Event) (other : ℕ) (b c : Bool)
+    → (if b then unchanged w e said.IsStopped else if c then stepped w e (name_of w e)
+    (step (w.nodes (name_of w e)) (does.GiveUp other)) else unchanged w e said.NotStopped) ≡ comes w e (gives_up b c other)
 give_case w e other true c = refl
 give_case w e other false true = refl
 give_case w e other false false = refl
 
-stop_case : (w : World) (e : Event) (b : Bool) → (if b then unchanged w e said.IsStopped else unchanged (record w { stopped = w.stopped ++ name_of w e ∷ [] }) e said.Stopped) ≡ answered w e (stops b)
+stop_case : (w : World) (e : Event) (b : Bool) → (if b then unchanged w e said.IsStopped else unchanged
+    (record w { stopped = w.stopped ++ name_of w e ∷ [] }) e said.Stopped) ≡ answered w e (stops b)
 stop_case w e true = refl
 stop_case w e false = refl
 
-return_case : (w : World) (e : Event) (gone sixteen : Bool) (life : ℕ) → (if not gone then unchanged w e (said.Running life) else if sixteen then unchanged w e said.NoLife else lives_on (unchanged w e (said.Returned (life + 1))) (place_of e.node)) ≡ answered w e (if gone then (if sixteen then said.NoLife else said.Returned (life + 1)) else said.Running life)
+return_case : (w : World) (e : Event) (gone sixteen : Bool) (life : ℕ)
+    → (if not gone then unchanged w e (said.Running life) else if sixteen then unchanged w e said.NoLife else lives_on
+    (unchanged w e (said.Returned (life + 1))) (place_of e.node))
+    ≡ answered w e (if gone then (if sixteen then said.NoLife else said.Returned (life + 1)) else said.Running life)
 return_case w e true true life = refl
 return_case w e true false life = refl
 return_case w e false sixteen life = refl
 
-letter_case : (w : World) (e : Event) (addressed stopped : Bool) (what : NodeEvent) (s : Step) → OnOk (if addressed then if_running stopped what else Err said.NotAddressed) (step (w.nodes (name_of w e)) what ≡ s) → (if not addressed then unchanged w e said.NotAddressed else if stopped then unchanged w e said.IsStopped else stepped w e (name_of w e) s) ≡ comes w e (if addressed then if_running stopped what else Err said.NotAddressed)
+letter_case : (w : World) (e : Event) (addressed stopped : Bool) (what : NodeEvent) (s : Step)
+    → OnOk (if addressed then if_running stopped what else Err said.NotAddressed) (step (w.nodes (name_of w e)) what ≡ s)
+    → (if not addressed then unchanged w e said.NotAddressed else if stopped then unchanged w e said.IsStopped else stepped w e (name_of w e) s)
+    ≡ comes w e (if addressed then if_running stopped what else Err said.NotAddressed)
 letter_case w e false stopped what s h = refl
 letter_case w e true true what s h = refl
 letter_case w e true false what s h = ap (stepped w e (name_of w e)) (sym h)
@@ -61,13 +72,18 @@ on_ok : {T E : Type 0} {P Q : Type 0} (r : Result T E) → (P → Q) → OnOk r 
 on_ok (Ok x) f h = f h
 on_ok (Err x) f h = h
 
-hear_case : (w : World) (e : Event) (keep : Option ℕ) (stopped : Bool) (hearing : Packet → Step) (found : Option Letter) → ((p : Packet) → IsPacket p → step (w.nodes (name_of w e)) (does.Hear (kept keep (spelling p))) ≡ hearing p) → OnOk (hears keep (name_of w e) stopped found) ((l : Letter) → found ≡ Some l → IsPacket l.packet) → is_stopped w (name_of w e) ≡ stopped → heard w e (name_of w e) hearing found ≡ comes w e (hears keep (name_of w e) stopped found)
+hear_case : (w : World) (e : Event) (keep : Option ℕ) (stopped : Bool) (hearing : Packet → Step) (found : Option Letter)
+    → ((p : Packet) → IsPacket p → step (w.nodes (name_of w e)) (does.Hear (kept keep (spelling p))) ≡ hearing p)
+    → OnOk (hears keep (name_of w e) stopped found) ((l : Letter) → found ≡ Some l → IsPacket l.packet) → is_stopped w (name_of w e) ≡ stopped
+    → heard w e (name_of w e) hearing found ≡ comes w e (hears keep (name_of w e) stopped found)
 hear_case w e keep stopped hearing None same h is = refl
 hear_case w e keep stopped hearing (Some letter) same h is =
     let addressed = is_for letter (name_of w e) in
     let what = does.Hear (kept keep (spelling letter.packet)) in
     rw is
-    (letter_case w e addressed stopped what (hearing letter.packet) (on_ok (if addressed then if_running stopped what else Err said.NotAddressed) (λ (all : (l : Letter) → Some letter ≡ Some l → IsPacket l.packet). same letter.packet (all letter refl)) h))
+    (letter_case w e addressed stopped what (hearing letter.packet)
+    (on_ok (if addressed then if_running stopped what else Err said.NotAddressed) (λ (all : (l : Letter) → Some letter ≡ Some l
+    → IsPacket l.packet). same letter.packet (all letter refl)) h))
 
 abbrev pub gone_now : World → Event → Bool
 gone_now w e = has_departed (w.nodes (name_of w e)).status
@@ -75,16 +91,25 @@ gone_now w e = has_departed (w.nodes (name_of w e)).status
 abbrev pub asked_now : World → Event → List Bool → Act → Result NodeEvent Outcome
 asked_now w e flags a = asked w.letters flags (gone_now w e) (name_of w e) a
 
-runs : (w : World) (e : Event) (flags : List Bool) (what : NodeEvent) → flag_of flags (name_of w e) ≡ is_stopped w (name_of w e) → (if is_stopped w (name_of w e) then unchanged w e said.IsStopped else stepped w e (name_of w e) (step (w.nodes (name_of w e)) what)) ≡ comes w e (if_running (flag_of flags (name_of w e)) what)
-runs w e flags what agree = subst (λ b. (if b then unchanged w e said.IsStopped else stepped w e (name_of w e) (step (w.nodes (name_of w e)) what)) ≡ comes w e (if_running (flag_of flags (name_of w e)) what)) agree (run_case w e what (flag_of flags (name_of w e)))
+runs : (w : World) (e : Event) (flags : List Bool) (what : NodeEvent) → flag_of flags (name_of w e) ≡ is_stopped w (name_of w e)
+    → (if is_stopped w (name_of w e) then unchanged w e said.IsStopped else stepped w e (name_of w e) (step (w.nodes (name_of w e)) what))
+    ≡ comes w e (if_running (flag_of flags (name_of w e)) what)
+runs w e flags what agree = subst (λ b. (if b then unchanged w e said.IsStopped else stepped w e (name_of w e) (step (w.nodes (name_of w e)) what))
+    ≡ comes w e (if_running (flag_of flags (name_of w e)) what)) agree (run_case w e what (flag_of flags (name_of w e)))
 
-gives : (w : World) (e : Event) (flags : List Bool) (other : ℕ) → ((name : ℕ) → flag_of flags name ≡ is_stopped w name) → acts_as w e (name_of w e) (act.GiveUp other) ≡ comes w e (gives_up (flag_of flags (name_of w e)) (flag_of flags other) other)
-gives w e flags other agree = give_case w e other (is_stopped w (name_of w e)) (is_stopped w other) ∙ ap (λ b. comes w e (gives_up b (is_stopped w other) other)) (sym (agree (name_of w e))) ∙ ap (λ b. comes w e (gives_up (flag_of flags (name_of w e)) b other)) (sym (agree other))
+gives : (w : World) (e : Event) (flags : List Bool) (other : ℕ) → ((name : ℕ) → flag_of flags name ≡ is_stopped w name)
+    → acts_as w e (name_of w e) (act.GiveUp other) ≡ comes w e (gives_up (flag_of flags (name_of w e)) (flag_of flags other) other)
+gives w e flags other agree = give_case w e other (is_stopped w (name_of w e)) (is_stopped w other)
+    ∙ ap (λ b. comes w e (gives_up b (is_stopped w other) other)) (sym (agree (name_of w e)))
+    ∙ ap (λ b. comes w e (gives_up (flag_of flags (name_of w e)) b other)) (sym (agree other))
 
-stop_now : (w : World) (e : Event) (flags : List Bool) → ((name : ℕ) → flag_of flags name ≡ is_stopped w name) → acts_as w e (name_of w e) act.Stop ≡ answered w e (stops (flag_of flags (name_of w e)))
+stop_now : (w : World) (e : Event) (flags : List Bool) → ((name : ℕ) → flag_of flags name ≡ is_stopped w name)
+    → acts_as w e (name_of w e) act.Stop ≡ answered w e (stops (flag_of flags (name_of w e)))
 stop_now w e flags agree = stop_case w e (is_stopped w (name_of w e)) ∙ ap (λ b. answered w e (stops b)) (sym (agree (name_of w e)))
 
-return_now : (w : World) (e : Event) (flags : List Bool) → ((name : ℕ) → flag_of flags name ≡ is_stopped w name) → place_of e.node < 16 → 0 < w.lives (place_of e.node) → acts_as w e (name_of w e) act.Return ≡ answered w e (returns (flag_of flags (name_of w e) || gone_now w e) (life_of (name_of w e)))
+return_now : (w : World) (e : Event) (flags : List Bool) → ((name : ℕ) → flag_of flags name ≡ is_stopped w name) → place_of e.node < 16
+    → 0 < w.lives (place_of e.node) → acts_as w e (name_of w e) act.Return
+    ≡ answered w e (returns (flag_of flags (name_of w e) || gone_now w e) (life_of (name_of w e)))
 return_now w e flags agree within lives =
     let place = place_of e.node in
     let gone = gone_now w e in
@@ -93,19 +118,27 @@ return_now w e flags agree within lives =
     ∙ ap (λ b. answered w e (returns (b || gone) (w.lives place))) (sym (agree (name_of w e)))
     ∙ ap (λ l. answered w e (returns (flag_of flags (name_of w e) || gone) l)) (sym (life_now place (w.lives place) within lives))
 
-heard_now : (w : World) (e : Event) (flags : List Bool) (number : ℕ) → ((name : ℕ) → flag_of flags name ≡ is_stopped w name) → OnOk (asked_now w e flags (act.Hear number)) (SpellsPacket w.letters (act.Hear number)) → acts_as w e (name_of w e) (act.Hear number) ≡ comes w e (asked_now w e flags (act.Hear number))
+heard_now : (w : World) (e : Event) (flags : List Bool) (number : ℕ) → ((name : ℕ) → flag_of flags name ≡ is_stopped w name)
+    → OnOk (asked_now w e flags (act.Hear number)) (SpellsPacket w.letters (act.Hear number))
+    → acts_as w e (name_of w e) (act.Hear number) ≡ comes w e (asked_now w e flags (act.Hear number))
 heard_now w e flags number agree spells =
     let found = letter_at w.letters number in
     hear_case w e None (flag_of flags (name_of w e)) (hear (w.nodes (name_of w e))) found (λ p is. spelling_is_heard (w.nodes (name_of w e)) p is)
-    (on_ok (asked_now w e flags (act.Hear number)) (λ (all : SpellsPacket w.letters (act.Hear number)). λ l is. all number l refl is) spells) (sym (agree (name_of w e)))
+    (on_ok (asked_now w e flags (act.Hear number)) (λ (all : SpellsPacket w.letters (act.Hear number)). λ l is. all number l refl is) spells)
+    (sym (agree (name_of w e)))
 
-cut_now : (w : World) (e : Event) (flags : List Bool) (number keep : ℕ) → ((name : ℕ) → flag_of flags name ≡ is_stopped w name) → OnOk (asked_now w e flags (act.Cut number keep)) (SpellsPacket w.letters (act.Cut number keep)) → acts_as w e (name_of w e) (act.Cut number keep) ≡ comes w e (asked_now w e flags (act.Cut number keep))
+cut_now : (w : World) (e : Event) (flags : List Bool) (number keep : ℕ) → ((name : ℕ) → flag_of flags name ≡ is_stopped w name)
+    → OnOk (asked_now w e flags (act.Cut number keep)) (SpellsPacket w.letters (act.Cut number keep))
+    → acts_as w e (name_of w e) (act.Cut number keep) ≡ comes w e (asked_now w e flags (act.Cut number keep))
 cut_now w e flags number keep agree spells =
     let found = letter_at w.letters number in
-    hear_case w e (Some keep) (flag_of flags (name_of w e)) (hear_cut (w.nodes (name_of w e)) keep) found (λ p is. cut_is_heard (w.nodes (name_of w e)) p keep is)
-    (on_ok (asked_now w e flags (act.Cut number keep)) (λ (all : SpellsPacket w.letters (act.Cut number keep)). λ l is. all number l refl is) spells) (sym (agree (name_of w e)))
+    hear_case w e (Some keep) (flag_of flags (name_of w e)) (hear_cut (w.nodes (name_of w e)) keep) found
+    (λ p is. cut_is_heard (w.nodes (name_of w e)) p keep is)
+    (on_ok (asked_now w e flags (act.Cut number keep)) (λ (all : SpellsPacket w.letters (act.Cut number keep)). λ l is. all number l refl is) spells)
+    (sym (agree (name_of w e)))
 
-by_act : (w : World) (e : Event) (flags : List Bool) (a : Act) → ((name : ℕ) → flag_of flags name ≡ is_stopped w name) → place_of e.node < 16 → 0 < w.lives (place_of e.node) → OnOk (asked_now w e flags a) (SpellsPacket w.letters a) → acts_as w e (name_of w e) a ≡ comes w e (asked_now w e flags a)
+by_act : (w : World) (e : Event) (flags : List Bool) (a : Act) → ((name : ℕ) → flag_of flags name ≡ is_stopped w name) → place_of e.node < 16
+    → 0 < w.lives (place_of e.node) → OnOk (asked_now w e flags a) (SpellsPacket w.letters a) → acts_as w e (name_of w e) a ≡ comes w e (asked_now w e flags a)
 by_act w e flags (act.Send body) agree within lives h = runs w e flags (does.Send body) (agree (name_of w e))
 by_act w e flags (act.Done req) agree within lives h = runs w e flags (does.Done req) (agree (name_of w e))
 by_act w e flags act.Take agree within lives h = runs w e flags does.Take (agree (name_of w e))
@@ -122,6 +155,7 @@ by_act w e flags (act.Cut number keep) agree within lives h = cut_now w e flags 
 by_act w e flags act.Return agree within lives h = return_now w e flags agree within lives
 
 -- what the run makes of an event
-pub happens_comes : (w : World) (e : Event) (flags : List Bool) → ((name : ℕ) → flag_of flags name ≡ is_stopped w name) → place_of e.node < 16 → 0 < w.lives (place_of e.node) → OnOk (asked_now w e flags e.act) (SpellsPacket w.letters e.act) → happens w e ≡ comes w e (asked_now w e flags e.act)
+pub happens_comes : (w : World) (e : Event) (flags : List Bool) → ((name : ℕ) → flag_of flags name ≡ is_stopped w name) → place_of e.node < 16
+    → 0 < w.lives (place_of e.node) → OnOk (asked_now w e flags e.act) (SpellsPacket w.letters e.act) → happens w e ≡ comes w e (asked_now w e flags e.act)
 unfolding happens
 happens_comes w e flags agree within lives spells = by_act w e flags e.act agree within lives spells

@@ -1,5 +1,6 @@
 -- A life that hasn't begun is a stranger that no one has seen.
-use Rattle.std.proofs.Common.{◌≡◌, ℕ, ◌+◌, ◌<◌, ◌≤◌, ◌==◌, ◌||◌, not, Bool, true, false, if◌then◌else◌, List, [], ◌∷◌, ◌++◌, Option, Some, None, refl, sym, ap, ◌∙◌, subst, arith}
+use Rattle.std.proofs.Common.{◌≡◌, ℕ, ◌+◌, ◌<◌, ◌≤◌, ◌==◌, ◌||◌, not, Bool, true, false, if◌then◌else◌, List, [], ◌∷◌, ◌++◌, Option, Some, None, refl, sym, ap}
+use Rattle.std.proofs.Common.{◌∙◌, subst, arith}
 use Rattle.std.specs.Prelude.{slice_index}
 use Rattle.std.proofs.lemmas.Bool.Decides.{nat_tests}
 use Rattle.am_base.specs.declared.outcome.Outcome.{Outcome}
@@ -18,7 +19,8 @@ use Rattle.am_group.specs.Addressed.{is_for}
 use Rattle.am_model.specs.Node.{Node, stranger}
 use Rattle.am_model.specs.Emit.{Step}
 use Rattle.am_model.specs.Step.{step, hear}
-use Rattle.am_model.specs.World.{World, start, run, current, is_stopped, unchanged, stepped, does_event, gives_up, stops, heard, hear_cut, returned, lives_on, acts_as, happens, happen, has_departed}
+use Rattle.am_model.specs.World.{World, start, run, current, is_stopped, unchanged, stepped, does_event, gives_up, stops, heard, hear_cut, returned, lives_on}
+use Rattle.am_model.specs.World.{acts_as, happens, happen, has_departed}
 use Rattle.am_world.proofs.Comes.{place_now, life_now}
 
 -- every place has a life, and the names of greater ones are strangers
@@ -80,36 +82,44 @@ fresh_lives rules w place h = record {
 fresh_does : (rules : Rules) (w : World) (e : Event) (what : NodeEvent) → Fresh rules w → Fresh rules (does_event w e (current w (place_of e.node)) what)
 fresh_does rules w e what h =
     let name = current w (place_of e.node) in
-    fresh_if rules (is_stopped w name) (unchanged w e said.IsStopped) (stepped w e name (step (w.nodes name) what)) (fresh_pass rules w e said.IsStopped h) (fresh_step rules w e (place_of e.node) (step (w.nodes name) what) (omega arith) h)
+    fresh_if rules (is_stopped w name) (unchanged w e said.IsStopped) (stepped w e name (step (w.nodes name) what)) (fresh_pass rules w e said.IsStopped h)
+    (fresh_step rules w e (place_of e.node) (step (w.nodes name) what) (omega arith) h)
 
 fresh_gives : (rules : Rules) (w : World) (e : Event) (other : ℕ) → Fresh rules w → Fresh rules (gives_up w e (current w (place_of e.node)) other)
 fresh_gives rules w e other h =
     let name = current w (place_of e.node) in
     let given = stepped w e name (step (w.nodes name) (does.GiveUp other)) in
-    fresh_if rules (is_stopped w name) (unchanged w e said.IsStopped) (if is_stopped w other then given else unchanged w e said.NotStopped) (fresh_pass rules w e said.IsStopped h)
-    (fresh_if rules (is_stopped w other) given (unchanged w e said.NotStopped) (fresh_step rules w e (place_of e.node) (step (w.nodes name) (does.GiveUp other)) (omega arith) h) (fresh_pass rules w e said.NotStopped h))
+    fresh_if rules (is_stopped w name) (unchanged w e said.IsStopped) (if is_stopped w other then given else unchanged w e said.NotStopped)
+    (fresh_pass rules w e said.IsStopped h)
+    (fresh_if rules (is_stopped w other) given (unchanged w e said.NotStopped)
+    (fresh_step rules w e (place_of e.node) (step (w.nodes name) (does.GiveUp other)) (omega arith) h) (fresh_pass rules w e said.NotStopped h))
 
 fresh_stops : (rules : Rules) (w : World) (e : Event) (name : ℕ) → Fresh rules w → Fresh rules (stops w e name)
 fresh_stops rules w e name h =
     let after_ = record w { stopped = w.stopped ++ name ∷ [] } in
-    fresh_if rules (is_stopped w name) (unchanged w e said.IsStopped) (unchanged after_ e said.Stopped) (fresh_pass rules w e said.IsStopped h) (fresh_pass rules after_ e said.Stopped h)
+    fresh_if rules (is_stopped w name) (unchanged w e said.IsStopped) (unchanged after_ e said.Stopped) (fresh_pass rules w e said.IsStopped h)
+    (fresh_pass rules after_ e said.Stopped h)
 
-fresh_heard : (rules : Rules) (w : World) (e : Event) (hearing : Packet → Step) (found : Option Letter) → Fresh rules w → Fresh rules (heard w e (current w (place_of e.node)) hearing found)
+fresh_heard : (rules : Rules) (w : World) (e : Event) (hearing : Packet → Step) (found : Option Letter) → Fresh rules w
+    → Fresh rules (heard w e (current w (place_of e.node)) hearing found)
 fresh_heard rules w e hearing None h = fresh_pass rules w e said.NoPacket h
 fresh_heard rules w e hearing (Some letter) h =
     let name = current w (place_of e.node) in
     let done = stepped w e name (hearing letter.packet) in
     let running = if is_stopped w name then unchanged w e said.IsStopped else done in
     fresh_if rules (not (is_for letter name)) (unchanged w e said.NotAddressed) running (fresh_pass rules w e said.NotAddressed h)
-    (fresh_if rules (is_stopped w name) (unchanged w e said.IsStopped) done (fresh_pass rules w e said.IsStopped h) (fresh_step rules w e (place_of e.node) (hearing letter.packet) (omega arith) h))
+    (fresh_if rules (is_stopped w name) (unchanged w e said.IsStopped) done (fresh_pass rules w e said.IsStopped h)
+    (fresh_step rules w e (place_of e.node) (hearing letter.packet) (omega arith) h))
 
 fresh_returned : (rules : Rules) (w : World) (e : Event) (place : ℕ) → Fresh rules w → Fresh rules (returned w e place)
 fresh_returned rules w e place h =
     let life = w.lives place in
     let gone = is_stopped w (current w place) || has_departed (w.nodes (current w place)).status in
     let back = lives_on (unchanged w e (said.Returned (life + 1))) place in
-    fresh_if rules (not gone) (unchanged w e (said.Running life)) (if life == 16 then unchanged w e said.NoLife else back) (fresh_pass rules w e (said.Running life) h)
-    (fresh_if rules (life == 16) (unchanged w e said.NoLife) back (fresh_pass rules w e said.NoLife h) (fresh_lives rules (unchanged w e (said.Returned (life + 1))) place (fresh_pass rules w e (said.Returned (life + 1)) h)))
+    fresh_if rules (not gone) (unchanged w e (said.Running life)) (if life == 16 then unchanged w e said.NoLife else back)
+    (fresh_pass rules w e (said.Running life) h)
+    (fresh_if rules (life == 16) (unchanged w e said.NoLife) back (fresh_pass rules w e said.NoLife h)
+    (fresh_lives rules (unchanged w e (said.Returned (life + 1))) place (fresh_pass rules w e (said.Returned (life + 1)) h)))
 
 fresh_acts : (rules : Rules) (w : World) (e : Event) (a : Act) → Fresh rules w → Fresh rules (acts_as w e (current w (place_of e.node)) a)
 fresh_acts rules w e (act.Send body) h = fresh_does rules w e (does.Send body) h
@@ -143,9 +153,11 @@ fresh_start rules may = record {
       let name = name_at place life in
       let most : slice_index rules.founders place ≤ 1 = may.first_lives place (let count = may.names.places in omega arith) in
       let not_has : has rules.founders name ≡ false =
-      ap (λ k. slice_index rules.founders k == life_of name) (place_now place life inside) ∙ ap (λ l. slice_index rules.founders place == l) (life_now place life inside (omega arith)) ∙ grind (arith, nat_tests) in
+      ap (λ k. slice_index rules.founders k == life_of name) (place_now place life inside)
+      ∙ ap (λ l. slice_index rules.founders place == l) (life_now place life inside (omega arith)) ∙ grind (arith, nat_tests) in
       rw not_has refl;
 }
 
-pub fresh : (rules : Rules) (events : List Event) (place life : ℕ) → MayFound rules → place < 16 → (run rules events).lives place < life → (run rules events).nodes (name_at place life) ≡ stranger rules (name_at place life)
+pub fresh : (rules : Rules) (events : List Event) (place life : ℕ) → MayFound rules → place < 16 → (run rules events).lives place < life
+    → (run rules events).nodes (name_at place life) ≡ stranger rules (name_at place life)
 fresh rules events place life may = (fresh_happen rules (start rules) events (fresh_start rules may)).strangers place life

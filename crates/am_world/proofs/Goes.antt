@@ -39,12 +39,16 @@ play_more : (rules : Rules) (records : List Record) (r : Record) → play_of rul
 play_more rules records r = ap (λ es. record { rules = rules; events = es }) (map_push (λ (x : Record). x.event) records r)
 
 -- what a journal's record is, and that it stands last
-pub record IsRecorded (w : model.World) (e : Event) (outcome : Outcome) (letters : List Letter) (first founding : Rules) (records pushed : List Record) : Type 0 where
+pub record IsRecorded (w : model.World) (e : Event) (outcome : Outcome) (letters : List Letter) (first founding : Rules)
+    (records pushed : List Record) : Type 0 where
   pub founding_ : founding ≡ first
   pub pushed_ : pushed ≡ records ++ record_of w e outcome letters ∷ []
 
 -- by what the code does: it makes room, makes the record, and adds it
-pub recorded : (w : model.World) (e : Event) (outcome : Outcome) (letters : List Letter) (lives : List ℕ) (name life : ℕ) (r : Record) (first founding : Rules) (records reserved pushed : List Record) → AreLives lives w → name ≡ current w (place_of e.node) → life ≡ life_of name → r ≡ the_record e life outcome letters → founding ≡ first → reserved ≡ records → pushed ≡ reserved ++ r ∷ [] → IsRecorded w e outcome letters first founding records pushed
+pub recorded : (w : model.World) (e : Event) (outcome : Outcome) (letters : List Letter) (lives : List ℕ) (name life : ℕ) (r : Record) (first founding : Rules)
+    (records reserved pushed : List Record) → AreLives lives w → name ≡ current w (place_of e.node) → life ≡ life_of name
+    → r ≡ the_record e life outcome letters → founding ≡ first → reserved ≡ records → pushed ≡ reserved ++ r ∷ []
+    → IsRecorded w e outcome letters first founding records pushed
 recorded w e outcome letters lives name life r first founding records reserved pushed living here old made same kept added =
     let place = place_of e.node in
     let within : place < 16 = omega arith in
@@ -60,15 +64,18 @@ pub record Follows (w v : model.World) (e : Event) (outcome : Outcome) (letters 
   pub records : v.records ≡ w.records ++ record_of w e outcome letters ∷ []
   pub letters_ : v.letters ≡ w.letters ++ letters
 
-pub goes_on : (p : Play) (first founding : Rules) (nodes more : List Node) (lives longer : List ℕ) (flags set : List Bool) (records pushed : List Record) (group grown : List Entry) (e : Event) (outcome : Outcome) (letters : List Letter) (v : model.World)
+pub goes_on : (p : Play) (first founding : Rules) (nodes more : List Node) (lives longer : List ℕ) (flags set : List Bool) (records pushed : List Record)
+    (group grown : List Entry) (e : Event) (outcome : Outcome) (letters : List Letter) (v : model.World)
     → play_of first records ≡ p → IsRun (play_of first records) nodes lives flags records group → length p.events < most_events
     → IsRecorded (replay p) e outcome letters first founding records pushed → Follows (replay p) v e outcome letters
     → AreNodes more v → AreLives longer v → AreFlags set v → grown ≡ v.group → length grown ≤ 2 + length p.events
     → IsRun (play_of founding pushed) more longer set pushed grown × Answers p e outcome
-goes_on p first founding nodes more lives longer flags set records pushed group grown e outcome letters v view ok few recorded follows standing living stopped agreed short =
+goes_on p first founding nodes more lives longer flags set records pushed group grown e outcome letters v view ok few
+    recorded follows standing living stopped agreed short =
     let w = replay p in
     let r = record_of w e outcome letters in
-    let same : play_of founding pushed ≡ after p e = ap (λ f. play_of f pushed) recorded.founding_ ∙ ap (play_of first) recorded.pushed_ ∙ play_more first records r ∙ ap (λ q. after q e) view in
+    let same : play_of founding pushed ≡ after p e = ap (λ f. play_of f pushed) recorded.founding_ ∙ ap (play_of first) recorded.pushed_
+    ∙ play_more first records r ∙ ap (λ q. after q e) view in
     let now : replay (after p e) ≡ v = replay_after p e ∙ follows.happens_ in
     let was : Shows w nodes lives flags records group = subst (λ (q : Play). Shows (replay q) nodes lives flags records group) view ok.shows in
     let founded : MayFound p.rules = subst (λ (q : Play). MayFound q.rules) view ok.founded in
@@ -112,7 +119,8 @@ passes_group : (w : model.World) (e : Event) (outcome : Outcome) → (unchanged 
 unfolding unchanged
 passes_group w e outcome = refl
 
-pub pass_goes_on : (p : Play) (first founding : Rules) (nodes : List Node) (lives : List ℕ) (flags : List Bool) (records pushed : List Record) (group : List Entry) (e : Event) (outcome : Outcome)
+pub pass_goes_on : (p : Play) (first founding : Rules) (nodes : List Node) (lives : List ℕ) (flags : List Bool) (records pushed : List Record)
+    (group : List Entry) (e : Event) (outcome : Outcome)
     → play_of first records ≡ p → IsRun (play_of first records) nodes lives flags records group → length p.events < most_events
     → IsRecorded (replay p) e outcome [] first founding records pushed → happens (replay p) e ≡ unchanged (replay p) e outcome
     → IsRun (play_of founding pushed) nodes lives flags pushed group × Answers p e outcome
@@ -120,20 +128,26 @@ pass_goes_on p first founding nodes lives flags records pushed group e outcome v
     let w = replay p in
     let was : Shows w nodes lives flags records group = subst (λ (q : Play). Shows (replay q) nodes lives flags records group) view ok.shows in
     let short : length group ≤ 1 + length p.events = subst (λ (q : Play). length group ≤ 1 + length q.events) view ok.short in
-    goes_on p first founding nodes nodes lives lives flags flags records pushed group group e outcome [] (unchanged w e outcome) view ok few recorded (passes_follows w e outcome is)
-    (passes_nodes w e outcome nodes was.standing) (passes_lives w e outcome lives was.living) (passes_flags w e outcome flags was.stopped) (was.agreed ∙ sym (passes_group w e outcome)) (omega arith)
+    goes_on p first founding nodes nodes lives lives flags flags records pushed group group e outcome [] (unchanged w e outcome) view ok few recorded
+    (passes_follows w e outcome is)
+    (passes_nodes w e outcome nodes was.standing) (passes_lives w e outcome lives was.living) (passes_flags w e outcome flags was.stopped) (was.agreed
+    ∙ sym (passes_group w e outcome)) (omega arith)
 
 -- what a world of the code keeps of the run that contracts see
-pub shows_at : (p : Play) (first : Rules) (nodes : List Node) (lives : List ℕ) (flags : List Bool) (records : List Record) (group : List Entry) → play_of first records ≡ p → IsRun (play_of first records) nodes lives flags records group → Shows (replay p) nodes lives flags records group
+pub shows_at : (p : Play) (first : Rules) (nodes : List Node) (lives : List ℕ) (flags : List Bool) (records : List Record) (group : List Entry)
+    → play_of first records ≡ p → IsRun (play_of first records) nodes lives flags records group → Shows (replay p) nodes lives flags records group
 shows_at p first nodes lives flags records group view ok = subst (λ (q : Play). Shows (replay q) nodes lives flags records group) view ok.shows
 
-pub living_at : (p : Play) (first : Rules) (nodes : List Node) (lives : List ℕ) (flags : List Bool) (records : List Record) (group : List Entry) → play_of first records ≡ p → IsRun (play_of first records) nodes lives flags records group → AreLives lives (replay p)
+pub living_at : (p : Play) (first : Rules) (nodes : List Node) (lives : List ℕ) (flags : List Bool) (records : List Record) (group : List Entry)
+    → play_of first records ≡ p → IsRun (play_of first records) nodes lives flags records group → AreLives lives (replay p)
 living_at p first nodes lives flags records group view ok = (shows_at p first nodes lives flags records group view ok).living
 
 -- what was asked comes to what the run makes of it
-pub asked_comes : (p : Play) (first : Rules) (nodes : List Node) (lives : List ℕ) (flags : List Bool) (records : List Record) (group : List Entry) (e : Event) (m : protocol.Node) (status : Status) (departed : Bool) (name : ℕ) (r : Result NodeEvent Outcome)
+pub asked_comes : (p : Play) (first : Rules) (nodes : List Node) (lives : List ℕ) (flags : List Bool) (records : List Record) (group : List Entry) (e : Event)
+    (m : protocol.Node) (status : Status) (departed : Bool) (name : ℕ) (r : Result NodeEvent Outcome)
     → play_of first records ≡ p → IsRun (play_of first records) nodes lives flags records group
-    → name ≡ current (replay p) (place_of e.node) → IsEndOf ((replay p).nodes (current (replay p) (place_of e.node))) m → status ≡ m.status → departed ≡ has_departed status
+    → name ≡ current (replay p) (place_of e.node) → IsEndOf ((replay p).nodes (current (replay p) (place_of e.node))) m → status ≡ m.status
+    → departed ≡ has_departed status
     → r ≡ asked (letters_of records) flags departed name e.act → OnOk r (SpellsPacket (letters_of records) e.act)
     → happens (replay p) e ≡ comes (replay p) e r
 asked_comes p first nodes lives flags records group e m status departed name r view ok here end stands gone is spells =
@@ -141,11 +155,14 @@ asked_comes p first nodes lives flags records group e m status departed name r v
     let place = place_of e.node in
     let within : place < 16 = omega arith in
     let was = shows_at p first nodes lives flags records group view ok in
-    let gone_is : departed ≡ has_departed (w.nodes (current w place)).status = gone ∙ ap has_departed (stands ∙ ap (λ (n : protocol.Node). n.status) end.same) in
+    let gone_is : departed ≡ has_departed (w.nodes (current w place)).status = gone
+    ∙ ap has_departed (stands ∙ ap (λ (n : protocol.Node). n.status) end.same) in
     let now : r ≡ asked w.letters flags (has_departed (w.nodes (current w place)).status) (current w place) e.act =
-    is ∙ ap (λ ls. asked ls flags departed name e.act) was.sent ∙ ap (λ d. asked w.letters flags d name e.act) gone_is ∙ ap (λ k. asked w.letters flags (has_departed (w.nodes (current w place)).status) k e.act) here in
+    is ∙ ap (λ ls. asked ls flags departed name e.act) was.sent ∙ ap (λ d. asked w.letters flags d name e.act) gone_is
+    ∙ ap (λ k. asked w.letters flags (has_departed (w.nodes (current w place)).status) k e.act) here in
     let packets : OnOk r (SpellsPacket w.letters e.act) = subst (λ ls. OnOk r (SpellsPacket ls e.act)) was.sent spells in
-    happens_comes w e flags was.stopped.each within (was.living.within place within).0 (subst (λ q. OnOk q (SpellsPacket w.letters e.act)) now packets) ∙ ap (comes w e) (sym now)
+    happens_comes w e flags was.stopped.each within (was.living.within place within).0 (subst (λ q. OnOk q (SpellsPacket w.letters e.act)) now packets)
+    ∙ ap (comes w e) (sym now)
 
 counted : (records : List Record) → length (map (λ (r : Record). r.event) records) ≡ length records
 counted records = simp length-map
@@ -153,5 +170,6 @@ counted records = simp length-map
 pub as_many : (p : Play) (first : Rules) (records : List Record) → play_of first records ≡ p → length p.events ≡ length records
 as_many p first records view = ap (λ (q : Play). length q.events) (sym view) ∙ counted records
 
-pub few_of : (p : Play) (first : Rules) (nodes : List Node) (lives : List ℕ) (flags : List Bool) (records : List Record) (group : List Entry) → play_of first records ≡ p → IsRun (play_of first records) nodes lives flags records group → length p.events ≤ most_events
+pub few_of : (p : Play) (first : Rules) (nodes : List Node) (lives : List ℕ) (flags : List Bool) (records : List Record) (group : List Entry)
+    → play_of first records ≡ p → IsRun (play_of first records) nodes lives flags records group → length p.events ≤ most_events
 few_of p first nodes lives flags records group view ok = subst (λ (q : Play). length q.events ≤ most_events) view ok.few

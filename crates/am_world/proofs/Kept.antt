@@ -1,5 +1,6 @@
 -- A world's watcher keeps what is watched of its run.
-use Rattle.std.proofs.Common.{◌≡◌, ℕ, zero, suc, ◌+◌, ◌-◌, ◌<◌, ◌≤◌, ◌||◌, ◌==◌, not, Bool, true, false, if◌then◌else◌, List, [], ◌∷◌, ◌++◌, length, drop, Ok, refl, sym, ap, ◌∙◌, subst, arith, length-append}
+use Rattle.std.proofs.Common.{◌≡◌, ℕ, zero, suc, ◌+◌, ◌-◌, ◌<◌, ◌≤◌, ◌||◌, ◌==◌, not, Bool, true, false, if◌then◌else◌, List, [], ◌∷◌, ◌++◌, length, drop, Ok}
+use Rattle.std.proofs.Common.{refl, sym, ap, ◌∙◌, subst, arith, length-append}
 use Rattle.std.specs.List.{list_any}
 use Rattle.am_base.specs.declared.entry.Entry.{Entry}
 use Rattle.am_base.specs.declared.image.Image.{Image}
@@ -56,22 +57,28 @@ unfolding watch_all
 watch_push s [] e = refl
 watch_push s (x ∷ xs) e = watch_push (watch s x) xs e
 
-next_watched : (rules : Rules) (events : List Event) (e : Event) (v : model.World) → happens (run rules events) e ≡ v → after (watched rules events) v ≡ watched rules (events ++ e ∷ [])
+next_watched : (rules : Rules) (events : List Event) (e : Event) (v : model.World) → happens (run rules events) e ≡ v
+    → after (watched rules events) v ≡ watched rules (events ++ e ∷ [])
 next_watched rules events e v is =
     let s = watched rules events in
-    sym (watch_push (watch_start rules) events e ∙ watched_after s e ∙ ap (λ (w : model.World). after s (happens w e)) (watched_is_run rules events) ∙ ap (after s) is)
+    sym (watch_push (watch_start rules) events e ∙ watched_after s e ∙ ap (λ (w : model.World). after s (happens w e)) (watched_is_run rules events)
+    ∙ ap (after s) is)
 
 -- ---- what a node's end shows
 
 end_view_of : (all m : protocol.Node) → IsEndOf all m → view_of m ≡ view_of all
-end_view_of all m is = ap (λ (i : Image). record { number = i.view_number; stamp = i.view; members = members_of i; resilience = i.resilience }) (end-told all.core.log m.core.log is.stands.kept)
+end_view_of all m is = ap (λ (i : Image). record { number = i.view_number; stamp = i.view; members = members_of i; resilience = i.resilience })
+    (end-told all.core.log m.core.log is.stands.kept)
 
-end_standing : (before : Standing) (all m : protocol.Node) → IsEndOf all m → all.core.log.start ≡ (if begins before all.status then all.core.base else before.from) → standing_after before m ≡ standing_of all
+end_standing : (before : Standing) (all m : protocol.Node) → IsEndOf all m
+    → all.core.log.start ≡ (if begins before all.status then all.core.base else before.from) → standing_after before m ≡ standing_of all
 end_standing before all m is from =
     let status = ap (λ (n : protocol.Node). n.status) is.same in
     let start = ap (λ (n : protocol.Node). n.core.start) is.same in
     let views = ap (λ (i : Image). i.view) (end-told all.core.log m.core.log is.stands.kept) in
-    let place : (if begins before m.status then m.core.base else before.from) ≡ all.core.log.start = ap (λ s. if begins before s then m.core.base else before.from) status ∙ ap (λ b. if begins before all.status then b else before.from) (end_base all m is) ∙ sym from in
+    let place : (if begins before m.status then m.core.base else before.from) ≡ all.core.log.start =
+    ap (λ s. if begins before s then m.core.base else before.from) status
+    ∙ ap (λ b. if begins before all.status then b else before.from) (end_base all m is) ∙ sym from in
     λ i. record { status = status i; view = views i; start = start i; from = place i }
 
 drop_known : (group more : List Entry) → drop (length group) (group ++ more) ≡ more
@@ -80,8 +87,10 @@ drop_known (x ∷ group) more = drop_known group more
 
 -- ---- a name's step
 
-told_as : (k : Watching) (name : ℕ) (what : NodeEvent) (m n : protocol.Node) (number count : ℕ) (group more : List Entry) (before : Standing) → standing k name ≡ before → standing_after before m ≡ standing_of n → view_of m ≡ view_of n → number ≡ count → group ≡ more
-    → told_step k name m what number group ≡ accepted (watched_step k name (standing_of n) (view_of n) (stored_of name before (standing_of n) (view_of n) what)) count more
+told_as : (k : Watching) (name : ℕ) (what : NodeEvent) (m n : protocol.Node) (number count : ℕ) (group more : List Entry) (before : Standing)
+    → standing k name ≡ before → standing_after before m ≡ standing_of n → view_of m ≡ view_of n → number ≡ count → group ≡ more
+    → told_step k name m what number group ≡ accepted (watched_step k name (standing_of n) (view_of n) (stored_of name before (standing_of n) (view_of n) what))
+    count more
 unfolding told_step
 told_as k name what m n number count group more before was stands ends counted grown =
     ap (λ b. accepted (watched_step k name (standing_after b m) (view_of m) (stored_of name b (standing_after b m) (view_of m) what)) number group) was
@@ -116,8 +125,10 @@ act_at p k e what m known group may kept within is end known_is group_is =
     let now : replay (runs.after p e) ≡ v = replay_after p e ∙ is in
     let ends : IsEndOf n m = subst (λ x. IsEndOf x m) (ap (λ (x : model.World). x.nodes name) now ∙ node_is) end in
     let before : standing k name ≡ standing_of old = kept.sees.names name ∙ ap (λ (x : model.World). standing_of (x.nodes name)) (sym same) in
-    let more : drop known group ≡ added w.group n = ap (drop known) (group_is ∙ ap (λ (x : model.World). x.group) now ∙ to.group) ∙ ap (λ c. drop c (w.group ++ added w.group n)) known_is ∙ drop_known w.group (added w.group n) in
-    let told_is = told_as k name what m n (known + 1) (length w.group + 1) (drop known group) (added w.group n) (standing_of old) before (end_standing (standing_of old) n m ends (begins_at p.rules p.events e what may is)) (end_view_of n m ends) (ap (λ c. c + 1) known_is) more in
+    let more : drop known group ≡ added w.group n = ap (drop known) (group_is ∙ ap (λ (x : model.World). x.group) now ∙ to.group)
+    ∙ ap (λ c. drop c (w.group ++ added w.group n)) known_is ∙ drop_known w.group (added w.group n) in
+    let told_is = told_as k name what m n (known + 1) (length w.group + 1) (drop known group) (added w.group n) (standing_of old) before
+    (end_standing (standing_of old) n m ends (begins_at p.rules p.events e what may is)) (end_view_of n m ends) (ap (λ c. c + 1) known_is) more in
     let entries = stored_of name (standing_of old) (standing_of n) (view_of n) what in
     let facts = step_facts p.rules p.events e v may is in
     let done : Steps w name n entries = record {
@@ -127,20 +138,27 @@ act_at p k e what m known group may kept within is end known_is group_is =
       begins = subst (λ (x : protocol.Node). x.core.log.start ≤ length w.group) node_is facts.begins_;
       new = subst (λ (x : protocol.Node). decides old x ≡ true → IsNew w (view x)) node_is facts.new;
     } in
-    let P : model.World → Type 0 = λ x. Watches (accepted (watched_step k name (standing_of n) (view_of n) entries) (length x.group + 1) (added w.group n)) (after s v) in
-    let watches = steps_are_watched k s v name n entries (added w.group n) kept (subst (λ x. Steps x name n entries) same done) (subst (λ x. SteppedTo x v name n (added w.group n)) same to) in
-    subst (λ q. Watches q (watched p.rules (p.events ++ e ∷ []))) (sym told_is) (subst (Watches (accepted (watched_step k name (standing_of n) (view_of n) entries) (length w.group + 1) (added w.group n))) (next_watched p.rules p.events e v is) (subst P (sym same) watches))
+    let P : model.World → Type 0 = λ x. Watches (accepted (watched_step k name (standing_of n) (view_of n) entries) (length x.group + 1) (added w.group n))
+    (after s v) in
+    let watches = steps_are_watched k s v name n entries (added w.group n) kept (subst (λ x. Steps x name n entries) same done)
+    (subst (λ x. SteppedTo x v name n (added w.group n)) same to) in
+    subst (λ q. Watches q (watched p.rules (p.events ++ e ∷ []))) (sym told_is)
+    (subst (Watches (accepted (watched_step k name (standing_of n) (view_of n) entries) (length w.group + 1) (added w.group n)))
+    (next_watched p.rules p.events e v is) (subst P (sym same) watches))
 
 pub act_is_watched : (p : Play) (k : Watching) (e : Event) (name : ℕ) (what : NodeEvent) (m : protocol.Node) (known : ℕ) (group : List Entry)
     → MayFound p.rules → IsWatched p k → name ≡ current (replay p) (place_of e.node) → happens (replay p) e ≡ comes (replay p) e (Ok what)
-    → IsEndOf ((replay (runs.after p e)).nodes (current (replay (runs.after p e)) (place_of e.node))) m → known ≡ length (replay p).group → group ≡ (replay (runs.after p e)).group
+    → IsEndOf ((replay (runs.after p e)).nodes (current (replay (runs.after p e)) (place_of e.node))) m → known ≡ length (replay p).group
+    → group ≡ (replay (runs.after p e)).group
     → IsWatched (runs.after p e) (told_step k name m what (known + 1) (drop known group))
 act_is_watched p k e name what m known group may kept here is end known_is group_is =
     let w = replay p in
     let now : replay (runs.after p e) ≡ comes w e (Ok what) = replay_after p e ∙ is in
-    let stays : current (replay (runs.after p e)) (place_of e.node) ≡ actor w e = ap (λ (x : model.World). current x (place_of e.node)) now ∙ lives_stay w e what in
+    let stays : current (replay (runs.after p e)) (place_of e.node) ≡ actor w e = ap (λ (x : model.World). current x (place_of e.node)) now
+    ∙ lives_stay w e what in
     let end_at : IsEndOf ((replay (runs.after p e)).nodes (actor w e)) m = subst (λ j. IsEndOf ((replay (runs.after p e)).nodes j) m) stays end in
-    subst (λ j. IsWatched (runs.after p e) (told_step k j m what (known + 1) (drop known group))) (sym here) (act_at p k e what m known group may kept (few_names p.rules w e (run_named p.rules p.events may)) is end_at known_is group_is)
+    subst (λ j. IsWatched (runs.after p e) (told_step k j m what (known + 1) (drop known group))) (sym here)
+    (act_at p k e what m known group may kept (few_names p.rules w e (run_named p.rules p.events may)) is end_at known_is group_is)
 
 -- ---- an event that is no step
 
@@ -149,20 +167,24 @@ flip true k j = refl
 flip false k j = refl
 
 answer_at : (p : Play) (k : Watching) (e : Event) (outcome : Outcome) → IsWatched p k → happens (replay p) e ≡ answered (replay p) e outcome
-    → IsWatched (runs.after p e) (if stops_by (is_stopped (replay p) (current (replay p) (place_of e.node))) outcome then stopped k (current (replay p) (place_of e.node)) else passed k)
+    → IsWatched (runs.after p e) (if stops_by (is_stopped (replay p) (current (replay p) (place_of e.node))) outcome then stopped k
+    (current (replay p) (place_of e.node)) else passed k)
 answer_at p k e said.Stopped kept is = stop_is_watched p.rules p.events e said.Stopped (current (replay p) (place_of e.node)) k is kept
 answer_at p k e (said.Returned life) kept is =
     let name = current (replay p) (place_of e.node) in
-    subst (IsWatched (runs.after p e)) (flip (is_stopped (replay p) name) (passed k) (stopped k name)) (return_is_watched p.rules p.events e (said.Returned life) (place_of e.node) k is kept)
+    subst (IsWatched (runs.after p e)) (flip (is_stopped (replay p) name) (passed k) (stopped k name))
+    (return_is_watched p.rules p.events e (said.Returned life) (place_of e.node) k is kept)
 answer_at p k e outcome kept is = pass_is_watched p.rules p.events e outcome k is kept
 
-pub answer_is_watched : (p : Play) (k : Watching) (e : Event) (name : ℕ) (outcome : Outcome) (stops : Bool) → IsWatched p k → name ≡ current (replay p) (place_of e.node) → happens (replay p) e ≡ answered (replay p) e outcome → stops ≡ stops_by (is_stopped (replay p) name) outcome
+pub answer_is_watched : (p : Play) (k : Watching) (e : Event) (name : ℕ) (outcome : Outcome) (stops : Bool) → IsWatched p k
+    → name ≡ current (replay p) (place_of e.node) → happens (replay p) e ≡ answered (replay p) e outcome → stops ≡ stops_by (is_stopped (replay p) name) outcome
     → IsWatched (runs.after p e) (if stops then stopped k name else passed k)
 answer_is_watched p k e name outcome stops kept here is which =
     let now = answer_at p k e outcome kept is in
     rw which (subst (λ j. IsWatched (runs.after p e) (if stops_by (is_stopped (replay p) j) outcome then stopped k j else passed k)) (sym here) now)
 
-pub group_longer : (p : Play) (e : Event) (what : NodeEvent) → happens (replay p) e ≡ comes (replay p) e (Ok what) → length (replay p).group ≤ length (replay (runs.after p e)).group
+pub group_longer : (p : Play) (e : Event) (what : NodeEvent) → happens (replay p) e ≡ comes (replay p) e (Ok what)
+    → length (replay p).group ≤ length (replay (runs.after p e)).group
 group_longer p e what is =
     let w = replay p in
     let n = (step (w.nodes (actor w e)) what).node in
@@ -173,4 +195,5 @@ group_longer p e what is =
     omega arith
 
 pub begin_is_watched : (p : Play) (rules : Rules) (k : Watching) → MayFound rules → p ≡ record { rules = rules; events = [] } → k ≡ begun rules → IsWatched p k
-begin_is_watched p rules k may is from = subst (λ q. IsWatched q k) (sym is) (subst (λ j. IsWatched (record { rules = rules; events = [] }) j) (sym from) (beginning_is_kept rules may))
+begin_is_watched p rules k may is from = subst (λ q. IsWatched q k) (sym is)
+    (subst (λ j. IsWatched (record { rules = rules; events = [] }) j) (sym from) (beginning_is_kept rules may))

@@ -1,5 +1,6 @@
 -- A place goes on with its next life.
-use Rattle.std.proofs.Common.{◌≡◌, ℕ, ◌+◌, ◌<◌, ◌≤◌, ◌==◌, ◌≢◌, Bool, true, false, if◌then◌else◌, List, [], ◌∷◌, ◌++◌, append-nil, length, Some, slice_get, slice_set, slice_index, refl, sym, ap, ◌∙◌, subst, arith}
+use Rattle.std.proofs.Common.{◌≡◌, ℕ, ◌+◌, ◌<◌, ◌≤◌, ◌==◌, ◌≢◌, Bool, true, false, if◌then◌else◌, List, [], ◌∷◌, ◌++◌, append-nil, length, Some, slice_get}
+use Rattle.std.proofs.Common.{slice_set, slice_index, refl, sym, ap, ◌∙◌, subst, arith}
 use Rattle.std.proofs.lemmas.List.{length-set}
 use Rattle.std.proofs.lemmas.Bool.Decides.{nat_tests}
 use Rattle.am_base.specs.Most.{most_events}
@@ -24,7 +25,8 @@ use Rattle.am_world.proofs.Begins.{Keeps, stranger_keeps}
 use Rattle.am_world.proofs.Goes.{IsRecorded, goes_on, shows_at}
 use Rattle.am_world.proofs.Stops.{flags_more, flags_again, name_within}
 
-lives_more : (w : model.World) (lives : List ℕ) (place life : ℕ) → place < 16 → life ≡ w.lives place + 1 → life ≤ 16 → AreLives lives w → AreLives (slice_set lives place life) (lives_on w place)
+lives_more : (w : model.World) (lives : List ℕ) (place life : ℕ) → place < 16 → life ≡ w.lives place + 1 → life ≤ 16 → AreLives lives w
+    → AreLives (slice_set lives place life) (lives_on w place)
 lives_more w lives place life within next most h =
     let count = h.count in
     record {
@@ -40,11 +42,14 @@ lives_more w lives place life within next most h =
         ap (slice_index (slice_set lives place life)) here ∙ get_or-set_same lives place life 0 (omega arith) ∙ next
     at i k false e = let other : i ≢ place = grind (arith, nat_tests) in get_or-set_other lives place i life 0 other ∙ h.each i k
 
-    least : (i : ℕ) → i < 16 → (b : Bool) → (i == place) ≡ b → (0 < (if b then w.lives place + 1 else w.lives i)) × ((if b then w.lives place + 1 else w.lives i) ≤ 16)
+    least : (i : ℕ) → i < 16 → (b : Bool) → (i == place) ≡ b → (0 < (if b then w.lives place + 1 else w.lives i))
+        × ((if b then w.lives place + 1 else w.lives i) ≤ 16)
     least i k true e = (omega arith, omega arith)
     least i k false e = h.within i k
 
-nodes_more : (w : model.World) (rules : Rules) (nodes : List Node) (place life : ℕ) (n : Node) → place < 16 → life ≡ w.lives place + 1 → w.nodes (name_at place life) ≡ stranger rules (name_at place life) → state_of n ≡ stranger rules (name_at place life) → AreNodes nodes w → AreNodes (slice_set nodes place n) (lives_on w place)
+nodes_more : (w : model.World) (rules : Rules) (nodes : List Node) (place life : ℕ) (n : Node) → place < 16 → life ≡ w.lives place + 1
+    → w.nodes (name_at place life) ≡ stranger rules (name_at place life) → state_of n ≡ stranger rules (name_at place life) → AreNodes nodes w
+    → AreNodes (slice_set nodes place n) (lives_on w place)
 nodes_more w rules nodes place life n within next new is h =
     let count = h.count in
     record {
@@ -52,35 +57,42 @@ nodes_more w rules nodes place life n within next new is h =
       each = λ i k at. go i k at (i == place) refl;
     }
   where
-    go : (i : ℕ) (k : Node) → slice_get (slice_set nodes place n) i ≡ Some k → (b : Bool) → (i == place) ≡ b → Keeps (w.nodes (name_at i (if b then w.lives place + 1 else w.lives i))) (state_of k)
+    go : (i : ℕ) (k : Node) → slice_get (slice_set nodes place n) i ≡ Some k → (b : Bool) → (i == place) ≡ b
+        → Keeps (w.nodes (name_at i (if b then w.lives place + 1 else w.lives i))) (state_of k)
     go i k at true e =
         let here : i ≡ place = grind (arith, nat_tests) in
         let count = h.count in
         let same : n ≡ k = get_set_here nodes place n k (omega arith) (ap (slice_get (slice_set nodes place n)) (sym here) ∙ at) in
         let kept = stranger_keeps rules (name_at place life) (state_of k) (ap state_of (sym same) ∙ is) in
-        let all : w.nodes (name_at i (w.lives place + 1)) ≡ stranger rules (name_at place life) = ap (λ j. w.nodes (name_at j (w.lives place + 1))) here ∙ ap (λ l. w.nodes (name_at place l)) (sym next) ∙ new in
+        let all : w.nodes (name_at i (w.lives place + 1)) ≡ stranger rules (name_at place life) = ap (λ j. w.nodes (name_at j (w.lives place + 1))) here
+        ∙ ap (λ l. w.nodes (name_at place l)) (sym next) ∙ new in
         subst (λ m. Keeps m (state_of k)) (sym all) kept
     go i k at false e =
         let other : i ≡ place → ⊥ = grind (arith, nat_tests) in
         h.each i k (sym (get_set_other nodes place i n other) ∙ at)
 
-flags_on : (w : model.World) (flags : List Bool) (place : ℕ) → current w place < 256 → AreFlags flags w → AreFlags (slice_set flags (current w place) true) (lives_on w place)
+flags_on : (w : model.World) (flags : List Bool) (place : ℕ) → current w place < 256 → AreFlags flags w
+    → AreFlags (slice_set flags (current w place) true) (lives_on w place)
 flags_on w flags place within h =
     let f = go (is_stopped w (current w place)) refl in
     record { count = f.count; each = f.each }
   where
-    go : (b : Bool) → is_stopped w (current w place) ≡ b → AreFlags (slice_set flags (current w place) true) (record w { stopped = if b then w.stopped else w.stopped ++ current w place ∷ [] })
+    go : (b : Bool) → is_stopped w (current w place) ≡ b → AreFlags (slice_set flags (current w place) true)
+        (record w { stopped = if b then w.stopped else w.stopped ++ current w place ∷ [] })
     go true e = let f = flags_again w (current w place) flags within e h in record { count = f.count; each = f.each }
     go false e = let f = flags_more w (current w place) flags within h in record { count = f.count; each = f.each }
 
-pub return_goes_on : (p : Play) (first founding : Rules) (nodes : List Node) (lives : List ℕ) (flags : List Bool) (records pushed : List Record) (group : List Entry) (e : Event) (name at also to stop_at life : ℕ) (n : Node)
+pub return_goes_on : (p : Play) (first founding : Rules) (nodes : List Node) (lives : List ℕ) (flags : List Bool) (records pushed : List Record)
+    (group : List Entry) (e : Event) (name at also to stop_at life : ℕ) (n : Node)
     → play_of first records ≡ p → IsRun (play_of first records) nodes lives flags records group → length p.events < most_events
     → name ≡ current (replay p) (place_of e.node) → at ≡ place_of name → also ≡ place_of name → stop_at ≡ name → life ≡ life_of name + 1 → life ≤ 16
     → to ≡ name_at (place_of name) life → state_of n ≡ stranger first to
     → IsRecorded (replay p) e (said.Returned life) [] first founding records pushed → happens (replay p) e ≡ answered (replay p) e (said.Returned life)
-    → IsRun (play_of founding pushed) (slice_set nodes at n) (slice_set lives also life) (slice_set flags stop_at true) pushed group × Answers p e (said.Returned life)
+    → IsRun (play_of founding pushed) (slice_set nodes at n) (slice_set lives also life) (slice_set flags stop_at true) pushed group
+    × Answers p e (said.Returned life)
 unfolding unchanged
-return_goes_on p first founding nodes lives flags records pushed group e name at also to stop_at life n view ok few here there there_too stops next most goes new recorded is =
+return_goes_on p first founding nodes lives flags records pushed group e name at also to stop_at life n view ok few here there there_too stops next most goes
+    new recorded is =
     let w = replay p in
     let place = place_of e.node in
     let within : place < 16 = omega arith in
@@ -98,9 +110,11 @@ return_goes_on p first founding nodes lives flags records pushed group e name at
     let nodes_are = nodes_more w p.rules nodes place life n within life_is begins node_is was.standing in
     let lives_are = lives_more w lives place life within life_is most was.living in
     let flags_are = flags_on w flags place (name_within w lives place within was.living) was.stopped in
-    goes_on p first founding nodes (slice_set nodes at n) lives (slice_set lives also life) flags (slice_set flags stop_at true) records pushed group group e (said.Returned life) [] v view ok few recorded
+    goes_on p first founding nodes (slice_set nodes at n) lives (slice_set lives also life) flags (slice_set flags stop_at true) records pushed group group e
+    (said.Returned life) [] v view ok few recorded
     (record { happens_ = is; records = refl; letters_ = sym (append-nil w.letters) })
     (subst (λ k. AreNodes (slice_set nodes k n) v) (sym (there ∙ placed)) (record { count = nodes_are.count; each = nodes_are.each }))
-    (subst (λ k. AreLives (slice_set lives k life) v) (sym (there_too ∙ placed)) (record { count = lives_are.count; each = lives_are.each; within = lives_are.within }))
+    (subst (λ k. AreLives (slice_set lives k life) v) (sym (there_too ∙ placed))
+    (record { count = lives_are.count; each = lives_are.each; within = lives_are.within }))
     (subst (λ k. AreFlags (slice_set flags k true) v) (sym (stops ∙ here)) (record { count = flags_are.count; each = flags_are.each }))
     was.agreed (omega arith)

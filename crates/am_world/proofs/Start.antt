@@ -21,8 +21,11 @@ use Rattle.am_model.specs.Group.{has_log}
 use Rattle.am_model.specs.World.{World, run, happens, stepped, unchanged}
 use Rattle.am_model.proofs.Greatest.{split, and_both}
 use Rattle.am_effects.specs.Causes.{Cause, calls, hears, refuses, BringsFronts, with_entry, with_number, alone}
-use Rattle.am_effects.specs.Looks.{BeginsBy, by_reset, by_hand_over, Balloting, with_more, without_one, as_it_is, Looks, finds_itself_out, waits, fetches_from_best, finds_too_few, finds_no_room, decides}
-use Rattle.am_effects.specs.Changes.{whole_entry, by_number, Promises, invited, overtaken, told_result, Change, refreshes, settles, takes_report, admits, numbers, keeps_body, notes, stores, begins_list, departs, promises, opens, looks, fetches, stores_view, queues, collects, takes, asks_to_join, asks_to_leave, closes, Changes}
+use Rattle.am_effects.specs.Looks.{BeginsBy, by_reset, by_hand_over, Balloting, with_more, without_one, as_it_is, Looks, finds_itself_out, waits}
+use Rattle.am_effects.specs.Looks.{fetches_from_best, finds_too_few, finds_no_room, decides}
+use Rattle.am_effects.specs.Changes.{whole_entry, by_number, Promises, invited, overtaken, told_result, Change, refreshes, settles, takes_report, admits}
+use Rattle.am_effects.specs.Changes.{numbers, keeps_body, notes, stores, begins_list, departs, promises, opens, looks, fetches, stores_view, queues, collects}
+use Rattle.am_effects.specs.Changes.{takes, asks_to_join, asks_to_leave, closes, Changes}
 use Rattle.am_effects.specs.Events.{actor, Happens, idles, stops, returns, steps}
 use Rattle.am_effects.proofs.Events.{events_have_effects}
 use Rattle.am_effects.proofs.Rests.{rests_refresh, settle_is}

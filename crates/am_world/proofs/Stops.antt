@@ -1,5 +1,6 @@
 -- A name stops.
-use Rattle.std.proofs.Common.{◌≡◌, ℕ, zero, suc, ◌+◌, ◌<◌, ◌≤◌, ◌==◌, ◌||◌, Bool, true, false, List, [], ◌∷◌, ◌++◌, length, slice_set, slice_index_or, refl, append-nil, sym, ap, ◌∙◌, subst, arith}
+use Rattle.std.proofs.Common.{◌≡◌, ℕ, zero, suc, ◌+◌, ◌<◌, ◌≤◌, ◌==◌, ◌||◌, Bool, true, false, List, [], ◌∷◌, ◌++◌, length, slice_set, slice_index_or, refl}
+use Rattle.std.proofs.Common.{append-nil, sym, ap, ◌∙◌, subst, arith}
 use Rattle.std.specs.List.{list_any}
 use Rattle.std.proofs.lemmas.List.{length-set}
 use Rattle.std.proofs.lemmas.Bool.Decides.{nat_tests}
@@ -21,7 +22,8 @@ same_suc : (a b : ℕ) → (suc a == suc b) ≡ (a == b)
 same_suc a b = grind (arith, nat_tests)
 
 -- one flag more
-pub flag_set : (flags : List Bool) (name j : ℕ) → name < length flags → slice_index_or (slice_set flags name true) j false ≡ ((name == j) || slice_index_or flags j false)
+pub flag_set : (flags : List Bool) (name j : ℕ) → name < length flags
+    → slice_index_or (slice_set flags name true) j false ≡ ((name == j) || slice_index_or flags j false)
 flag_set [] name j h = absurd (omega arith)
 flag_set (b ∷ flags) zero zero h = refl
 flag_set (b ∷ flags) zero (suc j) h = let other : (0 == suc j) ≡ false = grind (arith, nat_tests) in rw other refl
@@ -51,7 +53,8 @@ flags_more w name flags within h =
     }
 
 -- and where it had stopped before
-pub flags_again : (w : model.World) (name : ℕ) (flags : List Bool) → name < 256 → is_stopped w name ≡ true → AreFlags flags w → AreFlags (slice_set flags name true) w
+pub flags_again : (w : model.World) (name : ℕ) (flags : List Bool) → name < 256 → is_stopped w name ≡ true → AreFlags flags w
+    → AreFlags (slice_set flags name true) w
 flags_again w name flags within is h =
     let count = h.count in
     record {
@@ -66,7 +69,8 @@ flags_again w name flags within is h =
 pub name_within : (w : model.World) (lives : List ℕ) (place : ℕ) → place < 16 → AreLives lives w → current w place < 256
 name_within w lives place within h = let most = (h.within place within).1 in omega arith
 
-pub stop_goes_on : (p : Play) (first founding : Rules) (nodes : List Node) (lives : List ℕ) (flags : List Bool) (records pushed : List Record) (group : List Entry) (e : Event) (name at : ℕ)
+pub stop_goes_on : (p : Play) (first founding : Rules) (nodes : List Node) (lives : List ℕ) (flags : List Bool) (records pushed : List Record)
+    (group : List Entry) (e : Event) (name at : ℕ)
     → play_of first records ≡ p → IsRun (play_of first records) nodes lives flags records group → length p.events < most_events
     → name ≡ current (replay p) (place_of e.node) → at ≡ name
     → IsRecorded (replay p) e said.Stopped [] first founding records pushed → happens (replay p) e ≡ answered (replay p) e said.Stopped
@@ -79,8 +83,10 @@ stop_goes_on p first founding nodes lives flags records pushed group e name at v
     let short : length group ≤ 1 + length p.events = subst (λ (q : Play). length group ≤ 1 + length q.events) view ok.short in
     let within : place_of e.node < 16 = omega arith in
     let more = flags_more w now flags (name_within w lives (place_of e.node) within was.living) was.stopped in
-    goes_on p first founding nodes nodes lives lives flags (slice_set flags at true) records pushed group group e said.Stopped [] (unchanged (stopping w now) e said.Stopped) view ok few recorded
+    goes_on p first founding nodes nodes lives lives flags (slice_set flags at true) records pushed group group e said.Stopped []
+    (unchanged (stopping w now) e said.Stopped) view ok few recorded
     (record { happens_ = is; records = refl; letters_ = sym (append-nil w.letters) })
     (record { count = was.standing.count; each = was.standing.each }) (record { count = was.living.count; each = was.living.each; within = was.living.within })
-    (subst (λ k. AreFlags (slice_set flags k true) (unchanged (stopping w now) e said.Stopped)) (sym (there ∙ here)) (record { count = more.count; each = more.each }))
+    (subst (λ k. AreFlags (slice_set flags k true) (unchanged (stopping w now) e said.Stopped)) (sym (there ∙ here))
+    (record { count = more.count; each = more.each }))
     was.agreed (omega arith)

@@ -1,5 +1,6 @@
 -- What is so of a name's step in every run, as the world tells its watcher of it.
-use Rattle.std.proofs.Common.{◌≡◌, ℕ, ◌+◌, ◌<◌, ◌≤◌, ◌==◌, ◌&&◌, ◌||◌, not, Bool, true, false, if◌then◌else◌, List, [], ◌∷◌, ◌++◌, length, refl, sym, ap, ◌∙◌, subst, arith}
+use Rattle.std.proofs.Common.{◌≡◌, ℕ, ◌+◌, ◌<◌, ◌≤◌, ◌==◌, ◌&&◌, ◌||◌, not, Bool, true, false, if◌then◌else◌, List, [], ◌∷◌, ◌++◌, length, refl, sym, ap, ◌∙◌}
+use Rattle.std.proofs.Common.{subst, arith}
 use Rattle.std.specs.List.{list_any}
 use Rattle.std.proofs.lemmas.Bool.Decides.{nat_tests}
 use Rattle.am_base.specs.declared.name.Stamp.{Stamp}
@@ -36,13 +37,15 @@ begins_at rules events e what may is =
 pub stores : (rules : Rules) (events : List Event) (e : Event) (what : NodeEvent) → MayFound rules
     → let w = run rules events in let name = actor w e in let m = w.nodes name in let n = (step m what).node in
     happens w e ≡ stepped w e name (step m what)
-    → (v : Stamp) → list_any (is_view_of v) n.core.log.entries ≡ (list_any (is_view_of v) m.core.log.entries || list_any (is_view_of v) (stored_of name (standing_of m) (standing_of n) (view_of n) what))
+    → (v : Stamp) → list_any (is_view_of v) n.core.log.entries
+    ≡ (list_any (is_view_of v) m.core.log.entries || list_any (is_view_of v) (stored_of name (standing_of m) (standing_of n) (view_of n) what))
 stores rules events e what may is v =
     let w = run rules events in
     let name = actor w e in
     let h = run_lists rules events may in
     let few = few_names rules w e h.views.named in
-    told_is name (w.nodes name) (step (w.nodes name) what).node what v (step_adds name (w.nodes name) what ((names_hold rules events may).who name) (h.views.each name few).balloted (h.bare name few))
+    told_is name (w.nodes name) (step (w.nodes name) what).node what v
+    (step_adds name (w.nodes name) what ((names_hold rules events may).who name) (h.views.each name few).balloted (h.bare name few))
 
 -- ---- its name, where its list begins, and a view that it decided
 
@@ -63,7 +66,8 @@ never true false h = cc
 never false c h = cc
 
 -- where the name's node is as it was
-facts_same : (rules : Rules) (events : List Event) (e : Event) (v : World) → MayFound rules → v.nodes ≡ (run rules events).nodes → StepFacts (run rules events) v (actor (run rules events) e)
+facts_same : (rules : Rules) (events : List Event) (e : Event) (v : World) → MayFound rules → v.nodes ≡ (run rules events).nodes
+    → StepFacts (run rules events) v (actor (run rules events) e)
 facts_same rules events e v may same =
     let w = run rules events in
     let name = actor w e in
@@ -74,7 +78,8 @@ facts_same rules events e v may same =
     let now : P (v.nodes name) = subst P (sym (ap (λ ns. ns name) same)) old in
     record { own = now.0; begins_ = now.1; new = now.2 }
 
-facts : (rules : Rules) (events : List Event) (e : Event) (v : World) → MayFound rules → happens (run rules events) e ≡ v → Happens (run rules events) e v → StepFacts (run rules events) v (actor (run rules events) e)
+facts : (rules : Rules) (events : List Event) (e : Event) (v : World) → MayFound rules → happens (run rules events) e ≡ v → Happens (run rules events) e v
+    → StepFacts (run rules events) v (actor (run rules events) e)
 unfolding stepped unchanged
 facts rules events e _ may is (idles o idle) = facts_same rules events e (unchanged (run rules events) e o) may refl
 facts rules events e _ may is (stops running) = facts_same rules events e _ may refl
@@ -86,5 +91,6 @@ facts rules events e _ may is (steps c s running cause effect) =
     let new = decided_are_new rules events e c s may running cause effect in
     record { own = rw (is_itself name) adds.own; begins_ = rw (is_itself name) adds.begins; new = rw (is_itself name) new }
 
-pub step_facts : (rules : Rules) (events : List Event) (e : Event) (v : World) → MayFound rules → happens (run rules events) e ≡ v → StepFacts (run rules events) v (actor (run rules events) e)
+pub step_facts : (rules : Rules) (events : List Event) (e : Event) (v : World) → MayFound rules → happens (run rules events) e ≡ v
+    → StepFacts (run rules events) v (actor (run rules events) e)
 step_facts rules events e v may is = facts rules events e v may is (subst (Happens (run rules events) e) is (events_have_effects (run rules events) e))

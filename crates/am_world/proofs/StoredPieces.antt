@@ -1,5 +1,6 @@
 -- Which Views a Piece and a Result add to a node's list.
-use Rattle.std.proofs.Common.{◌≡◌, ℕ, ◌+◌, ◌-◌, max, ◌==◌, ◌&&◌, ◌||◌, not, nat_lt, nat_le, if◌then◌else◌, Bool, true, false, List, [], ◌∷◌, Option, Some, None, refl, sym, ap, ◌∙◌, subst, arith}
+use Rattle.std.proofs.Common.{◌≡◌, ℕ, ◌+◌, ◌-◌, max, ◌==◌, ◌&&◌, ◌||◌, not, nat_lt, nat_le, if◌then◌else◌, Bool, true, false, List, [], ◌∷◌, Option, Some, None}
+use Rattle.std.proofs.Common.{refl, sym, ap, ◌∙◌, subst, arith}
 use Rattle.std.specs.List.{list_any}
 use Rattle.std.proofs.lemmas.Bool.Decides.{nat_tests}
 use Rattle.am_base.specs.declared.outcome.Outcome.{Outcome}
@@ -45,7 +46,8 @@ pub data Adds (name : ℕ) (brought : List Entry) (m : Node) (s : Status) (log :
       → (is_member s ≡ true → is_member m.status ≡ true)
       → (has_decided name m log ≡ false → (v : Stamp) → (any_of brought v || stamp_eq (view_in log) v) ≡ stamp_eq (view_in log) v)
       → Adds name brought m s log
-  began : ((v : Stamp) → has_view log v ≡ false) → ((v : Stamp) → has_view m.core.log v ≡ false) → has_log m.status ≡ false → is_member s ≡ true → Adds name brought m s log
+  began : ((v : Stamp) → has_view log v ≡ false) → ((v : Stamp) → has_view m.core.log v ≡ false) → has_log m.status ≡ false → is_member s ≡ true
+      → Adds name brought m s log
 
 pub if_else : {A : Type 0} (P : A → Type 0) (b : Bool) (x y : A) → (b ≡ true → P x) → (b ≡ false → P y) → P (if b then x else y)
 if_else P true x y f g = f refl
@@ -64,7 +66,8 @@ pub finish_adds : (name : ℕ) (brought : List Entry) (m : Node) (p : Plan) → 
 unfolding finish
 finish_adds name brought m p h =
     let r = rests_at_end p.node in
-    let at : Adds name brought m (refresh_at_end p.node).status p.node.core.log = subst (λ (s : Status). Adds name brought m s p.node.core.log) (sym r.rests.status) h.adds in
+    let at : Adds name brought m (refresh_at_end p.node).status p.node.core.log =
+    subst (λ (s : Status). Adds name brought m s p.node.core.log) (sym r.rests.status) h.adds in
     rw h.stays (subst (λ (l : Log). Adds name brought m (refresh_at_end p.node).status l) (sym r.log) at)
 
 quietly : (name : ℕ) (brought : List Entry) (m : Node) (o : Outcome) → PlanAdds name brought m (quiet m o)
@@ -80,7 +83,8 @@ data ComesTo (p : Node) (b : Ballot) (v : Verdict) : Type 0 where
 view_comes : (p t : Node) (b : Ballot) (names : List ℕ) → t.core.log ≡ p.core.log → t.status ≡ p.status → ComesTo p b (decide_view t b names)
 view_comes p t b names log same =
     let resilience = max b.resilience (told t).resilience in
-    if_else (ComesTo p b) (nat_lt (t.core.rules.window + 16 - size names) (top t + 1 - t.core.base)) (ends t b (said.Crowded t.core.base (top t))) (ends (restarted (pushed t (View b.stamp names resilience))) b (said.Decided (top t + 1) names))
+    if_else (ComesTo p b) (nat_lt (t.core.rules.window + 16 - size names) (top t + 1 - t.core.base)) (ends t b (said.Crowded t.core.base (top t)))
+    (ends (restarted (pushed t (View b.stamp names resilience))) b (said.Decided (top t + 1) names))
     (λ t. stays log same)
     (λ f. decided names resilience (ap (λ (l : Log). with_entry l (View b.stamp names resilience)) log) same)
 
@@ -98,7 +102,8 @@ comes_to p b =
 
 -- ---- an entry that comes
 
-fits_above : (image : Image) (stamp : Stamp) (names : List ℕ) (resilience : ℕ) → fits image (View stamp names resilience) ≡ true → stamp_lt image.view stamp ≡ true
+fits_above : (image : Image) (stamp : Stamp) (names : List ℕ) (resilience : ℕ) → fits image (View stamp names resilience) ≡ true
+    → stamp_lt image.view stamp ≡ true
 unfolding fits
 fits_above image stamp names resilience h = (and_both (stamp_lt image.view stamp) _ h).0
 
@@ -115,14 +120,16 @@ differs a b h = split (stamp_eq a b)
     (λ f. f)
 
 -- it stands alone
-came : (name : ℕ) (m : Node) (base : ℕ) (e : Entry) (s : Status) → is_member m.status ≡ true → fits (told m) e ≡ true → Adds name (e ∷ []) m s (pushed (trimmed m base) e).core.log
+came : (name : ℕ) (m : Node) (base : ℕ) (e : Entry) (s : Status) → is_member m.status ≡ true → fits (told m) e ≡ true
+    → Adds name (e ∷ []) m s (pushed (trimmed m base) e).core.log
 came name m base (Data from req body) s member fit = none (λ v. has_view_plain m _ v refl) (view_pushed m _ refl)
 came name m base (Join joiner) s member fit = none (λ v. has_view_plain m _ v refl) (view_pushed m _ refl)
 came name m base (Leave leaver) s member fit = none (λ v. has_view_plain m _ v refl) (view_pushed m _ refl)
 came name m base (View stamp names resilience) s member fit =
     let e = View stamp names resilience in
     let same : view_in (pushed m e).core.log ≡ stamp = view_of_pushed m stamp names resilience in
-    let one : (v : Stamp) → (any_of (e ∷ []) v || stamp_eq (view_in (pushed m e).core.log) v) ≡ stamp_eq (view_in (pushed m e).core.log) v = λ v. ap (λ (u : Stamp). (stamp_eq stamp v || false) || stamp_eq u v) same ∙ twice (stamp_eq stamp v) ∙ ap (λ (u : Stamp). stamp_eq u v) (sym same) in
+    let one : (v : Stamp) → (any_of (e ∷ []) v || stamp_eq (view_in (pushed m e).core.log) v) ≡ stamp_eq (view_in (pushed m e).core.log) v =
+    λ v. ap (λ (u : Stamp). (stamp_eq stamp v || false) || stamp_eq u v) same ∙ twice (stamp_eq stamp v) ∙ ap (λ (u : Stamp). stamp_eq u v) (sym same) in
     last
     (λ v. has_view_more m e v ∙ ap (λ (u : Stamp). has_view m.core.log v || stamp_eq u v) (sym same) ∙ ap (λ b. has_view m.core.log v || b) (sym (one v)))
     (ap (λ (u : Stamp). stamp_lt (view m) u) same ∙ fits_above (told m) stamp names resilience fit)
@@ -130,13 +137,15 @@ came name m base (View stamp names resilience) s member fit =
     (λ f. one)
 
 -- and then a decided View
-came_decided : (name : ℕ) (m : Node) (base : ℕ) (e : Entry) (s : Status) (stamp : Stamp) (names : List ℕ) (resilience : ℕ) → is_member m.status ≡ true → stamp_lt (view m) stamp ≡ true → stamp.by ≡ name
+came_decided : (name : ℕ) (m : Node) (base : ℕ) (e : Entry) (s : Status) (stamp : Stamp) (names : List ℕ) (resilience : ℕ) → is_member m.status ≡ true
+    → stamp_lt (view m) stamp ≡ true → stamp.by ≡ name
     → Adds name (e ∷ []) m s (pushed (pushed (trimmed m base) e) (View stamp names resilience)).core.log
 came_decided name m base e s stamp names resilience member above own =
     let p = pushed m e in
     let d = View stamp names resilience in
     let same : view_in (pushed p d).core.log ≡ stamp = view_of_pushed p stamp names resilience in
-    let by : ((view_in (pushed p d).core.log).by == name) ≡ true = let q : (view_in (pushed p d).core.log).by ≡ name = ap (λ (u : Stamp). u.by) same ∙ own in is_name _ name q in
+    let by : ((view_in (pushed p d).core.log).by == name) ≡ true = let q : (view_in (pushed p d).core.log).by ≡ name = ap (λ (u : Stamp). u.by) same ∙ own in
+    is_name _ name q in
     let up : stamp_lt (view m) (view_in (pushed p d).core.log) ≡ true = ap (λ (u : Stamp). stamp_lt (view m) u) same ∙ above in
     let new = differs (view m) (view_in (pushed p d).core.log) up in
     last
@@ -148,7 +157,9 @@ came_decided name m base e s stamp names resilience member above own =
 
 -- ---- a Piece
 
-fetched_adds : (name : ℕ) (m : Node) (v : Stamp) (base number : ℕ) (e : Entry) (in_ballot : Bool) (then_ : Node → Plan) → (fits (told m) e ≡ true → PlanAdds name (e ∷ []) m (then_ (pushed (trimmed m base) e))) → PlanAdds name (e ∷ []) m (fetched m v base number e in_ballot then_)
+fetched_adds : (name : ℕ) (m : Node) (v : Stamp) (base number : ℕ) (e : Entry) (in_ballot : Bool) (then_ : Node → Plan)
+    → (fits (told m) e ≡ true → PlanAdds name (e ∷ []) m (then_ (pushed (trimmed m base) e)))
+    → PlanAdds name (e ∷ []) m (fetched m v base number e in_ballot then_)
 fetched_adds name m v base number e in_ballot then_ goes =
     let P : Plan → Type 0 = PlanAdds name (e ∷ []) m in
     let q = quietly name (e ∷ []) m in
@@ -159,25 +170,36 @@ fetched_adds name m v base number e in_ballot then_ goes =
     (λ l. if_else P (not (fits (told m) e) || (is_view_past v in_ballot e || not (is_within_bound m (max m.core.base base) number))) _ _ (λ t. q said.Unfit)
     (λ u. goes (not_false _ (or_first (not (fits (told m) e)) _ u)))))))
 
-promised_adds : (name : ℕ) (m : Node) (s : ℕ) (v : Stamp) (base number : ℕ) (e : Entry) → is_member m.status ≡ true → PlanAdds name (e ∷ []) m (piece_promised m s v base number e)
+promised_adds : (name : ℕ) (m : Node) (s : ℕ) (v : Stamp) (base number : ℕ) (e : Entry) → is_member m.status ≡ true
+    → PlanAdds name (e ∷ []) m (piece_promised m s v base number e)
 promised_adds name m s v base number e member =
     if_else (PlanAdds name (e ∷ []) m) (not (v.by == s)) _ _ (λ t. quietly name (e ∷ []) m said.Elsewhere)
     (λ f. fetched_adds name m v base number e false (caught_up s v number) (λ fit. record { stays = refl; adds = came name m base e m.status member fit }))
 
-decided_adds : (name : ℕ) (m : Node) (base : ℕ) (e : Entry) (b : Ballot) (v : Verdict) → ComesTo (pushed (trimmed m base) e) b v → m.core.who ≡ name → is_member m.status ≡ true → IsOpen m.core.who m.core.promise (view m) b → fits (told m) e ≡ true → Adds name (e ∷ []) m v.node.status v.node.core.log
-decided_adds name m base e b v (stays log same) who member open_ fit = subst (Adds name (e ∷ []) m v.node.status) (sym log) (came name m base e v.node.status member fit)
-decided_adds name m base e b v (decided names resilience log same) who member open_ fit = subst (Adds name (e ∷ []) m v.node.status) (sym log) (came_decided name m base e v.node.status b.stamp names resilience member open_.above (open_.own ∙ who))
+decided_adds : (name : ℕ) (m : Node) (base : ℕ) (e : Entry) (b : Ballot) (v : Verdict) → ComesTo (pushed (trimmed m base) e) b v → m.core.who ≡ name
+    → is_member m.status ≡ true → IsOpen m.core.who m.core.promise (view m) b → fits (told m) e ≡ true → Adds name (e ∷ []) m v.node.status v.node.core.log
+decided_adds name m base e b v (stays log same) who member open_ fit =
+    subst (Adds name (e ∷ []) m v.node.status) (sym log) (came name m base e v.node.status member fit)
+decided_adds name m base e b v (decided names resilience log same) who member open_ fit =
+    subst (Adds name (e ∷ []) m v.node.status) (sym log) (came_decided name m base e v.node.status b.stamp names resilience member open_.above (open_.own
+    ∙ who))
 
-piece_for_adds : (name : ℕ) (m : Node) (s : ℕ) (v : Stamp) (base number : ℕ) (e : Entry) (b : Option Ballot) → m.core.who ≡ name → is_member m.status ≡ true → OpenBallot m.core.who m.core.promise (view m) b → PlanAdds name (e ∷ []) m (piece_for m s v base number e b)
+piece_for_adds : (name : ℕ) (m : Node) (s : ℕ) (v : Stamp) (base number : ℕ) (e : Entry) (b : Option Ballot) → m.core.who ≡ name → is_member m.status ≡ true
+    → OpenBallot m.core.who m.core.promise (view m) b → PlanAdds name (e ∷ []) m (piece_for m s v base number e b)
 piece_for_adds name m s v base number e None who member open_ = promised_adds name m s v base number e member
 piece_for_adds name m s v base number e (Some b) who member open_ =
     let P : Plan → Type 0 = PlanAdds name (e ∷ []) m in
     if_else P b.is_over _ _ (λ t. promised_adds name m s v base number e member)
     (λ f. if_else P (not (fetches_from b.answer s)) _ _ (λ t. quietly name (e ∷ []) m said.Elsewhere)
     (λ g. fetched_adds name m v base number e true (fetched_for b)
-    (λ fit. let p = pushed (trimmed m base) e in record { stays = refl; adds = decided_adds name m base e b (decide p b) (comes_to p b) who member (open_ f) fit })))
+    (λ fit. let p = pushed (trimmed m base) e in record {
+      stays = refl;
+      adds =
+          decided_adds name m base e b (decide p b) (comes_to p b) who member (open_ f) fit;
+    })))
 
-pub piece_adds : (name : ℕ) (m : Node) (s : ℕ) (v : Stamp) (base number : ℕ) (e : Entry) → m.core.who ≡ name → Balloted m → PlanAdds name (e ∷ []) m (hear_row m (packet.Piece s v base number e))
+pub piece_adds : (name : ℕ) (m : Node) (s : ℕ) (v : Stamp) (base number : ℕ) (e : Entry) → m.core.who ≡ name → Balloted m
+    → PlanAdds name (e ∷ []) m (hear_row m (packet.Piece s v base number e))
 unfolding hear_row piece_row
 piece_adds name m s v base number e who kept =
     let P : Plan → Type 0 = PlanAdds name (e ∷ []) m in
@@ -188,7 +210,8 @@ piece_adds name m s v base number e who kept =
 
 -- ---- a Result
 
-viewed_adds : (name : ℕ) (m : Node) (stamp : Stamp) (names : List ℕ) (resilience : ℕ) → is_member m.status ≡ true → fits (told m) (View stamp names resilience) ≡ true → Adds name [] m m.status (pushed m (View stamp names resilience)).core.log
+viewed_adds : (name : ℕ) (m : Node) (stamp : Stamp) (names : List ℕ) (resilience : ℕ) → is_member m.status ≡ true
+    → fits (told m) (View stamp names resilience) ≡ true → Adds name [] m m.status (pushed m (View stamp names resilience)).core.log
 viewed_adds name m stamp names resilience member fit =
     let e = View stamp names resilience in
     let same : view_in (pushed m e).core.log ≡ stamp = view_of_pushed m stamp names resilience in
@@ -198,7 +221,8 @@ viewed_adds name m stamp names resilience member fit =
     (λ t. member)
     (λ f v. refl)
 
-promised_result : (name : ℕ) (m : Node) (s : ℕ) (v : Stamp) (base number : ℕ) (names : List ℕ) (resilience : ℕ) → is_member m.status ≡ true → PlanAdds name [] m (hears_result (promised m v) s v base number names resilience)
+promised_result : (name : ℕ) (m : Node) (s : ℕ) (v : Stamp) (base number : ℕ) (names : List ℕ) (resilience : ℕ) → is_member m.status ≡ true
+    → PlanAdds name [] m (hears_result (promised m v) s v base number names resilience)
 promised_result name m s v base number names resilience member =
     let P : Plan → Type 0 = PlanAdds name [] m in
     let p = promised m v in
@@ -208,14 +232,17 @@ promised_result name m s v base number names resilience member =
     (λ g. if_else P (has_own_leave p) _ _ (λ t. record { stays = refl; adds = none (λ u. refl) refl })
     (λ k. if_else P (nat_lt (top p + 1) number) _ _ (λ t. record { stays = refl; adds = none (λ u. refl) refl })
     (λ l. if_else P (nat_lt p.core.taken base) _ _ (λ t. record { stays = refl; adds = none (λ u. refl) refl })
-    (λ q. if_else P (not (fits (told p) e) || not (is_within_bound p (max p.core.base base) number)) _ _ (λ t. record { stays = refl; adds = none (λ u. refl) refl })
+    (λ q. if_else P (not (fits (told p) e) || not (is_within_bound p (max p.core.base base) number)) _ _
+    (λ t. record { stays = refl; adds = none (λ u. refl) refl })
     (λ u. record { stays = refl; adds = viewed_adds name m v names resilience member (not_false _ (or_first (not (fits (told p) e)) _ u)) }))))))
 
-pub result_adds : (name : ℕ) (m : Node) (s : ℕ) (v : Stamp) (base number : ℕ) (names : List ℕ) (resilience : ℕ) → PlanAdds name [] m (hear_row m (packet.Result s v base number names resilience))
+pub result_adds : (name : ℕ) (m : Node) (s : ℕ) (v : Stamp) (base number : ℕ) (names : List ℕ) (resilience : ℕ)
+    → PlanAdds name [] m (hear_row m (packet.Result s v base number names resilience))
 unfolding hear_row result_row
 result_adds name m s v base number names resilience =
     let P : Plan → Type 0 = PlanAdds name [] m in
     if_else P (hears_member m s && (v.by == s)) _ _
     (λ t. if_else P ((v.by == m.core.who) || stamp_lt v m.core.promise) _ _ (λ u. quietly name [] m said.Elsewhere)
-    (λ f. promised_result name m s v base number names resilience (and_both (not (s == m.core.who)) (is_member m.status) (and_both (hears_member m s) (v.by == s) t).0).1))
+    (λ f. promised_result name m s v base number names resilience
+    (and_both (not (s == m.core.who)) (is_member m.status) (and_both (hears_member m s) (v.by == s) t).0).1))
     (λ f. quietly name [] m said.Elsewhere)

@@ -1,5 +1,6 @@
 -- Which Views a step of any cause adds to a node's list, and that these are what a watcher is told.
-use Rattle.std.proofs.Common.{◌≡◌, ℕ, ◌&&◌, ◌||◌, not, if◌then◌else◌, Bool, true, false, List, [], ◌∷◌, ◌++◌, Option, Some, None, Ok, Err, refl, sym, ap, ◌∙◌, arith}
+use Rattle.std.proofs.Common.{◌≡◌, ℕ, ◌&&◌, ◌||◌, not, if◌then◌else◌, Bool, true, false, List, [], ◌∷◌, ◌++◌, Option, Some, None, Ok, Err, refl, sym, ap, ◌∙◌}
+use Rattle.std.proofs.Common.{arith}
 use Rattle.std.specs.List.{list_any}
 use Rattle.std.proofs.lemmas.Bool.Decides.{nat_tests}
 use Rattle.std.proofs.lemmas.List.Folds.{list_any-append}
@@ -10,7 +11,8 @@ use Rattle.am_base.specs.declared.event.NodeEvent.{NodeEvent}
 use Rattle.am_base.specs.declared.event.NodeEvent.TheVariants as does
 use Rattle.am_base.specs.Stamps.{stamp_eq}
 use Rattle.am_packet.specs.declared.packet.Packet.{Packet}
-use Rattle.am_packet.specs.declared.packet.Packet.TheVariants.{Request, Spread, Bcast, Order, Accept, Ack, Nack, Hold, JoinAsk, Welcome, LeaveAsk, Gone, Invite, Vote, Fetch, Piece, Result, HandOver}
+use Rattle.am_packet.specs.declared.packet.Packet.TheVariants.{Request, Spread, Bcast, Order, Accept, Ack, Nack, Hold, JoinAsk, Welcome, LeaveAsk, Gone, Invite}
+use Rattle.am_packet.specs.declared.packet.Packet.TheVariants.{Vote, Fetch, Piece, Result, HandOver}
 use Rattle.am_codec.specs.Reading.{Read, reading, cause_of}
 use Rattle.am_model.specs.declared.status.Status.{Status}
 use Rattle.am_model.specs.declared.status.Status.TheVariants as status
@@ -57,7 +59,8 @@ brings_none c f = record {
 }
 
 plain_adds : (name : ℕ) (m : Node) (c : Cause) (s : Step) → may_bring c ≡ false → Balloted m → IsBare m → Effect m c s → StepAdds name [] m s
-plain_adds name m c s plain kept bare effect = walk_adds name m s.node bare (walked m s.node (brings_none c plain) kept.high (above_opened m.core.who m.core.promise (view m) m.ballot kept.opened) effect.changes)
+plain_adds name m c s plain kept bare effect = walk_adds name m s.node bare
+    (walked m s.node (brings_none c plain) kept.high (above_opened m.core.who m.core.promise (view m) m.ballot kept.opened) effect.changes)
 
 -- ---- each cause
 
@@ -81,14 +84,18 @@ hear_adds name m (Gone s v number) who kept bare = packet_adds name m _ refl kep
 hear_adds name m (Invite s v) who kept bare = packet_adds name m _ refl kept bare
 hear_adds name m (Vote s v vote) who kept bare = packet_adds name m _ refl kept bare
 hear_adds name m (Fetch s v stored) who kept bare = packet_adds name m _ refl kept bare
-hear_adds name m (Piece s v base number e) who kept bare = finish_adds name (e ∷ []) m (hear_row m (Piece s v base number e)) (piece_adds name m s v base number e who kept)
-hear_adds name m (Result s v base number names resilience) who kept bare = finish_adds name [] m (hear_row m (Result s v base number names resilience)) (result_adds name m s v base number names resilience)
+hear_adds name m (Piece s v base number e) who kept bare = finish_adds name (e ∷ []) m (hear_row m (Piece s v base number e))
+    (piece_adds name m s v base number e who kept)
+hear_adds name m (Result s v base number names resilience) who kept bare =
+    finish_adds name [] m (hear_row m (Result s v base number names resilience)) (result_adds name m s v base number names resilience)
 hear_adds name m (HandOver s v) who kept bare = packet_adds name m _ refl kept bare
 
-read_adds : (name : ℕ) (m : Node) (r : Read Packet) → m.core.who ≡ name → Balloted m → IsBare m → StepAdds name (one_of (fetched_from r)) m (finish m (read_row m r))
+read_adds : (name : ℕ) (m : Node) (r : Read Packet) → m.core.who ≡ name → Balloted m → IsBare m
+    → StepAdds name (one_of (fetched_from r)) m (finish m (read_row m r))
 unfolding hear refused
 read_adds name m (Ok p) who kept bare = hear_adds name m p who kept bare
-read_adds name m (Err refusal) who kept bare = plain_adds name m refuses (refused m (cause_of refusal)) refl kept bare (refusing_has_effects m (cause_of refusal))
+read_adds name m (Err refusal) who kept bare = plain_adds name m refuses (refused m (cause_of refusal)) refl kept bare
+    (refusing_has_effects m (cause_of refusal))
 
 pub step_adds : (name : ℕ) (m : Node) (what : NodeEvent) → m.core.who ≡ name → Balloted m → IsBare m → StepAdds name (one_of (fetched what)) m (step m what)
 unfolding step row
@@ -98,7 +105,8 @@ step_adds name m does.Take who kept bare = plain_adds name m _ (step m does.Take
 step_adds name m does.Join who kept bare = plain_adds name m _ (step m does.Join) refl kept bare (steps_have_effects m does.Join)
 step_adds name m does.State who kept bare = plain_adds name m _ (step m does.State) refl kept bare (steps_have_effects m does.State)
 step_adds name m does.Leave who kept bare = plain_adds name m _ (step m does.Leave) refl kept bare (steps_have_effects m does.Leave)
-step_adds name m (does.Reset least resilience) who kept bare = plain_adds name m _ (step m (does.Reset least resilience)) refl kept bare (steps_have_effects m (does.Reset least resilience))
+step_adds name m (does.Reset least resilience) who kept bare =
+    plain_adds name m _ (step m (does.Reset least resilience)) refl kept bare (steps_have_effects m (does.Reset least resilience))
 step_adds name m (does.Ask round) who kept bare = plain_adds name m _ (step m (does.Ask round)) refl kept bare (steps_have_effects m (does.Ask round))
 step_adds name m (does.GiveUp other) who kept bare = plain_adds name m _ (step m (does.GiveUp other)) refl kept bare (steps_have_effects m (does.GiveUp other))
 step_adds name m does.Tick who kept bare = plain_adds name m _ (step m does.Tick) refl kept bare (steps_have_effects m does.Tick)
@@ -135,8 +143,10 @@ pub told_is : (name : ℕ) (m n : Node) (what : NodeEvent) (v : Stamp) → Adds 
     → has_view n.core.log v ≡ (has_view m.core.log v || any_of (stored_of name (standing_of m) (standing_of n) (view_of n) what) v)
 told_is name m n what v (none views same) =
     let old = has_view m.core.log v in
-    let told : Bool → List Entry = λ b. if b then [] else (if decides (standing_of m) name (standing_of n) then one_of (fetched what) else []) ++ last_view (view_of n) ∷ [] in
-    let is : (begins (standing_of m) n.status || stamp_eq (view m) (view n)) ≡ true = or_true (begins (standing_of m) n.status) _ (ap (stamp_eq (view m)) same ∙ itself (view m)) in
+    let told : Bool → List Entry = λ b. if b then [] else (if decides (standing_of m) name (standing_of n) then one_of (fetched what) else [])
+    ++ last_view (view_of n) ∷ [] in
+    let is : (begins (standing_of m) n.status || stamp_eq (view m) (view n)) ≡ true =
+    or_true (begins (standing_of m) n.status) _ (ap (stamp_eq (view m)) same ∙ itself (view m)) in
     views v ∙ sym (or_none old) ∙ ap (λ b. old || any_of (told b) v) (sym is)
 told_is name m n what v (last views above member absorbed) =
     let old = has_view m.core.log v in
@@ -146,13 +156,17 @@ told_is name m n what v (last views above member absorbed) =
     let with_ : Bool → List Entry = λ d. (if d then es else []) ++ l ∷ [] in
     let d = decides (standing_of m) name (standing_of n) in
     let told : Bool → List Entry = λ b. if b then [] else with_ d in
-    let is : (begins (standing_of m) n.status || stamp_eq (view m) (view n)) ≡ false = both_false (begins (standing_of m) n.status) _ (not_begun (has_log m.status) (is_member n.status) (λ t. log_of_member m.status (member t))) (differs (view m) (view n) above) in
+    let is : (begins (standing_of m) n.status || stamp_eq (view m) (view n)) ≡ false =
+    both_false (begins (standing_of m) n.status) _ (not_begun (has_log m.status) (is_member n.status) (λ t. log_of_member m.status (member t)))
+    (differs (view m) (view n) above) in
     let all : (any_of es v || same) ≡ any_of (with_ d) v = split d
     (λ t. ap (λ b. any_of es v || b) (sym (or_none same)) ∙ sym (list_any-append (is_view_of v) es (l ∷ [])) ∙ ap (λ b. any_of (with_ b) v) (sym t))
     (λ f. absorbed f v ∙ sym (or_none same) ∙ ap (λ b. any_of (with_ b) v) (sym f)) in
     views v ∙ ap (λ b. old || b) all ∙ ap (λ b. old || any_of (told b) v) (sym is)
 told_is name m n what v (began views bare was is_) =
     let old = has_view m.core.log v in
-    let told : Bool → List Entry = λ b. if b then [] else (if decides (standing_of m) name (standing_of n) then one_of (fetched what) else []) ++ last_view (view_of n) ∷ [] in
-    let is : (begins (standing_of m) n.status || stamp_eq (view m) (view n)) ≡ true = first_true (begins (standing_of m) n.status) _ (just_begun (has_log m.status) (is_member n.status) was is_) in
+    let told : Bool → List Entry = λ b. if b then [] else (if decides (standing_of m) name (standing_of n) then one_of (fetched what) else [])
+    ++ last_view (view_of n) ∷ [] in
+    let is : (begins (standing_of m) n.status || stamp_eq (view m) (view n)) ≡ true =
+    first_true (begins (standing_of m) n.status) _ (just_begun (has_log m.status) (is_member n.status) was is_) in
     views v ∙ sym (bare v) ∙ sym (or_none old) ∙ ap (λ b. old || any_of (told b) v) (sym is)

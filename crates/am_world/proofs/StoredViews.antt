@@ -1,5 +1,6 @@
 -- Which Views the changes of a step add to a node's list.
-use Rattle.std.proofs.Common.{◌≡◌, ℕ, ◌+◌, ◌≤◌, ◌==◌, ◌&&◌, ◌||◌, not, nat_lt, Bool, true, false, List, [], ◌∷◌, length, Option, Some, None, refl, sym, ap, ◌∙◌, subst, arith, length-append}
+use Rattle.std.proofs.Common.{◌≡◌, ℕ, ◌+◌, ◌≤◌, ◌==◌, ◌&&◌, ◌||◌, not, nat_lt, Bool, true, false, List, [], ◌∷◌, length, Option, Some, None, refl, sym, ap, ◌∙◌}
+use Rattle.std.proofs.Common.{subst, arith, length-append}
 use Rattle.std.specs.List.{list_any}
 use Rattle.std.proofs.lemmas.Bool.Decides.{nat_tests}
 use Rattle.std.proofs.lemmas.List.Folds.{list_any-append}
@@ -22,8 +23,11 @@ use Rattle.am_model.specs.Group.{has_log}
 use Rattle.am_model.specs.Lawful.{is_view_of}
 use Rattle.am_model.proofs.Greatest.{split, and_both}
 use Rattle.am_effects.specs.Causes.{Cause, hears}
-use Rattle.am_effects.specs.Looks.{HasOpen, Balloting, with_more, without_one, as_it_is, Looks, finds_itself_out, waits, fetches_from_best, finds_too_few, finds_no_room, decides, BeginsBy, by_reset, by_hand_over}
-use Rattle.am_effects.specs.Changes.{Promises, invited, overtaken as overtaken_by, told_result, Numbers, asked_send, own_send, asked_join, asked_leave, MayBeWelcomed, Change, refreshes, settles, takes_report, admits, numbers, keeps_body, notes, stores, begins_list, departs, promises, opens, looks, fetches, stores_view, queues, collects, takes, asks_to_join, asks_to_leave, closes, Changes}
+use Rattle.am_effects.specs.Looks.{HasOpen, Balloting, with_more, without_one, as_it_is, Looks, finds_itself_out, waits, fetches_from_best, finds_too_few}
+use Rattle.am_effects.specs.Looks.{finds_no_room, decides, BeginsBy, by_reset, by_hand_over}
+use Rattle.am_effects.specs.Changes.{Promises, invited, overtaken as overtaken_by, told_result, Numbers, asked_send, own_send, asked_join, asked_leave}
+use Rattle.am_effects.specs.Changes.{MayBeWelcomed, Change, refreshes, settles, takes_report, admits, numbers, keeps_body, notes, stores, begins_list, departs}
+use Rattle.am_effects.specs.Changes.{promises, opens, looks, fetches, stores_view, queues, collects, takes, asks_to_join, asks_to_leave, closes, Changes}
 use Rattle.am_effects.proofs.Tests.{not_true}
 use Rattle.am_effects.proofs.Rests.{rests_refresh, rests_at_end, settle_is}
 use Rattle.am_effects.proofs.Says.{told_pushed, view_pushed}
@@ -62,7 +66,8 @@ pub has_view_plain : (m : Node) (e : Entry) (v : Stamp) → is_view e ≡ false 
 has_view_plain m e v plain = has_view_more m e v ∙ ap (λ b. has_view m.core.log v || b) (plain_is_none v e plain) ∙ or_none (has_view m.core.log v)
 
 pub view_of_pushed : (m : Node) (stamp : Stamp) (names : List ℕ) (resilience : ℕ) → view (pushed m (View stamp names resilience)) ≡ stamp
-view_of_pushed m stamp names resilience = ap (λ (i : Image). i.view) (told_pushed m (View stamp names resilience)) ∙ (viewed (told m) (top m + 1) stamp names resilience).1
+view_of_pushed m stamp names resilience = ap (λ (i : Image). i.view) (told_pushed m (View stamp names resilience))
+    ∙ (viewed (told m) (top m + 1) stamp names resilience).1
 
 numbers_plain : (c : Cause) (m : Node) (e : Entry) → Numbers c m e → is_view e ≡ false
 numbers_plain c m e (asked_send s v report req body by known stays next) = refl
@@ -132,7 +137,8 @@ still_same m x y stays promise log ballot h = record {
   bare = λ f. h.bare (ap has_log (sym stays) ∙ f);
 }
 
-still_plain : (m x y : Node) (e : Entry) → is_view e ≡ false → y.status ≡ x.status → y.core.promise ≡ x.core.promise → y.core.log ≡ (pushed x e).core.log → y.ballot ≡ x.ballot → Still m x → Still m y
+still_plain : (m x y : Node) (e : Entry) → is_view e ≡ false → y.status ≡ x.status → y.core.promise ≡ x.core.promise → y.core.log ≡ (pushed x e).core.log
+    → y.ballot ≡ x.ballot → Still m x → Still m y
 still_plain m x y e plain stays promise log ballot h =
     let p = pushed x e in
     let k : Still m p = record {
@@ -172,7 +178,8 @@ above_looked m x b (with_more old s v shown is by low high open_ same stays) h =
 above_looked m x b (without_one old name is open_ other) h = above_last m x old open_ h
 above_looked m x b (as_it_is old open_ on) h = above_last m x old open_ h
 
-still_ballot : (m x y : Node) → y.status ≡ x.status → y.core.promise ≡ x.core.promise → y.core.log ≡ x.core.log → IsAbove (view x) y.ballot → Still m x → Still m y
+still_ballot : (m x y : Node) → y.status ≡ x.status → y.core.promise ≡ x.core.promise → y.core.log ≡ x.core.log → IsAbove (view x) y.ballot → Still m x
+    → Still m y
 still_ballot m x y stays promise log opened h = record {
   views = λ v. ap (λ (l : Log). has_view l v) log ∙ h.views v;
   same = ap view_in log ∙ h.same;
@@ -182,7 +189,8 @@ still_ballot m x y stays promise log opened h = record {
   bare = λ f. h.bare (ap has_log (sym stays) ∙ f);
 }
 
-look_still : {c : Cause} (o : Outcome) (m x : Node) (b : Ballot) (v : Verdict) → Looks x b v → o ≡ v.outcome → stamp_lt (view x) b.stamp ≡ true → Still m x → Walked c o m v.node
+look_still : {c : Cause} (o : Outcome) (m x : Node) (b : Ballot) (v : Verdict) → Looks x b v → o ≡ v.outcome → stamp_lt (view x) b.stamp ≡ true → Still m x
+    → Walked c o m v.node
 look_still o m x b v (finds_itself_out y) is up h = still (still_ballot m x v.node refl refl refl (λ over. absurd (cc)) h)
 look_still o m x b v (waits y z) is up h = still (still_ballot m x v.node refl refl refl (λ over. up) h)
 look_still o m x b v (fetches_from_best y z u) is up h = still (still_ballot m x v.node refl refl refl (λ over. up) h)
@@ -202,7 +210,8 @@ look_still o m x b v (decides may) is up h =
       low = simp length-append (omega arith);
     })
 
-welcomed_still : {c : Cause} {o : Outcome} (m x : Node) (s : ℕ) (v : Stamp) (base join : ℕ) (image : Image) → c ≡ hears (packet.Welcome s v base join image) → o ≡ said.Welcomed join → MayBeWelcomed x s v base join image → Still m x → Walked c o m (begun x v base join image)
+welcomed_still : {c : Cause} {o : Outcome} (m x : Node) (s : ℕ) (v : Stamp) (base join : ℕ) (image : Image) → c ≡ hears (packet.Welcome s v base join image)
+    → o ≡ said.Welcomed join → MayBeWelcomed x s v base join image → Still m x → Walked c o m (begun x v base join image)
 welcomed_still m x s v base join image is o may h =
     let asks = may.asks in
     let other = not_true (s == x.core.who) (and_both (not (s == x.core.who)) _ asks).0 in
@@ -223,7 +232,9 @@ welcomed_still m x s v base join image is o may h =
 
 change_still : {c : Cause} {o : Outcome} (m x y : Node) → BringsNone c → Change c o x y → Still m x → Walked c o m y
 change_still m x y brings refreshes h = let r = rests_refresh x in still (still_same m x (refresh x) r.rests.status r.rests.promise r.log r.rests.ballot h)
-change_still m x y brings settles h = let e = settle_is x in still (still_same m x (settle x) (ap (λ (n : Node). n.status) e) (ap (λ (n : Node). n.core.promise) e) (ap (λ (n : Node). n.core.log) e) (ap (λ (n : Node). n.ballot) e) h)
+change_still m x y brings settles h = let e = settle_is x in
+    still (still_same m x (settle x) (ap (λ (n : Node). n.status) e) (ap (λ (n : Node). n.core.promise) e) (ap (λ (n : Node). n.core.log) e)
+    (ap (λ (n : Node). n.ballot) e) h)
 change_still m x y brings (takes_report s v report by may) h = still (still_same m x y refl refl refl refl h)
 change_still m x y brings (admits s v is leads fit) h = still (still_same m x y refl refl refl refl h)
 change_still {c} m x y brings (numbers e leads room why) h = still (still_plain m x y e (numbers_plain c x e why) refl refl refl refl h)
@@ -252,7 +263,8 @@ change_still m x y brings (opens least resilience by may) h =
     })
 change_still {c} {o} m x y brings (looks b verdict over why look is) h = look_still o m x b verdict look is (above_looked m x b why h) h
 change_still m x y brings (fetches s v base number e is by promise below from may) h = absurd (brings.pieces s v base number e is)
-change_still m x y brings (stores_view s v base number names resilience is by own other promise below may) h = absurd (brings.results s v base number names resilience is)
+change_still m x y brings (stores_view s v base number names resilience is by own other promise below may) h =
+    absurd (brings.results s v base number names resilience is)
 change_still m x y brings (queues body is o member stays few) h = still (still_same m x y refl refl refl refl h)
 change_still m x y brings (collects req is) h = still (still_same m x y refl refl refl refl h)
 change_still m x y brings (takes e is o member some there) h = still (still_same m x y refl refl refl refl h)
@@ -284,7 +296,8 @@ more_same o m x y stays log h = record {
   low = subst (λ (l : Log). h.number ≤ l.start + length l.entries) (sym log) h.low;
 }
 
-more_plain : (o : Outcome) (m x y : Node) (e : Entry) → is_view e ≡ false → (is_member y.status ≡ true → is_member x.status ≡ true) → y.core.log ≡ (pushed x e).core.log → OneMore o m x → OneMore o m y
+more_plain : (o : Outcome) (m x y : Node) (e : Entry) → is_view e ≡ false → (is_member y.status ≡ true → is_member x.status ≡ true)
+    → y.core.log ≡ (pushed x e).core.log → OneMore o m x → OneMore o m y
 more_plain o m x y e plain stays log h =
     let p = pushed x e in
     let k : OneMore o m p = record {
@@ -312,7 +325,8 @@ look_more o m x b v (decides may) is h = absurd (
 
 change_more : {c : Cause} {o : Outcome} (m x y : Node) → BringsNone c → Change c o x y → OneMore o m x → OneMore o m y
 change_more {c} {o} m x y brings refreshes h = let r = rests_refresh x in more_same o m x (refresh x) (λ t. ap is_member (sym r.rests.status) ∙ t) r.log h
-change_more {c} {o} m x y brings settles h = let e = settle_is x in more_same o m x (settle x) (λ t. ap (λ (n : Node). is_member n.status) (sym e) ∙ t) (ap (λ (n : Node). n.core.log) e) h
+change_more {c} {o} m x y brings settles h = let e = settle_is x in
+    more_same o m x (settle x) (λ t. ap (λ (n : Node). is_member n.status) (sym e) ∙ t) (ap (λ (n : Node). n.core.log) e) h
 change_more {c} {o} m x y brings (takes_report s v report by may) h = more_same o m x y (λ t. t) refl h
 change_more {c} {o} m x y brings (admits s v is leads fit) h = more_same o m x y (λ t. t) refl h
 change_more {c} {o} m x y brings (numbers e leads room why) h = more_plain o m x y e (numbers_plain c x e why) (λ t. t) refl h
@@ -325,7 +339,8 @@ change_more {c} {o} m x y brings (promises v low why) h = more_same o m x y (λ 
 change_more {c} {o} m x y brings (opens least resilience by may) h = more_same o m x y (λ t. t) refl h
 change_more {c} {o} m x y brings (looks b verdict over why look is) h = look_more o m x b verdict look is h
 change_more {c} {o} m x y brings (fetches s v base number e is by promise below from may) h = absurd (brings.pieces s v base number e is)
-change_more {c} {o} m x y brings (stores_view s v base number names resilience is by own other promise below may) h = absurd (brings.results s v base number names resilience is)
+change_more {c} {o} m x y brings (stores_view s v base number names resilience is by own other promise below may) h =
+    absurd (brings.results s v base number names resilience is)
 change_more {c} {o} m x y brings (queues body is says member stays few) h = more_same o m x y (λ t. t) refl h
 change_more {c} {o} m x y brings (collects req is) h = more_same o m x y (λ t. t) refl h
 change_more {c} {o} m x y brings (takes e is says member some there) h = more_same o m x y (λ t. t) refl h
@@ -338,7 +353,8 @@ change_more {c} {o} m x y brings (closes leads leaves alone room) h =
 
 -- ---- a list that has begun
 
-new_same : (c : Cause) (o : Outcome) (m x y : Node) → y.core.who ≡ x.core.who → y.status ≡ x.status → y.core.promise ≡ x.core.promise → ((v : Stamp) → has_view y.core.log v ≡ has_view x.core.log v) → Begun c o m x → Begun c o m y
+new_same : (c : Cause) (o : Outcome) (m x y : Node) → y.core.who ≡ x.core.who → y.status ≡ x.status → y.core.promise ≡ x.core.promise
+    → ((v : Stamp) → has_view y.core.log v ≡ has_view x.core.log v) → Begun c o m x → Begun c o m y
 new_same c o m x y who stays promise log h = record {
   views = λ v. log v ∙ h.views v;
   bare = h.bare;
@@ -381,8 +397,11 @@ leads_new c o m x leads h = absurd (
     cc)
 
 change_new : {c : Cause} {o : Outcome} (m x y : Node) → BringsNone c → Change c o x y → Begun c o m x → Begun c o m y
-change_new {c} {o} m x y brings refreshes h = let r = rests_refresh x in new_same c o m x (refresh x) r.rests.who r.rests.status r.rests.promise (λ v. ap (λ (l : Log). has_view l v) r.log) h
-change_new {c} {o} m x y brings settles h = let e = settle_is x in new_same c o m x (settle x) (ap (λ (n : Node). n.core.who) e) (ap (λ (n : Node). n.status) e) (ap (λ (n : Node). n.core.promise) e) (λ v. ap (λ (n : Node). has_view n.core.log v) e) h
+change_new {c} {o} m x y brings refreshes h = let r = rests_refresh x in
+    new_same c o m x (refresh x) r.rests.who r.rests.status r.rests.promise (λ v. ap (λ (l : Log). has_view l v) r.log) h
+change_new {c} {o} m x y brings settles h = let e = settle_is x in
+    new_same c o m x (settle x) (ap (λ (n : Node). n.core.who) e) (ap (λ (n : Node). n.status) e) (ap (λ (n : Node). n.core.promise) e)
+    (λ v. ap (λ (n : Node). has_view n.core.log v) e) h
 change_new {c} {o} m x y brings (takes_report s v report by may) h = new_same c o m x y refl refl refl (λ v. refl) h
 change_new {c} {o} m x y brings (admits s v is leads fit) h = new_same c o m x y refl refl refl (λ v. refl) h
 change_new {c} {o} m x y brings (numbers e leads room why) h = new_same c o m x y refl refl refl (λ v. has_view_plain x e v (numbers_plain c x e why)) h
@@ -395,7 +414,8 @@ change_new {c} {o} m x y brings (promises v low why) h = promises_new c o m x v 
 change_new {c} {o} m x y brings (opens least resilience by may) h = opens_new c o m x by h
 change_new {c} {o} m x y brings (looks b verdict over why look is) h = look_new c o m x b verdict look is h
 change_new {c} {o} m x y brings (fetches s v base number e is by promise below from may) h = absurd (brings.pieces s v base number e is)
-change_new {c} {o} m x y brings (stores_view s v base number names resilience is by own other promise below may) h = absurd (brings.results s v base number names resilience is)
+change_new {c} {o} m x y brings (stores_view s v base number names resilience is by own other promise below may) h =
+    absurd (brings.results s v base number names resilience is)
 change_new {c} {o} m x y brings (queues body is says member stays few) h = new_same c o m x y refl refl refl (λ v. refl) h
 change_new {c} {o} m x y brings (collects req is) h = new_same c o m x y refl refl refl (λ v. refl) h
 change_new {c} {o} m x y brings (takes e is says member some there) h = new_same c o m x y refl refl refl (λ v. refl) h
@@ -410,5 +430,7 @@ change_walked m x y brings one (still h) = change_still m x y brings one h
 change_walked m x y brings one (more h) = more (change_more m x y brings one h)
 change_walked m x y brings one (new h) = new (change_new m x y brings one h)
 
-pub walked : {c : Cause} {o : Outcome} (m n : Node) → BringsNone c → stamp_lt m.core.promise (view m) ≡ false → IsAbove (view m) m.ballot → Changes c o m n → Walked c o m n
-walked {c} {o} m n brings high opened all = along (Walked c o m) (λ x y one h. change_walked m x y brings one h) all (still (record { views = λ v. refl; same = refl; high = high; opened = opened; member = λ t. t; bare = λ f. f }))
+pub walked : {c : Cause} {o : Outcome} (m n : Node) → BringsNone c → stamp_lt m.core.promise (view m) ≡ false → IsAbove (view m) m.ballot → Changes c o m n
+    → Walked c o m n
+walked {c} {o} m n brings high opened all = along (Walked c o m) (λ x y one h. change_walked m x y brings one h) all
+    (still (record { views = λ v. refl; same = refl; high = high; opened = opened; member = λ t. t; bare = λ f. f }))

@@ -1,5 +1,6 @@
 -- What a watcher is told, one after another.
-use Rattle.std.proofs.Common.{◌≡◌, ℕ, ◌+◌, ◌-◌, ◌<◌, ◌≤◌, ◌||◌, Bool, true, false, List, [], ◌∷◌, ◌++◌, length, take, drop, map, slice_index_or, get_or, if◌then◌else◌, Option, Some, None, refl, sym, ap, ◌∙◌, arith}
+use Rattle.std.proofs.Common.{◌≡◌, ℕ, ◌+◌, ◌-◌, ◌<◌, ◌≤◌, ◌||◌, Bool, true, false, List, [], ◌∷◌, ◌++◌, length, take, drop, map, slice_index_or, get_or}
+use Rattle.std.proofs.Common.{if◌then◌else◌, Option, Some, None, refl, sym, ap, ◌∙◌, arith}
 use Rattle.std.proofs.lemmas.List.{get_or-drop, length-take, take_more, take_all}
 use Rattle.std.proofs.Common.{length-drop}
 use Rattle.am_base.specs.declared.entry.Entry.{Entry}
@@ -28,14 +29,17 @@ entries_one k name e = entries_go_on k name [] e ∙ ap (λ q. with_entry q name
 pub ruleset entry_laws = (entries_none, entries_one)
 
 -- the last View of those that were stored
-pub views_more : (k stored : Watching) (name : ℕ) (begun same : Bool) (earlier found : List Entry) (last e : Entry) → begun ≡ false → same ≡ false → found ≡ earlier → e ≡ last → stored ≡ with_entries k name found
+pub views_more : (k stored : Watching) (name : ℕ) (begun same : Bool) (earlier found : List Entry) (last e : Entry) → begun ≡ false → same ≡ false
+    → found ≡ earlier → e ≡ last → stored ≡ with_entries k name found
     → with_entry stored name e ≡ with_entries k name (if begun || same then [] else earlier ++ last ∷ [])
 views_more k stored name begun same earlier found last e begins_no other is ends was =
     let neither : (begun || same) ≡ false = ap (λ b. b || same) begins_no ∙ other in
-    ap (λ q. with_entry q name e) (was ∙ ap (with_entries k name) is) ∙ ap (with_entry (with_entries k name earlier) name) ends ∙ sym (entries_go_on k name earlier last)
+    ap (λ q. with_entry q name e) (was ∙ ap (with_entries k name) is) ∙ ap (with_entry (with_entries k name earlier) name) ends
+    ∙ sym (entries_go_on k name earlier last)
     ∙ ap (λ b. with_entries k name (if b then [] else earlier ++ last ∷ [])) (sym neither)
 
-pub views_new : (k : Watching) (name : ℕ) (begun same : Bool) (es : List Entry) → begun ≡ false → same ≡ false → with_entries k name es ≡ with_entries k name (if begun || same then [] else es)
+pub views_new : (k : Watching) (name : ℕ) (begun same : Bool) (es : List Entry) → begun ≡ false → same ≡ false
+    → with_entries k name es ≡ with_entries k name (if begun || same then [] else es)
 views_new k name begun same es begins_no other = ap (λ b. with_entries k name (if b then [] else es)) (sym (ap (λ b. b || same) begins_no ∙ other))
 
 pub views_none : (k : Watching) (name : ℕ) (b : Bool) (es : List Entry) → b ≡ true → k ≡ with_entries k name (if b then [] else es)
@@ -65,7 +69,8 @@ part group known index = take (index - known) (drop known group)
 pub accepted_start : (k : Watching) (number : ℕ) (group : List Entry) (known : ℕ) → k ≡ accepted k number (part group known known)
 accepted_start k number group known = let none : known - known ≡ 0 = omega arith in rw none (sym (accepted_none k number))
 
-pub accepted_next : (k now : Watching) (group : List Entry) (known index : ℕ) (e : Entry) → known ≤ index → index < length group → e ≡ get_or group index e → now ≡ accepted k (known + 1) (part group known index) → accepted now (index + 1) (e ∷ []) ≡ accepted k (known + 1) (part group known (index + 1))
+pub accepted_next : (k now : Watching) (group : List Entry) (known index : ℕ) (e : Entry) → known ≤ index → index < length group → e ≡ get_or group index e
+    → now ≡ accepted k (known + 1) (part group known index) → accepted now (index + 1) (e ∷ []) ≡ accepted k (known + 1) (part group known (index + 1))
 accepted_next k now group known index e low high is was =
     let rest = drop known group in
     let i = index - known in
@@ -79,17 +84,21 @@ accepted_next k now group known index e low high is was =
     ∙ sym (accepted_goes_on k (known + 1) (part group known index) (e ∷ []))
     ∙ ap (accepted k (known + 1)) (sym (ap (λ j. take j rest) one_more ∙ take_more rest i e within ∙ ap (λ x. take i rest ++ x ∷ []) there))
 
-pub accepted_all : (k : Watching) (group : List Entry) (known index : ℕ) → length group ≤ index → accepted k (known + 1) (part group known index) ≡ accepted k (known + 1) (drop known group)
+pub accepted_all : (k : Watching) (group : List Entry) (known index : ℕ) → length group ≤ index
+    → accepted k (known + 1) (part group known index) ≡ accepted k (known + 1) (drop known group)
 accepted_all k group known index high = ap (accepted k (known + 1)) (take_all (index - known) (drop known group) (simp length-drop (omega arith)))
 
 -- ---- a step
 
 abbrev told : Watching → ℕ → Node → NodeEvent → ℕ → List Entry → Standing → Standing → DecidedView → Watching
-told k name n what number more before after v = accepted (finished (with_entries (with_decided k name after v) name (stored_of name before after v what)) name after) number more
+told k name n what number more before after v = accepted (finished
+    (with_entries (with_decided k name after v) name (stored_of name before after v what)) name after) number more
 
-pub noted_is : (k decided_ stored_ finished_ new : Watching) (name : ℕ) (n : Node) (what : NodeEvent) (number : ℕ) (more : List Entry) (before after : Standing) (v : DecidedView)
+pub noted_is : (k decided_ stored_ finished_ new : Watching) (name : ℕ) (n : Node) (what : NodeEvent) (number : ℕ) (more : List Entry) (before after : Standing)
+    (v : DecidedView)
     → before ≡ standing k name → after ≡ standing_after before n → v ≡ view_of n
-    → decided_ ≡ with_decided k name after v → stored_ ≡ with_entries decided_ name (stored_of name before after v what) → finished_ ≡ finished stored_ name after → new ≡ accepted finished_ number more
+    → decided_ ≡ with_decided k name after v → stored_ ≡ with_entries decided_ name (stored_of name before after v what)
+    → finished_ ≡ finished stored_ name after → new ≡ accepted finished_ number more
     → new ≡ told_step k name n what number more
 unfolding told_step
 noted_is k decided_ stored_ finished_ new name n what number more before after v was stands ends d s f a =

@@ -1,5 +1,6 @@
 -- What an event asks of its name's node, or how it is answered without one.
-use Rattle.std.specs.Prelude.{◌≡◌, ℕ, ◌+◌, ◌≤◌, List, [], ◌∷◌, ◌++◌, take, Option, Some, None, Result, Ok, Err, Bool, false, ◌==◌, ◌||◌, if◌then◌else◌, slice_index_or}
+use Rattle.std.specs.Prelude.{◌≡◌, ℕ, ◌+◌, ◌≤◌, List, [], ◌∷◌, ◌++◌, take, Option, Some, None, Result, Ok, Err, Bool, false, ◌==◌, ◌||◌, if◌then◌else◌}
+use Rattle.std.specs.Prelude.{slice_index_or}
 use Rattle.am_base.specs.declared.outcome.Outcome.{Outcome}
 use Rattle.am_base.specs.declared.outcome.Outcome.TheVariants as said
 use Rattle.am_base.specs.declared.event.NodeEvent.{NodeEvent}
@@ -31,7 +32,8 @@ kept (Some keep) bytes = take keep bytes
 
 abbrev pub hears : Option ℕ → ℕ → Bool → Option Letter → Result NodeEvent Outcome
 hears keep name stopped None = Err said.NoPacket
-hears keep name stopped (Some letter) = if is_for letter name then if_running stopped (does.Hear (kept keep (spelling letter.packet))) else Err said.NotAddressed
+hears keep name stopped (Some letter) = if is_for letter name then if_running stopped
+    (does.Hear (kept keep (spelling letter.packet))) else Err said.NotAddressed
 
 abbrev pub gives_up : Bool → Bool → ℕ → Result NodeEvent Outcome
 gives_up stopped other_stopped other = if stopped then Err said.IsStopped else if other_stopped then Ok (does.GiveUp other) else Err said.NotStopped

@@ -16,7 +16,8 @@ use Rattle.am_node.specs.Nodes.{HasNumbersLeft}
 -- whatever a step comes to, the node has trimmed nothing that the group list lacks, and knows no more to be accepted than
 -- there is room for
 abbrev pub GrowsWithin : model.Node → NodeEvent → ℕ → ℕ → Type 0
-GrowsWithin m what stored room = (outcome : Outcome) (letters : List Letter) (n : model.Node) → Does (λ k. row k what) m outcome letters n → IsInOrder n.core → (n.core.base ≤ stored) × (max n.core.acc stored ≤ room)
+GrowsWithin m what stored room = (outcome : Outcome) (letters : List Letter) (n : model.Node) → Does (λ k. row k what) m outcome letters n → IsInOrder n.core
+    → (n.core.base ≤ stored) × (max n.core.acc stored ≤ room)
 
 -- the node is ready for a step, and the group list for what comes of it
 pub record IsReady (m : model.Node) (what : NodeEvent) (stored room : ℕ) : Type 0 where

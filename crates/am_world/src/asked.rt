@@ -60,8 +60,10 @@ fn hears(
     name: Name,
     stopped: bool,
 ) -> Result<Result<NodeEvent, Outcome>, NoMemory>
-    ensures value { IfOk result (λ r. r ≡ asks.hears keep name stopped (option_copied letter.entry)) }
-    ensures packet { IfOk result (λ r. OnOk r ((l : boxes.Letter) → option_copied letter.entry ≡ Some l → IsPacket l.packet)) }
+    ensures value { IfOk result (λ r. r ≡ asks.hears keep name stopped
+        (option_copied letter.entry)) }
+    ensures packet { IfOk result (λ r. OnOk r ((l : boxes.Letter)
+        → option_copied letter.entry ≡ Some l → IsPacket l.packet)) }
 {
     let Some(letter) = letter else {
         return Ok(Err(Outcome::NoPacket));
@@ -128,8 +130,10 @@ pub fn asked(
     name: Name,
     act: &Act,
 ) -> Result<Result<NodeEvent, Outcome>, NoMemory>
-    ensures value { IfOk result (λ r. r ≡ asks.asked (letters_of journal.now.records) stopped.now has_departed name act.now) }
-    ensures packet { IfOk result (λ r. OnOk r (SpellsPacket (letters_of journal.now.records) act.now)) }
+    ensures value { IfOk result (λ r. r ≡ asks.asked
+        (letters_of journal.now.records) stopped.now has_departed name act.now) }
+    ensures packet { IfOk result (λ r. OnOk r
+        (SpellsPacket (letters_of journal.now.records) act.now)) }
 {
     let is_stopped = is_stopped(stopped, name);
     Ok(match act {

@@ -88,9 +88,11 @@ fn step_node(
     group: &mut Vec<Entry>,
     out: &mut OutBox,
 ) -> Outcome
-    requires ready { IsReady (state_of node.old) what.now (vec_len group.old) (vec_capacity group.old) }
+    requires ready { IsReady (state_of node.old) what.now (vec_len group.old)
+        (vec_capacity group.old) }
     requires empty { out.old ≡ [] }
-    ensures does { Does (λ k. row k what.now) (state_of node.old) result out.new (state_of node.new) }
+    ensures does { Does (λ k. row k what.now) (state_of node.old) result out.new
+        (state_of node.new) }
     ensures order { IsInOrder (state_of node.new).core }
     ensures few { length out.new ≤ 9 }
     ensures grows { group.new.items ≡ group_after group.old.items (state_of node.new) }
@@ -111,9 +113,11 @@ pub fn step_at(
     out: &mut OutBox,
 ) -> Outcome
     requires places { length nodes.old ≡ 16 }
-    requires ready { IsReadyAt nodes.old (place_of name) what.now (vec_len group.old) (vec_capacity group.old) }
+    requires ready { IsReadyAt nodes.old (place_of name) what.now (vec_len group.old)
+        (vec_capacity group.old) }
     requires empty { out.old ≡ [] }
-    ensures steps { StepsAt nodes.old nodes.new group.old.items group.new.items (place_of name) what.now result out.new }
+    ensures steps { StepsAt nodes.old nodes.new group.old.items group.new.items
+        (place_of name) what.now result out.new }
     ensures few { length out.new ≤ 9 }
 {
     step_node(

@@ -179,7 +179,8 @@ impl Run {
 
     /// The node of a place's current name. It keeps the end of its list.
     pub fn node(&self, place: Name) -> &Node
-        ensures { IsEndOf ((replay self.now).nodes (current (replay self.now) (place_of place))) (state_of result.now) }
+        ensures { IsEndOf ((replay self.now).nodes (current (replay self.now) (place_of place)))
+            (state_of result.now) }
     {
         &self.nodes[usize::from(place.place())]
     }
@@ -188,7 +189,8 @@ impl Run {
     fn pass(&mut self, event: &Event, name: Name, outcome: Outcome) -> Result<(), NoMemory>
         requires few { length self.old.events < most_events }
         requires name { name ≡ current (replay self.old) (place_of event.now.node) }
-        requires comes { happens (replay self.old) event.now ≡ unchanged (replay self.old) event.now outcome }
+        requires comes { happens (replay self.old) event.now
+            ≡ unchanged (replay self.old) event.now outcome }
         ensures ok { OnOk result (self.new ≡ after self.old event.now) }
         ensures one { OnOk result (IsOneMore self.old event.now) }
         ensures err { OnErr result (self.new ≡ self.old) }
@@ -203,7 +205,8 @@ impl Run {
     fn stop(&mut self, event: &Event, name: Name) -> Result<(), NoMemory>
         requires few { length self.old.events < most_events }
         requires name { name ≡ current (replay self.old) (place_of event.now.node) }
-        requires comes { happens (replay self.old) event.now ≡ answered (replay self.old) event.now said.Stopped }
+        requires comes { happens (replay self.old) event.now
+            ≡ answered (replay self.old) event.now said.Stopped }
         ensures ok { OnOk result (self.new ≡ after self.old event.now) }
         ensures one { OnOk result (IsOneMore self.old event.now) }
         ensures err { OnErr result (self.new ≡ self.old) }
@@ -221,7 +224,8 @@ impl Run {
         requires name { name ≡ current (replay self.old) (place_of event.now.node) }
         requires next { life ≡ life_of name + 1 }
         requires most { life ≤ 16 }
-        requires comes { happens (replay self.old) event.now ≡ answered (replay self.old) event.now (said.Returned life) }
+        requires comes { happens (replay self.old) event.now
+            ≡ answered (replay self.old) event.now (said.Returned life) }
         ensures ok { OnOk result (self.new ≡ after self.old event.now) }
         ensures one { OnOk result (IsOneMore self.old event.now) }
         ensures err { OnErr result (self.new ≡ self.old) }
@@ -246,7 +250,8 @@ impl Run {
         requires few { length self.old.events < most_events }
         requires name { name ≡ current (replay self.old) (place_of event.now.node) }
         requires next { IsNextLife name outcome }
-        requires comes { happens (replay self.old) event.now ≡ answered (replay self.old) event.now outcome }
+        requires comes { happens (replay self.old) event.now
+            ≡ answered (replay self.old) event.now outcome }
         ensures ok { OnOk result (self.new ≡ after self.old event.now) }
         ensures one { OnOk result (IsOneMore self.old event.now) }
         ensures err { OnErr result (self.new ≡ self.old) }
@@ -262,7 +267,8 @@ impl Run {
     pub fn act(&mut self, event: &Event, name: Name, what: &NodeEvent) -> Result<(), NoMemory>
         requires few { length self.old.events < most_events }
         requires name { name ≡ current (replay self.old) (place_of event.now.node) }
-        requires comes { happens (replay self.old) event.now ≡ comes (replay self.old) event.now (Ok what.now) }
+        requires comes { happens (replay self.old) event.now
+            ≡ comes (replay self.old) event.now (Ok what.now) }
         ensures ok { OnOk result (self.new ≡ after self.old event.now) }
         ensures one { OnOk result (IsOneMore self.old event.now) }
         ensures err { OnErr result (self.new ≡ self.old) }
@@ -287,8 +293,10 @@ impl Run {
 
     /// What an event asks of its name's node, or how it is answered without one.
     pub fn asked(&self, event: &Event) -> Result<Result<NodeEvent, Outcome>, NoMemory>
-        ensures comes { IfOk result (λ r. happens (replay self.now) event.now ≡ comes (replay self.now) event.now r) }
-        ensures next { IfOk result (λ r. IfErr r (λ o. IsNextLife (current (replay self.now) (place_of event.now.node)) o)) }
+        ensures comes { IfOk result (λ r. happens (replay self.now) event.now
+            ≡ comes (replay self.now) event.now r) }
+        ensures next { IfOk result (λ r. IfErr r
+            (λ o. IsNextLife (current (replay self.now) (place_of event.now.node)) o)) }
     {
         let name = self.name_at(event.node);
         let has_departed = has_departed(self.node(event.node).status());

@@ -129,7 +129,8 @@ fn store_new_views(
     view: &DecidedView,
     what: &NodeEvent,
 )
-    ensures { watching_of watcher.new ≡ with_entries (watching_of watcher.old) name ((if is_decided then one_of (fetched what.now) else []) ++ last_view view.now ∷ []) }
+    ensures { watching_of watcher.new ≡ with_entries (watching_of watcher.old) name
+        ((if is_decided then one_of (fetched what.now) else []) ++ last_view view.now ∷ []) }
 {
     let earlier = fetched_before(is_decided, what);
     store_one(watcher, name, earlier);
@@ -145,7 +146,8 @@ fn store_views(
     view: &DecidedView,
     what: &NodeEvent,
 )
-    ensures { watching_of watcher.new ≡ with_entries (watching_of watcher.old) name (stored_of name before.now after.now view.now what.now) }
+    ensures { watching_of watcher.new ≡ with_entries (watching_of watcher.old) name
+        (stored_of name before.now after.now view.now what.now) }
 {
     if begins(before, after.status) || is_same_stamp(before.view, after.view) {
         return;
@@ -157,7 +159,8 @@ fn store_views(
 fn accept_above(watcher: &mut Watcher, group: &[Entry], known: usize)
     requires known { known ≤ length group.now }
     requires few { length group.now ≤ most_number }
-    ensures { watching_of watcher.new ≡ accepted (watching_of watcher.old) (known + 1) (drop known group.now) }
+    ensures { watching_of watcher.new ≡ accepted (watching_of watcher.old) (known + 1)
+        (drop known group.now) }
 {
     for index in known..group.len() {
         watcher.accept(index as u32 + 1, &group[index]);
@@ -177,7 +180,8 @@ pub fn note_step(
     requires few { (watching_of watcher.old).count < 4294967295 }
     requires known { known ≤ length group.now }
     requires short { length group.now ≤ most_number }
-    ensures { watching_of watcher.new ≡ told_step (watching_of watcher.old) name (state_of node.now) what.now (known + 1) (drop known group.now) }
+    ensures { watching_of watcher.new ≡ told_step (watching_of watcher.old) name
+        (state_of node.now) what.now (known + 1) (drop known group.now) }
 {
     let before = watcher.standing(name);
     let after = standing_after(&before, node);

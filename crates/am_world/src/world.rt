@@ -136,14 +136,16 @@ impl World {
 
     /// The node of a place's current name. It keeps the end of its list.
     pub fn node(&self, place: Name) -> &Node
-        ensures { IsEndOf ((replay self.now).nodes (current (replay self.now) (place_of place))) (state_of result.now) }
+        ensures { IsEndOf ((replay self.now).nodes (current (replay self.now) (place_of place)))
+            (state_of result.now) }
     {
         self.run.node(place)
     }
 
     /// What the node of a place's current name knows of itself and of its group.
     pub fn info(&self, place: Name) -> Info
-        ensures { result ≡ info_of ((replay self.now).nodes (current (replay self.now) (place_of place))) }
+        ensures { result ≡ info_of ((replay self.now).nodes
+            (current (replay self.now) (place_of place))) }
     {
         self.run.node(place).info()
     }
@@ -167,7 +169,8 @@ impl World {
         requires few { length self.old.events < most_events }
         requires name { name ≡ current (replay self.old) (place_of event.now.node) }
         requires next { IsNextLife name outcome }
-        requires comes { happens (replay self.old) event.now ≡ answered (replay self.old) event.now outcome }
+        requires comes { happens (replay self.old) event.now
+            ≡ answered (replay self.old) event.now outcome }
         ensures ok { OnOk result (self.new ≡ after self.old event.now) }
         ensures one { OnOk result (IsOneMore self.old event.now) }
         ensures err { OnErr result (self.new ≡ self.old) }
@@ -187,7 +190,8 @@ impl World {
     fn act(&mut self, event: &Event, name: Name, what: &NodeEvent) -> Result<(), NoMemory>
         requires few { length self.old.events < most_events }
         requires name { name ≡ current (replay self.old) (place_of event.now.node) }
-        requires comes { happens (replay self.old) event.now ≡ comes (replay self.old) event.now (Ok what.now) }
+        requires comes { happens (replay self.old) event.now
+            ≡ comes (replay self.old) event.now (Ok what.now) }
         ensures ok { OnOk result (self.new ≡ after self.old event.now) }
         ensures one { OnOk result (IsOneMore self.old event.now) }
         ensures err { OnErr result (self.new ≡ self.old) }

@@ -10,8 +10,15 @@ use Rattle.am_acting.proofs.hearing.on_spread.Goals as goal
 
 pub returns-then-is_known : goal.returns-then-is_known
 returns-then-is_known c =
-    does_rest (λ m. spread_row m c.args.from c.args.req c.args.body.now) (λ m. quiet m said.Known) (node_of c.args.parts.now) (node_of c.args.parts.now) (node_of c.args.parts.now) (node_of c.finish_quietly.new.parts) c.accepted-before.result c.finish_quietly.result c.finish_quietly.new.out c.accepted-before.ensures.value refl (spread_known (node_of c.args.parts.now) c.args.from c.args.req c.args.body.now (sym c.is_known.ensures ∙ c.if-is_known.true)) c.finish_quietly.ensures
+    does_rest (λ m. spread_row m c.args.from c.args.req c.args.body.now) (λ m. quiet m said.Known) (node_of c.args.parts.now) (node_of c.args.parts.now)
+    (node_of c.args.parts.now) (node_of c.finish_quietly.new.parts) c.accepted-before.result c.finish_quietly.result c.finish_quietly.new.out
+    c.accepted-before.ensures.value refl (spread_known (node_of c.args.parts.now) c.args.from c.args.req c.args.body.now (sym c.is_known.ensures
+    ∙ c.if-is_known.true)) c.finish_quietly.ensures
 
 pub returns : goal.returns
 returns c =
-    does_rest (λ m. spread_row m c.args.from c.args.req c.args.body.now) (λ m. quiet m said.Kept) (node_of c.args.parts.now) (node_of c.keep_body.new.parts) (record (node_of c.args.parts.now) { bodies = keep_body c.args.from c.args.req c.args.body.now c.args.parts.now.pool }) (node_of c.finish_quietly-2.new.parts) c.accepted-before.result c.finish_quietly-2.result c.finish_quietly-2.new.out c.accepted-before.ensures.value c.keep_body.ensures (spread_kept (node_of c.args.parts.now) c.args.from c.args.req c.args.body.now (sym c.is_known.ensures ∙ c.if-is_known.false)) c.finish_quietly-2.ensures
+    does_rest (λ m. spread_row m c.args.from c.args.req c.args.body.now) (λ m. quiet m said.Kept) (node_of c.args.parts.now) (node_of c.keep_body.new.parts)
+    (record (node_of c.args.parts.now) { bodies = keep_body c.args.from c.args.req c.args.body.now c.args.parts.now.pool })
+    (node_of c.finish_quietly-2.new.parts) c.accepted-before.result c.finish_quietly-2.result c.finish_quietly-2.new.out c.accepted-before.ensures.value
+    c.keep_body.ensures (spread_kept (node_of c.args.parts.now) c.args.from c.args.req c.args.body.now (sym c.is_known.ensures ∙ c.if-is_known.false))
+    c.finish_quietly-2.ensures

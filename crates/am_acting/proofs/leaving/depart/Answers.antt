@@ -16,7 +16,8 @@ push-requires-clause-fits c =
     let m = node_of c.args.parts.now in
     let member = c.args.parts.now.keeps.leads c.requires.leads in
     let who : c.who-who.result ≡ m.core.who = c.who-who.ensures ∙ ap (λ (x : Node). x.core.who) c.set_status.ensures in
-    ap (λ k. fits (told (node_of c.set_status.new.parts)) (Leave k)) who ∙ ap (λ (x : Node). fits (told x) (Leave m.core.who)) c.set_status.ensures ∙ leave_fits m member
+    ap (λ k. fits (told (node_of c.set_status.new.parts)) (Leave k)) who ∙ ap (λ (x : Node). fits (told x) (Leave m.core.who)) c.set_status.ensures
+    ∙ leave_fits m member
 
 pub push-requires-clause-keeps : goal.push-requires-clause-keeps
 push-requires-clause-keeps c =
@@ -24,7 +25,8 @@ push-requires-clause-keeps c =
     let member = c.args.parts.now.keeps.leads c.requires.leads in
     let who : c.who-who.result ≡ m.core.who = c.who-who.ensures ∙ ap (λ (x : Node). x.core.who) c.set_status.ensures in
     let keeps : NodeKeeps (departed m) = subst (λ (x : Node). NodeKeeps x) c.set_status.ensures c.set_status.new.parts.keeps in
-    let kept : IsKept m.core.log (m.core.rules.window + 15) = subst (λ (x : Node). IsKept x.core.log (x.core.rules.window + 15)) c.set_status.ensures c.accepted-before.ensures.kept in
+    let kept : IsKept m.core.log (m.core.rules.window + 15) =
+    subst (λ (x : Node). IsKept x.core.log (x.core.rules.window + 15)) c.set_status.ensures c.accepted-before.ensures.kept in
     subst (λ (k : ℕ). NodeKeeps (pushed (node_of c.set_status.new.parts) (Leave k))) (sym who)
     (subst (λ (x : Node). NodeKeeps (pushed x (Leave m.core.who))) (sym c.set_status.ensures) (keeps_left m (m.core.rules.window + 15) kept member keeps))
 
@@ -33,20 +35,24 @@ lead-requires-clause-leads c =
     let m = node_of c.args.parts.now in
     let member = c.args.parts.now.keeps.leads c.requires.leads in
     let who : c.who-who.result ≡ m.core.who = c.who-who.ensures ∙ ap (λ (x : Node). x.core.who) c.set_status.ensures in
-    let kept : IsKept m.core.log (m.core.rules.window + 15) = subst (λ (x : Node). IsKept x.core.log (x.core.rules.window + 15)) c.set_status.ensures c.accepted-before.ensures.kept in
-    let node : node_of c.push.new.self ≡ pushed (departed m) (Leave m.core.who) = c.push.ensures.node ∙ (λ k. pushed (c.set_status.ensures k) (Leave (who k))) in
+    let kept : IsKept m.core.log (m.core.rules.window + 15) =
+    subst (λ (x : Node). IsKept x.core.log (x.core.rules.window + 15)) c.set_status.ensures c.accepted-before.ensures.kept in
+    let node : node_of c.push.new.self ≡ pushed (departed m) (Leave m.core.who) = c.push.ensures.node
+    ∙ (λ k. pushed (c.set_status.ensures k) (Leave (who k))) in
     subst (λ (x : Node). MayLead x.core) (sym node) (may_lead_left m (m.core.rules.window + 15) kept member c.requires.alone)
 
 pub returns-clause-end : goal.returns-clause-end
 returns-clause-end c =
     let m = node_of c.args.parts.now in
     let who : c.who-who.result ≡ m.core.who = c.who-who.ensures ∙ ap (λ (x : Node). x.core.who) c.set_status.ensures in
-    let node : node_of c.push.new.self ≡ pushed (departed m) (Leave m.core.who) = c.push.ensures.node ∙ (λ k. pushed (c.set_status.ensures k) (Leave (who k))) in
+    let node : node_of c.push.new.self ≡ pushed (departed m) (Leave m.core.who) = c.push.ensures.node
+    ∙ (λ k. pushed (c.set_status.ensures k) (Leave (who k))) in
     subst (λ (x : Node). IsEndOf x (node_of c.lead.new.parts)) (ap lead node ∙ sym (depart_end m c.requires.idle c.requires.leads)) c.lead.ensures
 
 pub returns-clause-alone : goal.returns-clause-alone
 returns-clause-alone c =
     let m = node_of c.args.parts.now in
     let member = c.args.parts.now.keeps.leads c.requires.leads in
-    let kept : IsKept m.core.log (m.core.rules.window + 15) = subst (λ (x : Node). IsKept x.core.log (x.core.rules.window + 15)) c.set_status.ensures c.accepted-before.ensures.kept in
+    let kept : IsKept m.core.log (m.core.rules.window + 15) =
+    subst (λ (x : Node). IsKept x.core.log (x.core.rules.window + 15)) c.set_status.ensures c.accepted-before.ensures.kept in
     left_alone m (m.core.rules.window + 15) kept member c.requires.idle c.requires.leads c.requires.alone

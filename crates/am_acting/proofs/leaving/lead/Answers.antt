@@ -11,7 +11,10 @@ invariant_of-parts c =
     let old = node_of c.args.parts.now in
     let new = led c.refresh.new.core c.refresh.new.self in
     let own = c.refresh.ensures.own in
-    record { keeps = keeps_steady old (with_led old new) (steady_led old new c.accepted-before.ensures.order c.refresh.ensures.value) c.args.parts.now.keeps (omega arith) }
+    record {
+      keeps = keeps_steady old (with_led old new) (steady_led old new c.accepted-before.ensures.order c.refresh.ensures.value) c.args.parts.now.keeps
+          (omega arith);
+    }
 
 pub returns : goal.returns
 returns c =

@@ -14,4 +14,6 @@ pub returns-clause-letters : goal.returns-clause-letters
 returns-clause-letters c =
     let base = c.base.ensures.value in
     let high = c.if-number-base.false in
-    view_some (node_of c.args.parts.now) c.args.out.now c.put.new.self c.view_number-number.result c.behind-to.result c.viewed_at-members.result c.resilience.result _ c.base.ensures.kept (omega arith) c.view_number-number.ensures.value c.behind-to.ensures c.viewed_at-members.ensures c.resilience.ensures.value c.result-result.ensures.value c.put.ensures
+    view_some (node_of c.args.parts.now) c.args.out.now c.put.new.self c.view_number-number.result c.behind-to.result c.viewed_at-members.result
+    c.resilience.result _ c.base.ensures.kept (omega arith) c.view_number-number.ensures.value c.behind-to.ensures c.viewed_at-members.ensures
+    c.resilience.ensures.value c.result-result.ensures.value c.put.ensures

@@ -6,7 +6,8 @@ use Rattle.am_base.proofs.names.lives_in.Goals as goal
 pub loop-place-preserved : goal.loop-place-preserved
 loop-place-preserved c = record {
   long = rw length-set c.loop-place.invariant.long;
-  filled = rw c.life_in.ensures (fills c.loop-place.set c.loop-place.place c.loop-place.bits c.loop-place.rest c.loop-place.invariant.long (omega arith) ∙ c.loop-place.invariant.filled);
+  filled = rw c.life_in.ensures (fills c.loop-place.set c.loop-place.place c.loop-place.bits c.loop-place.rest c.loop-place.invariant.long (omega arith)
+      ∙ c.loop-place.invariant.filled);
 }
 
 pub returns : goal.returns

@@ -12,8 +12,10 @@ returns-in_err-rows c =
 pub loop-place-preserved : goal.loop-place-preserved
 loop-place-preserved c = record {
   long = rw length-set c.loop-place.invariant.long;
-  read = goes_on c.loop-place.rows c.loop-place.place c.args.bytes.now c.args.at c.in_ok-rows.field-0 _ c.loop-place-test.true c.loop-place.invariant.long (sym c.row.ensures ∙ c.in_ok-rows.was) c.loop-place.invariant.read;
+  read = goes_on c.loop-place.rows c.loop-place.place c.args.bytes.now c.args.at c.in_ok-rows.field-0 _ c.loop-place-test.true c.loop-place.invariant.long
+      (sym c.row.ensures ∙ c.in_ok-rows.was) c.loop-place.invariant.read;
 }
 
 pub returns : goal.returns
-returns c = is_done c.loop-place.rows c.loop-place.place c.args.bytes.now c.args.at _ c.loop-place-test.false c.loop-place.invariant.long c.loop-place.invariant.read
+returns c = is_done c.loop-place.rows c.loop-place.place c.args.bytes.now c.args.at _ c.loop-place-test.false c.loop-place.invariant.long
+    c.loop-place.invariant.read

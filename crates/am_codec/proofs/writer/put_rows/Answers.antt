@@ -10,4 +10,5 @@ pub put_row-requires : goal.put_row-requires
 put_row-requires c = room c.args.rows.now c.loop-row.row-index c.args.into.now c.loop-row.into c.loop-row-test.true c.loop-row.invariant c.requires
 
 pub loop-row-preserved : goal.loop-row-preserved
-loop-row-preserved c = more_rows c.args.rows.now blank_row c.loop-row.row-index c.args.into.now c.loop-row.into c.put_row.new.into (omega (arith, c.told-rows, c.loop-row-test.true)) c.loop-row.invariant c.put_row.ensures
+loop-row-preserved c = more_rows c.args.rows.now blank_row c.loop-row.row-index c.args.into.now c.loop-row.into c.put_row.new.into
+    (omega (arith, c.told-rows, c.loop-row-test.true)) c.loop-row.invariant c.put_row.ensures

@@ -3,10 +3,13 @@ use Rattle.am_io.proofs.Bytes.{gave_more, gave_at_most, gave_some}
 use Rattle.am_io.proofs.whole.read_all.Goals as goal
 
 pub returns-then-limit-len-clause-too_long : goal.returns-then-limit-len-clause-too_long
-returns-then-limit-len-clause-too_long g c = λ _. gave_more _ _ _ _ _ _ _ c.loop-bytes.invariant.taken c.in-Took.ensures.took (omega (arith, c.in-Took.ensures.some)) (omega arith) (omega arith)
+returns-then-limit-len-clause-too_long g c = λ _. gave_more _ _ _ _ _ _ _ c.loop-bytes.invariant.taken c.in-Took.ensures.took
+    (omega (arith, c.in-Took.ensures.some)) (omega arith) (omega arith)
 
 pub returns-then-is_err-clause-else_within : goal.returns-then-is_err-clause-else_within
-returns-then-is_err-clause-else_within g c = λ _. gave_at_most _ _ _ _ _ _ _ c.loop-bytes.invariant.taken c.in-Took.ensures.took (omega (arith, c.in-Took.ensures.some)) (omega arith) (omega arith)
+returns-then-is_err-clause-else_within g c = λ _. gave_at_most _ _ _ _ _ _ _ c.loop-bytes.invariant.taken c.in-Took.ensures.took
+    (omega (arith, c.in-Took.ensures.some)) (omega arith) (omega arith)
 
 pub returns-then-is_err-clause-memory : goal.returns-then-is_err-clause-memory
-returns-then-is_err-clause-memory g c = λ _. gave_some _ _ _ _ _ _ c.loop-bytes.invariant.taken c.in-Took.ensures.took c.in-Took.ensures.some.0 (omega (arith, c.in-Took.ensures.some))
+returns-then-is_err-clause-memory g c = λ _. gave_some _ _ _ _ _ _ c.loop-bytes.invariant.taken c.in-Took.ensures.took c.in-Took.ensures.some.0
+    (omega (arith, c.in-Took.ensures.some))

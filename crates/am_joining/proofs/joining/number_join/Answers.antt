@@ -31,7 +31,8 @@ push-requires-clause-keeps c =
     let keeps = keeps_admitted old c.args.from old.core.base c.requires.other c.args.parts.now.keeps in
     let member = stays_by_join (told old) (top old + 1) c.args.from old.core.who c.requires.fits (c.args.parts.now.keeps.leads c.requires.leads) in
     subst (λ (x : Node). NodeKeeps (pushed x (Join c.args.from))) (sym c.admit.ensures)
-    (keeps_pushed (admitted old c.args.from) (Join c.args.from) refl c.requires.fits (old.core.rules.window + 15) c.accepted-before.ensures.kept (leading_log old c.requires.leads)
+    (keeps_pushed (admitted old c.args.from) (Join c.args.from) refl c.requires.fits (old.core.rules.window + 15) c.accepted-before.ensures.kept
+    (leading_log old c.requires.leads)
     (λ leads. ap (λ (i : Image). has (members_of i) old.core.who) (told-push old.core.log (Join c.args.from)) ∙ member) keeps)
 
 pub returns : goal.returns
@@ -41,7 +42,8 @@ returns c =
     let new = node_of c.end.new.self in
     let order = c.accepted-before.ensures.order in
     let before = c.push.ensures.order in
-    let node : mid ≡ pushed (admitted old c.args.from) (Join c.args.from) = c.push.ensures.node ∙ ap (λ (x : Node). pushed x (Join c.args.from)) c.admit.ensures in
+    let node : mid ≡ pushed (admitted old c.args.from) (Join c.args.from) = c.push.ensures.node
+    ∙ ap (λ (x : Node). pushed x (Join c.args.from)) c.admit.ensures in
     let end : IsEndOf (pushed (admitted old c.args.from) (Join c.args.from)) mid = subst (λ (x : Node). IsEndOf x mid) node (end_self mid before.kept) in
     let to : c.others-others.result ≡ others old = end_tells others old c.others-others.result order.kept c.others-others.ensures in
     let number : c.next_number-number.result ≡ top old + 1 = c.next_number-number.ensures.value in
@@ -49,5 +51,6 @@ returns c =
     let Q : List Letter → Type 0 = λ letters. CoreTells (and_welcome c.next_number-number.result c.args.from letters) new.core c.welcome_accepted.new.out in
     done c.args.before (number_join old c.args.from) mid new _ c.welcome_accepted.new.out c.welcome_accepted.new.out refl end c.end.ensures
     (λ n is. ap said.Numbered number)
-    (join_letters old new c.args.from c.next_number-number.result c.bcast.result c.welcome_accepted.new.out number c.bcast.ensures.value (subst Q put c.welcome_accepted.ensures))
+    (join_letters old new c.args.from c.next_number-number.result c.bcast.result c.welcome_accepted.new.out number c.bcast.ensures.value
+    (subst Q put c.welcome_accepted.ensures))
     (told_numbered c.args.before c.welcome_accepted.new.out new)

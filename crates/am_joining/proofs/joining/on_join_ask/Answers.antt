@@ -26,7 +26,8 @@ returns-then-not-may_join c =
     let row = c.at_place-row.result in
     let is = sym c.in_default.is ∙ c.turned_down-turned.ensures in
     does_plan (λ m. join_ask_row m c.args.from) (welcome_again old c.args.from row.joined) c.accepted-before.result old _ _ _ c.accepted-before.ensures.value
-    (join_by old c.args.from c.accepted-before.result row None c.at_place-row.ensures.value c.accepted-before.ensures.value is ∙ rest_again old c.args.from row (sym c.may_join.ensures ∙ c.if-not-may_join.true))
+    (join_by old c.args.from c.accepted-before.result row None c.at_place-row.ensures.value c.accepted-before.ensures.value is
+    ∙ rest_again old c.args.from row (sym c.may_join.ensures ∙ c.if-not-may_join.true))
     c.welcome_again.ensures
 
 pub returns-then-not-has_room : goal.returns-then-not-has_room
@@ -34,9 +35,12 @@ returns-then-not-has_room c =
     let old = node_of c.args.parts.now in
     let row = c.at_place-row.result in
     let is = sym c.in_default.is ∙ c.turned_down-turned.ensures in
-    let P : Outcome → Type 0 = λ o. Done c.accepted-before.result (polling old o) c.finish_polling.result c.finish_polling.new.out (node_of c.finish_polling.new.parts) in
-    does_plan (λ m. join_ask_row m c.args.from) (polling old (said.Held old.core.base (top old))) c.accepted-before.result old _ _ _ c.accepted-before.ensures.value
-    (join_by old c.args.from c.accepted-before.result row None c.at_place-row.ensures.value c.accepted-before.ensures.value is ∙ rest_held old c.args.from row (sym c.may_join.ensures ∙ c.if-not-may_join.false) (sym c.has_room.ensures.value ∙ c.if-not-has_room.true))
+    let P : Outcome → Type 0 = λ o. Done c.accepted-before.result (polling old o) c.finish_polling.result c.finish_polling.new.out
+    (node_of c.finish_polling.new.parts) in
+    does_plan (λ m. join_ask_row m c.args.from) (polling old (said.Held old.core.base (top old))) c.accepted-before.result old _ _ _
+    c.accepted-before.ensures.value
+    (join_by old c.args.from c.accepted-before.result row None c.at_place-row.ensures.value c.accepted-before.ensures.value is
+    ∙ rest_held old c.args.from row (sym c.may_join.ensures ∙ c.if-not-may_join.false) (sym c.has_room.ensures.value ∙ c.if-not-has_room.true))
     (subst P c.held-answer.ensures c.finish_polling.ensures)
 
 pub returns : goal.returns
@@ -45,5 +49,6 @@ returns c =
     let row = c.at_place-row.result in
     let is = sym c.in_default.is ∙ c.turned_down-turned.ensures in
     does_plan (λ m. join_ask_row m c.args.from) (number_join old c.args.from) c.accepted-before.result old _ _ _ c.accepted-before.ensures.value
-    (join_by old c.args.from c.accepted-before.result row None c.at_place-row.ensures.value c.accepted-before.ensures.value is ∙ rest_number old c.args.from row (sym c.may_join.ensures ∙ c.if-not-may_join.false) (sym c.has_room.ensures.value ∙ c.if-not-has_room.false))
+    (join_by old c.args.from c.accepted-before.result row None c.at_place-row.ensures.value c.accepted-before.ensures.value is
+    ∙ rest_number old c.args.from row (sym c.may_join.ensures ∙ c.if-not-may_join.false) (sym c.has_room.ensures.value ∙ c.if-not-has_room.false))
     c.number_join.ensures

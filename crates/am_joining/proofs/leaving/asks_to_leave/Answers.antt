@@ -19,7 +19,8 @@ returns-then-not-has_room c =
     let old = node_of c.args.parts.now in
     let P : Plan → Type 0 = λ p. Done c.args.before p c.finish_polling.result c.finish_polling.new.out (node_of c.finish_polling.new.parts) in
     let Q : Outcome → Type 0 = λ o. P (polling old o) in
-    subst P (sym (asks_held old c.args.from c.row-row.result c.row-row.ensures.value c.if-row-gt0.false (sym c.has_room.ensures.value ∙ c.if-not-has_room.true))) (subst Q c.held-answer.ensures c.finish_polling.ensures)
+    subst P (sym (asks_held old c.args.from c.row-row.result c.row-row.ensures.value c.if-row-gt0.false (sym c.has_room.ensures.value
+    ∙ c.if-not-has_room.true))) (subst Q c.held-answer.ensures c.finish_polling.ensures)
 
 pub number_leave-requires-clause-leaver : goal.number_leave-requires-clause-leaver
 number_leave-requires-clause-leaver c =
@@ -29,4 +30,5 @@ number_leave-requires-clause-leaver c =
 pub returns : goal.returns
 returns c =
     let P : Plan → Type 0 = λ p. Done c.args.before p c.number_leave.result c.number_leave.new.out (node_of c.number_leave.new.parts) in
-    subst P (sym (asks_number (node_of c.args.parts.now) c.args.from c.row-row.result c.row-row.ensures.value c.if-row-gt0.false (sym c.has_room.ensures.value ∙ c.if-not-has_room.false))) c.number_leave.ensures
+    subst P (sym (asks_number (node_of c.args.parts.now) c.args.from c.row-row.result c.row-row.ensures.value c.if-row-gt0.false (sym c.has_room.ensures.value
+    ∙ c.if-not-has_room.false))) c.number_leave.ensures

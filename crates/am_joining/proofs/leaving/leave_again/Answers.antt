@@ -19,7 +19,8 @@ returns-then-goes c =
     let Q : List Letter → Type 0 = λ letters. Tells (and_let_go c.args.from letters) new c.let_go-goes.new.out in
     let left = ap (λ (r : Row). r.left) c.row-row.ensures.value in
     done c.args.before (leave_again old c.args.from) old new _ c.let_go-goes.new.out c.tell_accepted.new.out refl (end_self old order.kept) c.end.ensures
-    (again_goes old new c.args.from c.row-row.result.left left (subst P c.if-goes.true c.let_go-goes.ensures.value)) (subst Q c.requires c.let_go-goes.ensures.letters) c.tell_accepted.ensures
+    (again_goes old new c.args.from c.row-row.result.left left (subst P c.if-goes.true c.let_go-goes.ensures.value))
+    (subst Q c.requires c.let_go-goes.ensures.letters) c.tell_accepted.ensures
 
 pub returns : goal.returns
 returns c =
@@ -30,4 +31,5 @@ returns c =
     let Q : List Letter → Type 0 = λ letters. Tells (and_let_go c.args.from letters) new c.let_go-goes.new.out in
     let left = ap (λ (r : Row). r.left) c.row-row.ensures.value in
     done c.args.before (leave_again old c.args.from) old new _ c.let_go-goes.new.out c.tell_accepted.new.out refl (end_self old order.kept) c.end.ensures
-    (again_stays old new c.args.from (subst P c.if-goes.false c.let_go-goes.ensures.value)) (subst Q c.requires c.let_go-goes.ensures.letters) c.tell_accepted.ensures
+    (again_stays old new c.args.from (subst P c.if-goes.false c.let_go-goes.ensures.value))
+    (subst Q c.requires c.let_go-goes.ensures.letters) c.tell_accepted.ensures

@@ -29,7 +29,8 @@ push-requires-clause-keeps c =
     let old = node_of c.args.parts.now in
     let keeps = c.args.parts.now.keeps in
     let member = stays_by_leave (told old) (top old + 1) c.args.from old.core.who c.requires.other c.requires.leaver (keeps.leads c.requires.leads) in
-    keeps_pushed old (Leave c.args.from) refl (fits_leave (told old) c.args.from c.requires.leaver) (old.core.rules.window + 15) c.accepted-before.ensures.kept (leading_log old c.requires.leads)
+    keeps_pushed old (Leave c.args.from) refl (fits_leave (told old) c.args.from c.requires.leaver) (old.core.rules.window + 15) c.accepted-before.ensures.kept
+    (leading_log old c.requires.leads)
     (λ leads. ap (λ (i : Image). has (members_of i) old.core.who) (told-push old.core.log (Leave c.args.from)) ∙ member) keeps
 
 pub returns : goal.returns
@@ -45,5 +46,6 @@ returns c =
     let put = c.put.ensures ∙ ap (λ set. with_letter set c.bcast.result c.args.out.now) to ∙ ap (with_letter (others old) c.bcast.result) c.requires.empty in
     done c.args.before (number_leave old c.args.from) mid new _ c.let_go-goes.new.out c.let_go-goes.new.out refl end c.end.ensures
     (λ n is. ap said.Numbered number)
-    (leave_letters old new c.args.from c.next_number-number.result c.bcast.result c.put.new.self c.let_go-goes.new.out number c.bcast.ensures.value put c.let_go-goes.ensures.letters)
+    (leave_letters old new c.args.from c.next_number-number.result c.bcast.result c.put.new.self c.let_go-goes.new.out number c.bcast.ensures.value put
+    c.let_go-goes.ensures.letters)
     (told_numbered c.args.before c.let_go-goes.new.out new)

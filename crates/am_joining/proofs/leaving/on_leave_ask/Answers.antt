@@ -16,7 +16,8 @@ use Rattle.am_joining.proofs.leaving.on_leave_ask.Goals as goal
 pub returns-then-is_unknown : goal.returns-then-is_unknown
 returns-then-is_unknown c =
     let old = node_of c.args.parts.now in
-    does_plan (λ m. leave_ask_row m c.args.from c.args.stamp c.args.report) (quiet old said.Stranger) c.accepted-before.result old _ _ _ c.accepted-before.ensures.value
+    does_plan (λ m. leave_ask_row m c.args.from c.args.stamp c.args.report)
+    (quiet old said.Stranger) c.accepted-before.result old _ _ _ c.accepted-before.ensures.value
     (leave_unknown old c.args.from c.args.stamp c.args.report (sym c.is_unknown.ensures ∙ c.if-is_unknown.true)) c.finish_quietly.ensures
 
 pub asks_to_leave-requires-clause-known : goal.asks_to_leave-requires-clause-known
@@ -25,14 +26,18 @@ asks_to_leave-requires-clause-known c = sym c.is_unknown.ensures ∙ c.if-is_unk
 pub returns-then-not-counts_report : goal.returns-then-not-counts_report
 returns-then-not-counts_report c =
     let old = node_of c.args.parts.now in
-    does_plan (λ m. leave_ask_row m c.args.from c.args.stamp c.args.report) (asks_to_leave old c.args.from) c.accepted-before.result old _ _ _ c.accepted-before.ensures.value
-    (leave_other old c.args.from c.args.stamp c.args.report (sym c.is_unknown.ensures ∙ c.if-is_unknown.false) (sym c.counts_report.ensures ∙ c.if-not-counts_report.true)) c.asks_to_leave.ensures
+    does_plan (λ m. leave_ask_row m c.args.from c.args.stamp c.args.report)
+    (asks_to_leave old c.args.from) c.accepted-before.result old _ _ _ c.accepted-before.ensures.value
+    (leave_other old c.args.from c.args.stamp c.args.report (sym c.is_unknown.ensures ∙ c.if-is_unknown.false) (sym c.counts_report.ensures
+    ∙ c.if-not-counts_report.true)) c.asks_to_leave.ensures
 
 pub asks_to_leave-requires-2-clause-leads : goal.asks_to_leave-requires-2-clause-leads
-asks_to_leave-requires-2-clause-leads c = steady_leads (node_of c.args.parts.now) (node_of c.take_report.new.self) c.take_report.ensures.steady ∙ c.requires.leads
+asks_to_leave-requires-2-clause-leads c = steady_leads (node_of c.args.parts.now) (node_of c.take_report.new.self) c.take_report.ensures.steady
+    ∙ c.requires.leads
 
 pub asks_to_leave-requires-2-clause-known : goal.asks_to_leave-requires-2-clause-known
-asks_to_leave-requires-2-clause-known c = ap (λ (i : Image). (row_of i c.args.from).joined == 0) c.take_report.ensures.steady.told ∙ (sym c.is_unknown.ensures ∙ c.if-is_unknown.false)
+asks_to_leave-requires-2-clause-known c = ap (λ (i : Image). (row_of i c.args.from).joined == 0) c.take_report.ensures.steady.told
+    ∙ (sym c.is_unknown.ensures ∙ c.if-is_unknown.false)
 
 pub asks_to_leave-requires-2-clause-number : goal.asks_to_leave-requires-2-clause-number
 asks_to_leave-requires-2-clause-number c = let top = c.take_report.ensures.steady.top in let number = c.requires.number in omega arith
@@ -43,7 +48,9 @@ returns c =
     let mid = node_of c.take_report.new.self in
     let before = c.accepted-before.result in
     let rest : Node → _ = λ m. asks_to_leave m c.args.from in
-    does_plan (λ m. leave_ask_row m c.args.from c.args.stamp c.args.report) (rest (reported old c.args.from c.args.report)) before old _ _ _ c.accepted-before.ensures.value
-    (leave_reported old c.args.from c.args.stamp c.args.report (sym c.is_unknown.ensures ∙ c.if-is_unknown.false) (sym c.counts_report.ensures ∙ c.if-not-counts_report.false))
+    does_plan (λ m. leave_ask_row m c.args.from c.args.stamp c.args.report)
+    (rest (reported old c.args.from c.args.report)) before old _ _ _ c.accepted-before.ensures.value
+    (leave_reported old c.args.from c.args.stamp c.args.report (sym c.is_unknown.ensures ∙ c.if-is_unknown.false) (sym c.counts_report.ensures
+    ∙ c.if-not-counts_report.false))
     (done_whole before rest (reported old c.args.from c.args.report) mid _ _ _ c.take_report.ensures.end c.take_report.ensures.order
     (λ all keeps. alike_asks_to_leave all mid c.args.from keeps) c.asks_to_leave-2.ensures)

@@ -13,7 +13,11 @@ begin_core-requires-clause-blank c = c.args.parts.now.keeps.blank (asking_log (n
 pub invariant_of-parts : goal.invariant_of-parts
 invariant_of-parts c =
     let old = node_of c.args.parts.now in
-    record { keeps = subst (λ (x : CoreState). NodeKeeps (record old { core = x; status = Member })) (sym c.begin_core.ensures) (begun_keeps old c.args.stamp c.args.base c.args.join c.args.image.now c.requires.asking c.requires.other c.requires.fits c.accepted-before.ensures.order c.args.parts.now.keeps) }
+    record {
+      keeps = subst (λ (x : CoreState). NodeKeeps (record old { core = x; status = Member })) (sym c.begin_core.ensures)
+          (begun_keeps old c.args.stamp c.args.base c.args.join c.args.image.now c.requires.asking c.requires.other c.requires.fits
+          c.accepted-before.ensures.order c.args.parts.now.keeps);
+    }
 
 pub returns : goal.returns
 returns c = ap (λ (x : CoreState). let n : Node = record (node_of c.args.parts.now) { core = x; status = Member } in n) c.begin_core.ensures

@@ -12,20 +12,27 @@ use Rattle.am_joining.proofs.welcomed.on_welcome.Goals as goal
 pub returns-then-is_member : goal.returns-then-is_member
 returns-then-is_member c =
     let old = node_of c.args.parts.now in
-    does_plan (λ m. welcome_row m c.args.from c.args.stamp c.args.base c.args.join c.args.image.now) (quiet old said.Known) c.accepted-before.result old _ _ _ c.accepted-before.ensures.value
-    (welcome_known old c.args.from c.args.stamp c.args.base c.args.join c.args.image.now (sym c.is_member.ensures ∙ c.if-is_member.true)) c.finish_quietly.ensures
+    does_plan (λ m. welcome_row m c.args.from c.args.stamp c.args.base c.args.join c.args.image.now)
+    (quiet old said.Known) c.accepted-before.result old _ _ _ c.accepted-before.ensures.value
+    (welcome_known old c.args.from c.args.stamp c.args.base c.args.join c.args.image.now (sym c.is_member.ensures ∙ c.if-is_member.true))
+    c.finish_quietly.ensures
 
 pub returns-then-has_promised_more : goal.returns-then-has_promised_more
 returns-then-has_promised_more c =
     let old = node_of c.args.parts.now in
-    does_plan (λ m. welcome_row m c.args.from c.args.stamp c.args.base c.args.join c.args.image.now) (quiet old said.Elsewhere) c.accepted-before.result old _ _ _ c.accepted-before.ensures.value
-    (welcome_elsewhere old c.args.from c.args.stamp c.args.base c.args.join c.args.image.now (sym c.is_member.ensures ∙ c.if-is_member.false) (sym c.has_promised_more.ensures ∙ c.if-has_promised_more.true)) c.finish_quietly-then-has_promised_more.ensures
+    does_plan (λ m. welcome_row m c.args.from c.args.stamp c.args.base c.args.join c.args.image.now)
+    (quiet old said.Elsewhere) c.accepted-before.result old _ _ _ c.accepted-before.ensures.value
+    (welcome_elsewhere old c.args.from c.args.stamp c.args.base c.args.join c.args.image.now (sym c.is_member.ensures
+    ∙ c.if-is_member.false) (sym c.has_promised_more.ensures ∙ c.if-has_promised_more.true)) c.finish_quietly-then-has_promised_more.ensures
 
 pub returns-then-is_unfit : goal.returns-then-is_unfit
 returns-then-is_unfit c =
     let old = node_of c.args.parts.now in
-    does_plan (λ m. welcome_row m c.args.from c.args.stamp c.args.base c.args.join c.args.image.now) (quiet old said.Unfit) c.accepted-before.result old _ _ _ c.accepted-before.ensures.value
-    (welcome_unfit old c.args.from c.args.stamp c.args.base c.args.join c.args.image.now (sym c.is_member.ensures ∙ c.if-is_member.false) (sym c.has_promised_more.ensures ∙ c.if-has_promised_more.false) (sym c.is_unfit.ensures ∙ c.if-is_unfit.true)) c.finish_quietly-then-is_unfit.ensures
+    does_plan (λ m. welcome_row m c.args.from c.args.stamp c.args.base c.args.join c.args.image.now)
+    (quiet old said.Unfit) c.accepted-before.result old _ _ _ c.accepted-before.ensures.value
+    (welcome_unfit old c.args.from c.args.stamp c.args.base c.args.join c.args.image.now (sym c.is_member.ensures
+    ∙ c.if-is_member.false) (sym c.has_promised_more.ensures ∙ c.if-has_promised_more.false) (sym c.is_unfit.ensures ∙ c.if-is_unfit.true))
+    c.finish_quietly-then-is_unfit.ensures
 
 pub begin-requires-clause-asking : goal.begin-requires-clause-asking
 begin-requires-clause-asking c = member_or_asks (node_of c.args.parts.now).status c.requires.hears (sym c.is_member.ensures ∙ c.if-is_member.false)
@@ -33,6 +40,11 @@ begin-requires-clause-asking c = member_or_asks (node_of c.args.parts.now).statu
 pub returns : goal.returns
 returns c =
     let old = node_of c.args.parts.now in
-    let P : Node → Type 0 = λ x. Done c.accepted-before.result (welcomed x c.args.from c.args.stamp c.args.join) c.ask_on.result c.ask_on.new.out (node_of c.ask_on.new.parts) in
-    does_plan (λ m. welcome_row m c.args.from c.args.stamp c.args.base c.args.join c.args.image.now) (welcomed (begun old c.args.stamp c.args.base c.args.join c.args.image.now) c.args.from c.args.stamp c.args.join) c.accepted-before.result old _ _ _ c.accepted-before.ensures.value
-    (welcome_begins old c.args.from c.args.stamp c.args.base c.args.join c.args.image.now (sym c.is_member.ensures ∙ c.if-is_member.false) (sym c.has_promised_more.ensures ∙ c.if-has_promised_more.false) (sym c.is_unfit.ensures ∙ c.if-is_unfit.false)) (subst P c.begin.ensures c.ask_on.ensures)
+    let P : Node → Type 0 = λ x. Done c.accepted-before.result (welcomed x c.args.from c.args.stamp c.args.join) c.ask_on.result c.ask_on.new.out
+    (node_of c.ask_on.new.parts) in
+    does_plan (λ m. welcome_row m c.args.from c.args.stamp c.args.base c.args.join c.args.image.now)
+    (welcomed (begun old c.args.stamp c.args.base c.args.join c.args.image.now) c.args.from c.args.stamp c.args.join) c.accepted-before.result old _ _ _
+    c.accepted-before.ensures.value
+    (welcome_begins old c.args.from c.args.stamp c.args.base c.args.join c.args.image.now (sym c.is_member.ensures
+    ∙ c.if-is_member.false) (sym c.has_promised_more.ensures ∙ c.if-has_promised_more.false) (sym c.is_unfit.ensures ∙ c.if-is_unfit.false))
+    (subst P c.begin.ensures c.ask_on.ensures)

@@ -13,15 +13,18 @@ use Rattle.am_model.specs.Ends.{ComesTo}
 use Rattle.am_handlers.specs.Parts.{node_of}
 use Rattle.am_node.proofs.acting.by_event.Goals as goal
 
-does_as : (old new : Node) (e f : NodeEvent) (p : Plan) (outcome : Outcome) (letters : List Letter) → e ≡ f → row old f ≡ p → ComesTo (finish old p) outcome letters new → ComesTo (finish old (row old e)) outcome letters new
+does_as : (old new : Node) (e f : NodeEvent) (p : Plan) (outcome : Outcome) (letters : List Letter) → e ≡ f → row old f ≡ p
+    → ComesTo (finish old p) outcome letters new → ComesTo (finish old (row old e)) outcome letters new
 does_as old new e f p outcome letters is plan did =
-    subst (λ (x : NodeEvent). ComesTo (finish old (row old x)) outcome letters new) (sym is) (subst (λ (q : Plan). ComesTo (finish old q) outcome letters new) (sym plan) did)
+    subst (λ (x : NodeEvent). ComesTo (finish old (row old x)) outcome letters new) (sym is)
+    (subst (λ (q : Plan). ComesTo (finish old q) outcome letters new) (sym plan) did)
 
 pub returns-in-Send : goal.returns-in-Send
 unfolding row
 returns-in-Send c =
     let old = node_of c.args.parts.now in
-    does_as old _ c.args.event.now (Send c.in-Send.body) (send_row old c.get.result.now) _ _ c.in-Send.is (ap (send_row old) (sym c.get.ensures)) c.sends.ensures
+    does_as old _ c.args.event.now (Send c.in-Send.body) (send_row old c.get.result.now) _ _ c.in-Send.is
+    (ap (send_row old) (sym c.get.ensures)) c.sends.ensures
 
 pub returns-in-Done : goal.returns-in-Done
 unfolding row
@@ -57,7 +60,8 @@ pub returns-in-Reset : goal.returns-in-Reset
 unfolding row
 returns-in-Reset c =
     let old = node_of c.args.parts.now in
-    does_as old _ c.args.event.now (Reset c.in-Reset.least c.in-Reset.resilience) (reset_row old c.in-Reset.least c.in-Reset.resilience) _ _ c.in-Reset.is (refl) c.on_reset.ensures
+    does_as old _ c.args.event.now (Reset c.in-Reset.least c.in-Reset.resilience) (reset_row old c.in-Reset.least c.in-Reset.resilience) _ _ c.in-Reset.is
+    (refl) c.on_reset.ensures
 
 pub returns-in-Ask : goal.returns-in-Ask
 unfolding row
@@ -81,4 +85,5 @@ pub returns-in-Hear : goal.returns-in-Hear
 unfolding row
 returns-in-Hear c =
     let old = node_of c.args.parts.now in
-    does_as old _ c.args.event.now (Hear c.in-Hear.bytes) (read_row old (reading c.bytes.result.now)) _ _ c.in-Hear.is (ap (λ (bs : List ℕ). read_row old (reading bs)) (sym (c.bytes.ensures.value ∙ c.get-in-Hear.ensures))) c.on_bytes.ensures
+    does_as old _ c.args.event.now (Hear c.in-Hear.bytes) (read_row old (reading c.bytes.result.now)) _ _ c.in-Hear.is
+    (ap (λ (bs : List ℕ). read_row old (reading bs)) (sym (c.bytes.ensures.value ∙ c.get-in-Hear.ensures))) c.on_bytes.ensures

@@ -12,7 +12,8 @@ returns-then-before-acc c =
     let old = node_of c.args.parts.now in
     let new = node_of c.end.new.self in
     let order = c.accepted-before.ensures.order in
-    done c.args.before (accepting c.args.before c.args.poll c.args.from old) old new _ c.send_ack_where.new.out c.tell_accepted.new.out refl (end_self old order.kept) c.end.ensures
+    done c.args.before (accepting c.args.before c.args.poll c.args.from old) old new _ c.send_ack_where.new.out c.tell_accepted.new.out refl
+    (end_self old order.kept) c.end.ensures
     (accept_risen c.args.before c.accepted-acc.result c.args.poll c.args.from new old c.accepted-acc.ensures.value c.if-before-acc.true)
     (core_tells (ack_where c.args.poll c.args.from) new c.send_ack_where.new.out c.send_ack_where.ensures.letters) c.tell_accepted.ensures
 
@@ -21,6 +22,7 @@ returns c =
     let old = node_of c.args.parts.now in
     let new = node_of c.end.new.self in
     let order = c.accepted-before.ensures.order in
-    done c.args.before (accepting c.args.before c.args.poll c.args.from old) old new _ c.send_ack_where.new.out c.tell_accepted.new.out refl (end_self old order.kept) c.end.ensures
+    done c.args.before (accepting c.args.before c.args.poll c.args.from old) old new _ c.send_ack_where.new.out c.tell_accepted.new.out refl
+    (end_self old order.kept) c.end.ensures
     (accept_same c.args.before c.accepted-acc.result c.args.poll c.args.from new old c.accepted-acc.ensures.value c.if-before-acc.false)
     (core_tells (ack_where c.args.poll c.args.from) new c.send_ack_where.new.out c.send_ack_where.ensures.letters) c.tell_accepted.ensures

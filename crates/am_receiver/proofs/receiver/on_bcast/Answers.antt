@@ -22,5 +22,7 @@ returns c =
     let before = c.accepted-before.result in
     let whole = noted old c.args.base c.args.acc in
     let rest : Node → _ = λ m. received m c.args.from c.args.base c.args.number (Some c.args.entry.now) said.Known in
-    does_plan (λ m. bcast_row m c.args.from c.args.base c.args.acc c.args.number c.args.entry.now) (rest whole) before old _ _ _ c.accepted-before.ensures.value refl
-    (done_whole before rest whole mid _ _ _ c.note.ensures.end c.note.ensures.order (λ all keeps. alike_received all mid c.args.from c.args.base c.args.number (Some c.args.entry.now) said.Known keeps) c.received.ensures)
+    does_plan (λ m. bcast_row m c.args.from c.args.base c.args.acc c.args.number c.args.entry.now)
+    (rest whole) before old _ _ _ c.accepted-before.ensures.value refl
+    (done_whole before rest whole mid _ _ _ c.note.ensures.end c.note.ensures.order
+    (λ all keeps. alike_received all mid c.args.from c.args.base c.args.number (Some c.args.entry.now) said.Known keeps) c.received.ensures)

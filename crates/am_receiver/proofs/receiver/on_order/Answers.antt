@@ -32,9 +32,13 @@ returns-in-Some c =
     let missing = said.NoBody c.args.from c.args.req in
     let found : _ ≡ data_of c.args.from c.args.req (body_of old c.args.from c.args.req) = sym c.in-Some.is ∙ c.ordered-found.ensures.value in
     let rest : Node → _ = λ m. received m c.args.sequencer c.args.base c.args.number (Some c.in-Some.entry) missing in
-    let P : Option Entry → Type 0 = λ e. Done before (received whole c.args.sequencer c.args.base c.args.number e missing) c.received.result c.received.new.out (node_of c.received.new.parts) in
-    does_plan (λ m. order_row m c.args.sequencer c.args.base c.args.acc c.args.number c.args.from c.args.req) (received whole c.args.sequencer c.args.base c.args.number (data_of c.args.from c.args.req (body_of old c.args.from c.args.req)) missing) before old _ _ _ c.accepted-before.ensures.value refl
-    (subst P found (done_whole before rest whole mid _ _ _ c.note.ensures.end c.note.ensures.order (λ all keeps. alike_received all mid c.args.sequencer c.args.base c.args.number (Some c.in-Some.entry) missing keeps) c.received.ensures))
+    let P : Option Entry → Type 0 = λ e. Done before (received whole c.args.sequencer c.args.base c.args.number e missing) c.received.result c.received.new.out
+    (node_of c.received.new.parts) in
+    does_plan (λ m. order_row m c.args.sequencer c.args.base c.args.acc c.args.number c.args.from c.args.req)
+    (received whole c.args.sequencer c.args.base c.args.number (data_of c.args.from c.args.req (body_of old c.args.from c.args.req)) missing) before old _ _
+    _ c.accepted-before.ensures.value refl
+    (subst P found (done_whole before rest whole mid _ _ _ c.note.ensures.end c.note.ensures.order
+    (λ all keeps. alike_received all mid c.args.sequencer c.args.base c.args.number (Some c.in-Some.entry) missing keeps) c.received.ensures))
 
 pub returns-in-None : goal.returns-in-None
 unfolding order_row
@@ -46,6 +50,10 @@ returns-in-None c =
     let missing = said.NoBody c.args.from c.args.req in
     let found : _ ≡ data_of c.args.from c.args.req (body_of old c.args.from c.args.req) = sym c.in-None.is ∙ c.ordered-found.ensures.value in
     let rest : Node → _ = λ m. received m c.args.sequencer c.args.base c.args.number None missing in
-    let P : Option Entry → Type 0 = λ e. Done before (received whole c.args.sequencer c.args.base c.args.number e missing) c.received-in-None.result c.received-in-None.new.out (node_of c.received-in-None.new.parts) in
-    does_plan (λ m. order_row m c.args.sequencer c.args.base c.args.acc c.args.number c.args.from c.args.req) (received whole c.args.sequencer c.args.base c.args.number (data_of c.args.from c.args.req (body_of old c.args.from c.args.req)) missing) before old _ _ _ c.accepted-before.ensures.value refl
-    (subst P found (done_whole before rest whole mid _ _ _ c.note.ensures.end c.note.ensures.order (λ all keeps. alike_received all mid c.args.sequencer c.args.base c.args.number None missing keeps) c.received-in-None.ensures))
+    let P : Option Entry → Type 0 = λ e. Done before (received whole c.args.sequencer c.args.base c.args.number e missing) c.received-in-None.result
+    c.received-in-None.new.out (node_of c.received-in-None.new.parts) in
+    does_plan (λ m. order_row m c.args.sequencer c.args.base c.args.acc c.args.number c.args.from c.args.req)
+    (received whole c.args.sequencer c.args.base c.args.number (data_of c.args.from c.args.req (body_of old c.args.from c.args.req)) missing) before old _ _
+    _ c.accepted-before.ensures.value refl
+    (subst P found (done_whole before rest whole mid _ _ _ c.note.ensures.end c.note.ensures.order
+    (λ all keeps. alike_received all mid c.args.sequencer c.args.base c.args.number None missing keeps) c.received-in-None.ensures))

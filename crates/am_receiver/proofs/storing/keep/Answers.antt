@@ -17,7 +17,9 @@ pub push-requires-clause-keeps : goal.push-requires-clause-keeps
 push-requires-clause-keeps c =
     let old = node_of c.args.parts.now in
     let P : Entry → Type 0 = λ e. NodeKeeps (pushed old e) in
-    subst P (sym c.copied.ensures) (keeps_pushed old c.args.entry.now c.requires.plain c.requires.fits (old.core.rules.window + 15) c.accepted-before.ensures.kept (member_log old.status c.requires.member) (λ leads. absurd (let no = sym c.requires.follows ∙ leads in cc)) c.args.parts.now.keeps)
+    subst P (sym c.copied.ensures) (keeps_pushed old c.args.entry.now c.requires.plain c.requires.fits
+    (old.core.rules.window + 15) c.accepted-before.ensures.kept (member_log old.status c.requires.member)
+    (λ leads. absurd (let no = sym c.requires.follows ∙ leads in cc)) c.args.parts.now.keeps)
 
 pub returns : goal.returns
 returns c =
@@ -29,8 +31,13 @@ returns c =
     let after : Node = record (pushed old e) { bodies = bodies_after old.bodies e } in
     let node : mid ≡ after = c.drop_bodies.ensures ∙ ap (λ (x : Node). let n : Node = record x { bodies = bodies_after x.bodies e } in n) put in
     let kept = c.push.ensures.order.kept in
-    let start : mid.core.base ≡ mid.core.log.start = ap (λ (x : Node). x.core.base) (node ∙ ap (λ (x : Node). let n : Node = record x { bodies = bodies_after x.bodies e } in n) (sym put)) ∙ kept ∙ ap (λ (x : Node). x.core.log.start) (ap (λ (x : Node). let n : Node = record x { bodies = bodies_after x.bodies e } in n) put ∙ sym node) in
+    let start : mid.core.base ≡ mid.core.log.start = ap (λ (x : Node). x.core.base) (node
+    ∙ ap (λ (x : Node). let n : Node = record x { bodies = bodies_after x.bodies e } in n) (sym put)) ∙ kept
+    ∙ ap (λ (x : Node). x.core.log.start) (ap (λ (x : Node). let n : Node = record x { bodies = bodies_after x.bodies e } in n) put ∙ sym node) in
     let end : IsEndOf after mid = subst (λ (x : Node). IsEndOf x mid) node (end_self mid start) in
-    let due : c.acknowledges-is_due.result ≡ acknowledges (pushed old e) c.args.from (pushed old e) = c.acknowledges-is_due.ensures ∙ ap (λ (x : Node). acknowledges x c.args.from x) node in
+    let due : c.acknowledges-is_due.result ≡ acknowledges (pushed old e) c.args.from (pushed old e) = c.acknowledges-is_due.ensures
+    ∙ ap (λ (x : Node). acknowledges x c.args.from x) node in
     done c.args.before (stored old c.args.from c.args.number e) mid new _ c.send_ack_where.new.out c.tell_accepted.new.out refl end c.end.ensures
-    (λ n is. refl) (stored_letters old e c.args.from c.acknowledges-is_due.result mid new c.send_ack_where.new.out due node (c.end.ensures mid (end_self mid start)) (core_tells (ack_where c.acknowledges-is_due.result c.args.from) new c.send_ack_where.new.out c.send_ack_where.ensures.letters)) c.tell_accepted.ensures
+    (λ n is. refl) (stored_letters old e c.args.from c.acknowledges-is_due.result mid new c.send_ack_where.new.out due node
+    (c.end.ensures mid (end_self mid start)) (core_tells
+    (ack_where c.acknowledges-is_due.result c.args.from) new c.send_ack_where.new.out c.send_ack_where.ensures.letters)) c.tell_accepted.ensures

@@ -8,7 +8,8 @@ use Rattle.am_receiver.proofs.storing.store.Goals as goal
 pub returns-then-is_unfit : goal.returns-then-is_unfit
 returns-then-is_unfit c = λ missing.
     let P : Plan → Type 0 = λ p. Done c.args.before p c.finish_quietly.result c.finish_quietly.new.out (node_of c.finish_quietly.new.parts) in
-    subst P (sym (store_unfit (node_of c.args.parts.now) c.args.from c.args.number c.args.entry.now missing (sym c.is_unfit.ensures.value ∙ c.if-is_unfit.true))) c.finish_quietly.ensures
+    subst P (sym (store_unfit (node_of c.args.parts.now) c.args.from c.args.number c.args.entry.now missing (sym c.is_unfit.ensures.value
+    ∙ c.if-is_unfit.true))) c.finish_quietly.ensures
 
 pub keep-requires-clause-plain : goal.keep-requires-clause-plain
 keep-requires-clause-plain c = (is_fit (node_of c.args.parts.now) c.args.number c.args.entry.now (sym c.is_unfit.ensures.value ∙ c.if-is_unfit.false)).plain
@@ -26,4 +27,5 @@ keep-requires-clause-room c =
 pub returns : goal.returns
 returns c = λ missing.
     let P : Plan → Type 0 = λ p. Done c.args.before p c.keep.result c.keep.new.out (node_of c.keep.new.parts) in
-    subst P (sym (store_fit (node_of c.args.parts.now) c.args.from c.args.number c.args.entry.now missing (sym c.is_unfit.ensures.value ∙ c.if-is_unfit.false))) c.keep.ensures
+    subst P (sym (store_fit (node_of c.args.parts.now) c.args.from c.args.number c.args.entry.now missing (sym c.is_unfit.ensures.value ∙ c.if-is_unfit.false)))
+    c.keep.ensures

@@ -3,4 +3,5 @@ use Rattle.am_model.specs.Text.{letters_text}
 use Rattle.am_report.proofs.letter.push_letters.Given as goal
 
 abbrev pub invariant-loop-at : goal.invariant-loop-at
-invariant-loop-at l = string_bytes l.out ++ letters_text l.place (l.before + 1 + l.at) (drop l.at l.letters) ≡ string_bytes l.fn.out ++ letters_text l.place (l.before + 1) l.letters
+invariant-loop-at l = string_bytes l.out ++ letters_text l.place (l.before + 1 + l.at) (drop l.at l.letters)
+    ≡ string_bytes l.fn.out ++ letters_text l.place (l.before + 1) l.letters

@@ -16,7 +16,8 @@ pub returns-then-is_apart-clause-replies : goal.returns-then-is_apart-clause-rep
 returns-then-is_apart-clause-replies c =
     let old = node_of c.args.parts.now in
     by_reply (piece_row old c.args.from c.args.stamp c.args.base c.args.number c.args.entry.now) c.quiet.result said.Elsewhere tell.Nothing old c.quiet.ensures
-    (piece_apart old old c.args.from c.args.stamp c.args.base c.args.number c.args.entry.now (sym c.is_apart.ensures ∙ c.if-is_apart.true) (end_self old c.requires.order.kept))
+    (piece_apart old old c.args.from c.args.stamp c.args.base c.args.number c.args.entry.now (sym c.is_apart.ensures
+    ∙ c.if-is_apart.true) (end_self old c.requires.order.kept))
 
 pub returns-in-None-clause-replies : goal.returns-in-None-clause-replies
 returns-in-None-clause-replies c =
@@ -28,7 +29,8 @@ returns-in-None-clause-replies c =
     let none : old.ballot ≡ None = sym c.take_ballot.ensures.ballot ∙ ap (option_map ballot_of) c.in-None.is in
     let same : mid ≡ old = c.take_ballot.ensures.rest ∙ ap (λ (x : Option Ballot). record old { ballot = x }) (sym none) in
     piece_by old new c.args.from c.args.stamp c.args.base c.args.number c.args.entry.now o t None (sym c.is_apart.ensures ∙ c.if-is_apart.false) none
-    (subst (λ (x : Node). Replies (piece_promised x c.args.from c.args.stamp c.args.base c.args.number c.args.entry.now) o t new) same c.piece_promised.ensures.replies)
+    (subst (λ (x : Node). Replies (piece_promised x c.args.from c.args.stamp c.args.base c.args.number c.args.entry.now) o t new) same
+    c.piece_promised.ensures.replies)
 
 pub returns-in-Some-clause-replies : goal.returns-in-Some-clause-replies
 returns-in-Some-clause-replies c =
@@ -39,6 +41,8 @@ returns-in-Some-clause-replies c =
     let o = c.piece_for.result.outcome in
     let t = c.piece_for.result.telling in
     let there : old.ballot ≡ Some b = sym c.take_ballot.ensures.ballot ∙ ap (option_map ballot_of) c.in-Some.is in
-    let same : with_ballot mid (Some b) ≡ old = ap (λ (x : Node). record x { ballot = Some b }) c.take_ballot.ensures.rest ∙ ap (λ (x : Option Ballot). record old { ballot = x }) (sym there) in
+    let same : with_ballot mid (Some b) ≡ old = ap (λ (x : Node). record x { ballot = Some b }) c.take_ballot.ensures.rest
+    ∙ ap (λ (x : Option Ballot). record old { ballot = x }) (sym there) in
     piece_by old new c.args.from c.args.stamp c.args.base c.args.number c.args.entry.now o t (Some b) (sym c.is_apart.ensures ∙ c.if-is_apart.false) there
-    (subst (λ (x : Node). Replies (piece_for x c.args.from c.args.stamp c.args.base c.args.number c.args.entry.now (Some b)) o t new) same c.piece_for.ensures.replies)
+    (subst (λ (x : Node). Replies (piece_for x c.args.from c.args.stamp c.args.base c.args.number c.args.entry.now (Some b)) o t new) same
+    c.piece_for.ensures.replies)

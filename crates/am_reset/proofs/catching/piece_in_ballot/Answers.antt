@@ -18,7 +18,8 @@ returns-in-Some-clause-replies c =
     let new = node_of c.put_back.new.parts in
     let e = c.args.entry.now in
     by_reply (fetched m c.args.stamp.now c.args.base c.args.number e true (fetched_for b)) c.quiet.result c.in-Some.outcome tell.Nothing new c.quiet.ensures
-    (fetched_unless m new c.args.stamp.now c.args.base c.args.number e true (fetched_for b) c.refusal.result c.in-Some.outcome (c.refusal.ensures.value (Some b) (fetched_for b)) c.in-Some.is (end_as m new c.requires.ballot.order.kept c.put_back.ensures))
+    (fetched_unless m new c.args.stamp.now c.args.base c.args.number e true (fetched_for b) c.refusal.result c.in-Some.outcome
+    (c.refusal.ensures.value (Some b) (fetched_for b)) c.in-Some.is (end_as m new c.requires.ballot.order.kept c.put_back.ensures))
 
 pub returns-in-None-clause-replies : goal.returns-in-None-clause-replies
 returns-in-None-clause-replies c =
@@ -28,14 +29,17 @@ returns-in-None-clause-replies c =
     let new = node_of c.decide-outcome.new.parts in
     let e = c.args.entry.now in
     let comes = c.decide-outcome.ensures.comes (pushed (trimmed old c.args.base) e) (c.store.ensures.changes old (end_self old c.requires.ballot.order.kept)) in
-    fetched_then m new c.args.stamp.now c.args.base c.args.number e true (fetched_for b) c.refusal.result c.decide-outcome.result (tell.Ballot c.empty.result false) (c.refusal.ensures.value (Some b) (fetched_for b)) c.in-None.is
+    fetched_then m new c.args.stamp.now c.args.base c.args.number e true (fetched_for b) c.refusal.result c.decide-outcome.result
+    (tell.Ballot c.empty.result false) (c.refusal.ensures.value (Some b) (fetched_for b)) c.in-None.is
     (replies_fetched old new b (Some b) c.args.base e c.decide-outcome.result c.empty.result comes c.empty.ensures)
 
 pub store-requires : goal.store-requires
 store-requires c =
     let old = node_of c.args.parts.now in
     let b = ballot_of c.args.ballot in
-    may_store old c.args.stamp.now c.args.base c.args.number c.args.entry.now true c.requires.ballot.order ((c.requires.ballot.own).logged c.requires.ballot.is_open) c.requires.promise (taken_idle old b c.requires.ballot) (λ other there. absurd (let x = sym c.requires.ballot.out ∙ there in cc)) c.requires.entry c.requires.ballot.number
+    may_store old c.args.stamp.now c.args.base c.args.number c.args.entry.now true c.requires.ballot.order
+    ((c.requires.ballot.own).logged c.requires.ballot.is_open) c.requires.promise (taken_idle old b c.requires.ballot)
+    (λ other there. absurd (let x = sym c.requires.ballot.out ∙ there in cc)) c.requires.entry c.requires.ballot.number
     (c.in-None.ensures.next)
 
 pub decide-outcome-requires : goal.decide-outcome-requires
@@ -45,4 +49,5 @@ decide-outcome-requires c =
     let e = c.args.entry.now in
     let top = c.store.ensures.steady.top in
     let more = top_push old.core.log e in
-    taken_pushed old new (ballot_of c.args.ballot) c.args.stamp.now e c.requires.promise c.requires.ballot (c.in-None.ensures.next.below refl) c.store.ensures.order (let n = c.requires.number in omega arith) c.store.ensures.steady
+    taken_pushed old new (ballot_of c.args.ballot) c.args.stamp.now e c.requires.promise c.requires.ballot
+    (c.in-None.ensures.next.below refl) c.store.ensures.order (let n = c.requires.number in omega arith) c.store.ensures.steady

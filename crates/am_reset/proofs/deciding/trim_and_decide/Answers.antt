@@ -10,7 +10,9 @@ use Rattle.am_reset.proofs.deciding.trim_and_decide.Goals as goal
 
 pub returns-clause-comes : goal.returns-clause-comes
 returns-clause-comes c =
-    trimmed_comes (node_of c.args.parts.now) (node_of c.trim.new.parts) (node_of c.decide_view.new.parts) (ballot_of c.args.ballot) c.args.names c.decide_view.result c.least_taken-least.result c.least_taken-least.ensures.value c.trim.ensures.changes c.decide_view.ensures.comes
+    trimmed_comes (node_of c.args.parts.now) (node_of c.trim.new.parts) (node_of c.decide_view.new.parts)
+    (ballot_of c.args.ballot) c.args.names c.decide_view.result c.least_taken-least.result c.least_taken-least.ensures.value c.trim.ensures.changes
+    c.decide_view.ensures.comes
 
 pub decide_view-requires-clause-ballot : goal.decide_view-requires-clause-ballot
 decide_view-requires-clause-ballot c = record {

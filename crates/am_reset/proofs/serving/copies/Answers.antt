@@ -11,7 +11,8 @@ loop-before-preserved c =
     let kept = c.requires.order.kept in
     let last = c.last_served-last.ensures.value in
     record {
-      items = copied_next c.args.parts.now.core.log c.args.stored c.loop-before.before c.loop-before.entries.items c.copy_entry.new.entries.items (omega arith) c.loop-before.auto.before (omega arith) c.loop-before.invariant.items c.copy_entry.ensures.items;
+      items = copied_next c.args.parts.now.core.log c.args.stored c.loop-before.before c.loop-before.entries.items c.copy_entry.new.entries.items
+          (omega arith) c.loop-before.auto.before (omega arith) c.loop-before.invariant.items c.copy_entry.ensures.items;
       few = let few = c.copy_entry.ensures.few in let was = c.loop-before.invariant.few in omega arith;
     }
 
@@ -21,7 +22,8 @@ returns-clause-items c =
     let kept = c.requires.order.kept in
     let last = c.last_served-last.ensures.value in
     let end : c.loop-before.before ≡ c.last_served-last.result = omega arith in
-    c.loop-before.invariant.items ∙ ap (λ k. take (k - c.args.stored) (kept_above old.core.log c.args.stored)) end ∙ copied_all old c.args.stored c.last_served-last.result (omega arith) c.requires.high last
+    c.loop-before.invariant.items ∙ ap (λ k. take (k - c.args.stored) (kept_above old.core.log c.args.stored)) end
+    ∙ copied_all old c.args.stored c.last_served-last.result (omega arith) c.requires.high last
 
 pub returns-clause-within : goal.returns-clause-within
 returns-clause-within c =

@@ -18,6 +18,8 @@ loop-entry-preserved c =
     let was = c.loop-entry.invariant in
     record {
       number = omega arith;
-      letters = piece_next (piece_of (node_of c.args.parts.now)) (only_name c.args.to) c.args.stored c.loop-entry.number c.loop-entry.entry-index c.args.entries.now c.entry-item.result c.loop-entry.out c.tell_piece.new.out c.loop-entry-test.true was.number c.entry-item.is was.letters c.tell_piece.ensures.letters;
+      letters = piece_next (piece_of (node_of c.args.parts.now))
+          (only_name c.args.to) c.args.stored c.loop-entry.number c.loop-entry.entry-index c.args.entries.now c.entry-item.result c.loop-entry.out
+          c.tell_piece.new.out c.loop-entry-test.true was.number c.entry-item.is was.letters c.tell_piece.ensures.letters;
       few = let few = c.tell_piece.ensures.few in omega arith;
     }

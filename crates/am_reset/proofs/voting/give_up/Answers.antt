@@ -20,5 +20,7 @@ unfolding give_up
 returns-clause-replies c =
     let old = node_of c.args.parts.now in
     let new = without_voter (ballot_of c.args.ballot) c.args.name in
-    let comes : ComesTo (decide old new) c.decide-outcome.result (node_of c.decide-outcome.new.parts) = subst (λ (b : Ballot). ComesTo (decide old b) c.decide-outcome.result (node_of c.decide-outcome.new.parts)) c.give_up.ensures (c.decide-outcome.ensures.comes old (end_self old c.requires.ballot.order.kept)) in
+    let comes : ComesTo (decide old new) c.decide-outcome.result (node_of c.decide-outcome.new.parts) =
+    subst (λ (b : Ballot). ComesTo (decide old b) c.decide-outcome.result (node_of c.decide-outcome.new.parts)) c.give_up.ensures
+    (c.decide-outcome.ensures.comes old (end_self old c.requires.ballot.order.kept)) in
     replies_silent (decide old new) (node_of c.decide-outcome.new.parts) c.decide-outcome.result c.empty.result comes c.empty.ensures

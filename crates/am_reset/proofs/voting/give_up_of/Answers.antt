@@ -22,10 +22,12 @@ returns-then-eq-clause-replies c =
     let m : Node = record (node_of c.args.parts.now) { ballot = Some b } in
     let new = node_of c.put_back-then-eq.new.parts in
     by_reply (give_up_of m c.args.name (Some b)) c.quiet-then-eq.result said.Unfit tell.Nothing new c.quiet-then-eq.ensures
-    (given_itself m new c.args.name b (sym c.is_over.ensures ∙ c.if-is_over.false) (ap (λ who. c.args.name == who) (sym c.name_of.ensures) ∙ sym c.eq.ensures ∙ c.if-eq.true) (end_as m new c.requires.order.kept c.put_back-then-eq.ensures))
+    (given_itself m new c.args.name b (sym c.is_over.ensures ∙ c.if-is_over.false) (ap (λ who. c.args.name == who) (sym c.name_of.ensures) ∙ sym c.eq.ensures
+    ∙ c.if-eq.true) (end_as m new c.requires.order.kept c.put_back-then-eq.ensures))
 
 pub returns-clause-replies : goal.returns-clause-replies
 returns-clause-replies c =
     let b = ballot_of c.args.ballot in
     let m = node_of c.args.parts.now in
-    given_up m (node_of c.give_up.new.parts) c.args.name b (Some b) c.give_up.result.outcome c.give_up.result.telling (sym c.is_over.ensures ∙ c.if-is_over.false) (ap (λ who. c.args.name == who) (sym c.name_of.ensures) ∙ sym c.eq.ensures ∙ c.if-eq.false) c.give_up.ensures.replies
+    given_up m (node_of c.give_up.new.parts) c.args.name b (Some b) c.give_up.result.outcome c.give_up.result.telling (sym c.is_over.ensures
+    ∙ c.if-is_over.false) (ap (λ who. c.args.name == who) (sym c.name_of.ensures) ∙ sym c.eq.ensures ∙ c.if-eq.false) c.give_up.ensures.replies

@@ -13,7 +13,8 @@ use Rattle.am_reset.proofs.voting.keep_vote.Goals as goal
 pub decide-outcome-requires : goal.decide-outcome-requires
 decide-outcome-requires c =
     let old = node_of c.args.parts.now in
-    subst (λ (b : Ballot). IsTakenOut old b) (sym c.keep.ensures) (taken_voted old (ballot_of c.args.ballot) c.args.from c.args.vote.now c.requires.other c.requires.ballot)
+    subst (λ (b : Ballot). IsTakenOut old b) (sym c.keep.ensures)
+    (taken_voted old (ballot_of c.args.ballot) c.args.from c.args.vote.now c.requires.other c.requires.ballot)
 
 pub returns-clause-replies : goal.returns-clause-replies
 unfolding keep_vote
@@ -21,6 +22,11 @@ returns-clause-replies c =
     let old = node_of c.args.parts.now in
     let new = with_vote (ballot_of c.args.ballot) c.args.from c.args.vote.now in
     let invited : c.newly_needed-invited.result ≡ newly_needed old (ballot_of c.args.ballot) new =
-    newly_is old (ballot_of c.args.ballot) new (ballot_of c.keep.new.self) c.name_of-who.result c.own_vote-own.result c.best.result c.best-2.result c.newly_needed-invited.result c.members-before.result c.members-needed.result c.keep.ensures c.name_of-who.ensures c.own_vote-own.ensures.value c.best.ensures c.best-2.ensures c.members-before.ensures c.members-needed.ensures c.newly_needed-invited.ensures in
-    let comes : ComesTo (decide old new) c.decide-outcome.result (node_of c.decide-outcome.new.parts) = subst (λ (b : Ballot). ComesTo (decide old b) c.decide-outcome.result (node_of c.decide-outcome.new.parts)) c.keep.ensures (c.decide-outcome.ensures.comes old (end_self old c.requires.ballot.order.kept)) in
-    replies_asking (decide old new) (node_of c.decide-outcome.new.parts) c.decide-outcome.result (newly_needed old (ballot_of c.args.ballot) new) c.newly_needed-invited.result comes invited
+    newly_is old (ballot_of c.args.ballot) new (ballot_of c.keep.new.self) c.name_of-who.result c.own_vote-own.result c.best.result c.best-2.result
+    c.newly_needed-invited.result c.members-before.result c.members-needed.result c.keep.ensures c.name_of-who.ensures c.own_vote-own.ensures.value
+    c.best.ensures c.best-2.ensures c.members-before.ensures c.members-needed.ensures c.newly_needed-invited.ensures in
+    let comes : ComesTo (decide old new) c.decide-outcome.result (node_of c.decide-outcome.new.parts) =
+    subst (λ (b : Ballot). ComesTo (decide old b) c.decide-outcome.result (node_of c.decide-outcome.new.parts)) c.keep.ensures
+    (c.decide-outcome.ensures.comes old (end_self old c.requires.ballot.order.kept)) in
+    replies_asking (decide old new) (node_of c.decide-outcome.new.parts) c.decide-outcome.result
+    (newly_needed old (ballot_of c.args.ballot) new) c.newly_needed-invited.result comes invited

@@ -12,5 +12,6 @@ pub returns : goal.returns
 returns c =
     let old = node_of c.args.parts.now in
     let row = ask_row old c.args.round in
-    let r = by_plan row (emit.quiet old c.ask.result) c.ask.result tell.Nothing old c.ask.ensures (replies_quiet old old c.ask.result (end_self old c.accepted_of-before.ensures.order.kept)) in
+    let r = by_plan row (emit.quiet old c.ask.result) c.ask.result tell.Nothing old c.ask.ensures
+    (replies_quiet old old c.ask.result (end_self old c.accepted_of-before.ensures.order.kept)) in
     c.finish.ensures old row (sym c.accepted_of-before.ensures.value) (by_reply row c.quiet-reply.result c.ask.result tell.Nothing old c.quiet-reply.ensures r)

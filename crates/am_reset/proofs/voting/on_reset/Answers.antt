@@ -4,4 +4,5 @@ use Rattle.am_model.specs.Calls.{reset_row}
 use Rattle.am_reset.proofs.voting.on_reset.Goals as goal
 
 pub returns : goal.returns
-returns c = c.finish.ensures (node_of c.args.parts.now) (reset_row (node_of c.args.parts.now) c.args.least c.args.resilience) (sym c.accepted_of-before.ensures.value) c.reset-reply.ensures.replies
+returns c = c.finish.ensures (node_of c.args.parts.now) (reset_row (node_of c.args.parts.now) c.args.least c.args.resilience)
+    (sym c.accepted_of-before.ensures.value) c.reset-reply.ensures.replies

@@ -21,12 +21,14 @@ pub returns-then-parts-clause-replies : goal.returns-then-parts-clause-replies
 returns-then-parts-clause-replies c =
     let old = node_of c.args.parts.now in
     by_reply (reset_row old c.args.least c.args.resilience) c.quiet-then-parts.result said.Leaving tell.Nothing old c.quiet-then-parts.ensures
-    (reset_leaving old old c.args.least c.args.resilience (sym c.is_member.ensures ∙ c.if-not-is_member.false) c.if-parts.true (end_self old c.requires.order.kept))
+    (reset_leaving old old c.args.least c.args.resilience (sym c.is_member.ensures
+    ∙ c.if-not-is_member.false) c.if-parts.true (end_self old c.requires.order.kept))
 
 pub returns-clause-replies : goal.returns-clause-replies
 returns-clause-replies c =
     let old = node_of c.args.parts.now in
-    reset_begins old (node_of c.begin.new.parts) c.args.least c.args.resilience c.begin.result.outcome c.begin.result.telling (sym c.is_member.ensures ∙ c.if-not-is_member.false) c.if-parts.false c.begin.ensures.replies
+    reset_begins old (node_of c.begin.new.parts) c.args.least c.args.resilience c.begin.result.outcome c.begin.result.telling (sym c.is_member.ensures
+    ∙ c.if-not-is_member.false) c.if-parts.false c.begin.ensures.replies
 
 pub begin-requires-clause-logged : goal.begin-requires-clause-logged
 begin-requires-clause-logged c =

@@ -5,4 +5,5 @@ use Rattle.am_script.specs.Events.{each_event}
 use Rattle.am_script.proofs.play.each_event.Given as goal
 
 abbrev pub invariant-loop-before : goal.invariant-loop-before
-invariant-loop-before l = each_event l.fn.founding 1 (items_view l.list) ≡ (each_event l.fn.founding (l.before + 1) (items_view (drop l.before l.list)) >>= λ later. Ok (l.events ++ later))
+invariant-loop-before l = each_event l.fn.founding 1 (items_view l.list)
+    ≡ (each_event l.fn.founding (l.before + 1) (items_view (drop l.before l.list)) >>= λ later. Ok (l.events ++ later))

@@ -5,4 +5,5 @@ use Rattle.am_script.specs.Races.{each_call}
 use Rattle.am_script.proofs.race.each_call.Given as goal
 
 abbrev pub invariant-loop-before : goal.invariant-loop-before
-invariant-loop-before l = each_call l.fn.founding l.first (items_view l.list) ≡ (each_call l.fn.founding (l.first + l.before) (items_view (drop l.before l.list)) >>= λ later. Ok (l.calls ++ later))
+invariant-loop-before l = each_call l.fn.founding l.first (items_view l.list)
+    ≡ (each_call l.fn.founding (l.first + l.before) (items_view (drop l.before l.list)) >>= λ later. Ok (l.calls ++ later))

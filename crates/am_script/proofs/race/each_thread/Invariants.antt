@@ -6,6 +6,7 @@ use Rattle.am_script.proofs.race.each_thread.Given as goal
 
 abbrev pub invariant-loop-value : goal.invariant-loop-value
 invariant-loop-value l = record {
-  read : each_thread l.fn.founding 1 (items_view l.list) ≡ (each_thread l.fn.founding l.first (items_view (drop l.value-index l.list)) >>= λ later. Ok (l.threads ++ later));
+  read : each_thread l.fn.founding 1 (items_view l.list) ≡ (each_thread l.fn.founding l.first (items_view (drop l.value-index l.list)) >>= λ later. Ok
+      (l.threads ++ later));
   low : l.first ≤ 1 + l.value-index * 2 ^ 59;
 }

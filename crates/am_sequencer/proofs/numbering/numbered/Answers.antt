@@ -8,4 +8,5 @@ pub returns-then-by_order-clause-value : goal.returns-then-by_order-clause-value
 returns-then-by_order-clause-value g c = λ m all s. rw (c.if-by_order.true) (c.order.ensures.value m all s)
 
 pub returns-clause-value : goal.returns-clause-value
-returns-clause-value g c = λ m all s. rw (c.if-by_order.false) (c.bcast.ensures.value m all s ∙ ap (λ (body : List ℕ). bcast_of (with_core m all c.args.core.now) c.args.number (Data c.args.from c.args.req body)) c.copied.ensures)
+returns-clause-value g c = λ m all s. rw (c.if-by_order.false) (c.bcast.ensures.value m all s
+    ∙ ap (λ (body : List ℕ). bcast_of (with_core m all c.args.core.now) c.args.number (Data c.args.from c.args.req body)) c.copied.ensures)

@@ -15,7 +15,8 @@ returns-then-before-acc c =
     let order = c.accepted-before.ensures.order in
     let P : List Letter → Type 0 = λ letters. Tells (with_told c.args.before false false letters) new c.tell_accepted.new.out in
     done c.args.before (following c.args.before old) old new _ [] c.tell_accepted.new.out refl (end_self old order.kept) c.end.ensures
-    (follow_risen c.args.before c.accepted-acc.result new c.accepted-acc.ensures.value c.if-before-acc.true) (λ n is. refl) (subst P c.requires c.tell_accepted.ensures)
+    (follow_risen c.args.before c.accepted-acc.result new c.accepted-acc.ensures.value c.if-before-acc.true) (λ n is. refl)
+    (subst P c.requires c.tell_accepted.ensures)
 
 pub returns : goal.returns
 returns c =
@@ -24,4 +25,5 @@ returns c =
     let order = c.accepted-before.ensures.order in
     let P : List Letter → Type 0 = λ letters. Tells (with_told c.args.before false false letters) new c.tell_accepted.new.out in
     done c.args.before (following c.args.before old) old new _ [] c.tell_accepted.new.out refl (end_self old order.kept) c.end.ensures
-    (follow_same c.args.before c.accepted-acc.result new c.accepted-acc.ensures.value c.if-before-acc.false) (λ n is. refl) (subst P c.requires c.tell_accepted.ensures)
+    (follow_same c.args.before c.accepted-acc.result new c.accepted-acc.ensures.value c.if-before-acc.false) (λ n is. refl)
+    (subst P c.requires c.tell_accepted.ensures)

@@ -20,7 +20,8 @@ pub returns-then-not-report_fits : goal.returns-then-not-report_fits
 returns-then-not-report_fits c =
     let old = node_of c.args.parts.now in
     does_plan (λ m. nack_row m c.args.from c.args.report) (quiet old said.Unfit) c.accepted-before.result old _ _ _ c.accepted-before.ensures.value
-    (nack_unfit old c.args.from c.args.report (sym c.is_unknown.ensures ∙ c.if-is_unknown.false) (sym c.report_fits.ensures.value ∙ c.if-not-report_fits.true)) c.finish_quietly-then-not-report_fits.ensures
+    (nack_unfit old c.args.from c.args.report (sym c.is_unknown.ensures ∙ c.if-is_unknown.false) (sym c.report_fits.ensures.value ∙ c.if-not-report_fits.true))
+    c.finish_quietly-then-not-report_fits.ensures
 
 pub asked_again-requires-clause-high : goal.asked_again-requires-clause-high
 asked_again-requires-clause-high c =

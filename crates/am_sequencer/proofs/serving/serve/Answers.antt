@@ -16,7 +16,8 @@ returns c =
     let later : IsInOrder new.core = subst (λ (x : CoreState). IsInOrder x) (sym same) order in
     let base = ap (λ (x : CoreState). x.base) same in
     let low = c.requires.low in
-    done c.args.before (serve old c.args.to c.args.stored) old new _ c.put_entries-count.new.out c.tell_accepted.new.out refl (end_self old order.kept) (settled_end old new order c.requires.again c.settle.ensures.changes)
+    done c.args.before (serve old c.args.to c.args.stored) old new _ c.put_entries-count.new.out c.tell_accepted.new.out refl (end_self old order.kept)
+    (settled_end old new order c.requires.again c.settle.ensures.changes)
     (serves_count old new c.args.stored c.put_entries-count.result same later c.put_entries-count.ensures.count)
     (serves_letters old new c.args.to c.args.stored c.put_entries-count.new.out same later (omega arith) c.put_entries-count.ensures.letters)
     c.tell_accepted.ensures

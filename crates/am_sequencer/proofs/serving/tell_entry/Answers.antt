@@ -14,5 +14,7 @@ returns-in-Some-clause-letters g c = λ e there.
     let found : Some c.in-Some.entry.now ≡ Some e = c.in-Some.ensures.value ∙ ap (λ (x : CoreState). entry_at x.log c.args.number) c.core.view_is ∙ there in
     let same : c.in-Some.entry.now ≡ e = cc in
     let kept = sym (ap (λ (x : CoreState). x.base) c.core.view_is) ∙ ap (λ (x : CoreState). x.log.start) c.core.view_is in
-    let packet : c.bcast.result ≡ bcast_from core c.args.number e = bcast_is core c.args.number c.in-Some.entry.now c.bcast.result kept c.bcast.ensures.value ∙ ap (bcast_from core c.args.number) same in
-    c.put.ensures ∙ ap (λ (to : List ℕ). with_letter to c.bcast.result c.args.out.now) c.only.ensures ∙ ap (λ (p : Packet). with_letter (only_name c.args.to) p c.args.out.now) packet
+    let packet : c.bcast.result ≡ bcast_from core c.args.number e = bcast_is core c.args.number c.in-Some.entry.now c.bcast.result kept c.bcast.ensures.value
+    ∙ ap (bcast_from core c.args.number) same in
+    c.put.ensures ∙ ap (λ (to : List ℕ). with_letter to c.bcast.result c.args.out.now) c.only.ensures
+    ∙ ap (λ (p : Packet). with_letter (only_name c.args.to) p c.args.out.now) packet

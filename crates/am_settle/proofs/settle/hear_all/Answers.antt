@@ -14,5 +14,6 @@ pub returns-in_err-act_where-clause-err : goal.returns-in_err-act_where-clause-e
 returns-in_err-act_where-clause-err c = λ l there.
     let p = err_from_is_err_and c.from_residual.result c.from_residual.ensures.1 in
     rw (p.1, p.2)
-    (hear_stuck c.args.number l c.loop-place.place c.is_heard-is_due.result c.args.world.now c.loop-place.world c.act_where.new.world c.in_err-act_where.field-0.0
+    (hear_stuck c.args.number l c.loop-place.place c.is_heard-is_due.result c.args.world.now c.loop-place.world c.act_where.new.world
+    c.in_err-act_where.field-0.0
     c.loop-place-test.true there (c.is_heard-is_due.ensures l) (c.loop-place.invariant l there) c.in_err-act_where.ensures.err)

@@ -23,7 +23,8 @@ returns-in_err-wave-clause-err c =
 pub loop-wave-preserved : goal.loop-wave-preserved
 loop-wave-preserved c =
     subst (λ n. Rounding (c.loop-wave._wave + 1) n c.args.world.now c.wave.new.world) (sym c.letter_count-sent.ensures)
-    (wave_next c.loop-wave._wave c.loop-wave.after c.args.world.now c.loop-wave.world c.wave.new.world c.loop-wave-test.true c.loop-wave.invariant c.in_ok-wave.ensures.ok)
+    (wave_next c.loop-wave._wave c.loop-wave.after c.args.world.now c.loop-wave.world c.wave.new.world c.loop-wave-test.true c.loop-wave.invariant
+    c.in_ok-wave.ensures.ok)
 
 pub returns-clause-ok : goal.returns-clause-ok
 returns-clause-ok c = round_done c.loop-wave._wave c.loop-wave.after c.args.world.now c.loop-wave.world c.loop-wave-test.false c.loop-wave.invariant

@@ -9,13 +9,15 @@ loop-round-init c = settles c.round_count-rounds.result c.args.world.now
 
 pub loop-round-preserved : goal.loop-round-preserved
 loop-round-preserved c =
-    round_next c.round_count-rounds.result c.loop-round._round c.args.world.now c.loop-round.world c.round.new.world c.loop-round-test.true c.loop-round.invariant c.in_ok-round.ensures.ok
+    round_next c.round_count-rounds.result c.loop-round._round c.args.world.now c.loop-round.world c.round.new.world c.loop-round-test.true
+    c.loop-round.invariant c.in_ok-round.ensures.ok
 
 pub returns-in_err-round-clause-err : goal.returns-in_err-round-clause-err
 returns-in_err-round-clause-err c =
     let p = err_from_is_err_and c.from_residual.result c.from_residual.ensures.1 in
     rw (p.1, p.2)
-    (subst (λ es. Stuck es c.args.world.now c.round.new.world c.in_err-round.field-0.0) (whole c.args.world.now c.round_count-rounds.result c.round_count-rounds.ensures)
+    (subst (λ es. Stuck es c.args.world.now c.round.new.world c.in_err-round.field-0.0)
+    (whole c.args.world.now c.round_count-rounds.result c.round_count-rounds.ensures)
     (settle_stuck c.round_count-rounds.result c.loop-round._round c.args.world.now c.loop-round.world c.round.new.world c.in_err-round.field-0.0
     c.loop-round-test.true c.loop-round.invariant c.in_err-round.ensures.err))
 

@@ -14,7 +14,8 @@ returns-in_err-hear_all-clause-err c =
     let low : c.loop-number.number < length (replay c.args.world.now).letters = omega (arith, c.letter_count-last.ensures, c.loop-number-test.true) in
     let p = err_from_is_err_and c.from_residual.result c.from_residual.ensures.1 in
     rw (p.1, p.2)
-    (wave_stuck c.args.after c.loop-number.number c.args.world.now c.loop-number.world c.hear_all.new.world c.in_err-hear_all.field-0.0 low c.loop-number.invariant c.in_err-hear_all.ensures.err)
+    (wave_stuck c.args.after c.loop-number.number c.args.world.now c.loop-number.world c.hear_all.new.world c.in_err-hear_all.field-0.0 low
+    c.loop-number.invariant c.in_err-hear_all.ensures.err)
 
 pub returns-clause-ok : goal.returns-clause-ok
 returns-clause-ok c =

@@ -3,4 +3,5 @@ use Rattle.am_watch.specs.Watching.{placed_by}
 use Rattle.am_watch.proofs.views.place_in_each.Given as goal
 
 abbrev pub invariant-loop-v : goal.invariant-loop-v
-invariant-loop-v l = take l.v-index l.pending ++ map (placed_by l.number l.stamp) (drop l.v-index l.pending) ≡ map (placed_by l.number l.stamp) l.initial.pending
+invariant-loop-v l = take l.v-index l.pending ++ map (placed_by l.number l.stamp) (drop l.v-index l.pending)
+    ≡ map (placed_by l.number l.stamp) l.initial.pending

@@ -4,4 +4,5 @@ use Rattle.am_watch.specs.Watching.{unseen, first_standing}
 use Rattle.am_watch.proofs.watcher.first_standings.Goals as goal
 
 pub returns : goal.returns
-returns c = fill_by_all (first_standing c.args.founding.now) c.loop-byte.names 256 unseen c.loop-byte.invariant.long (λ k h. c.loop-byte.invariant.filled k (omega arith))
+returns c = fill_by_all (first_standing c.args.founding.now) c.loop-byte.names 256 unseen c.loop-byte.invariant.long
+    (λ k h. c.loop-byte.invariant.filled k (omega arith))

@@ -17,7 +17,9 @@ loop-before-preserved c =
       most = omega arith;
       stored = omega arith;
       room = c.push_reserved.ensures.capacity ∙ c.loop-before.invariant.room;
-      items = c.push_reserved.ensures.items ∙ ap (λ xs. xs ++ c.copied.result ∷ []) c.loop-before.invariant.items ∙ ap (λ x. (old ++ between core.log had before) ++ x ∷ []) c.copied.ensures ∙ append_assoc old (between core.log had before) (e ∷ []) ∙ ap (λ xs. old ++ xs) (sym more);
+      items = c.push_reserved.ensures.items ∙ ap (λ xs. xs ++ c.copied.result ∷ []) c.loop-before.invariant.items
+          ∙ ap (λ x. (old ++ between core.log had before) ++ x ∷ []) c.copied.ensures ∙ append_assoc old (between core.log had before) (e ∷ [])
+          ∙ ap (λ xs. old ++ xs) (sym more);
     }
 
 pub returns : goal.returns
@@ -25,4 +27,5 @@ returns c =
     let core = (state_of c.args.node.now).core in
     let old = c.args.group.now.items in
     let most = c.loop-before.invariant.most in
-    c.loop-before.invariant.items ∙ ap (λ xs. old ++ xs) (all_between core.log old (vec_len c.args.group.now) c.loop-before.before core.acc (omega arith) most c.args.group.now.ok.0)
+    c.loop-before.invariant.items ∙ ap (λ xs. old ++ xs) (all_between core.log old (vec_len c.args.group.now) c.loop-before.before core.acc
+    (omega arith) most c.args.group.now.ok.0)

@@ -11,7 +11,8 @@ step_node-requires-clause-ready c =
     let n = c.index-nodes-from.result in
     let within : place_of c.args.name < length c.args.nodes.now = omega arith in
     let here = read_here c.args.nodes.now c.from.result (place_of c.args.name) n (c.from.ensures ∙ c.place.ensures.value) within c.index-nodes-from.is in
-    subst (λ (k : Node). IsReady (state_of k) c.args.what.now (vec_len c.args.group.now) (vec_capacity c.args.group.now)) c.index-nodes-from.is (c.requires.ready n here)
+    subst (λ (k : Node). IsReady (state_of k) c.args.what.now (vec_len c.args.group.now) (vec_capacity c.args.group.now)) c.index-nodes-from.is
+    (c.requires.ready n here)
 
 pub returns-clause-steps : goal.returns-clause-steps
 returns-clause-steps c =

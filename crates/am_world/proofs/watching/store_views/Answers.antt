@@ -24,5 +24,6 @@ returns-then-begins c =
     let es = (if decides c.args.before.now c.args.name c.args.after.now then one_of (fetched c.args.what.now) else []) ++ last_view c.args.view.now ∷ [] in
     elim c.then-begins.branch [
       | then-begins-via-then-begins w ↦ views_none k c.args.name (begun || same) es (ap (λ b. b || same) (sym c.begins.ensures ∙ w.if-begins.true))
-      | then-begins-via-else-begins+then-is_same_stamp w ↦ views_none k c.args.name (begun || same) es (ap (λ b. b || same) (sym c.begins.ensures ∙ w.if-begins.false) ∙ sym w.is_same_stamp.ensures ∙ w.if-is_same_stamp.true)
+      | then-begins-via-else-begins+then-is_same_stamp w ↦ views_none k c.args.name (begun || same) es
+          (ap (λ b. b || same) (sym c.begins.ensures ∙ w.if-begins.false) ∙ sym w.is_same_stamp.ensures ∙ w.if-is_same_stamp.true)
     ]

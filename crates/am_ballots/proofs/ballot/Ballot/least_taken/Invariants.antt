@@ -6,4 +6,5 @@ use Rattle.am_ballots.specs.Kept.{ballot_of}
 use Rattle.am_ballots.proofs.ballot.Ballot.least_taken.Given as goal
 
 abbrev pub invariant-loop-place : goal.invariant-loop-place
-invariant-loop-place l = lesser l.least (least_of (taken_by l.coordinator l.taken (ballot_of l.self)) (names_from l.place (drop l.place l.lives))) ≡ least_of (taken_by l.coordinator l.taken (ballot_of l.self)) (names_of l.lives)
+invariant-loop-place l = lesser l.least (least_of (taken_by l.coordinator l.taken (ballot_of l.self)) (names_from l.place (drop l.place l.lives)))
+    ≡ least_of (taken_by l.coordinator l.taken (ballot_of l.self)) (names_of l.lives)

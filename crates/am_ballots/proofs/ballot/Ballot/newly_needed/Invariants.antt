@@ -7,6 +7,7 @@ use Rattle.am_ballots.proofs.ballot.Ballot.newly_needed.Given as goal
 abbrev pub invariant-loop-place : goal.invariant-loop-place
 invariant-loop-place l = record {
   long : length l.silent ≡ 16;
-  filled : (k : ℕ) → k < l.place → slice_index l.silent k ≡ name_where (λ name. not (has_voted l.coordinator (ballot_of l.self) name)) k (slice_index l.lives k);
+  filled : (k : ℕ) → k < l.place → slice_index l.silent k ≡ name_where (λ name. not (has_voted l.coordinator (ballot_of l.self) name)) k
+      (slice_index l.lives k);
   fits : (k : ℕ) → k < 16 → slice_index l.silent k ≤ 16;
 }

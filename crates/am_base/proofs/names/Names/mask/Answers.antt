@@ -8,6 +8,7 @@ loop-place-init c = record { kept = mask_none c.self.inside.lives (omega (arith,
 
 pub loop-place-preserved : goal.loop-place-preserved
 loop-place-preserved c = record {
-  kept = rw c.bit_of.ensures (mask_more c.self.inside.lives c.loop-place.place c.loop-place.mask (omega arith) (omega (arith, c.self.invariant.places)) c.loop-place.invariant.kept);
+  kept = rw c.bit_of.ensures (mask_more c.self.inside.lives c.loop-place.place c.loop-place.mask (omega arith)
+      (omega (arith, c.self.invariant.places)) c.loop-place.invariant.kept);
   fits = digit_more 2 (16 - c.loop-place.place) _ _ _ (omega arith) (rw c.bit_of.ensures (grind (arith, nat_tests))) c.loop-place.invariant.fits;
 }

@@ -5,6 +5,7 @@ use Rattle.am_fronts.proofs.fronts.Fronts.holders.Given as goal
 
 abbrev pub invariant-loop-place : goal.invariant-loop-place
 invariant-loop-place l = record {
-  held : l.held + count_by (λ name. nat_le l.number (reports_of l.self name).stored) (names_from l.place (drop l.place l.lives)) ≡ count_by (λ name. nat_le l.number (reports_of l.self name).stored) (names_of l.lives);
+  held : l.held + count_by (λ name. nat_le l.number (reports_of l.self name).stored) (names_from l.place (drop l.place l.lives))
+      ≡ count_by (λ name. nat_le l.number (reports_of l.self name).stored) (names_of l.lives);
   few : l.held ≤ l.place;
 }

@@ -4,4 +4,5 @@ use Rattle.am_fronts.specs.Reports.{reports_of, lesser, least_of, least_taken}
 use Rattle.am_fronts.proofs.fronts.Fronts.least_taken.Given as goal
 
 abbrev pub invariant-loop-place : goal.invariant-loop-place
-invariant-loop-place l = lesser l.least (least_of (λ name. (reports_of l.self name).taken) (names_from l.place (drop l.place l.lives))) ≡ least_taken (reports_of l.self) l.lives
+invariant-loop-place l = lesser l.least (least_of (λ name. (reports_of l.self name).taken) (names_from l.place (drop l.place l.lives)))
+    ≡ least_taken (reports_of l.self) l.lives

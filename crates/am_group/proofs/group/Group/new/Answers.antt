@@ -3,4 +3,5 @@ use Rattle.am_group.proofs.Fronts.{new_fronts}
 use Rattle.am_group.proofs.group.Group.new.Goals as goal
 
 pub invariant_of-result : goal.invariant_of-result
-invariant_of-result c = rw c.founders_fronts-fronts.ensures (new_fronts c.push.new.self.items _ (ap length c.in_ok-push.ensures.items ∙ ap (λ es. length (es ++ c.founders_view.result ∷ [])) c.new-entries.ensures.items))
+invariant_of-result c = rw c.founders_fronts-fronts.ensures (new_fronts c.push.new.self.items _ (ap length c.in_ok-push.ensures.items
+    ∙ ap (λ es. length (es ++ c.founders_view.result ∷ [])) c.new-entries.ensures.items))

@@ -7,13 +7,16 @@ pub loop-number-init : goal.loop-number-init
 loop-number-init c = begins (letters_of c.args.self.now.records) c.args.node c.args.after
 
 pub returns-then-is_for : goal.returns-then-is_for
-returns-then-is_for c = found_there (letters_of c.args.self.now.records) c.args.node c.loop-number.number c.in-Some.letter.now _ (sym c.in-Some.ensures) (sym c.is_for.ensures ∙ c.if-is_for.true) c.loop-number.invariant
+returns-then-is_for c = found_there (letters_of c.args.self.now.records) c.args.node c.loop-number.number c.in-Some.letter.now _ (sym c.in-Some.ensures)
+    (sym c.is_for.ensures ∙ c.if-is_for.true) c.loop-number.invariant
 
 pub returns-in-None : goal.returns-in-None
 returns-in-None c = none_there (letters_of c.args.self.now.records) c.args.node c.loop-number.number _ (sym c.in-None.ensures) c.loop-number.invariant
 
 pub loop-number-preserved : goal.loop-number-preserved
-loop-number-preserved c = passed_there (letters_of c.args.self.now.records) c.args.node c.loop-number.number c.in-Some.letter.now _ (sym c.in-Some.ensures) (sym c.is_for.ensures ∙ c.if-is_for.false) c.loop-number.invariant
+loop-number-preserved c = passed_there (letters_of c.args.self.now.records) c.args.node c.loop-number.number c.in-Some.letter.now _ (sym c.in-Some.ensures)
+    (sym c.is_for.ensures ∙ c.if-is_for.false) c.loop-number.invariant
 
 pub returns : goal.returns
-returns c = past_all (letters_of c.args.self.now.records) c.args.node c.loop-number.number _ (omega (arith, c.packets-number-end.ensures, c.loop-number-test.false)) c.loop-number.invariant
+returns c = past_all (letters_of c.args.self.now.records) c.args.node c.loop-number.number _
+    (omega (arith, c.packets-number-end.ensures, c.loop-number-test.false)) c.loop-number.invariant

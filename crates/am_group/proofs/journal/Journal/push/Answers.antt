@@ -8,4 +8,9 @@ invariant_of-self c =
     let number : c.len-number.result ≡ length c.self.inside.records.items = search rules in
     let few : length c.self.inside.records.items < most_events = search rules in
     let many : length c.as_slice.result.now ≡ length c.args.item.packets = ap length c.as_slice.ensures in
-    rw (c.push_reserved.ensures.items, c.push_places.ensures, number, many) (places_more c.self.inside.records.items c.self.inside.places.items c.args.item c.self.invariant c.requires.letters few)
+    rw (
+      c.push_reserved.ensures.items,
+      c.push_places.ensures,
+      number,
+      many,
+    ) (places_more c.self.inside.records.items c.self.inside.places.items c.args.item c.self.invariant c.requires.letters few)

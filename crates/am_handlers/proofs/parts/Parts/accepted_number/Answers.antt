@@ -14,7 +14,8 @@ returns-then-stands_at-clause-value c =
     let acc = c.accepted-accepted.ensures.value in
     let low = c.loop-before.auto.before in
     let high = c.loop-before-test.true in
-    number_found (node_of c.args.self.now) c.args.req c.loop-before.before order (omega arith) (omega arith) (sym c.stands_at.ensures ∙ c.if-stands_at.true) c.loop-before.invariant
+    number_found (node_of c.args.self.now) c.args.req c.loop-before.before order (omega arith) (omega arith) (sym c.stands_at.ensures
+    ∙ c.if-stands_at.true) c.loop-before.invariant
 
 -- src/parts.rt:128:5
 pub returns-clause-value : goal.returns-clause-value
@@ -28,4 +29,5 @@ pub returns-then-stands_at-clause-due : goal.returns-then-stands_at-clause-due
 returns-then-stands_at-clause-due c =
     let base = c.base-before.ensures.value ∙ ap (λ (p : Parts). p.core.log.start) c.self.view_is in
     let low = c.loop-before.auto.before in
-    stands_due c.args.self.now.core.log (c.args.self.now.core.rules.window + 15) c.args.self.now.core.who c.args.req c.loop-before.before c.accepted-accepted.ensures.kept (omega arith) (sym c.stands_at.ensures ∙ c.if-stands_at.true)
+    stands_due c.args.self.now.core.log (c.args.self.now.core.rules.window + 15) c.args.self.now.core.who c.args.req c.loop-before.before
+    c.accepted-accepted.ensures.kept (omega arith) (sym c.stands_at.ensures ∙ c.if-stands_at.true)

@@ -6,7 +6,10 @@ use Rattle.am_handlers.specs.Parts.{node_of}
 use Rattle.am_handlers.proofs.parts.Parts.push.Goals as goal
 
 pub invariant_of-self : goal.invariant_of-self
-invariant_of-self c = record { keeps = subst (λ (x : CoreState). NodeKeeps (record (node_of c.args.self.now) { core = x })) (sym c.push.ensures.value) c.requires.keeps }
+invariant_of-self c = record {
+  keeps = subst (λ (x : CoreState). NodeKeeps (record (node_of c.args.self.now) { core = x }))
+      (sym c.push.ensures.value) c.requires.keeps;
+}
 
 pub returns-clause-node : goal.returns-clause-node
 returns-clause-node c = ap (λ (x : CoreState). let n : Node = record (node_of c.args.self.now) { core = x } in n) c.push.ensures.value

@@ -17,11 +17,15 @@ invariant_of-self c =
 
 -- src/parts.rt:63:13
 pub invariant_of-self-else-is_sequencer : goal.invariant_of-self-else-is_sequencer
-invariant_of-self-else-is_sequencer c = record { keeps = keeps_advance (node_of c.args.self.now) c.advance.new.self c.advance.ensures.value c.args.self.now.keeps }
+invariant_of-self-else-is_sequencer c = record {
+  keeps = keeps_advance
+      (node_of c.args.self.now) c.advance.new.self c.advance.ensures.value c.args.self.now.keeps;
+}
 
 -- src/parts.rt:57:5
 pub returns-then-is_sequencer-clause-changes : goal.returns-then-is_sequencer-clause-changes
-returns-then-is_sequencer-clause-changes c = lead_changes (node_of c.args.self.now) (led c.refresh.new.core c.refresh.new.self) (sym c.is_sequencer.ensures.value ∙ c.if-is_sequencer.true) c.refresh.ensures.value
+returns-then-is_sequencer-clause-changes c = lead_changes (node_of c.args.self.now) (led c.refresh.new.core c.refresh.new.self)
+    (sym c.is_sequencer.ensures.value ∙ c.if-is_sequencer.true) c.refresh.ensures.value
 
 -- src/parts.rt:57:5
 pub returns-else-is_sequencer-clause-changes : goal.returns-else-is_sequencer-clause-changes
@@ -36,7 +40,8 @@ pub refresh-requires-clause-own : goal.refresh-requires-clause-own
 refresh-requires-clause-own c = c.args.self.now.keeps.own
 
 pub returns-then-is_sequencer-clause-again : goal.returns-then-is_sequencer-clause-again
-returns-then-is_sequencer-clause-again c = lead_again (node_of c.args.self.now) (led c.refresh.new.core c.refresh.new.self) (sym c.is_sequencer.ensures.value ∙ c.if-is_sequencer.true) c.refresh.ensures.value c.refresh.ensures.again
+returns-then-is_sequencer-clause-again c = lead_again (node_of c.args.self.now) (led c.refresh.new.core c.refresh.new.self) (sym c.is_sequencer.ensures.value
+    ∙ c.if-is_sequencer.true) c.refresh.ensures.value c.refresh.ensures.again
 
 pub returns-else-is_sequencer-clause-again : goal.returns-else-is_sequencer-clause-again
 returns-else-is_sequencer-clause-again c = advance_again (node_of c.args.self.now) (sym c.is_sequencer.ensures.value ∙ c.if-is_sequencer.false)

@@ -9,7 +9,10 @@ use Rattle.am_handlers.proofs.parts.Parts.report.Goals as goal
 pub invariant_of-self : goal.invariant_of-self
 invariant_of-self c =
     let old = node_of c.args.self.now in
-    record { keeps = subst (λ (r : ℕ → Report). NodeKeeps (record old { reports = r })) (sym c.report.ensures) (keeps_report old c.args.from c.args.report c.requires c.args.self.now.keeps) }
+    record {
+      keeps = subst (λ (r : ℕ → Report). NodeKeeps (record old { reports = r })) (sym c.report.ensures)
+          (keeps_report old c.args.from c.args.report c.requires c.args.self.now.keeps);
+    }
 
 pub returns : goal.returns
 returns c = ap (λ (r : ℕ → Report). let n : Node = record (node_of c.args.self.now) { reports = r } in n) c.report.ensures

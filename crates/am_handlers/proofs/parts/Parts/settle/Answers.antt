@@ -9,7 +9,10 @@ pub invariant_of-self : goal.invariant_of-self
 invariant_of-self c =
     let m = node_of c.args.self.now in
     let found = c.in-Some-accepted_number.ensures in
-    record { keeps = keeps_sends m c.settle.new.self (may_settle m c.settle.new.self c.in-Some.req c.args.self.now.keeps (sym c.waiting_request.ensures ∙ c.in-Some.is) c.settle.ensures.next found.due found.some) c.args.self.now.keeps }
+    record {
+      keeps = keeps_sends m c.settle.new.self (may_settle m c.settle.new.self c.in-Some.req c.args.self.now.keeps (sym c.waiting_request.ensures
+          ∙ c.in-Some.is) c.settle.ensures.next found.due found.some) c.args.self.now.keeps;
+    }
 
 -- src/parts.rt:144:13
 pub returns-in_default-clause-changes : goal.returns-in_default-clause-changes

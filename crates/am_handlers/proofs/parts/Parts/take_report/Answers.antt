@@ -27,4 +27,5 @@ returns-clause-steady c =
     let mid = node_of c.report.new.self in
     let order = c.accepted-before.ensures.order in
     let first = subst (λ (x : Node). IsSteady old x) (sym c.report.ensures) (report_steady old c.args.from c.args.report) in
-    steady_then old mid (node_of c.refresh.new.self) first (refreshed_steady mid (node_of c.refresh.new.self) (c.refresh.ensures.changes mid (end_self mid order.kept)))
+    steady_then old mid (node_of c.refresh.new.self) first (refreshed_steady mid (node_of c.refresh.new.self)
+    (c.refresh.ensures.changes mid (end_self mid order.kept)))

@@ -14,4 +14,5 @@ invariant_of-self c =
     let long = length-map c.self.inside.ring.items (λ (s : Slot). s.entry) in
     let none : length c.self.inside.ring.items ≡ 0 = omega arith in
     let P : Image → Type 0 = IsImage in
-    ring-begin c.args.base _ _ _ c.self.inside.ring.items none (c.of_image-self-inside-2.ensures ∙ sym c.of_image-self-inside.ensures) c.requires.base (subst P (sym c.of_image-self-inside.ensures) c.requires.image)
+    ring-begin c.args.base _ _ _ c.self.inside.ring.items none (c.of_image-self-inside-2.ensures
+    ∙ sym c.of_image-self-inside.ensures) c.requires.base (subst P (sym c.of_image-self-inside.ensures) c.requires.image)

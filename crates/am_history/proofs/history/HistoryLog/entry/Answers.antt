@@ -4,7 +4,8 @@ use Rattle.am_history.proofs.history.HistoryLog.entry.Goals as goal
 
 pub returns-in-Some-clause-value : goal.returns-in-Some-clause-value
 returns-in-Some-clause-value c =
-    let found = entry_found c.self.inside.base c.self.inside.below c.self.inside.ring.items c.args.number c.in-Some.slot.now c.if-number-self.false (sym c.in-Some.ensures) in
+    let found = entry_found c.self.inside.base c.self.inside.below c.self.inside.ring.items c.args.number c.in-Some.slot.now c.if-number-self.false
+    (sym c.in-Some.ensures) in
     rw (← c.self.view_is) (sym found)
 
 pub returns-in-Some-clause-within : goal.returns-in-Some-clause-within

@@ -15,9 +15,12 @@ invariant_of-self c =
     let room = ap (λ (h : HistoryState). length h.list.entries) c.self.view_is in
     let capacity = ap (λ (h : HistoryState). h.capacity) c.self.view_is in
     let top = ap (λ (h : HistoryState). top_of h.list) c.self.view_is in
-    let fit : fits c.self.inside.above c.args.entry ≡ true = ap (λ i. fits i c.args.entry) (c.self.invariant.told ∙ ap (λ (h : HistoryState). told_by h.list) c.self.view_is) ∙ c.requires.fits in
+    let fit : fits c.self.inside.above c.args.entry ≡ true =
+    ap (λ i. fits i c.args.entry) (c.self.invariant.told ∙ ap (λ (h : HistoryState). told_by h.list) c.self.view_is) ∙ c.requires.fits in
     let within : length (slots ++ slot ∷ []) ≤ c.self.inside.ring.capacity = omega arith in
-    let next : c.apply.new.self ≡ after c.self.inside.above (c.self.inside.base + length slots + 1) c.args.entry = c.apply.ensures.value ∙ ap (λ k. after c.self.inside.above (c.self.inside.base + k + 1) c.args.entry) c.len.ensures.len in
-    let ring = ring-push c.self.inside.base c.self.inside.ring.capacity c.self.inside.below c.self.inside.above c.apply.new.self slots slot c.self.invariant next c.members-members.ensures fit c.requires.entry (omega arith) (omega arith) in
+    let next : c.apply.new.self ≡ after c.self.inside.above (c.self.inside.base + length slots + 1) c.args.entry = c.apply.ensures.value
+    ∙ ap (λ k. after c.self.inside.above (c.self.inside.base + k + 1) c.args.entry) c.len.ensures.len in
+    let ring = ring-push c.self.inside.base c.self.inside.ring.capacity c.self.inside.below c.self.inside.above c.apply.new.self slots slot c.self.invariant
+    next c.members-members.ensures fit c.requires.entry (omega arith) (omega arith) in
     let P : List Slot → Type 0 = λ xs. IsRing c.self.inside.base c.self.inside.below c.apply.new.self xs c.self.inside.ring.capacity in
     rw (c.push_back.ensures.items) (subst P (sym (keep_all c.self.inside.ring.capacity (slots ++ slot ∷ []) within)) ring)

@@ -13,5 +13,6 @@ loop-number-init c =
 pub loop-number-preserved : goal.loop-number-preserved
 loop-number-preserved c =
     let start = ap (λ (h : HistoryState). h.list.start) c.self.view_is in
-    let more = trim_more c.args.self.now.list c.loop-number.self.list c.let_go.new.self.list c.loop-number._number c.loop-number.invariant.list c.let_go.ensures.list (omega arith) (omega arith) in
+    let more = trim_more c.args.self.now.list c.loop-number.self.list c.let_go.new.self.list c.loop-number._number c.loop-number.invariant.list
+    c.let_go.ensures.list (omega arith) (omega arith) in
     record { list = more; capacity = c.let_go.ensures.capacity ∙ c.loop-number.invariant.capacity }

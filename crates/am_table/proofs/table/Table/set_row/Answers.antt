@@ -7,4 +7,5 @@ use Rattle.am_table.proofs.table.Table.set_row.Goals as goal
 pub invariant_of-self : goal.invariant_of-self
 invariant_of-self c =
     let members = c.requires.members ∙ ap (λ i. slice_set (members_of i) (place_of c.args.name) (member_life c.args.row)) (sym c.self.view_is) in
-    rw (c.from.ensures, c.place.ensures.value) (table_row c.self.inside.image c.args.name c.args.row c.args.members c.self.invariant.rows c.requires.row members)
+    rw (c.from.ensures, c.place.ensures.value) (table_row c.self.inside.image c.args.name c.args.row c.args.members c.self.invariant.rows c.requires.row
+    members)

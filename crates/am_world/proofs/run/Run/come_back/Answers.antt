@@ -8,17 +8,26 @@ use Rattle.am_world.proofs.Returns.{return_goes_on}
 use Rattle.am_world.proofs.run.Run.come_back.Goals as goal
 use Rattle.am_world.proofs.run.Run.come_back.Goals.{After-push}
 
-made : (c : After-push) → IsRun (play_of c.push.new.self.founding c.push.new.self.records) (slice_set c.self.inside.nodes.items c.from.result c.in_ok-fresh.fresh) (slice_set c.self.inside.lives c.from-2.result c.args.life) (slice_set c.self.inside.stopped c.from-3.result true) c.push.new.self.records c.self.inside.group.items × Answers c.args.self.now c.args.event.now (said.Returned c.args.life)
+made : (c : After-push) → IsRun (play_of c.push.new.self.founding c.push.new.self.records)
+    (slice_set c.self.inside.nodes.items c.from.result c.in_ok-fresh.fresh) (slice_set c.self.inside.lives c.from-2.result c.args.life)
+    (slice_set c.self.inside.stopped c.from-3.result true) c.push.new.self.records c.self.inside.group.items
+    × Answers c.args.self.now c.args.event.now (said.Returned c.args.life)
 made c =
     let w = c.self.inside in
     let p = c.args.self.now in
     let living = living_at p w.journal.founding w.nodes.items w.lives w.stopped w.journal.records w.group.items c.self.view_is c.self.invariant in
     let named = rw c.unwrap.ensures at c.of.ensures.value in
     let place = c.place-place.ensures.value in
-    return_goes_on p w.journal.founding c.push.new.self.founding w.nodes.items w.lives w.stopped w.journal.records c.push.new.self.records w.group.items c.args.event.now c.args.name c.from.result c.from-2.result c.unwrap.result c.from-3.result c.args.life c.in_ok-fresh.fresh
-    c.self.view_is c.self.invariant c.requires.few c.requires.name (c.from.ensures ∙ place) (c.from-2.ensures ∙ place) (c.from-3.ensures ∙ c.get.ensures.value) c.requires.next c.requires.most
-    (named ∙ ap (λ k. name_at k c.args.life) place) (c.in_ok-fresh.ensures ∙ ap (λ r. stranger r c.unwrap.result) (c.founding.ensures ∙ c.reserve.ensures.founding))
-    (recorded (replay p) c.args.event.now (said.Returned c.args.life) [] w.lives c.args.name c.life.result c.in_ok-record.record w.journal.founding c.push.new.self.founding w.journal.records c.reserve.new.self.records c.push.new.self.records living c.requires.name c.life.ensures.value c.in_ok-record.ensures (c.push.ensures.founding ∙ c.reserve.ensures.founding) c.reserve.ensures.records c.push.ensures.records)
+    return_goes_on p w.journal.founding c.push.new.self.founding w.nodes.items w.lives w.stopped w.journal.records c.push.new.self.records w.group.items
+    c.args.event.now c.args.name c.from.result c.from-2.result c.unwrap.result c.from-3.result c.args.life c.in_ok-fresh.fresh
+    c.self.view_is c.self.invariant c.requires.few c.requires.name (c.from.ensures ∙ place) (c.from-2.ensures ∙ place) (c.from-3.ensures
+    ∙ c.get.ensures.value) c.requires.next c.requires.most
+    (named ∙ ap (λ k. name_at k c.args.life) place) (c.in_ok-fresh.ensures
+    ∙ ap (λ r. stranger r c.unwrap.result) (c.founding.ensures ∙ c.reserve.ensures.founding))
+    (recorded (replay p) c.args.event.now (said.Returned c.args.life)
+    [] w.lives c.args.name c.life.result c.in_ok-record.record w.journal.founding c.push.new.self.founding w.journal.records c.reserve.new.self.records
+    c.push.new.self.records living c.requires.name c.life.ensures.value c.in_ok-record.ensures (c.push.ensures.founding
+    ∙ c.reserve.ensures.founding) c.reserve.ensures.records c.push.ensures.records)
     c.requires.comes
 
 pub invariant_of-self-2 : goal.invariant_of-self-2

@@ -11,6 +11,7 @@ returns-clause-value c =
 pub returns-clause-few : goal.returns-clause-few
 returns-clause-few c =
     let w = c.self.inside in
-    let is : length c.records.result.now ≡ length c.args.self.now.events = ap length c.records.ensures.value ∙ sym (as_many c.args.self.now w.journal.founding w.journal.records c.self.view_is) in
+    let is : length c.records.result.now ≡ length c.args.self.now.events = ap length c.records.ensures.value
+    ∙ sym (as_many c.args.self.now w.journal.founding w.journal.records c.self.view_is) in
     let few = few_of c.args.self.now w.journal.founding w.nodes.items w.lives w.stopped w.journal.records w.group.items c.self.view_is c.self.invariant in
     omega arith

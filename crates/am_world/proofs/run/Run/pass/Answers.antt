@@ -4,13 +4,17 @@ use Rattle.am_world.proofs.Goes.{recorded, living_at, pass_goes_on}
 use Rattle.am_world.proofs.run.Run.pass.Goals as goal
 use Rattle.am_world.proofs.run.Run.pass.Goals.{After-push}
 
-made : (c : After-push) → IsRun (play_of c.push.new.self.founding c.push.new.self.records) c.self.inside.nodes.items c.self.inside.lives c.self.inside.stopped c.push.new.self.records c.self.inside.group.items × Answers c.args.self.now c.args.event.now c.args.outcome
+made : (c : After-push) → IsRun (play_of c.push.new.self.founding c.push.new.self.records) c.self.inside.nodes.items c.self.inside.lives c.self.inside.stopped
+    c.push.new.self.records c.self.inside.group.items × Answers c.args.self.now c.args.event.now c.args.outcome
 made c =
     let w = c.self.inside in
     let p = c.args.self.now in
     let living = living_at p w.journal.founding w.nodes.items w.lives w.stopped w.journal.records w.group.items c.self.view_is c.self.invariant in
-    pass_goes_on p w.journal.founding c.push.new.self.founding w.nodes.items w.lives w.stopped w.journal.records c.push.new.self.records w.group.items c.args.event.now c.args.outcome c.self.view_is c.self.invariant c.requires.few
-    (recorded (replay p) c.args.event.now c.args.outcome [] w.lives c.args.name c.life.result c.in_ok-record.record w.journal.founding c.push.new.self.founding w.journal.records c.reserve.new.self.records c.push.new.self.records living c.requires.name c.life.ensures.value c.in_ok-record.ensures (c.push.ensures.founding ∙ c.reserve.ensures.founding) c.reserve.ensures.records c.push.ensures.records)
+    pass_goes_on p w.journal.founding c.push.new.self.founding w.nodes.items w.lives w.stopped w.journal.records c.push.new.self.records w.group.items
+    c.args.event.now c.args.outcome c.self.view_is c.self.invariant c.requires.few
+    (recorded (replay p) c.args.event.now c.args.outcome [] w.lives c.args.name c.life.result c.in_ok-record.record w.journal.founding c.push.new.self.founding
+    w.journal.records c.reserve.new.self.records c.push.new.self.records living c.requires.name c.life.ensures.value c.in_ok-record.ensures
+    (c.push.ensures.founding ∙ c.reserve.ensures.founding) c.reserve.ensures.records c.push.ensures.records)
     c.requires.comes
 
 pub invariant_of-self-2 : goal.invariant_of-self-2

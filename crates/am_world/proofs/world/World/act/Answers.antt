@@ -41,5 +41,6 @@ invariant_of-self-2 c =
     let is = subst (λ (q : Play). happens (replay q) e ≡ comes (replay q) e (Ok c.args.what.now)) (sym c.self.view_is) c.requires.comes in
     let end = subst (λ (q : Play). IsEndOf ((replay q).nodes (current (replay q) (place_of e.node))) m) made c.node.ensures in
     let group = c.group.ensures.value ∙ ap (λ (q : Play). (replay q).group) made in
-    let done = act_is_watched p k e c.args.name c.args.what.now m (length c.group-known.result.now) c.group.result.now c.group-known.ensures.founded kept here is end (ap length c.group-known.ensures.value) group in
+    let done = act_is_watched p k e c.args.name c.args.what.now m
+    (length c.group-known.result.now) c.group.result.now c.group-known.ensures.founded kept here is end (ap length c.group-known.ensures.value) group in
     subst (λ q. IsWatched q (watching_of c.note_step.new.watcher)) (sym made) (subst (IsWatched (after p e)) (sym c.note_step.ensures) done)

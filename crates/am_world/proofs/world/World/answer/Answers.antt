@@ -34,7 +34,8 @@ invariant_of-self-then-stops c =
     let kept = subst (IsWatched p) (sym c.reserve.ensures.same) c.self.invariant in
     let here = subst (λ (q : Play). c.args.name ≡ current (replay q) (place_of e.node)) (sym c.self.view_is) c.requires.name in
     let is = subst (λ (q : Play). happens (replay q) e ≡ answered (replay q) e c.args.outcome) (sym c.self.view_is) c.requires.comes in
-    let done = answer_is_watched p k e c.args.name c.args.outcome true kept here is (c.if-stops.ensures ∙ ap (λ b. stops_by b c.args.outcome) c.is_stopped.ensures) in
+    let done = answer_is_watched p k e c.args.name c.args.outcome true kept here is (c.if-stops.ensures
+    ∙ ap (λ b. stops_by b c.args.outcome) c.is_stopped.ensures) in
     subst (λ q. IsWatched q (watching_of c.stop.new.self)) (sym made) (subst (IsWatched (after p e)) (sym c.stop.ensures) done)
 
 pub invariant_of-self-else-stops : goal.invariant_of-self-else-stops
@@ -46,5 +47,6 @@ invariant_of-self-else-stops c =
     let kept = subst (IsWatched p) (sym c.reserve.ensures.same) c.self.invariant in
     let here = subst (λ (q : Play). c.args.name ≡ current (replay q) (place_of e.node)) (sym c.self.view_is) c.requires.name in
     let is = subst (λ (q : Play). happens (replay q) e ≡ answered (replay q) e c.args.outcome) (sym c.self.view_is) c.requires.comes in
-    let done = answer_is_watched p k e c.args.name c.args.outcome false kept here is (c.if-stops.ensures ∙ ap (λ b. stops_by b c.args.outcome) c.is_stopped.ensures) in
+    let done = answer_is_watched p k e c.args.name c.args.outcome false kept here is (c.if-stops.ensures
+    ∙ ap (λ b. stops_by b c.args.outcome) c.is_stopped.ensures) in
     subst (λ q. IsWatched q (watching_of c.pass.new.self)) (sym made) (subst (IsWatched (after p e)) (sym c.pass.ensures) done)
