@@ -1,10 +1,15 @@
 -- What a run that may be repaired comes to by a lossless schedule.
-use Rattle.std.proofs.Common.{◌≡◌, ℕ, ◌≤◌, ◌==◌, true, false, subst, arith}
+use Rattle.std.proofs.Common.{◌≡◌, ℕ, ◌<◌, ◌≤◌, ◌==◌, List, ◌++◌, true, false, subst, sym, arith}
 use Rattle.std.proofs.lemmas.Bool.Decides.{nat_tests}
-use Rattle.am_model.specs.Node.{is_member}
-use Rattle.am_model.specs.World.{World, current, is_stopped, run}
-use Rattle.am_model.specs.Claims.{MayRepair, Repairs}
+use Rattle.am_base.specs.Founding.{Rules, MayFound}
+use Rattle.am_base.specs.Names.{has}
+use Rattle.am_group.specs.declared.event.Event.{Event}
+use Rattle.am_model.specs.Node.{is_member, top, members}
+use Rattle.am_model.specs.World.{World, start, current, is_stopped, run}
+use Rattle.am_model.specs.Settle.{settle_events}
+use Rattle.am_model.specs.Claims.{MayRepair, HasCaughtUp, Repairs}
 use Rattle.am_model.proofs.Greatest.{split}
+use Rattle.am_model.proofs.Runs.{runs_go_on}
 use Rattle.am_laws.proofs.TakenRuns.{taken_holds}
 use Rattle.am_steps.proofs.Statuses.{member_here}
 use Rattle.am_steps.proofs.Steps.{steps_move}
@@ -52,3 +57,13 @@ repairs rules events place may low repair =
     repairs_where_lists_agree rules events place may low repair
     (one_list_agrees rules events place may low repair (repairable_is_one_list rules events place may low repair)
     (record { trims = trims_taken rules events place may low repair; counted = repairable_counts rules events place may low repair }))
+
+-- and the run of all that was done, the events that settle it among them
+pub settled_is_repaired : (rules : Rules) (events : List Event) (place : ℕ) → MayFound rules → place < 16 → MayRepair (run rules events) place
+    → (name : ℕ) → has (members ((run rules events).nodes (current (run rules events) place))) name ≡ true
+    → HasCaughtUp ((run rules (events ++ settle_events rules (run rules events))).nodes name)
+    (top ((run rules events).nodes (current (run rules events) place)))
+settled_is_repaired rules events place may low repair name member =
+    let m = (run rules events).nodes (current (run rules events) place) in
+    subst (λ (w : World). HasCaughtUp (w.nodes name) (top m)) (sym (runs_go_on (start rules) events (settle_events rules (run rules events))))
+    (repairs rules events place may low repair name member)

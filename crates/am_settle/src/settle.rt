@@ -1,4 +1,4 @@
-ghost use Rattle.std.specs.Prelude.{◌≡◌, ◌<◌, ◌&&◌, OnOk, IfErr, Some, length};
+ghost use Rattle.std.specs.Prelude.{◌≡◌, ◌<◌, ◌&&◌, OnOk, IfOk, IfErr, Some, length};
 ghost use Rattle.am_packet.specs.Boxes as boxes;
 ghost use Rattle.am_group.specs.Journals.{letter_at};
 ghost use Rattle.am_model.specs.Settle.{ticks, hearings_of, hearings, round_count, settle_events};
@@ -9,6 +9,15 @@ use am_base::name::Name;
 use am_group::addressed::is_for;
 use am_group::event::{Act, Event};
 use am_world::world::{World, WorldRefusal};
+
+/// How much of the lossless schedule was done.
+#[derive(Clone, Copy, PartialEq, Eq, Debug)]
+pub struct Settled {
+    /// Its rounds.
+    pub rounds: u16,
+    /// Its events, at most 100,000.
+    pub events: usize,
+}
 
 /// Whether the current name of a place hasn't stopped.
 fn is_running(world: &World, place: u8) -> bool
@@ -123,17 +132,30 @@ fn round_count(world: &World) -> u16
     (world.journal().founding().window() + 22) / 8 + 2
 }
 
-/// Settles a world: does the whole lossless schedule from where it stands. After a refusal a beginning of the schedule was
-/// done: NoMemory where there was no memory for the next event, Spent where 100,000 events are too few for the whole.
-pub fn settle(world: &mut World) -> Result<(), WorldRefusal>
-    ensures ok { OnOk result (Did (settle_events world.old.rules (replay world.old)) world.old
-        world.new) }
+/// How many events were done.
+#[tactic(auto, using(am_model::proofs::Runs::one_record_each))]
+fn event_count(world: &World) -> usize
+    ensures { result ≡ length world.now.events }
+{
+    world.journal().records().len()
+}
+
+/// Settles a world: does the whole lossless schedule from where it stands, and tells how much that was. After a refusal a
+/// beginning of the schedule was done: NoMemory where there was no memory for the next event, Spent where 100,000 events are
+/// too few for the whole (docs/PROTOCOL.md, "Schedules").
+pub fn settle(world: &mut World) -> Result<Settled, WorldRefusal>
+    ensures ok { OnOk result (Did (settle_events world.old.rules (replay world.old)) world.old world.new) }
+    ensures rounds { IfOk result (λ settled. settled.rounds ≡ round_count world.old.rules) }
+    ensures events { IfOk result (λ settled. settled.events
+        ≡ length (settle_events world.old.rules (replay world.old))) }
     ensures err { IfErr result (λ refusal. Stuck
         (settle_events world.old.rules (replay world.old)) world.old world.new refusal) }
 {
+    let before = event_count(world);
     let rounds = round_count(world);
     for _round in 0..rounds {
         round(world)?;
     }
-    Ok(())
+    let events = event_count(world) - before;
+    Ok(Settled { rounds, events })
 }
