@@ -1,6 +1,8 @@
 """Makes each allocation of the program fail in turn: it then tells that there was no memory and writes nothing, or does all as ever.
 
 Usage: allocations.py PROGRAM SCRIPT...
+
+A script in a folder `races` is a race, of one thread.
 """
 
 import os
@@ -11,9 +13,10 @@ from pathlib import Path
 
 
 def run(program, library, script, **more):
+    word = "race" if "races" in Path(script).parts else "play"
     with open(script, "rb") as source:
         done = subprocess.run(
-            [program, "play"],
+            [program, word],
             stdin=source,
             capture_output=True,
             env={"LD_PRELOAD": library, **more},

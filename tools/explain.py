@@ -1,11 +1,11 @@
 """Says in words why the program refuses a script.
 
-    python3 tools/explain.py [PROGRAM] < SCRIPT
+    python3 tools/explain.py [PROGRAM [WORD]] < SCRIPT
 
-PROGRAM is `play`'s program, crates/am_sim/out/am_sim where none is named. Whether a script is refused, with which cause and at
-which place, the program alone says. Of the keys that stand there it says which one it is, too: it is asked again about small
-scripts that have the event's keys up to one of them, in the order in which they are read, and lawful values behind it. The
-first that it refuses names the key.
+PROGRAM is crates/am_sim/out/am_sim where none is named, and WORD `play` or `race`: where none is said, what the script's own key
+is, else `play`. Whether a script is refused, with which cause and at which place, the program alone says. Of the keys that stand
+there it says which one it is, too: it is asked again about small scripts that have the event's keys up to one of them, in the order
+in which they are read, and lawful values behind it. The first that it refuses names the key.
 """
 
 import json
@@ -22,14 +22,30 @@ COUNT = "a whole number, 1 to 2,000,000,000"
 PLACE = "a place, 0 to 15"
 
 # of each key: what it may be, and a value that is lawful; of keys that needn't be there the value is None
-PLAY = {
+FOUNDING = {
     "founders": ("an array of 1 to 16 different places, each 0 to 15", [0]),
     "resilience": ("a whole number, 0 to 15", None),
     "window": ("a whole number, 1 to 1,008", None),
     "pb_up_to": ("a whole number, 0 to 1,024", None),
+}
+PLAY = {
+    **FOUNDING,
     "settle": ("true or false", None),
     "events": ("an array of events", []),
 }
+THREAD = {
+    "node": (PLACE, 0),
+    "calls": ("an array of calls", []),
+}
+RACE = {
+    **FOUNDING,
+    "seed": ("a whole number, 0 to 18,446,744,073,709,551,615", 0),
+    "loss": ("a whole number, 0 to 50", None),
+    "repeat": ("a whole number, 0 to 40", None),
+    "turns": ("a whole number, 1 to 10,000", None),
+    "threads": ("an array of 1 to 16 threads", [{"node": 0, "calls": []}]),
+}
+SCRIPTS = {"play": PLAY, "race": RACE}
 ACTS = {
     "send": {"body": ("a text of pairs of the digits 0 to 9 and a to f, 1,024 pairs at most", "")},
     "done": {"req": (COUNT, 1)},
@@ -46,8 +62,14 @@ ACTS = {
     "cut": {"packet": (COUNT, 1), "keep": ("a whole number, 0 to 1,152", 0)},
     "return": {},
 }
-DO = "one of " + ", ".join(ACTS)
+CALLS = ["send", "take", "join", "leave", "reset", "stop"]
 
+# of an event and of a call: its acts, and the keys that it has beside those of its act
+EVENT = "an event", list(ACTS), {"node": (PLACE, 0)}
+CALL = "a call", CALLS, {}
+
+# how many calls a race has at most, and how many records; and its turns where none are said
+MOST_CALLS, MOST_RECORDS, TURNS = 1000, 100000, 200
 
 NESTED = "arrays and objects are nested more than 127 deep"
 INFINITE = float("inf"), float("-inf")
@@ -57,11 +79,12 @@ class Number(str):
     """A number as it is written."""
 
 
-def keys_of(event):
-    """The keys of an event, in the order in which they are read."""
+def keys_of(event, form=EVENT):
+    """The keys of an event or a call, in the order in which they are read."""
+    _, acts, beside = form
     act = event.get("do")
-    more = ACTS.get(act, {}) if type(act) is str else {}
-    return {"do": (DO, "take"), "node": (PLACE, 0), **more}
+    more = ACTS[act] if type(act) is str and act in acts else {}
+    return {"do": ("one of " + ", ".join(acts), "take"), **beside, **more}
 
 
 def read(text):
@@ -81,24 +104,38 @@ def written(value):
 
 
 class Asked:
-    """The program, asked about scripts."""
+    """The program, asked about the scripts of a word."""
 
-    def __init__(self, program):
+    def __init__(self, program, word="play"):
         self.program = program
+        self.word = word
 
     def say(self, data):
         """The status that it gives for a script, and what it says on standard error."""
-        ran = subprocess.run([self.program, "play"], input=data, stdout=subprocess.DEVNULL, stderr=subprocess.PIPE)
+        ran = subprocess.run([self.program, self.word], input=data, stdout=subprocess.DEVNULL, stderr=subprocess.PIPE)
         return ran.returncode, ran.stderr.decode(errors="replace").strip()
 
-    def cause(self, **keys):
-        """The cause that a play with these keys is refused for; None where it isn't."""
-        told = refusal(*self.say(written({"play": keys}).encode()))
+    def cause(self, made):
+        """The cause that a script with these keys is refused for; None where it isn't."""
+        told = refusal(*self.say(written({self.word: made}).encode()))
         return told and told[0]
+
+    def cause_with(self, **made):
+        """The same of a script with these keys, and lawful values at the others that it needs."""
+        lawful = {key: value for key, (_, value) in SCRIPTS[self.word].items() if value is not None}
+        return self.cause({**lawful, **made})
 
     def cause_of_event(self, event):
         """The same of a play with one event."""
-        return self.cause(founders=[0], events=[event])
+        return self.cause_with(events=[event])
+
+    def cause_of_thread(self, thread):
+        """The same of a race with one thread."""
+        return self.cause_with(threads=[thread])
+
+    def cause_of_call(self, call):
+        """The same of a race with one call, of one turn at most."""
+        return self.cause_with(turns=1, threads=[{"node": 0, "calls": [call]}])
 
 
 def refusal(status, said):
@@ -201,10 +238,10 @@ def of_founders(ask, founders, cause):
     """Which of the founders is refused; the count comes first."""
     if not isinstance(founders, list):
         return f"`founders` is {shown(founders)}"
-    if ask.cause(founders=[0] * len(founders) if len(founders) > 16 else list(range(len(founders))), events=[]) == OUT_OF_RANGE:
+    if ask.cause_with(founders=[0] * len(founders) if len(founders) > 16 else list(range(len(founders)))) == OUT_OF_RANGE:
         return f"`founders` has {len(founders)} places"
     for count in range(1, len(founders) + 1):
-        if ask.cause(founders=founders[:count], events=[]) == cause:
+        if ask.cause_with(founders=founders[:count]) == cause:
             last = founders[count - 1]
             again = "which stands there twice" if cause == BAD_VALUE and last in founders[:count - 1] else ""
             return f"in `founders` stands {again and f'{last}, {again}' or (last if cause == OUT_OF_RANGE else shown(last))}"
@@ -219,60 +256,117 @@ def of_body(text):
     return f"has {len(text)} digits, which aren't pairs" if len(text) % 2 else f"has {len(text) // 2} pairs of digits"
 
 
-def of_object(ask, cause, found, keys, where, kind, play):
-    """A key of an object that is refused, in words; None where the program names none."""
+def of_object(ask, cause, found, keys, where, kind):
+    """A key of an object that is refused, in words; None where the program names none. `ask` asks about such an object."""
     if cause == UNKNOWN:
-        others = strangers(keys, found, ask_of(ask, play))
+        others = strangers(keys, found, ask)
         belong = "doesn't belong there" if len(others) == 1 else "don't belong there"
         return others and f"{where}: {listed(others)} {belong}; {kind} has {listed(keys)}"
-    key = first_refused(keys, found, cause, ask_of(ask, play))
+    key = first_refused(keys, found, cause, ask)
     if key is None:
         return None
     may = keys[key][0]
-    if cause == MISSING:
+    if cause == MISSING and key not in found:
         return f"{where}: `{key}` isn't there; {kind} wants it, {may}"
-    if key == "founders":
-        return f"{where}: {of_founders(ask, found[key], cause)}; it must be {may}"
     if key == "body" and type(found[key]) is str:
         return f"{where}: `body` {of_body(found[key])}; it must be {may}"
     value = found[key] if cause == OUT_OF_RANGE else shown(found[key])
     return f"{where}: `{key}` is {value}; it must be {may}"
 
 
-def ask_of(ask, play):
-    """How the program is asked about an object: a play, or an event."""
-    return (lambda made: ask.cause(**made)) if play else ask.cause_of_event
+def of_count(race):
+    """What there is to say of how many calls a race has."""
+    calls = sum(len(thread["calls"]) for thread in race["threads"])
+    turns = int(race.get("turns", TURNS))
+    if calls > MOST_CALLS:
+        return f"race: the threads have {calls} calls; {MOST_CALLS:,} at most"
+    return f"race: {calls} calls times ({turns} turns + 2) are {calls * (turns + 2)}; {MOST_RECORDS:,} at most"
+
+
+def of_threads(ask, race, cause):
+    """Which of a race's threads is refused, and why; the count comes first, and how many calls there are last."""
+    may, (lawful,) = RACE["threads"]
+    threads = race["threads"]
+    if not isinstance(threads, list):
+        return f"race: `threads` is {shown(threads)}; it must be {may}"
+    if ask.cause_with(threads=[lawful] * len(threads)) == OUT_OF_RANGE:
+        return f"race: `threads` has {len(threads)} threads; it must be {may}"
+    for number, thread in enumerate(threads, 1):
+        where = f"thread {number}"
+        if not isinstance(thread, dict):
+            return f"{where} is {shown(thread)}; it must be an object"
+        # what stands in its calls has a place of its own
+        bare = {**thread, "calls": []} if isinstance(thread.get("calls"), list) else thread
+        if ask.cause_of_thread(bare) == cause:
+            return of_object(ask.cause_of_thread, cause, bare, THREAD, where, "a thread")
+    return of_count(race)
+
+
+def of_script(ask, cause, script):
+    """A refusal of a play or a race that isn't one of an event or a call, in words."""
+    word, keys = ask.word, SCRIPTS[ask.word]
+    if cause != UNKNOWN:
+        key = first_refused(keys, script, cause, ask.cause)
+        if key == "founders" and key in script:
+            return f"{word}: {of_founders(ask, script[key], cause)}; it must be {keys[key][0]}"
+        if key == "threads" and key in script:
+            return of_threads(ask, script, cause)
+    said = of_object(ask.cause, cause, script, keys, word, f"a {word}")
+    if not said and "threads" in script:
+        return of_threads(ask, script, cause)
+    return said
 
 
 def explain(ask, data, cause, place):
     """A refusal in words."""
     if cause == NOT_JSON:
         return why_not_json(data)
-    document = read(data)
+    document, word = read(data), ask.word
+    if place and word == "play":
+        return of_event(ask.cause_of_event, cause, document["play"]["events"][place - 1], f"event {place}", EVENT)
     if place:
-        return of_event(ask, cause, document["play"]["events"][place - 1], place)
+        return of_call(ask, cause, document["race"]["threads"], place)
     if not isinstance(document, dict):
-        return f"the document is {shown(document)}; it must be an object with the one key `play`"
-    if "play" not in document:
-        return "the document: `play` isn't there; it is the one key that a script has"
-    play = document["play"]
+        return f"the document is {shown(document)}; it must be an object with the one key `{word}`"
+    if word not in document:
+        return f"the document: `{word}` isn't there; it is the one key that a script has"
+    script = document[word]
     if cause == UNKNOWN and len(document) > 1:
-        others = listed([key for key in document if key != "play"])
-        return f"the document: {others} stands beside `play`, which is the one key that a script has"
-    if not isinstance(play, dict):
-        return f"the document: `play` is {shown(play)}; it must be an object"
-    return of_object(ask, cause, play, PLAY, "play", "a play", True) or "play: which key it is, isn't known"
+        others = listed([key for key in document if key != word])
+        return f"the document: {others} stands beside `{word}`, which is the one key that a script has"
+    if not isinstance(script, dict):
+        return f"the document: `{word}` is {shown(script)}; it must be an object"
+    return of_script(ask, cause, script) or f"{word}: which key it is, isn't known"
 
 
-def of_event(ask, cause, event, place):
-    """A refusal of an event in words."""
-    where = f"event {place}"
+def of_call(ask, cause, threads, place):
+    """A refusal of a call in words, by its number over all threads."""
+    number, before = 1, 0
+    while before + len(threads[number - 1]["calls"]) < place:
+        before += len(threads[number - 1]["calls"])
+        number += 1
+    call = threads[number - 1]["calls"][place - before - 1]
+    return of_event(ask.cause_of_call, cause, call, f"call {place} (thread {number}, its call {place - before})", CALL)
+
+
+def of_event(ask, cause, event, where, form):
+    """A refusal of an event or a call in words."""
+    kind, acts, _ = form
     if not isinstance(event, dict):
         return f"{where} is {shown(event)}; it must be an object"
     act = event.get("do")
-    kind = f"a {act}" if type(act) is str and act in ACTS else "an event"
+    kind = f"a {act}" if type(act) is str and act in acts else kind
     kind = "an ask" if kind == "a ask" else kind
-    return of_object(ask, cause, event, keys_of(event), where, kind, False) or f"{where}: which key it is, isn't known"
+    return of_object(ask, cause, event, keys_of(event, form), where, kind) or f"{where}: which key it is, isn't known"
+
+
+def word_of(data):
+    """The word that a script is for, by its own key; `play` where it isn't told."""
+    try:
+        document = json.loads(data)
+    except (ValueError, RecursionError):
+        return "play"
+    return "race" if isinstance(document, dict) and "race" in document and "play" not in document else "play"
 
 
 def answer(ask, data):
@@ -292,7 +386,8 @@ def main():
     program = sys.argv[1] if len(sys.argv) > 1 else str(PROGRAM)
     if not pathlib.Path(program).is_file():
         sys.exit(f"there is no program {program}: ./muoswyld play builds it")
-    print(answer(Asked(program), sys.stdin.buffer.read()))
+    data = sys.stdin.buffer.read()
+    print(answer(Asked(program, sys.argv[2] if len(sys.argv) > 2 else word_of(data)), data))
 
 
 if __name__ == "__main__":

@@ -5,6 +5,7 @@
 #include <errno.h>
 #include <stdio.h>
 #include <stdlib.h>
+#include <unistd.h>
 
 static long seen;
 
@@ -30,8 +31,22 @@ void *realloc(void *block, size_t size)
     return fails() ? NULL : next(block, size);
 }
 
-__attribute__((destructor)) static void tell(void)
+static void tell(void)
 {
     if (getenv("COUNT_ALLOCATIONS") != NULL)
         fprintf(stderr, "%ld\n", seen);
+}
+
+/* a program that may start threads ends by this, and others by the destructors */
+void _exit(int status)
+{
+    void (*next)(int) = (void (*)(int))dlsym(RTLD_NEXT, "_exit");
+    tell();
+    next(status);
+    __builtin_unreachable();
+}
+
+__attribute__((destructor)) static void end(void)
+{
+    tell();
 }

@@ -14,6 +14,7 @@ import json
 import os
 import re
 import sys
+import textwrap
 
 OPENED = """
 use Rattle.am_base.specs.Names.{by_place}
@@ -47,6 +48,18 @@ use Rattle.am_rows.specs.Scripts.{set_of}
 def opened_names(opened):
     """The names of `use` lines, for an `unfolding` line."""
     return " ".join(name.strip() for line in opened.strip().splitlines() for name in line[line.index("{") + 1:-1].split(","))
+
+
+def fitted(line, more="    "):
+    """A line, broken at spaces where it is longer than others are."""
+    return "\n".join(textwrap.wrap(line, 150, subsequent_indent=more, break_long_words=False, break_on_hyphens=False))
+
+
+def fitted_uses(line):
+    """A `use` line, as several where it is longer than others are."""
+    head, names = line[:line.index("{") + 1], line[line.index("{") + 1:-1].split(", ")
+    lines = textwrap.wrap(" ".join(names), 150 - len(head), break_long_words=False, break_on_hyphens=False)
+    return "\n".join(head + ", ".join(some.split(" ")) + "}" for some in lines)
 
 
 def items(xs):
@@ -93,9 +106,10 @@ def statement(title, script, text):
     founding = "(founded %s %d %d %d)" % (name_list(play["founders"]), resilience, play.get("window", 64),
                                           play.get("pb_up_to", 256))
     words = "settled_text_of" if play.get("settle") else "text_of"
-    run = "%s %s %s" % (words, founding, items(events))
+    done = "".join(fitted("    %s ∷" % event) + "\n" for event in events)
+    run = fitted("%s = %s %s (" % (title, words, founding)) + "\n" + done + "    [])"
     lines = "".join('    codes "%s" ∷\n' % line for line in text.splitlines())
-    return "abbrev pub %s : Type 0\n%s = %s ≡ lines (\n%s    [])\n" % (title, title, run, lines)
+    return "abbrev pub %s : Type 0\n%s ≡ lines (\n%s    [])\n" % (title, run, lines)
 
 
 def titled(case):
@@ -116,7 +130,7 @@ def used(head, text):
         if "{" in line:
             kept = [n for n in line[line.index("{") + 1:-1].split(", ") if is_used(n, text)]
             if kept:
-                lines.append(line[:line.index("{") + 1] + ", ".join(kept) + "}")
+                lines.append(fitted_uses(line[:line.index("{") + 1] + ", ".join(kept) + "}"))
         elif is_used(line.split(" as ")[1] + ".", text):
             lines.append(line)
     return "\n".join(lines) + "\n"
@@ -144,11 +158,12 @@ def carrier(crate, opened, module, folder, about, found):
     source = ("//! %s Written by tools/rows.py.\n\nghost use Rattle.%s.specs.%s.{%s};\n\n"
               "/// The definitions give these texts for these scripts.\npub fn texts()\n%s{}\n") % (
                   about, crate, module, ", ".join(titled(c) for c in found), clauses)
-    answers = ("-- The texts of these scripts, by computing. Written by tools/rows.py.\nuse Rattle.std.proofs.Common.{refl}\n" + opened.lstrip()
+    answers = ("-- The texts of these scripts, by computing. Written by tools/rows.py.\nuse Rattle.std.proofs.Common.{refl}\n"
+               + "".join(fitted_uses(line) + "\n" for line in opened.strip().splitlines())
                + "use Rattle.%s.proofs.%s.texts.Goals as goal\n" % (crate, folder))
     for c in found:
-        answers += "\npub returns-clause-%s : goal.returns-clause-%s\nunfolding %s\nreturns-clause-%s c = refl\n" % (
-            c, c, opened_names(opened), c)
+        answers += "\npub returns-clause-%s : goal.returns-clause-%s\n%s\nreturns-clause-%s c = refl\n" % (
+            c, c, fitted("unfolding " + opened_names(opened)), c)
     return source, answers
 
 

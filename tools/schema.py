@@ -4,8 +4,9 @@
     python3 tools/schema.py --cases PROGRAM FOLDER..  tries the schema
 
 With --cases, each script of the folders that has a text must be valid, and each that has a NAME.cause must not be, but for those
-of UNSAID, whose cause a schema can't say. So must the schema's own examples be. And at each number of a play's keys, the least
-and the greatest must be valid and taken by `PROGRAM play`, and what is beyond them neither.
+of UNSAID, whose cause a schema can't say, and those whose word isn't their key's. So must the schema's own examples be. And at each
+number of a play's keys and of a race's, the least and the greatest must be valid and taken by `PROGRAM play` or `PROGRAM race`,
+and what is beyond them neither.
 
 It reads the keywords of JSON Schema that the schema has, and refuses others.
 """
@@ -19,8 +20,8 @@ import sys
 
 SCHEMA = pathlib.Path(__file__).resolve().parent.parent / "docs" / "script.schema.json"
 
-# a schema sees the value of a number and not how it is written
-UNSAID = {"node_exponent", "window_fraction"}
+# a schema sees the value of a number and not how it is written, nor how many calls all threads have, nor which word is asked for
+UNSAID = {"node_exponent", "window_fraction", "race_calls_1001", "race_records_100002", "race_records_by_default", "race_document_play"}
 
 TYPES = {
     "object": lambda v: isinstance(v, dict),
@@ -132,26 +133,48 @@ def faults_of(schema, data):
 
 
 def edges(schema):
-    """Play scripts at and beyond the limits of each number, each with whether it is valid."""
-    play = schema.whole["$defs"]["play"]["properties"]
+    """Scripts at and beyond the limits of each number, each with whether it is valid."""
+    defs = schema.whole["$defs"]
     empty = {"founders": [0], "events": []}
-    for key in play:
-        for value, fits in around(schema.resolved(play[key])):
-            yield {"play": {**empty, key: value}}, fits
-    for value, fits in around(schema.whole["$defs"]["place"]):
+    idle = {"founders": [0], "seed": 0, "turns": 1, "threads": [{"node": 0, "calls": []}]}
+    yield from keys_around(schema, defs["play"], lambda keys: {"play": {**empty, **keys}})
+    yield from keys_around(schema, defs["race"], lambda keys: {"race": {**idle, **keys}})
+    for value, fits in around(schema, defs["place"]):
         yield {"play": {**empty, "founders": [value]}}, fits
-    for event in schema.whole["$defs"]["event"]["oneOf"]:
-        lawful = {key: lawful_of(schema.resolved(said)) for key, said in event["properties"].items()}
-        for key, said in event["properties"].items():
-            for value, fits in around(schema.resolved(said)):
-                yield {"play": {**empty, "events": [{**copy.deepcopy(lawful), key: value}]}}, fits
+    for event in defs["event"]["oneOf"]:
+        yield from keys_around(schema, event, lambda keys: {"play": {**empty, "events": [{**lawful_in(schema, event), **keys}]}})
+    yield from keys_around(schema, defs["thread"], lambda keys: {"race": {**idle, "threads": [{"node": 0, "calls": [], **keys}]}})
+    for call in defs["call"]["oneOf"]:
+        yield from keys_around(schema, call, lambda keys: {"race": {**idle, "threads": [{"node": 0, "calls": [{**lawful_in(schema, call), **keys}]}]}})
+
+
+def keys_around(schema, said, made):
+    """Scripts with each key of an object at and beyond its limits; `made` puts the key into a script."""
+    for key, value in said["properties"].items():
+        for one, fits in around(schema, schema.resolved(value)):
+            yield made({key: one}), fits
+
+
+def lawful_in(schema, said):
+    """An object of this form with lawful values at all its keys."""
+    return {key: lawful_of(schema.resolved(value)) for key, value in copy.deepcopy(said["properties"]).items()}
+
+
+def items_of(schema, said, count):
+    """So many items of an array: of one that wants different ones the first numbers, else a lawful one again and again."""
+    if said.get("uniqueItems"):
+        return [*range(count)]
+    item = schema.resolved(said["items"])
+    item = item["oneOf"][-1] if "oneOf" in item else item
+    lawful = {"node": 0, "calls": []} if "calls" in item["properties"] else lawful_in(schema, item)
+    return [lawful] * count
 
 
 def lawful_of(said):
     return said.get("const", said.get("minimum", ""))
 
 
-def around(said):
+def around(schema, said):
     """Values at and beyond the limits of a number, an array's length or a text's."""
     if said.get("type") == "integer":
         least, most = said["minimum"], said["maximum"]
@@ -159,11 +182,15 @@ def around(said):
     elif "maxLength" in said:
         yield from (("", True), ("0" * said["maxLength"], True), ("0" * (said["maxLength"] + 2), False))
     elif "maxItems" in said:
-        yield from (([*range(said["maxItems"])], True), ([], False), ([*range(said["maxItems"]), 0], False))
+        most = said["maxItems"]
+        yield items_of(schema, said, most), True
+        yield items_of(schema, said, 0), said.get("minItems", 0) == 0
+        yield [*items_of(schema, said, most), *items_of(schema, said, 1)], False
 
 
-def is_taken(program, data):
-    ran = subprocess.run([program, "play"], input=data, stdout=subprocess.DEVNULL, stderr=subprocess.PIPE)
+def is_taken(program, script):
+    """Whether the program takes a script of the word that is its key."""
+    ran = subprocess.run([program, next(iter(script))], input=json.dumps(script).encode(), stdout=subprocess.DEVNULL, stderr=subprocess.PIPE)
     return ran.returncode == 0
 
 
@@ -182,7 +209,7 @@ def try_cases(schema, program, folders):
     count = 0
     for script, fits in edges(schema):
         data = json.dumps(script).encode()
-        answers = not faults_of(schema, data), is_taken(program, data)
+        answers = not faults_of(schema, data), is_taken(program, script)
         count += 1
         if answers != (fits, fits):
             yield f"valid, taken: {answers} and not {fits}: {data[:160].decode()}"

@@ -25,7 +25,18 @@ def settled(count):
 
 TEXT = b"group 1 view 1.0 0\nlog 0 empty\nlawful\n"
 LONG_WORD = "gen" * 100
-USAGE = "usage: play | gen --seed N --count N"
+USAGE = "usage: play | race | gen --seed N --count N"
+RACE = b'{"race":{"founders":[0],"seed":1,"threads":[{"node":0,"calls":[{"do":"send","body":"61"},{"do":"take"}]}]}}'
+RACED = b"""\
+{"play":{"events":[{"body":"61","do":"send","node":0},{"do":"done","node":0,"req":1},{"do":"take","node":0}],"founders":[0],"pb_up_to":256,"resilience":0,"window":64}}
+1 send 0 61 : queued 1
+2 done 0 1 : sent 1 2
+3 take 0 : took 1 view 1.0 0
+group 1 view 1.0 0
+group 2 data 0 1 61
+log 0 1 view 1.0 0
+lawful
+"""
 SUMMARY = b"events 50\npackets 18\nentries 2\ntook 5\nsent 0\nheld 0\nlawful\n"
 
 
@@ -40,7 +51,15 @@ CASES = [
     ([""], SMALL, USAGE, 1, b""),
     (["Play"], SMALL, USAGE, 1, b""),
     (["play", "play"], SMALL, USAGE, 1, b""),
-    (["race"], SMALL, USAGE, 1, b""),
+    (["race", "race"], RACE, USAGE, 1, b""),
+    (["Race"], RACE, USAGE, 1, b""),
+    (["race"], RACE, "", 0, RACED),
+    (["race"], b"", "bad script 1 at 0", 2, b""),
+    (["race"], SMALL, "bad script 2 at 0", 2, b""),
+    (["play"], RACE, "bad script 2 at 0", 2, b""),
+    (["race"], RACE.replace(b"take", b"tick"), "bad script 4 at 2", 2, b""),
+    (["race"], RACE.replace(b'"seed":1', b'"seed":1,"turns":0'), "bad script 5 at 0", 2, b""),
+    (["race"], b" " * 16777217, "too long", 3, b""),
     ([LONG_WORD], SMALL, USAGE, 1, b""),
     (gen("1", "50"), SMALL, "", 0, SUMMARY),
     (["gen", "--count", "0050", "--seed", "1"], b"{", "", 0, SUMMARY),
@@ -106,8 +125,12 @@ def where_something_fails(program, failed):
             return source
 
         tell(failed, "a directory", line(["play"], folder, nothing), (4, b"read fault\n"))
+        tell(failed, "a directory for race", line(["race"], folder, nothing), (4, b"read fault\n"))
         tell(failed, "a directory that gen doesn't read", line(gen("1", "50"), folder, nothing), (0, b""))
         tell(failed, "a full device", line(["play"], again(small), full), (5, b"write fault\n"))
+        with tempfile.TemporaryFile() as race:
+            race.write(RACE)
+            tell(failed, "a full device for race", line(["race"], again(race), full), (5, b"write fault\n"))
         tell(failed, "a full device for gen", line(gen("1", "50"), again(small), full), (5, b"write fault\n"))
         tell(failed, "usage to a full device", run(program, ["x"], stdin=again(small), stdout=nothing, stderr=full), 1)
         closed = run(program, ["x"], stdin=again(small), stdout=nothing, preexec_fn=lambda: os.close(2))

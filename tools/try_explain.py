@@ -2,8 +2,8 @@
 
     python3 tools/try_explain.py PROGRAM FOLDER COMMAND
 
-FOLDER has scripts NAME.json, and beside each NAME.cause, the line that `PROGRAM play < NAME.json` must write on standard error,
-with status 2 and nothing on standard output; and sentences.txt, a line `NAME: SENTENCE` with what tools/explain.py must say of
+FOLDER has scripts NAME.json, and beside each NAME.cause, the line that `PROGRAM WORD < NAME.json` must write on standard error,
+with status 2 and nothing on standard output, where WORD is `race` for names that begin with race_, else `play`; and sentences.txt, a line `NAME: SENTENCE` with what tools/explain.py must say of
 each. Each cause must be there, and of each key every cause that it can have. COMMAND, which is ./muoswyld, must write the line
 alone, and the sentence below it where standard error is a terminal. It prints what fails, and how many passed.
 """
@@ -18,22 +18,30 @@ import sys
 import explain
 
 
+def word_for(script):
+    """The word that a script is for."""
+    return "race" if script.name.startswith("race_") else "play"
+
+
 def wanted():
     """Each key with each cause that it can have, as its sentence names it."""
-    keys = [("play", key, explain.PLAY[key]) for key in explain.PLAY]
-    keys += [("event", key, value) for act in explain.ACTS for key, value in explain.keys_of({"do": act}).items()]
+    keys = [(word, key, script[key]) for word, script in explain.SCRIPTS.items() for key in script]
+    keys += [("thread", key, explain.THREAD[key]) for key in explain.THREAD]
+    for where, form in (("event", explain.EVENT), ("call", explain.CALL)):
+        keys += [(where, key, value) for act in form[1] for key, value in explain.keys_of({"do": act}, form).items()]
     for where, key, (_, lawful) in keys:
         yield where, key, explain.BAD_VALUE
         if lawful is not None:
             yield where, key, explain.MISSING
-        if key not in ("do", "settle", "events"):
+        if key not in ("do", "settle", "events", "seed", "calls"):
             yield where, key, explain.OUT_OF_RANGE
-    yield from (("document", "play", cause) for cause in (explain.BAD_VALUE, explain.MISSING))
+    for word in explain.SCRIPTS:
+        yield from (("document", word, cause) for cause in (explain.BAD_VALUE, explain.MISSING))
 
 
 def covered(cause, sentence):
     """The key with the cause that a sentence speaks of."""
-    where = re.match("the document|play|event", sentence)
+    where = re.match("the document|play|race|event|thread|call", sentence)
     key = re.search("`([a-z_]+)`", sentence)
     return (where[0].removeprefix("the "), key[1], cause) if where and key else None
 
@@ -41,11 +49,11 @@ def covered(cause, sentence):
 def faults(program, script, sentences):
     """What is wrong with the answers to a script."""
     data = script.read_bytes()
-    ran = subprocess.run([program, "play"], input=data, capture_output=True)
+    ran = subprocess.run([program, word_for(script)], input=data, capture_output=True)
     want = script.with_suffix(".cause").read_bytes()
     if (ran.returncode, ran.stdout, ran.stderr) != (2, b"", want):
         yield f"status {ran.returncode}, {ran.stderr!r} and not {want!r}"
-    said = explain.answer(explain.Asked(program), data)
+    said = explain.answer(explain.Asked(program, word_for(script)), data)
     if said != sentences.get(script.stem):
         yield f"'{said}' and not '{sentences.get(script.stem)}'"
 
@@ -54,7 +62,7 @@ def at_a_terminal(command, script):
     """What a command writes on standard error where that is a terminal, and its status."""
     ours, theirs = pty.openpty()
     with script.open("rb") as words:
-        ran = subprocess.run([command, "play"], stdin=words, stdout=subprocess.DEVNULL, stderr=theirs)
+        ran = subprocess.run([command, word_for(script)], stdin=words, stdout=subprocess.DEVNULL, stderr=theirs)
     os.close(theirs)
     said = b""
     try:
@@ -70,7 +78,7 @@ def faults_of_command(command, script, sentence):
     """What is wrong with what ./muoswyld writes of a refusal."""
     line = script.with_suffix(".cause").read_bytes()
     with script.open("rb") as words:
-        ran = subprocess.run([command, "play"], stdin=words, capture_output=True)
+        ran = subprocess.run([command, word_for(script)], stdin=words, capture_output=True)
     if (ran.stdout, ran.stderr, ran.returncode) != (b"", line, 2):
         yield f"{command} wrote {ran.stderr!r}, status {ran.returncode}"
     if at_a_terminal(command, script) != (line + sentence.encode() + b"\n", 2):
@@ -93,9 +101,10 @@ def main():
     for absent in sorted(map(str, (set(wanted()) | set(range(1, 6))) - seen)):
         print(f"there is no script for {absent}")
         failed += 1
-    for line in faults_of_command(command, scripts[0], sentences[scripts[0].stem]):
-        print(line)
-        failed += 1
+    for script in (scripts[0], scripts[-1], next(script for script in scripts if word_for(script) == "race")):
+        for line in faults_of_command(command, script, sentences[script.stem]):
+            print(line)
+            failed += 1
     if sorted(sentences) != [script.stem for script in scripts]:
         print("sentences.txt doesn't have a line for each script, in order")
         failed += 1

@@ -1,13 +1,13 @@
 -- What a record of another place and another caller leaves as it is.
-use Rattle.std.proofs.Common.{◌≡◌, ◌≢◌, ℕ, List, [], ◌∷◌, ◌++◌, Bool, true, false, cond, sym, refl, ap, ◌∙◌, ne_eqb, append-nil}
+use Rattle.std.proofs.Common.{◌≡◌, ℕ, List, [], ◌∷◌, ◌++◌, Bool, true, false, cond, refl, ap, ◌∙◌, ne_eqb, append-nil}
 use Rattle.std.specs.Prelude.{filter, if◌then◌else◌, ◌==◌, ◌&&◌, ◌||◌}
 use Rattle.std.specs.List.{list_any}
 use Rattle.std.proofs.lemmas.List.Folds.{list_any-append}
 use Rattle.std.proofs.lemmas.List.Elements.{filter-append}
 use Rattle.am_base.specs.Names.{place_of}
 use Rattle.am_group.specs.declared.event.Record.{Record}
-use Rattle.am_calls.specs.Tags.{of_place, of_caller, of_call, is_either, known}
-use Rattle.am_calls.specs.Laws.{IsApart, IsLeft, OthersAreApart}
+use Rattle.am_calls.specs.Tags.{is_either, known}
+use Rattle.am_calls.specs.Laws.{OthersAreApart}
 
 -- a record that doesn't pass a test is left out
 left_out : (test : Record → Bool) (before : List Record) (r : Record) → test r ≡ false → filter test (before ++ r ∷ []) ≡ filter test before
@@ -24,7 +24,8 @@ any_left test before r fails =
     let alone : list_any test (r ∷ []) ≡ false = ap (λ (b : Bool). b || false) fails in
     list_any-append test before (r ∷ []) ∙ ap (λ (b : Bool). list_any test before || b) alone ∙ or_false (list_any test before)
 
-known_left : (place caller : ℕ) (before : List Record) (r : Record) → is_either place caller r ≡ false → known place caller (before ++ r ∷ []) ≡ known place caller before
+pub known_left : (place caller : ℕ) (before : List Record) (r : Record) → is_either place caller r ≡ false
+    → known place caller (before ++ r ∷ []) ≡ known place caller before
 unfolding known
 known_left place caller [] r fails = ap (λ (b : Bool). if b || false then r ∷ [] else []) fails
 known_left place caller (q ∷ before) r fails =

@@ -1,7 +1,8 @@
 -- A journal is legal where each of its records comes next.
-use Rattle.std.proofs.Common.{◌≡◌, ℕ, ◌+◌, List, [], ◌∷◌, ◌++◌, map, Bool, true, false, true≢false, Option, Some, None, cond, sym, refl, ap, ◌∙◌, subst, append-nil, append_assoc, drop, length}
+use Rattle.std.proofs.Common.{◌≡◌, ℕ, ◌+◌, List, [], ◌∷◌, ◌++◌, map, Bool, true, false, true≢false, Option, Some, None, sym, refl, ap, ◌∙◌, subst}
+use Rattle.std.proofs.Common.{append-nil, append_assoc, drop, length}
 use Rattle.std.proofs.Math.Seq.{drop-append_seam}
-use Rattle.std.specs.Prelude.{◌↔◌, fold, if◌then◌else◌, not, ◌==◌, ◌||◌}
+use Rattle.std.specs.Prelude.{fold, if◌then◌else◌, not, ◌==◌, ◌||◌}
 use Rattle.am_base.specs.declared.outcome.Outcome.{Outcome}
 use Rattle.am_base.specs.declared.outcome.Outcome.TheVariants as said
 use Rattle.am_base.specs.declared.event.NodeEvent.{NodeEvent}
@@ -18,9 +19,9 @@ use Rattle.am_group.specs.Addressed.{is_for}
 use Rattle.am_group.specs.Journals.{letter_at}
 use Rattle.am_model.specs.Emit.{Step}
 use Rattle.am_model.specs.Step.{step, hear}
-use Rattle.am_model.specs.World.{World, start, is_stopped, has_departed, hear_cut, unchanged, stepped, does_event, gives_up, stops, heard, lives_on, returned, acts_as, happens, happen, run, record_of, no_caller, current}
+use Rattle.am_model.specs.World.{World, start, is_stopped, has_departed, hear_cut, unchanged, stepped, does_event, gives_up, stops, heard, lives_on, returned}
+use Rattle.am_model.specs.World.{acts_as, happens, happen, record_of, no_caller, current}
 use Rattle.am_model.specs.Group.{tagged}
-use Rattle.am_model.specs.Legal.{IsLegal}
 use Rattle.am_calls.specs.Told.{tells, told, IsNext}
 use Rattle.am_calls.specs.Laws.{EachIsNext}
 
@@ -46,19 +47,22 @@ either_adds w x y false p q = q
 
 does_adds : (w : World) (e : Event) (name : ℕ) (event : NodeEvent) → Adds w (does_event w e name event)
 does_adds w e name event =
-    either_adds w (unchanged w e said.IsStopped) (stepped w e name (step (w.nodes name) event)) (is_stopped w name) (unchanged_adds w e said.IsStopped) (stepped_adds w e name (step (w.nodes name) event))
+    either_adds w (unchanged w e said.IsStopped) (stepped w e name (step (w.nodes name) event)) (is_stopped w name) (unchanged_adds w e said.IsStopped)
+    (stepped_adds w e name (step (w.nodes name) event))
 
 gives_up_adds : (w : World) (e : Event) (name other : ℕ) → Adds w (gives_up w e name other)
 gives_up_adds w e name other =
     let given : World = stepped w e name (step (w.nodes name) (does.GiveUp other)) in
     let not_stopped : World = unchanged w e said.NotStopped in
     either_adds w (unchanged w e said.IsStopped) (if is_stopped w other then given else not_stopped) (is_stopped w name) (unchanged_adds w e said.IsStopped)
-    (either_adds w given not_stopped (is_stopped w other) (stepped_adds w e name (step (w.nodes name) (does.GiveUp other))) (unchanged_adds w e said.NotStopped))
+    (either_adds w given not_stopped (is_stopped w other) (stepped_adds w e name (step (w.nodes name) (does.GiveUp other)))
+    (unchanged_adds w e said.NotStopped))
 
 stops_adds : (w : World) (e : Event) (name : ℕ) → Adds w (stops w e name)
 unfolding unchanged
 stops_adds w e name =
-    either_adds w (unchanged w e said.IsStopped) (unchanged (record w { stopped = w.stopped ++ name ∷ [] }) e said.Stopped) (is_stopped w name) (unchanged_adds w e said.IsStopped)
+    either_adds w (unchanged w e said.IsStopped) (unchanged (record w { stopped = w.stopped ++ name ∷ [] }) e said.Stopped) (is_stopped w name)
+    (unchanged_adds w e said.IsStopped)
     (record { item = record_of w e said.Stopped []; untagged = refl; records = refl; letters = sym (append-nil w.letters) })
 
 heard_adds : (w : World) (e : Event) (name : ℕ) (hearing : Packet → Step) (letter : Option Letter) → Adds w (heard w e name hearing letter)
@@ -66,7 +70,8 @@ heard_adds w e name hearing None = unchanged_adds w e said.NoPacket
 heard_adds w e name hearing (Some letter) =
     let hears : World = stepped w e name (hearing letter.packet) in
     let stopped : World = unchanged w e said.IsStopped in
-    either_adds w (unchanged w e said.NotAddressed) (if is_stopped w name then stopped else hears) (not (is_for letter name)) (unchanged_adds w e said.NotAddressed)
+    either_adds w (unchanged w e said.NotAddressed) (if is_stopped w name then stopped else hears) (not (is_for letter name))
+    (unchanged_adds w e said.NotAddressed)
     (either_adds w stopped hears (is_stopped w name) (unchanged_adds w e said.IsStopped) (stepped_adds w e name (hearing letter.packet)))
 
 back_adds : (w : World) (e : Event) (place : ℕ) (outcome : Outcome) → Adds w (lives_on (unchanged w e outcome) place)
@@ -145,9 +150,14 @@ same_world : (w : World) (r : Record) → NextAt w r → tells w r ≡ happens w
 unfolding NextAt
 same_world w r next =
     let a = happens_adds w r.event in
-    let item : a.item ≡ tagged no_caller r = head_is a.item (tagged no_caller r) [] [] (cancel w.records (a.item ∷ []) (tagged no_caller r ∷ []) (sym a.records ∙ next)) in
+    let item : a.item ≡ tagged no_caller r = head_is a.item (tagged no_caller r) [] []
+    (cancel w.records (a.item ∷ []) (tagged no_caller r ∷ []) (sym a.records ∙ next)) in
     let letters : w.letters ++ r.packets ≡ (happens w r.event).letters = ap (λ (q : Record). w.letters ++ q.packets) (sym item) ∙ sym a.letters in
     λ i. record (happens w r.event) { letters = letters i }
+
+pub next_tells : (rules : Rules) (before : List Record) (r : Record) → IsNext rules before r → tells (told rules before) r ≡ happens (told rules before) r.event
+unfolding NextAt
+next_tells rules before r next = same_world (told rules before) r next
 
 -- the first record, and those behind it
 first_next : (w : World) (r : Record) (rest : List Record) → LegalFrom w (r ∷ rest) → NextAt w r × LegalFrom (happens w r.event) rest
@@ -163,7 +173,8 @@ first_next w r rest legal =
 
 next_first : (w : World) (r : Record) (rest : List Record) → NextAt w r → LegalFrom (happens w r.event) rest → LegalFrom w (r ∷ rest)
 unfolding LegalFrom NextAt happen
-next_first w r rest next legal = legal ∙ ap (λ (l : List Record). l ++ map (λ q. tagged no_caller q) rest) next ∙ append_assoc w.records (tagged no_caller r ∷ []) (map (λ q. tagged no_caller q) rest)
+next_first w r rest next legal = legal ∙ ap (λ (l : List Record). l ++ map (λ q. tagged no_caller q) rest) next
+    ∙ append_assoc w.records (tagged no_caller r ∷ []) (map (λ q. tagged no_caller q) rest)
 
 -- each record comes next
 AllNext : World → List Record → Type 0
@@ -178,14 +189,16 @@ all_next w (q ∷ journal) legal (b ∷ before) rest r e =
     let f = first_next w q journal legal in
     let s = same_world w q f.0 in
     let go : AllNext (tells w q) journal = all_next (tells w q) journal (subst (λ (x : World). LegalFrom x journal) (sym s) f.1) in
-    subst (λ (x : Record). NextAt (fold tells (tells w x) before) r) (head_is q b journal (before ++ r ∷ rest) e) (go before rest r (tail_is q b journal (before ++ r ∷ rest) e))
+    subst (λ (x : Record). NextAt (fold tells (tells w x) before) r) (head_is q b journal (before ++ r ∷ rest) e)
+    (go before rest r (tail_is q b journal (before ++ r ∷ rest) e))
 
 legal_from : (w : World) (journal : List Record) → AllNext w journal → LegalFrom w journal
 unfolding AllNext LegalFrom happen
 legal_from w [] each = sym (append-nil w.records)
 legal_from w (r ∷ journal) each =
     let next : NextAt w r = each [] journal r refl in
-    let rest : LegalFrom (tells w r) journal = legal_from (tells w r) journal (λ before more q e. each (r ∷ before) more q (ap (λ (l : List Record). r ∷ l) e)) in
+    let rest : LegalFrom (tells w r) journal = legal_from (tells w r) journal
+    (λ before more q e. each (r ∷ before) more q (ap (λ (l : List Record). r ∷ l) e)) in
     next_first w r journal next (subst (λ (x : World). LegalFrom x journal) (same_world w r next) rest)
 
 pub each_is_next : EachIsNext

@@ -1,26 +1,25 @@
 -- An event at another place leaves a name's node as it is.
-use Rattle.std.proofs.Common.{◌≡◌, ◌≢◌, ℕ, ◌+◌, ◌-◌, ◌*◌, ◌%◌, ◌<◌, List, [], ◌∷◌, ◌++◌, Bool, true, false, Option, Some, None, cond, sym, refl, ap, ◌∙◌, subst, ne_eqb, arith}
+use Rattle.std.proofs.Common.{◌≡◌, ◌≢◌, ℕ, ◌+◌, ◌-◌, ◌*◌, ◌%◌, ◌<◌, [], ◌∷◌, ◌++◌, Bool, true, false, Option, Some, None, sym, refl, ap, ◌∙◌, subst}
+use Rattle.std.proofs.Common.{ne_eqb, arith}
 use Rattle.std.specs.Prelude.{fold, if◌then◌else◌, not, ◌==◌, ◌||◌}
 use Rattle.std.proofs.lemmas.List.Sums.{fold-append}
-use Rattle.std.proofs.Math.Nat.{mod-lt, mod-eq_of_lt}
+use Rattle.std.proofs.Math.Nat.{mod-lt}
 use Rattle.am_base.specs.declared.outcome.Outcome.{Outcome}
 use Rattle.am_base.specs.declared.outcome.Outcome.TheVariants as said
 use Rattle.am_base.specs.declared.event.NodeEvent.{NodeEvent}
 use Rattle.am_base.specs.declared.event.NodeEvent.TheVariants as does
-use Rattle.am_base.specs.Founding.{Rules}
-use Rattle.am_base.specs.Names.{place_of, name_at}
+use Rattle.am_base.specs.Names.{place_of}
 use Rattle.am_packet.specs.declared.packet.Packet.{Packet}
 use Rattle.am_packet.specs.Boxes.{Letter}
 use Rattle.am_group.specs.declared.event.Act.{Act}
 use Rattle.am_group.specs.declared.event.Act.TheVariants as act
 use Rattle.am_group.specs.declared.event.Event.{Event}
-use Rattle.am_group.specs.declared.event.Record.{Record}
 use Rattle.am_group.specs.Addressed.{is_for}
 use Rattle.am_group.specs.Journals.{letter_at}
-use Rattle.am_model.specs.Node.{set_at}
 use Rattle.am_model.specs.Emit.{Step}
 use Rattle.am_model.specs.Step.{step, hear}
-use Rattle.am_model.specs.World.{World, start, is_stopped, has_departed, hear_cut, unchanged, stepped, does_event, gives_up, stops, heard, lives_on, returned, acts_as, happens, current}
+use Rattle.am_model.specs.World.{World, start, is_stopped, has_departed, hear_cut, unchanged, stepped, does_event, gives_up, stops, heard, lives_on, returned}
+use Rattle.am_model.specs.World.{acts_as, happens, current}
 use Rattle.am_calls.specs.Told.{tells, told}
 use Rattle.am_calls.specs.Laws.{OthersStay}
 
@@ -56,22 +55,28 @@ gives_up_stays : (place : ℕ) (w : World) (e : Event) (name other : ℕ) → pl
 gives_up_stays place w e name other its =
     let given : World = stepped w e name (step (w.nodes name) (does.GiveUp other)) in
     let not_stopped : World = unchanged w e said.NotStopped in
-    either_stays place w (unchanged w e said.IsStopped) (if is_stopped w other then given else not_stopped) (is_stopped w name) (unchanged_stays place w e said.IsStopped)
-    (either_stays place w given not_stopped (is_stopped w other) (stepped_stays place w e name (step (w.nodes name) (does.GiveUp other)) its) (unchanged_stays place w e said.NotStopped))
+    either_stays place w (unchanged w e said.IsStopped) (if is_stopped w other then given else not_stopped) (is_stopped w name)
+    (unchanged_stays place w e said.IsStopped)
+    (either_stays place w given not_stopped (is_stopped w other) (stepped_stays place w e name (step (w.nodes name) (does.GiveUp other)) its)
+    (unchanged_stays place w e said.NotStopped))
 
 stops_stays : (place : ℕ) (w : World) (e : Event) (name : ℕ) → Stays place w (stops w e name)
 unfolding unchanged
 stops_stays place w e name =
-    either_stays place w (unchanged w e said.IsStopped) (unchanged (record w { stopped = w.stopped ++ name ∷ [] }) e said.Stopped) (is_stopped w name) (unchanged_stays place w e said.IsStopped)
+    either_stays place w (unchanged w e said.IsStopped) (unchanged (record w { stopped = w.stopped ++ name ∷ [] }) e said.Stopped) (is_stopped w name)
+    (unchanged_stays place w e said.IsStopped)
     (record { nodes = λ other far. refl; lives = λ other far. refl })
 
-heard_stays : (place : ℕ) (w : World) (e : Event) (name : ℕ) (hearing : Packet → Step) (letter : Option Letter) → place_of name ≡ place → Stays place w (heard w e name hearing letter)
+heard_stays : (place : ℕ) (w : World) (e : Event) (name : ℕ) (hearing : Packet → Step) (letter : Option Letter) → place_of name ≡ place
+    → Stays place w (heard w e name hearing letter)
 heard_stays place w e name hearing None its = unchanged_stays place w e said.NoPacket
 heard_stays place w e name hearing (Some letter) its =
     let hears : World = stepped w e name (hearing letter.packet) in
     let stopped : World = unchanged w e said.IsStopped in
-    either_stays place w (unchanged w e said.NotAddressed) (if is_stopped w name then stopped else hears) (not (is_for letter name)) (unchanged_stays place w e said.NotAddressed)
-    (either_stays place w stopped hears (is_stopped w name) (unchanged_stays place w e said.IsStopped) (stepped_stays place w e name (hearing letter.packet) its))
+    either_stays place w (unchanged w e said.NotAddressed) (if is_stopped w name then stopped else hears) (not (is_for letter name))
+    (unchanged_stays place w e said.NotAddressed)
+    (either_stays place w stopped hears (is_stopped w name) (unchanged_stays place w e said.IsStopped)
+    (stepped_stays place w e name (hearing letter.packet) its))
 
 back_stays : (place : ℕ) (w : World) (e : Event) (outcome : Outcome) → Stays place w (lives_on (unchanged w e outcome) place)
 unfolding unchanged
@@ -110,7 +115,8 @@ place_at place k h = omega arith
 
 happens_stays : (w : World) (e : Event) → Stays (place_of e.node) w (happens w e)
 unfolding happens
-happens_stays w e = acts_stays (place_of e.node) w e (current w (place_of e.node)) e.act (place_at (place_of e.node) (w.lives (place_of e.node) - 1) (mod-lt e.node (omega arith)))
+happens_stays w e = acts_stays (place_of e.node) w e (current w (place_of e.node)) e.act
+    (place_at (place_of e.node) (w.lives (place_of e.node) - 1) (mod-lt e.node (omega arith)))
 
 pub others_stay : OthersStay
 unfolding told

@@ -1,6 +1,7 @@
 -- What a blocking call answers, by its records.
-use Rattle.std.specs.Prelude.{ℕ, List, [], ◌∷◌, ◌++◌, length, Option, Some, None, Bool, true, false, ◌==◌, ◌&&◌, ◌||◌, nat_le, if◌then◌else◌, count_by, fold}
-use Rattle.std.specs.List.{flat_map, list_any}
+use Rattle.std.specs.Prelude.{ℕ, List, [], ◌∷◌, Option, Some, None, Bool, true, false, ◌==◌, ◌&&◌, ◌||◌, nat_le, if◌then◌else◌, count_by, fold}
+use Rattle.std.specs.Prelude.{unwrap_or}
+use Rattle.std.specs.List.{list_any}
 use Rattle.am_base.specs.declared.outcome.Outcome.{Outcome}
 use Rattle.am_base.specs.declared.outcome.Outcome.TheVariants as said
 use Rattle.am_group.specs.declared.event.Act.{Act}
@@ -87,18 +88,30 @@ abbrev pub request_in : Outcome → ℕ
 request_in (said.Queued req) = req
 request_in _ = 0
 
+abbrev pub queued_in : Outcome → Option ℕ
+queued_in (said.Queued req) = Some req
+queued_in _ = None
+
+abbrev pub request_of : Act → Outcome → Option ℕ
+request_of (act.Send body) outcome = queued_in outcome
+request_of _ outcome = None
+
+-- the request of a send that was queued, by its own act
+abbrev pub request_by : Option Record → Option ℕ
+request_by None = None
+request_by (Some own) = request_of own.event.act own.outcome
+
 -- the sequencer had no room for this request
-abbrev pub put_off_in : ℕ → Outcome → List Answer
-put_off_in req (said.PutOff its base top) = if its == req then answer.PutOff req base top ∷ [] else []
-put_off_in req _ = []
+abbrev pub put_off_in : Option ℕ → Outcome → Option Answer
+put_off_in (Some req) (said.PutOff its base top) = if its == req then Some (answer.PutOff req base top) else None
+put_off_in _ _ = None
 
-abbrev pub last_or : Answer → List Answer → Answer
-last_or first others = fold (λ a b. b) first others
+-- a call that used its turns is put off by the last such outcome, and else late
+abbrev pub late_after : Option ℕ → Answer → Outcome → Answer
+late_after request late outcome = unwrap_or (put_off_in request outcome) late
 
--- where it used its turns for nothing
-abbrev pub late : ℕ → Option Record → List Record → Answer
-late turns None records = answer.Late turns
-late turns (Some own) records = last_or (answer.Late turns) (flat_map (λ r. put_off_in (request_in own.outcome) r.outcome) records)
+abbrev pub late : ℕ → Option ℕ → List Record → Answer
+late turns request records = fold (λ a (r : Record). late_after request a r.outcome) (answer.Late turns) records
 
 abbrev pub answer_in : Act → Record → Option Answer
 answer_in own r =
@@ -127,4 +140,5 @@ is_end r = is_check r.by.part || is_take r.event.act
 unfoldable pub answer_of : ℕ → List Record → Option Answer
 answer_of turns records =
     or_else (first_answer (act_of_call (own_of records)) records)
-    (if list_any is_end records && nat_le turns (count_by (λ r. is_turn_part r.by.part) records) then Some (late turns (own_of records) records) else None)
+    (if list_any is_end records && nat_le turns (count_by (λ r. is_turn_part r.by.part) records) then Some
+    (late turns (request_by (own_of records)) records) else None)

@@ -1,17 +1,16 @@
 -- A caller's records are those of its calls, one behind the other.
-use Rattle.std.specs.Prelude.{ℕ, ◌+◌, ◌-◌, List, [], ◌∷◌, length, drop, take_while, Option, Some, None, is_some, Bool, true, false, not, ◌&&◌, ◌==◌, nat_lt, if◌then◌else◌}
+use Rattle.std.specs.Prelude.{ℕ, ◌+◌, ◌-◌, List, [], ◌∷◌, length, drop, take_while, Option, Some, None, is_some, Bool, true, false, ◌&&◌, ◌==◌, nat_lt}
+use Rattle.std.specs.Prelude.{if◌then◌else◌}
 use Rattle.std.specs.List.{list_all}
 use Rattle.am_base.specs.declared.outcome.Outcome.{Outcome}
-use Rattle.am_base.specs.declared.outcome.Outcome.TheVariants as said
 use Rattle.am_base.specs.Names.{place_of}
 use Rattle.am_packet.specs.Boxes.{Letter}
 use Rattle.am_group.specs.declared.event.Act.{Act}
 use Rattle.am_group.specs.declared.event.Act.TheVariants as act
 use Rattle.am_group.specs.declared.event.Record.{Record}
-use Rattle.am_group.specs.declared.plan.ThreadPlan.{ThreadPlan}
 use Rattle.am_calls.specs.declared.answer.Answer.{Answer}
 use Rattle.am_calls.specs.declared.answer.Answer.TheVariants as answer
-use Rattle.am_calls.specs.Tags.{of_caller, is_own, is_turn_part, is_check}
+use Rattle.am_calls.specs.Tags.{is_own, is_turn_part, is_check}
 use Rattle.am_calls.specs.Answers.{own_answer, answer_of, request_in, is_take}
 use Rattle.am_calls.specs.Ready.{round_in}
 
@@ -55,7 +54,8 @@ is_followed turns own (r ∷ rs) = if is_turn_part r.by.part then nat_lt 0 turns
 -- a receive: so many turns at most, and then perhaps its Take
 unfoldable pub is_receive : ℕ → List Record → Bool
 is_receive turns [] = true
-is_receive turns (r ∷ rs) = if is_turn_part r.by.part then nat_lt 0 turns && is_receive (turns - 1) rs else is_own r.by.part && (is_take r.event.act && is_empty rs)
+is_receive turns (r ∷ rs) = if is_turn_part r.by.part then nat_lt 0 turns && is_receive (turns - 1) rs else is_own r.by.part
+    && (is_take r.event.act && is_empty rs)
 
 -- another call: its own act, and nothing behind it where that has an answer
 abbrev pub is_other : ℕ → Act → List Record → Bool
@@ -84,7 +84,8 @@ behind number records = drop (length (first_call number records)) records
 unfoldable pub are_calls : ℕ → ℕ → List Act → List Record → Bool
 are_calls turns number [] records = is_empty records
 are_calls turns number (planned ∷ calls) records =
-    is_one_call turns planned (first_call number records) && (at_one_place (first_call number records) && are_calls turns (number + 1) calls (behind number records))
+    is_one_call turns planned (first_call number records) && (at_one_place (first_call number records)
+    && are_calls turns (number + 1) calls (behind number records))
 
 abbrev pub is_callers : ℕ → List Act → List Record → Bool
 is_callers turns calls records = are_calls turns 0 calls records
@@ -105,4 +106,5 @@ goes_on stopped (Some a) others records = if is_last a then is_empty records els
 unfoldable pub are_finished : ℕ → Bool → ℕ → List Act → List Record → Bool
 are_finished turns stopped number [] records = is_empty records
 are_finished turns stopped number (planned ∷ calls) records =
-    goes_on stopped (answer_of turns (first_call number records)) (are_finished turns stopped (number + 1) calls (behind number records)) (behind number records)
+    goes_on stopped (answer_of turns (first_call number records)) (are_finished turns stopped (number + 1) calls (behind number records))
+    (behind number records)

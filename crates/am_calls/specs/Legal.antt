@@ -1,5 +1,5 @@
 -- The journals that a race may leave.
-use Rattle.std.specs.Prelude.{◌≡◌, ℕ, List, [], ◌∷◌, ◌++◌, Bool, true, false, ◌&&◌, ◌==◌}
+use Rattle.std.specs.Prelude.{◌≡◌, ℕ, List, ◌∷◌, ◌++◌, Bool, true, false, ◌&&◌, ◌==◌}
 use Rattle.std.specs.List.{list_all}
 use Rattle.am_base.specs.Names.{place_of}
 use Rattle.am_group.specs.declared.event.Act.{Act}
@@ -13,7 +13,8 @@ use Rattle.am_calls.specs.Tags.{of_caller, is_turn_part}
 use Rattle.am_calls.specs.Turns.{is_turn}
 use Rattle.am_calls.specs.Callers.{is_callers, are_finished}
 
--- the run of its events gives its outcomes and letters; the records of each caller are those of its calls; each turn is one of its call by what stood before it;
+-- the run of its events gives its outcomes and letters; the records of each caller are those of its calls; each turn
+-- is one of its call by what stood before it;
 -- and a name that stopped does nothing more
 pub record IsLegalWithTags (plan : RacePlan) (calls : ℕ → List Act) (journal : List Record) : Type 0 where
   pub legal : IsLegal plan.founding journal
@@ -25,4 +26,4 @@ pub record IsLegalWithTags (plan : RacePlan) (calls : ℕ → List Act) (journal
 abbrev pub is_played : ℕ → ThreadPlan → ℕ → List Record → Bool
 is_played turns thread caller journal =
     list_all (λ r. place_of r.event.node == place_of thread.node) (of_caller caller journal)
-    && are_finished turns (has_stopped journal thread.node) 0 thread.calls (of_caller caller journal)
+    && are_finished turns (has_stopped journal (place_of thread.node)) 0 thread.calls (of_caller caller journal)

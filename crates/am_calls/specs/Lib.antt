@@ -5,4 +5,10 @@ pub mod Ready
 pub mod Turns
 pub mod Callers
 pub mod Legal
+pub mod Plans
+pub mod Lawful
+pub mod Callings
+pub mod Ran
+pub mod Boxes
+pub mod Going
 pub mod Laws

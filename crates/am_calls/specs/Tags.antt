@@ -1,9 +1,7 @@
 -- Whose records they are: of a place, of a caller, of one call; and what a caller at a place knows of a journal at least.
-use Rattle.std.specs.Prelude.{ℕ, List, [], ◌∷◌, Bool, true, false, ◌&&◌, ◌||◌, ◌==◌, if◌then◌else◌, Option, Some, None, filter, find}
+use Rattle.std.specs.Prelude.{ℕ, List, [], ◌∷◌, Bool, true, false, ◌&&◌, ◌||◌, ◌==◌, if◌then◌else◌, Option, filter, find}
 use Rattle.std.specs.List.{list_any}
 use Rattle.am_base.specs.Names.{place_of}
-use Rattle.am_group.specs.declared.event.Act.{Act}
-use Rattle.am_group.specs.declared.event.Act.TheVariants as act
 use Rattle.am_group.specs.declared.event.Part.{Part}
 use Rattle.am_group.specs.declared.event.Part.TheVariants.{Call, Turn, Check}
 use Rattle.am_group.specs.declared.event.Record.{Record}

@@ -1,6 +1,6 @@
 -- A turn: what a call does at its node between two looks. It gives up a stopped name that the node waits for, or does what
 -- the chooser says with the letters for the node.
-use Rattle.std.specs.Prelude.{ℕ, zero, suc, List, [], ◌∷◌, map, max, fold, count_by, Option, Some, None, is_none, Bool, true, false, not, ◌&&◌, ◌==◌, nat_lt, if◌then◌else◌}
+use Rattle.std.specs.Prelude.{ℕ, zero, suc, List, map, max, fold, count_by, Option, Some, None, is_none, Bool, false, not, ◌&&◌, ◌==◌, nat_lt}
 use Rattle.std.specs.List.{list_any}
 use Rattle.am_base.specs.Names.{place_of, name_lt, names_of, has}
 use Rattle.rand_pcg.specs.Lcg.{Lcg}
@@ -20,7 +20,7 @@ use Rattle.am_model.specs.World.{World, current}
 use Rattle.am_node.specs.Info.{waited_for}
 use Rattle.am_pump.specs.declared.chooser.Choice.{Choice}
 use Rattle.am_pump.specs.declared.chooser.Choice.TheVariants as choice
-use Rattle.am_pump.specs.Choices.{Luck, words_of, drawn, choice_of}
+use Rattle.am_pump.specs.Choices.{words_of, drawn, choice_of}
 use Rattle.am_wire.specs.Stops.{has_stopped}
 use Rattle.am_calls.specs.Told.{told}
 use Rattle.am_calls.specs.Tags.{of_place, of_caller, of_call, own_of, is_turn_part, known}
@@ -49,6 +49,10 @@ abbrev pub unless_nought : ℕ → Option ℕ
 unless_nought zero = None
 unless_nought (suc before) = Some (suc before)
 
+abbrev pub or_nought : Option ℕ → ℕ
+or_nought None = 0
+or_nought (Some number) = number
+
 -- the last letter that it heard
 abbrev pub last_heard : ℕ → List Record → Option ℕ
 last_heard place records = unless_nought (greatest (map (λ r. heard_by r.event.act) (of_place place records)))
@@ -65,7 +69,8 @@ later (suc count) words = drawn (later count words)
 
 -- what the chooser of a caller says after so many words
 abbrev pub chosen : RacePlan → ℕ → ℕ → Option ℕ → Option ℕ → Choice
-chosen plan caller count ahead last = choice_of (record { words = later count (words_of plan.seed_number caller); loss = plan.loss; repeat = plan.repeat }) ahead last
+chosen plan caller count ahead last = choice_of (record { words = later count (words_of plan.seed_number caller); loss = plan.loss; repeat = plan.repeat })
+    ahead last
 
 -- an act, with the letter that it lost, is what a choice says
 abbrev pub follows : Choice → Act → ℕ → Bool
@@ -96,9 +101,12 @@ is_choice plan before place name caller does lost =
 -- a tick that lost nothing needs no letter in what was known; every other turn is the choice
 abbrev pub is_turn_of : RacePlan → List Record → List Record → Node → ℕ → ℕ → Act → ℕ → Bool
 is_turn_of plan before knew m name caller (act.GiveUp other) lost = (lost == 0) && (is_waited m before other && is_least m knew other)
-is_turn_of plan before knew m name caller act.Tick zero = not (waits_in_vain m knew) && is_none (next_for (letters_of knew) name (cursor (place_of name) before))
-is_turn_of plan before knew m name caller act.Tick (suc lost) = not (waits_in_vain m knew) && is_choice plan before (place_of name) name caller act.Tick (suc lost)
-is_turn_of plan before knew m name caller (act.Hear number) lost = not (waits_in_vain m knew) && is_choice plan before (place_of name) name caller (act.Hear number) lost
+is_turn_of plan before knew m name caller act.Tick zero = not (waits_in_vain m knew)
+    && is_none (next_for (letters_of knew) name (cursor (place_of name) before))
+is_turn_of plan before knew m name caller act.Tick (suc lost) =
+    not (waits_in_vain m knew) && is_choice plan before (place_of name) name caller act.Tick (suc lost)
+is_turn_of plan before knew m name caller (act.Hear number) lost =
+    not (waits_in_vain m knew) && is_choice plan before (place_of name) name caller (act.Hear number) lost
 is_turn_of plan before knew m name caller _ lost = false
 
 abbrev pub turns_at : RacePlan → List Record → World → ℕ → Event → By → Bool

@@ -2,4 +2,16 @@
 #![tactic(auto)]
 
 pub mod answer;
+pub mod caller;
+mod dealing;
+pub mod gate;
+pub mod kernels;
 pub mod laws;
+pub mod naming;
+pub mod node_box;
+pub mod outcomes;
+pub mod plans;
+pub mod race;
+pub mod ready;
+#[cfg(test)]
+mod tests;

@@ -29,7 +29,8 @@ turned_play d place turn.Tick = refl
 turned_play d place turn.Choose = refl
 
 -- all is drawn, a place turns, and its act happens
-pub step_is : (d mid next new : Drive) (place : ℕ) (t : Turn) (a : Act) → mid ≡ record d { words = drawn (drawn d.words) } → place ≡ draw d.words 4 → t ≡ turn_of (draw (drawn d.words) 16)
+pub step_is : (d mid next new : Drive) (place : ℕ) (t : Turn) (a : Act) → mid ≡ record d { words = drawn (drawn d.words) } → place ≡ draw d.words 4
+    → t ≡ turn_of (draw (drawn d.words) 16)
     → a ≡ act_at mid place t → next ≡ turned mid place t → new ≡ record next { play = after next.play (event_at place a) } → new ≡ driven d
 unfolding driven
 step_is d mid next new place t a words at turns acts goes is =

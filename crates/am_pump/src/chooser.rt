@@ -1,6 +1,7 @@
-ghost use Rattle.std.specs.Prelude.{◌≡◌};
+ghost use Rattle.std.specs.Prelude.{◌≡◌, IfOk};
 ghost use Rattle.am_pump.specs.Choices.{act_of, turn_by, words_of, choice_of, luck_after};
 
+use am_base::NoMemory;
 use am_group::event::Act;
 use rand_pcg::Lcg64Xsh32;
 use rand_pcg::rand_core::utils::NextWord;
@@ -71,6 +72,17 @@ impl Chooser {
             loss,
             repeat,
         }
+    }
+
+    /// The same chooser.
+    pub fn copied(&self) -> Result<Chooser, NoMemory>
+        ensures { IfOk result (λ chooser. chooser ≡ self.now) }
+    {
+        Ok(Chooser {
+            words: self.words.clone()?,
+            loss: self.loss,
+            repeat: self.repeat,
+        })
     }
 
     /// What a node does, where the first of these letters is the least ahead of it and the second the last that it heard.

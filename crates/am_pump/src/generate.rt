@@ -11,7 +11,8 @@ use std::alloc::Global;
 /// (docs/PROTOCOL.md, "Generated runs"). NoMemory where there was no memory for an event, Spent only where there are to be
 /// more than 100,000.
 pub fn generate(alloc: Global, seed: u64, count: u32) -> Result<World, WorldRefusal>
-    ensures world { IfOk result (λ world. world ≡ record { rules = generated_rules; events = generated seed count }) }
+    ensures world { IfOk result (λ world. world
+        ≡ record { rules = generated_rules; events = generated seed count }) }
     ensures count { IfOk result (λ world. length world.events ≡ count) }
     ensures spent { IfErr result (λ refusal. refusal ≡ refusals.Spent → most_events < count) }
 {

@@ -196,8 +196,10 @@ impl Generator {
     /// A place does an act.
     fn happen(&mut self, place: u8, act: Act) -> Result<(), WorldRefusal>
         requires { place < 4 }
-        ensures ok { OnOk result (self.new ≡ record self.old { play = after self.old.play (event_at place act) }) }
-        ensures spent { IfErr result (λ refusal. refusal ≡ refusals.Spent → length self.old.play.events ≡ most_events) }
+        ensures ok { OnOk result (self.new
+            ≡ record self.old { play = after self.old.play (event_at place act) }) }
+        ensures spent { IfErr result (λ refusal. refusal ≡ refusals.Spent
+            → length self.old.play.events ≡ most_events) }
     {
         let sent = self.sent_by(place);
         let node = Name::of_byte(place);
@@ -212,7 +214,8 @@ impl Generator {
     #[tactic(auto, unfolding(crate::specs::Generating::driven))]
     pub fn step(&mut self) -> Result<(), WorldRefusal>
         ensures ok { OnOk result (self.new ≡ driven self.old) }
-        ensures spent { IfErr result (λ refusal. refusal ≡ refusals.Spent → length self.old.play.events ≡ most_events) }
+        ensures spent { IfErr result (λ refusal. refusal ≡ refusals.Spent
+            → length self.old.play.events ≡ most_events) }
     {
         let place = draw(&mut self.words, 4) as u8;
         let turn = turn_of(draw(&mut self.words, 16));

@@ -5,7 +5,23 @@ use Rattle.am_model.specs.Play.{text_of}
 use Rattle.am_rows.specs.Scripts.{founded, on, lines}
 
 abbrev pub First1 : Type 0
-First1 = text_of (founded (0 ∷ 1 ∷ []) 0 64 256) (on 1 act.Take ∷ on 1 (act.Done 2) ∷ on 0 act.Take ∷ on 0 (act.Done 1) ∷ on 1 (act.Done 2) ∷ on 0 (act.Done 5) ∷ on 0 (act.Done 1) ∷ on 1 (act.Done 3) ∷ on 1 (act.Done 5) ∷ on 1 (act.Done 3) ∷ on 1 (act.Done 3) ∷ on 1 (act.Done 3) ∷ on 1 (act.Done 4) ∷ on 0 (act.Done 5) ∷ on 0 (act.Done 1) ∷ []) ≡ lines (
+First1 = text_of (founded (0 ∷ 1 ∷ []) 0 64 256) (
+    on 1 act.Take ∷
+    on 1 (act.Done 2) ∷
+    on 0 act.Take ∷
+    on 0 (act.Done 1) ∷
+    on 1 (act.Done 2) ∷
+    on 0 (act.Done 5) ∷
+    on 0 (act.Done 1) ∷
+    on 1 (act.Done 3) ∷
+    on 1 (act.Done 5) ∷
+    on 1 (act.Done 3) ∷
+    on 1 (act.Done 3) ∷
+    on 1 (act.Done 3) ∷
+    on 1 (act.Done 4) ∷
+    on 0 (act.Done 5) ∷
+    on 0 (act.Done 1) ∷
+    []) ≡ lines (
     codes "1 take 1 : took 1 view 1.0 0,1" ∷
     codes "2 done 1 2 : unknown" ∷
     codes "3 take 0 : took 1 view 1.0 0,1" ∷
@@ -28,7 +44,68 @@ First1 = text_of (founded (0 ∷ 1 ∷ []) 0 64 256) (on 1 act.Take ∷ on 1 (ac
     [])
 
 abbrev pub First10 : Type 0
-First10 = text_of (founded (0 ∷ 1 ∷ 2 ∷ 3 ∷ 4 ∷ []) 0 64 256) (on 4 (act.Send (150 ∷ [])) ∷ on 0 (act.Hear 1) ∷ on 2 (act.Hear 2) ∷ on 2 (act.Hear 2) ∷ on 3 (act.Hear 2) ∷ on 1 (act.Hear 2) ∷ on 1 (act.Hear 2) ∷ on 4 (act.Hear 2) ∷ on 4 (act.Hear 2) ∷ on 3 (act.Hear 2) ∷ on 3 (act.Send []) ∷ on 4 act.Take ∷ on 1 act.Take ∷ on 2 (act.Hear 2) ∷ on 0 (act.Hear 1) ∷ on 0 (act.Hear 3) ∷ on 1 act.Take ∷ on 0 (act.Send (33 ∷ 127 ∷ 56 ∷ 236 ∷ 84 ∷ [])) ∷ on 3 (act.Hear 5) ∷ on 1 (act.Done 4) ∷ on 2 (act.Hear 5) ∷ on 1 (act.Hear 4) ∷ on 4 (act.Hear 4) ∷ on 4 (act.Hear 5) ∷ on 1 (act.Hear 4) ∷ on 2 (act.Hear 5) ∷ on 2 (act.Hear 4) ∷ on 1 (act.Hear 2) ∷ on 4 (act.Hear 5) ∷ on 2 (act.Hear 2) ∷ on 0 (act.Hear 6) ∷ on 0 (act.Hear 7) ∷ on 3 (act.Hear 4) ∷ on 0 (act.Hear 7) ∷ on 3 (act.Hear 5) ∷ on 3 (act.Hear 9) ∷ on 0 (act.Hear 8) ∷ on 1 (act.Hear 5) ∷ on 3 (act.Hear 9) ∷ on 4 (act.Hear 2) ∷ on 0 (act.Done 3) ∷ on 4 (act.Hear 2) ∷ on 2 (act.Hear 11) ∷ on 1 (act.Hear 5) ∷ on 4 (act.Hear 5) ∷ on 3 (act.Hear 10) ∷ on 2 (act.Hear 12) ∷ on 3 (act.Hear 9) ∷ on 2 (act.Done 4) ∷ on 0 act.Take ∷ on 3 act.Take ∷ on 2 (act.Hear 11) ∷ on 3 (act.Done 1) ∷ on 0 act.Take ∷ on 3 act.Take ∷ on 2 (act.Hear 11) ∷ on 3 (act.Hear 2) ∷ on 2 (act.Hear 5) ∷ on 0 (act.Hear 6) ∷ on 3 act.Take ∷ []) ≡ lines (
+First10 = text_of (founded (0 ∷ 1 ∷ 2 ∷ 3 ∷ 4 ∷ []) 0 64 256) (
+    on 4 (act.Send (150 ∷ [])) ∷
+    on 0 (act.Hear 1) ∷
+    on 2 (act.Hear 2) ∷
+    on 2 (act.Hear 2) ∷
+    on 3 (act.Hear 2) ∷
+    on 1 (act.Hear 2) ∷
+    on 1 (act.Hear 2) ∷
+    on 4 (act.Hear 2) ∷
+    on 4 (act.Hear 2) ∷
+    on 3 (act.Hear 2) ∷
+    on 3 (act.Send []) ∷
+    on 4 act.Take ∷
+    on 1 act.Take ∷
+    on 2 (act.Hear 2) ∷
+    on 0 (act.Hear 1) ∷
+    on 0 (act.Hear 3) ∷
+    on 1 act.Take ∷
+    on 0 (act.Send (33 ∷ 127 ∷ 56 ∷ 236 ∷ 84 ∷ [])) ∷
+    on 3 (act.Hear 5) ∷
+    on 1 (act.Done 4) ∷
+    on 2 (act.Hear 5) ∷
+    on 1 (act.Hear 4) ∷
+    on 4 (act.Hear 4) ∷
+    on 4 (act.Hear 5) ∷
+    on 1 (act.Hear 4) ∷
+    on 2 (act.Hear 5) ∷
+    on 2 (act.Hear 4) ∷
+    on 1 (act.Hear 2) ∷
+    on 4 (act.Hear 5) ∷
+    on 2 (act.Hear 2) ∷
+    on 0 (act.Hear 6) ∷
+    on 0 (act.Hear 7) ∷
+    on 3 (act.Hear 4) ∷
+    on 0 (act.Hear 7) ∷
+    on 3 (act.Hear 5) ∷
+    on 3 (act.Hear 9) ∷
+    on 0 (act.Hear 8) ∷
+    on 1 (act.Hear 5) ∷
+    on 3 (act.Hear 9) ∷
+    on 4 (act.Hear 2) ∷
+    on 0 (act.Done 3) ∷
+    on 4 (act.Hear 2) ∷
+    on 2 (act.Hear 11) ∷
+    on 1 (act.Hear 5) ∷
+    on 4 (act.Hear 5) ∷
+    on 3 (act.Hear 10) ∷
+    on 2 (act.Hear 12) ∷
+    on 3 (act.Hear 9) ∷
+    on 2 (act.Done 4) ∷
+    on 0 act.Take ∷
+    on 3 act.Take ∷
+    on 2 (act.Hear 11) ∷
+    on 3 (act.Done 1) ∷
+    on 0 act.Take ∷
+    on 3 act.Take ∷
+    on 2 (act.Hear 11) ∷
+    on 3 (act.Hear 2) ∷
+    on 2 (act.Hear 5) ∷
+    on 0 (act.Hear 6) ∷
+    on 3 act.Take ∷
+    []) ≡ lines (
     codes "1 send 4 96 : queued 1 | 1 Request to 0" ∷
     codes "2 hear 0 1 : numbered 2 | 2 Bcast to 1,2,3,4" ∷
     codes "3 hear 2 2 : stored 2" ∷
@@ -106,7 +183,23 @@ First10 = text_of (founded (0 ∷ 1 ∷ 2 ∷ 3 ∷ 4 ∷ []) 0 64 256) (on 4 (a
     [])
 
 abbrev pub First2 : Type 0
-First2 = text_of (founded (0 ∷ 1 ∷ []) 0 64 256) (on 0 act.Take ∷ on 1 act.Take ∷ on 1 (act.Done 1) ∷ on 0 act.Take ∷ on 1 act.Take ∷ on 1 (act.Done 2) ∷ on 0 (act.Done 3) ∷ on 1 (act.Done 4) ∷ on 1 act.Take ∷ on 1 act.Take ∷ on 0 act.Take ∷ on 1 act.Take ∷ on 0 (act.Done 5) ∷ on 0 (act.Send (3 ∷ [])) ∷ on 1 (act.Hear 1) ∷ []) ≡ lines (
+First2 = text_of (founded (0 ∷ 1 ∷ []) 0 64 256) (
+    on 0 act.Take ∷
+    on 1 act.Take ∷
+    on 1 (act.Done 1) ∷
+    on 0 act.Take ∷
+    on 1 act.Take ∷
+    on 1 (act.Done 2) ∷
+    on 0 (act.Done 3) ∷
+    on 1 (act.Done 4) ∷
+    on 1 act.Take ∷
+    on 1 act.Take ∷
+    on 0 act.Take ∷
+    on 1 act.Take ∷
+    on 0 (act.Done 5) ∷
+    on 0 (act.Send (3 ∷ [])) ∷
+    on 1 (act.Hear 1) ∷
+    []) ≡ lines (
     codes "1 take 0 : took 1 view 1.0 0,1" ∷
     codes "2 take 1 : took 1 view 1.0 0,1" ∷
     codes "3 done 1 1 : unknown" ∷
@@ -130,7 +223,23 @@ First2 = text_of (founded (0 ∷ 1 ∷ []) 0 64 256) (on 0 act.Take ∷ on 1 act
     [])
 
 abbrev pub First3 : Type 0
-First3 = text_of (founded (0 ∷ 1 ∷ 2 ∷ 3 ∷ []) 0 64 256) (on 3 act.Take ∷ on 1 act.Take ∷ on 3 act.Take ∷ on 3 act.Take ∷ on 0 act.Take ∷ on 0 (act.Send []) ∷ on 2 (act.Hear 1) ∷ on 2 (act.Done 3) ∷ on 1 (act.Hear 1) ∷ on 1 (act.Hear 1) ∷ on 0 act.Take ∷ on 3 act.Take ∷ on 1 (act.Send []) ∷ on 2 (act.Hear 1) ∷ on 1 act.Take ∷ []) ≡ lines (
+First3 = text_of (founded (0 ∷ 1 ∷ 2 ∷ 3 ∷ []) 0 64 256) (
+    on 3 act.Take ∷
+    on 1 act.Take ∷
+    on 3 act.Take ∷
+    on 3 act.Take ∷
+    on 0 act.Take ∷
+    on 0 (act.Send []) ∷
+    on 2 (act.Hear 1) ∷
+    on 2 (act.Done 3) ∷
+    on 1 (act.Hear 1) ∷
+    on 1 (act.Hear 1) ∷
+    on 0 act.Take ∷
+    on 3 act.Take ∷
+    on 1 (act.Send []) ∷
+    on 2 (act.Hear 1) ∷
+    on 1 act.Take ∷
+    []) ≡ lines (
     codes "1 take 3 : took 1 view 1.0 0,1,2,3" ∷
     codes "2 take 1 : took 1 view 1.0 0,1,2,3" ∷
     codes "3 take 3 : empty" ∷
@@ -158,7 +267,23 @@ First3 = text_of (founded (0 ∷ 1 ∷ 2 ∷ 3 ∷ []) 0 64 256) (on 3 act.Take 
     [])
 
 abbrev pub First4 : Type 0
-First4 = text_of (founded (0 ∷ 1 ∷ 2 ∷ 3 ∷ []) 0 64 256) (on 0 act.Take ∷ on 3 (act.Send (19 ∷ 174 ∷ [])) ∷ on 0 (act.Hear 1) ∷ on 0 (act.Hear 1) ∷ on 0 (act.Hear 1) ∷ on 0 (act.Send (183 ∷ 153 ∷ [])) ∷ on 3 (act.Send (55 ∷ [])) ∷ on 1 (act.Send (145 ∷ [])) ∷ on 0 (act.Done 1) ∷ on 1 (act.Done 1) ∷ on 0 (act.Send []) ∷ on 2 (act.Hear 3) ∷ on 2 (act.Done 2) ∷ on 1 (act.Hear 2) ∷ on 1 (act.Done 1) ∷ []) ≡ lines (
+First4 = text_of (founded (0 ∷ 1 ∷ 2 ∷ 3 ∷ []) 0 64 256) (
+    on 0 act.Take ∷
+    on 3 (act.Send (19 ∷ 174 ∷ [])) ∷
+    on 0 (act.Hear 1) ∷
+    on 0 (act.Hear 1) ∷
+    on 0 (act.Hear 1) ∷
+    on 0 (act.Send (183 ∷ 153 ∷ [])) ∷
+    on 3 (act.Send (55 ∷ [])) ∷
+    on 1 (act.Send (145 ∷ [])) ∷
+    on 0 (act.Done 1) ∷
+    on 1 (act.Done 1) ∷
+    on 0 (act.Send []) ∷
+    on 2 (act.Hear 3) ∷
+    on 2 (act.Done 2) ∷
+    on 1 (act.Hear 2) ∷
+    on 1 (act.Done 1) ∷
+    []) ≡ lines (
     codes "1 take 0 : took 1 view 1.0 0,1,2,3" ∷
     codes "2 send 3 13ae : queued 1 | 1 Request to 0" ∷
     codes "3 hear 0 1 : numbered 2 | 2 Bcast to 1,2,3" ∷
@@ -186,7 +311,23 @@ First4 = text_of (founded (0 ∷ 1 ∷ 2 ∷ 3 ∷ []) 0 64 256) (on 0 act.Take 
     [])
 
 abbrev pub First5 : Type 0
-First5 = text_of (founded (0 ∷ 1 ∷ 2 ∷ 3 ∷ []) 0 64 256) (on 0 act.Take ∷ on 3 act.Take ∷ on 3 (act.Send (37 ∷ 122 ∷ 253 ∷ 99 ∷ 125 ∷ [])) ∷ on 1 act.Take ∷ on 0 (act.Hear 1) ∷ on 1 (act.Hear 2) ∷ on 2 (act.Hear 2) ∷ on 0 (act.Done 4) ∷ on 3 (act.Hear 2) ∷ on 0 (act.Send []) ∷ on 0 (act.Hear 1) ∷ on 2 (act.Hear 2) ∷ on 2 act.Take ∷ on 2 (act.Hear 3) ∷ on 1 (act.Hear 2) ∷ []) ≡ lines (
+First5 = text_of (founded (0 ∷ 1 ∷ 2 ∷ 3 ∷ []) 0 64 256) (
+    on 0 act.Take ∷
+    on 3 act.Take ∷
+    on 3 (act.Send (37 ∷ 122 ∷ 253 ∷ 99 ∷ 125 ∷ [])) ∷
+    on 1 act.Take ∷
+    on 0 (act.Hear 1) ∷
+    on 1 (act.Hear 2) ∷
+    on 2 (act.Hear 2) ∷
+    on 0 (act.Done 4) ∷
+    on 3 (act.Hear 2) ∷
+    on 0 (act.Send []) ∷
+    on 0 (act.Hear 1) ∷
+    on 2 (act.Hear 2) ∷
+    on 2 act.Take ∷
+    on 2 (act.Hear 3) ∷
+    on 1 (act.Hear 2) ∷
+    []) ≡ lines (
     codes "1 take 0 : took 1 view 1.0 0,1,2,3" ∷
     codes "2 take 3 : took 1 view 1.0 0,1,2,3" ∷
     codes "3 send 3 257afd637d : queued 1 | 1 Request to 0" ∷
@@ -213,7 +354,39 @@ First5 = text_of (founded (0 ∷ 1 ∷ 2 ∷ 3 ∷ []) 0 64 256) (on 0 act.Take 
     [])
 
 abbrev pub First6 : Type 0
-First6 = text_of (founded (0 ∷ 1 ∷ 2 ∷ 3 ∷ 4 ∷ []) 0 64 256) (on 4 act.Take ∷ on 3 act.Take ∷ on 4 (act.Done 2) ∷ on 4 (act.Send []) ∷ on 3 act.Take ∷ on 0 (act.Hear 1) ∷ on 3 (act.Hear 2) ∷ on 4 (act.Hear 2) ∷ on 1 (act.Send (226 ∷ [])) ∷ on 2 (act.Done 3) ∷ on 3 (act.Hear 2) ∷ on 1 act.Take ∷ on 0 act.Take ∷ on 1 (act.Hear 2) ∷ on 0 (act.Hear 1) ∷ on 1 (act.Hear 2) ∷ on 2 (act.Hear 2) ∷ on 0 (act.Hear 3) ∷ on 2 act.Take ∷ on 2 (act.Hear 4) ∷ on 1 (act.Hear 4) ∷ on 1 (act.Hear 2) ∷ on 2 (act.Hear 4) ∷ on 1 (act.Hear 4) ∷ on 1 (act.Hear 4) ∷ on 4 (act.Hear 4) ∷ on 4 (act.Hear 4) ∷ on 2 (act.Hear 4) ∷ on 3 (act.Hear 4) ∷ on 3 (act.Send (130 ∷ 158 ∷ 93 ∷ 71 ∷ 112 ∷ 228 ∷ 13 ∷ 229 ∷ 17 ∷ 0 ∷ 127 ∷ 13 ∷ 244 ∷ 115 ∷ 112 ∷ 175 ∷ 144 ∷ 143 ∷ 159 ∷ 236 ∷ 74 ∷ 156 ∷ 230 ∷ 43 ∷ 126 ∷ 234 ∷ 163 ∷ 30 ∷ 132 ∷ 0 ∷ 3 ∷ 144 ∷ 136 ∷ 109 ∷ 82 ∷ 147 ∷ 121 ∷ 254 ∷ 147 ∷ 244 ∷ [])) ∷ []) ≡ lines (
+First6 = text_of (founded (0 ∷ 1 ∷ 2 ∷ 3 ∷ 4 ∷ []) 0 64 256) (
+    on 4 act.Take ∷
+    on 3 act.Take ∷
+    on 4 (act.Done 2) ∷
+    on 4 (act.Send []) ∷
+    on 3 act.Take ∷
+    on 0 (act.Hear 1) ∷
+    on 3 (act.Hear 2) ∷
+    on 4 (act.Hear 2) ∷
+    on 1 (act.Send (226 ∷ [])) ∷
+    on 2 (act.Done 3) ∷
+    on 3 (act.Hear 2) ∷
+    on 1 act.Take ∷
+    on 0 act.Take ∷
+    on 1 (act.Hear 2) ∷
+    on 0 (act.Hear 1) ∷
+    on 1 (act.Hear 2) ∷
+    on 2 (act.Hear 2) ∷
+    on 0 (act.Hear 3) ∷
+    on 2 act.Take ∷
+    on 2 (act.Hear 4) ∷
+    on 1 (act.Hear 4) ∷
+    on 1 (act.Hear 2) ∷
+    on 2 (act.Hear 4) ∷
+    on 1 (act.Hear 4) ∷
+    on 1 (act.Hear 4) ∷
+    on 4 (act.Hear 4) ∷
+    on 4 (act.Hear 4) ∷
+    on 2 (act.Hear 4) ∷
+    on 3 (act.Hear 4) ∷
+    on 3 (act.Send (130 ∷ 158 ∷ 93 ∷ 71 ∷ 112 ∷ 228 ∷ 13 ∷ 229 ∷ 17 ∷ 0 ∷ 127 ∷ 13 ∷ 244 ∷ 115 ∷ 112 ∷ 175 ∷ 144 ∷ 143 ∷ 159 ∷ 236 ∷ 74 ∷ 156 ∷ 230 ∷
+    43 ∷ 126 ∷ 234 ∷ 163 ∷ 30 ∷ 132 ∷ 0 ∷ 3 ∷ 144 ∷ 136 ∷ 109 ∷ 82 ∷ 147 ∷ 121 ∷ 254 ∷ 147 ∷ 244 ∷ [])) ∷
+    []) ≡ lines (
     codes "1 take 4 : took 1 view 1.0 0,1,2,3,4" ∷
     codes "2 take 3 : took 1 view 1.0 0,1,2,3,4" ∷
     codes "3 done 4 2 : unknown" ∷
@@ -256,7 +429,38 @@ First6 = text_of (founded (0 ∷ 1 ∷ 2 ∷ 3 ∷ 4 ∷ []) 0 64 256) (on 4 act
     [])
 
 abbrev pub First7 : Type 0
-First7 = text_of (founded (0 ∷ 1 ∷ 2 ∷ 3 ∷ []) 0 64 256) (on 3 (act.Send (106 ∷ [])) ∷ on 0 (act.Hear 1) ∷ on 3 (act.Hear 2) ∷ on 1 (act.Hear 2) ∷ on 0 act.Take ∷ on 1 act.Take ∷ on 3 act.Take ∷ on 0 act.Take ∷ on 2 (act.Hear 2) ∷ on 2 act.Take ∷ on 0 act.Take ∷ on 0 (act.Send (88 ∷ 67 ∷ [])) ∷ on 2 (act.Hear 3) ∷ on 3 (act.Hear 3) ∷ on 3 (act.Done 1) ∷ on 1 (act.Hear 3) ∷ on 3 (act.Done 5) ∷ on 0 act.Take ∷ on 0 act.Take ∷ on 2 act.Take ∷ on 1 act.Take ∷ on 1 act.Take ∷ on 1 act.Take ∷ on 2 act.Take ∷ on 3 act.Take ∷ on 3 (act.Done 5) ∷ on 2 (act.Send (240 ∷ 105 ∷ 66 ∷ 158 ∷ 87 ∷ [])) ∷ on 0 (act.Done 1) ∷ on 3 act.Take ∷ on 0 act.Take ∷ []) ≡ lines (
+First7 = text_of (founded (0 ∷ 1 ∷ 2 ∷ 3 ∷ []) 0 64 256) (
+    on 3 (act.Send (106 ∷ [])) ∷
+    on 0 (act.Hear 1) ∷
+    on 3 (act.Hear 2) ∷
+    on 1 (act.Hear 2) ∷
+    on 0 act.Take ∷
+    on 1 act.Take ∷
+    on 3 act.Take ∷
+    on 0 act.Take ∷
+    on 2 (act.Hear 2) ∷
+    on 2 act.Take ∷
+    on 0 act.Take ∷
+    on 0 (act.Send (88 ∷ 67 ∷ [])) ∷
+    on 2 (act.Hear 3) ∷
+    on 3 (act.Hear 3) ∷
+    on 3 (act.Done 1) ∷
+    on 1 (act.Hear 3) ∷
+    on 3 (act.Done 5) ∷
+    on 0 act.Take ∷
+    on 0 act.Take ∷
+    on 2 act.Take ∷
+    on 1 act.Take ∷
+    on 1 act.Take ∷
+    on 1 act.Take ∷
+    on 2 act.Take ∷
+    on 3 act.Take ∷
+    on 3 (act.Done 5) ∷
+    on 2 (act.Send (240 ∷ 105 ∷ 66 ∷ 158 ∷ 87 ∷ [])) ∷
+    on 0 (act.Done 1) ∷
+    on 3 act.Take ∷
+    on 0 act.Take ∷
+    []) ≡ lines (
     codes "1 send 3 6a : queued 1 | 1 Request to 0" ∷
     codes "2 hear 0 1 : numbered 2 | 2 Bcast to 1,2,3" ∷
     codes "3 hear 3 2 : stored 2" ∷
@@ -306,7 +510,38 @@ First7 = text_of (founded (0 ∷ 1 ∷ 2 ∷ 3 ∷ []) 0 64 256) (on 3 (act.Send
     [])
 
 abbrev pub First8 : Type 0
-First8 = text_of (founded (0 ∷ 1 ∷ 2 ∷ 3 ∷ []) 0 64 256) (on 1 act.Take ∷ on 2 (act.Send []) ∷ on 0 (act.Send (172 ∷ 243 ∷ [])) ∷ on 0 (act.Hear 1) ∷ on 1 act.Take ∷ on 2 (act.Hear 2) ∷ on 0 act.Take ∷ on 3 (act.Hear 2) ∷ on 1 (act.Hear 3) ∷ on 1 (act.Send []) ∷ on 2 (act.Hear 2) ∷ on 1 (act.Hear 3) ∷ on 2 act.Take ∷ on 0 (act.Hear 4) ∷ on 0 (act.Hear 4) ∷ on 2 (act.Hear 3) ∷ on 2 (act.Done 1) ∷ on 0 (act.Hear 4) ∷ on 1 (act.Hear 11) ∷ on 1 (act.Hear 8) ∷ on 0 (act.Hear 4) ∷ on 3 act.Take ∷ on 0 (act.Hear 5) ∷ on 1 (act.Send (154 ∷ 128 ∷ 59 ∷ 49 ∷ 204 ∷ [])) ∷ on 0 (act.Hear 6) ∷ on 2 (act.Send (136 ∷ 16 ∷ 8 ∷ 10 ∷ 99 ∷ [])) ∷ on 3 (act.Hear 2) ∷ on 0 (act.Hear 6) ∷ on 2 (act.Hear 15) ∷ on 1 act.Take ∷ []) ≡ lines (
+First8 = text_of (founded (0 ∷ 1 ∷ 2 ∷ 3 ∷ []) 0 64 256) (
+    on 1 act.Take ∷
+    on 2 (act.Send []) ∷
+    on 0 (act.Send (172 ∷ 243 ∷ [])) ∷
+    on 0 (act.Hear 1) ∷
+    on 1 act.Take ∷
+    on 2 (act.Hear 2) ∷
+    on 0 act.Take ∷
+    on 3 (act.Hear 2) ∷
+    on 1 (act.Hear 3) ∷
+    on 1 (act.Send []) ∷
+    on 2 (act.Hear 2) ∷
+    on 1 (act.Hear 3) ∷
+    on 2 act.Take ∷
+    on 0 (act.Hear 4) ∷
+    on 0 (act.Hear 4) ∷
+    on 2 (act.Hear 3) ∷
+    on 2 (act.Done 1) ∷
+    on 0 (act.Hear 4) ∷
+    on 1 (act.Hear 11) ∷
+    on 1 (act.Hear 8) ∷
+    on 0 (act.Hear 4) ∷
+    on 3 act.Take ∷
+    on 0 (act.Hear 5) ∷
+    on 1 (act.Send (154 ∷ 128 ∷ 59 ∷ 49 ∷ 204 ∷ [])) ∷
+    on 0 (act.Hear 6) ∷
+    on 2 (act.Send (136 ∷ 16 ∷ 8 ∷ 10 ∷ 99 ∷ [])) ∷
+    on 3 (act.Hear 2) ∷
+    on 0 (act.Hear 6) ∷
+    on 2 (act.Hear 15) ∷
+    on 1 act.Take ∷
+    []) ≡ lines (
     codes "1 take 1 : took 1 view 1.0 0,1,2,3" ∷
     codes "2 send 2 - : queued 1 | 1 Request to 0" ∷
     codes "3 send 0 acf3 : queued 1 | 2 Bcast to 1,2,3" ∷
@@ -350,7 +585,68 @@ First8 = text_of (founded (0 ∷ 1 ∷ 2 ∷ 3 ∷ []) 0 64 256) (on 1 act.Take 
     [])
 
 abbrev pub First9 : Type 0
-First9 = text_of (founded (0 ∷ 1 ∷ 2 ∷ []) 0 64 256) (on 0 act.Take ∷ on 0 act.Take ∷ on 1 (act.Done 2) ∷ on 2 act.Take ∷ on 1 (act.Done 1) ∷ on 0 act.Take ∷ on 2 act.Take ∷ on 2 (act.Done 4) ∷ on 1 act.Take ∷ on 2 act.Take ∷ on 1 act.Take ∷ on 1 (act.Done 5) ∷ on 2 act.Take ∷ on 1 (act.Send (197 ∷ [])) ∷ on 2 act.Take ∷ on 0 (act.Hear 1) ∷ on 2 (act.Hear 2) ∷ on 1 (act.Hear 2) ∷ on 2 (act.Hear 2) ∷ on 1 (act.Hear 2) ∷ on 0 (act.Hear 1) ∷ on 1 (act.Hear 2) ∷ on 1 (act.Hear 2) ∷ on 0 act.Take ∷ on 0 act.Take ∷ on 2 (act.Send (95 ∷ 68 ∷ 67 ∷ 254 ∷ 83 ∷ [])) ∷ on 1 (act.Hear 2) ∷ on 0 (act.Hear 3) ∷ on 1 (act.Hear 4) ∷ on 0 (act.Hear 3) ∷ on 2 (act.Hear 4) ∷ on 0 (act.Hear 3) ∷ on 2 (act.Hear 4) ∷ on 1 (act.Hear 4) ∷ on 2 act.Take ∷ on 1 act.Take ∷ on 1 act.Take ∷ on 1 (act.Hear 2) ∷ on 2 act.Take ∷ on 1 (act.Hear 4) ∷ on 0 (act.Send (131 ∷ 33 ∷ 168 ∷ 171 ∷ 130 ∷ [])) ∷ on 0 act.Take ∷ on 0 (act.Hear 1) ∷ on 1 (act.Done 1) ∷ on 1 (act.Hear 5) ∷ on 2 (act.Hear 5) ∷ on 2 (act.Hear 5) ∷ on 0 (act.Hear 3) ∷ on 1 (act.Hear 5) ∷ on 2 (act.Hear 2) ∷ on 1 (act.Hear 2) ∷ on 1 (act.Done 2) ∷ on 1 act.Take ∷ on 0 (act.Send (193 ∷ 190 ∷ 62 ∷ 132 ∷ 220 ∷ [])) ∷ on 1 (act.Hear 6) ∷ on 0 (act.Hear 1) ∷ on 1 (act.Hear 2) ∷ on 2 (act.Hear 6) ∷ on 2 (act.Hear 4) ∷ on 2 (act.Hear 5) ∷ []) ≡ lines (
+First9 = text_of (founded (0 ∷ 1 ∷ 2 ∷ []) 0 64 256) (
+    on 0 act.Take ∷
+    on 0 act.Take ∷
+    on 1 (act.Done 2) ∷
+    on 2 act.Take ∷
+    on 1 (act.Done 1) ∷
+    on 0 act.Take ∷
+    on 2 act.Take ∷
+    on 2 (act.Done 4) ∷
+    on 1 act.Take ∷
+    on 2 act.Take ∷
+    on 1 act.Take ∷
+    on 1 (act.Done 5) ∷
+    on 2 act.Take ∷
+    on 1 (act.Send (197 ∷ [])) ∷
+    on 2 act.Take ∷
+    on 0 (act.Hear 1) ∷
+    on 2 (act.Hear 2) ∷
+    on 1 (act.Hear 2) ∷
+    on 2 (act.Hear 2) ∷
+    on 1 (act.Hear 2) ∷
+    on 0 (act.Hear 1) ∷
+    on 1 (act.Hear 2) ∷
+    on 1 (act.Hear 2) ∷
+    on 0 act.Take ∷
+    on 0 act.Take ∷
+    on 2 (act.Send (95 ∷ 68 ∷ 67 ∷ 254 ∷ 83 ∷ [])) ∷
+    on 1 (act.Hear 2) ∷
+    on 0 (act.Hear 3) ∷
+    on 1 (act.Hear 4) ∷
+    on 0 (act.Hear 3) ∷
+    on 2 (act.Hear 4) ∷
+    on 0 (act.Hear 3) ∷
+    on 2 (act.Hear 4) ∷
+    on 1 (act.Hear 4) ∷
+    on 2 act.Take ∷
+    on 1 act.Take ∷
+    on 1 act.Take ∷
+    on 1 (act.Hear 2) ∷
+    on 2 act.Take ∷
+    on 1 (act.Hear 4) ∷
+    on 0 (act.Send (131 ∷ 33 ∷ 168 ∷ 171 ∷ 130 ∷ [])) ∷
+    on 0 act.Take ∷
+    on 0 (act.Hear 1) ∷
+    on 1 (act.Done 1) ∷
+    on 1 (act.Hear 5) ∷
+    on 2 (act.Hear 5) ∷
+    on 2 (act.Hear 5) ∷
+    on 0 (act.Hear 3) ∷
+    on 1 (act.Hear 5) ∷
+    on 2 (act.Hear 2) ∷
+    on 1 (act.Hear 2) ∷
+    on 1 (act.Done 2) ∷
+    on 1 act.Take ∷
+    on 0 (act.Send (193 ∷ 190 ∷ 62 ∷ 132 ∷ 220 ∷ [])) ∷
+    on 1 (act.Hear 6) ∷
+    on 0 (act.Hear 1) ∷
+    on 1 (act.Hear 2) ∷
+    on 2 (act.Hear 6) ∷
+    on 2 (act.Hear 4) ∷
+    on 2 (act.Hear 5) ∷
+    []) ≡ lines (
     codes "1 take 0 : took 1 view 1.0 0,1,2" ∷
     codes "2 take 0 : empty" ∷
     codes "3 done 1 2 : unknown" ∷

@@ -5,7 +5,18 @@ use Rattle.am_model.specs.Play.{text_of}
 use Rattle.am_rows.specs.Scripts.{founded, on, lines}
 
 abbrev pub StopsAfterTheAcknowledgment : Type 0
-StopsAfterTheAcknowledgment = text_of (founded (0 ∷ 1 ∷ 2 ∷ []) 1 64 256) (on 0 (act.Send (97 ∷ [])) ∷ on 0 act.Take ∷ on 0 act.Take ∷ on 1 (act.Hear 1) ∷ on 0 (act.Hear 2) ∷ on 0 act.Stop ∷ on 1 (act.Reset 1 1) ∷ on 2 (act.Hear 4) ∷ on 1 (act.Hear 5) ∷ on 1 (act.GiveUp 0) ∷ []) ≡ lines (
+StopsAfterTheAcknowledgment = text_of (founded (0 ∷ 1 ∷ 2 ∷ []) 1 64 256) (
+    on 0 (act.Send (97 ∷ [])) ∷
+    on 0 act.Take ∷
+    on 0 act.Take ∷
+    on 1 (act.Hear 1) ∷
+    on 0 (act.Hear 2) ∷
+    on 0 act.Stop ∷
+    on 1 (act.Reset 1 1) ∷
+    on 2 (act.Hear 4) ∷
+    on 1 (act.Hear 5) ∷
+    on 1 (act.GiveUp 0) ∷
+    []) ≡ lines (
     codes "1 send 0 61 : queued 1 | 1 Bcast to 1,2" ∷
     codes "2 take 0 : took 1 view 1.0 0,1,2" ∷
     codes "3 take 0 : empty" ∷
@@ -25,7 +36,16 @@ StopsAfterTheAcknowledgment = text_of (founded (0 ∷ 1 ∷ 2 ∷ []) 1 64 256) 
     [])
 
 abbrev pub StopsAfterTheEmptyTake : Type 0
-StopsAfterTheEmptyTake = text_of (founded (0 ∷ 1 ∷ 2 ∷ []) 1 64 256) (on 0 (act.Send (97 ∷ [])) ∷ on 0 act.Take ∷ on 0 act.Take ∷ on 0 act.Stop ∷ on 1 (act.Reset 1 1) ∷ on 2 (act.Hear 2) ∷ on 1 (act.Hear 3) ∷ on 1 (act.GiveUp 0) ∷ []) ≡ lines (
+StopsAfterTheEmptyTake = text_of (founded (0 ∷ 1 ∷ 2 ∷ []) 1 64 256) (
+    on 0 (act.Send (97 ∷ [])) ∷
+    on 0 act.Take ∷
+    on 0 act.Take ∷
+    on 0 act.Stop ∷
+    on 1 (act.Reset 1 1) ∷
+    on 2 (act.Hear 2) ∷
+    on 1 (act.Hear 3) ∷
+    on 1 (act.GiveUp 0) ∷
+    []) ≡ lines (
     codes "1 send 0 61 : queued 1 | 1 Bcast to 1,2" ∷
     codes "2 take 0 : took 1 view 1.0 0,1,2" ∷
     codes "3 take 0 : empty" ∷
@@ -42,7 +62,15 @@ StopsAfterTheEmptyTake = text_of (founded (0 ∷ 1 ∷ 2 ∷ []) 1 64 256) (on 0
     [])
 
 abbrev pub StopsAfterTheFirstTake : Type 0
-StopsAfterTheFirstTake = text_of (founded (0 ∷ 1 ∷ 2 ∷ []) 1 64 256) (on 0 (act.Send (97 ∷ [])) ∷ on 0 act.Take ∷ on 0 act.Stop ∷ on 1 (act.Reset 1 1) ∷ on 2 (act.Hear 2) ∷ on 1 (act.Hear 3) ∷ on 1 (act.GiveUp 0) ∷ []) ≡ lines (
+StopsAfterTheFirstTake = text_of (founded (0 ∷ 1 ∷ 2 ∷ []) 1 64 256) (
+    on 0 (act.Send (97 ∷ [])) ∷
+    on 0 act.Take ∷
+    on 0 act.Stop ∷
+    on 1 (act.Reset 1 1) ∷
+    on 2 (act.Hear 2) ∷
+    on 1 (act.Hear 3) ∷
+    on 1 (act.GiveUp 0) ∷
+    []) ≡ lines (
     codes "1 send 0 61 : queued 1 | 1 Bcast to 1,2" ∷
     codes "2 take 0 : took 1 view 1.0 0,1,2" ∷
     codes "3 stop 0 : stopped" ∷
@@ -58,7 +86,19 @@ StopsAfterTheFirstTake = text_of (founded (0 ∷ 1 ∷ 2 ∷ []) 1 64 256) (on 0
     [])
 
 abbrev pub StopsAfterTheSecondTake : Type 0
-StopsAfterTheSecondTake = text_of (founded (0 ∷ 1 ∷ 2 ∷ []) 1 64 256) (on 0 (act.Send (97 ∷ [])) ∷ on 0 act.Take ∷ on 0 act.Take ∷ on 1 (act.Hear 1) ∷ on 0 (act.Hear 2) ∷ on 0 act.Take ∷ on 0 act.Stop ∷ on 1 (act.Reset 1 1) ∷ on 2 (act.Hear 4) ∷ on 1 (act.Hear 5) ∷ on 1 (act.GiveUp 0) ∷ []) ≡ lines (
+StopsAfterTheSecondTake = text_of (founded (0 ∷ 1 ∷ 2 ∷ []) 1 64 256) (
+    on 0 (act.Send (97 ∷ [])) ∷
+    on 0 act.Take ∷
+    on 0 act.Take ∷
+    on 1 (act.Hear 1) ∷
+    on 0 (act.Hear 2) ∷
+    on 0 act.Take ∷
+    on 0 act.Stop ∷
+    on 1 (act.Reset 1 1) ∷
+    on 2 (act.Hear 4) ∷
+    on 1 (act.Hear 5) ∷
+    on 1 (act.GiveUp 0) ∷
+    []) ≡ lines (
     codes "1 send 0 61 : queued 1 | 1 Bcast to 1,2" ∷
     codes "2 take 0 : took 1 view 1.0 0,1,2" ∷
     codes "3 take 0 : empty" ∷
@@ -80,7 +120,14 @@ StopsAfterTheSecondTake = text_of (founded (0 ∷ 1 ∷ 2 ∷ []) 1 64 256) (on 
     [])
 
 abbrev pub StopsAfterTheSend : Type 0
-StopsAfterTheSend = text_of (founded (0 ∷ 1 ∷ 2 ∷ []) 1 64 256) (on 0 (act.Send (97 ∷ [])) ∷ on 0 act.Stop ∷ on 1 (act.Reset 1 1) ∷ on 2 (act.Hear 2) ∷ on 1 (act.Hear 3) ∷ on 1 (act.GiveUp 0) ∷ []) ≡ lines (
+StopsAfterTheSend = text_of (founded (0 ∷ 1 ∷ 2 ∷ []) 1 64 256) (
+    on 0 (act.Send (97 ∷ [])) ∷
+    on 0 act.Stop ∷
+    on 1 (act.Reset 1 1) ∷
+    on 2 (act.Hear 2) ∷
+    on 1 (act.Hear 3) ∷
+    on 1 (act.GiveUp 0) ∷
+    []) ≡ lines (
     codes "1 send 0 61 : queued 1 | 1 Bcast to 1,2" ∷
     codes "2 stop 0 : stopped" ∷
     codes "3 reset 1 1 : waiting 0,2 | 2 Invite to 0,2" ∷
@@ -95,7 +142,17 @@ StopsAfterTheSend = text_of (founded (0 ∷ 1 ∷ 2 ∷ []) 1 64 256) (on 0 (act
     [])
 
 abbrev pub StopsAfterTheStoring : Type 0
-StopsAfterTheStoring = text_of (founded (0 ∷ 1 ∷ 2 ∷ []) 1 64 256) (on 0 (act.Send (97 ∷ [])) ∷ on 0 act.Take ∷ on 0 act.Take ∷ on 1 (act.Hear 1) ∷ on 0 act.Stop ∷ on 1 (act.Reset 1 1) ∷ on 2 (act.Hear 3) ∷ on 1 (act.Hear 4) ∷ on 1 (act.GiveUp 0) ∷ []) ≡ lines (
+StopsAfterTheStoring = text_of (founded (0 ∷ 1 ∷ 2 ∷ []) 1 64 256) (
+    on 0 (act.Send (97 ∷ [])) ∷
+    on 0 act.Take ∷
+    on 0 act.Take ∷
+    on 1 (act.Hear 1) ∷
+    on 0 act.Stop ∷
+    on 1 (act.Reset 1 1) ∷
+    on 2 (act.Hear 3) ∷
+    on 1 (act.Hear 4) ∷
+    on 1 (act.GiveUp 0) ∷
+    []) ≡ lines (
     codes "1 send 0 61 : queued 1 | 1 Bcast to 1,2" ∷
     codes "2 take 0 : took 1 view 1.0 0,1,2" ∷
     codes "3 take 0 : empty" ∷
@@ -113,7 +170,13 @@ StopsAfterTheStoring = text_of (founded (0 ∷ 1 ∷ 2 ∷ []) 1 64 256) (on 0 (
     [])
 
 abbrev pub StopsBeforeAnything : Type 0
-StopsBeforeAnything = text_of (founded (0 ∷ 1 ∷ 2 ∷ []) 1 64 256) (on 0 act.Stop ∷ on 1 (act.Reset 1 1) ∷ on 2 (act.Hear 1) ∷ on 1 (act.Hear 2) ∷ on 1 (act.GiveUp 0) ∷ []) ≡ lines (
+StopsBeforeAnything = text_of (founded (0 ∷ 1 ∷ 2 ∷ []) 1 64 256) (
+    on 0 act.Stop ∷
+    on 1 (act.Reset 1 1) ∷
+    on 2 (act.Hear 1) ∷
+    on 1 (act.Hear 2) ∷
+    on 1 (act.GiveUp 0) ∷
+    []) ≡ lines (
     codes "1 stop 0 : stopped" ∷
     codes "2 reset 1 1 : waiting 0,2 | 1 Invite to 0,2" ∷
     codes "3 hear 2 1 : voted | 2 Vote to 1" ∷

@@ -5,7 +5,13 @@ use Rattle.am_model.specs.Play.{text_of, settled_text_of}
 use Rattle.am_rows.specs.Scripts.{founded, on, lines}
 
 abbrev pub Busy : Type 0
-Busy = text_of (founded (0 ∷ 1 ∷ []) 0 64 256) (on 1 (act.Send (97 ∷ [])) ∷ on 1 (act.Send (97 ∷ [])) ∷ on 1 (act.Send (97 ∷ [])) ∷ on 1 (act.Send (97 ∷ [])) ∷ on 1 (act.Send (97 ∷ [])) ∷ []) ≡ lines (
+Busy = text_of (founded (0 ∷ 1 ∷ []) 0 64 256) (
+    on 1 (act.Send (97 ∷ [])) ∷
+    on 1 (act.Send (97 ∷ [])) ∷
+    on 1 (act.Send (97 ∷ [])) ∷
+    on 1 (act.Send (97 ∷ [])) ∷
+    on 1 (act.Send (97 ∷ [])) ∷
+    []) ≡ lines (
     codes "1 send 1 61 : queued 1 | 1 Request to 0" ∷
     codes "2 send 1 61 : queued 2" ∷
     codes "3 send 1 61 : queued 3" ∷
@@ -18,7 +24,39 @@ Busy = text_of (founded (0 ∷ 1 ∷ []) 0 64 256) (on 1 (act.Send (97 ∷ [])) 
     [])
 
 abbrev pub Crowded : Type 0
-Crowded = text_of (founded (0 ∷ 1 ∷ 2 ∷ 3 ∷ 4 ∷ 5 ∷ 6 ∷ 7 ∷ 8 ∷ 9 ∷ 10 ∷ 11 ∷ 12 ∷ 13 ∷ 14 ∷ 15 ∷ []) 0 1 256) (on 0 (act.Reset 1 0) ∷ on 1 (act.Hear 1) ∷ on 2 (act.Hear 1) ∷ on 3 (act.Hear 1) ∷ on 4 (act.Hear 1) ∷ on 5 (act.Hear 1) ∷ on 6 (act.Hear 1) ∷ on 7 (act.Hear 1) ∷ on 8 (act.Hear 1) ∷ on 9 (act.Hear 1) ∷ on 10 (act.Hear 1) ∷ on 11 (act.Hear 1) ∷ on 12 (act.Hear 1) ∷ on 13 (act.Hear 1) ∷ on 14 (act.Hear 1) ∷ on 15 (act.Hear 1) ∷ on 0 (act.Hear 2) ∷ on 0 (act.Hear 3) ∷ on 0 (act.Hear 4) ∷ on 0 (act.Hear 5) ∷ on 0 (act.Hear 6) ∷ on 0 (act.Hear 7) ∷ on 0 (act.Hear 8) ∷ on 0 (act.Hear 9) ∷ on 0 (act.Hear 10) ∷ on 0 (act.Hear 11) ∷ on 0 (act.Hear 12) ∷ on 0 (act.Hear 13) ∷ on 0 (act.Hear 14) ∷ on 0 (act.Hear 15) ∷ on 0 (act.Hear 16) ∷ []) ≡ lines (
+Crowded = text_of (founded (0 ∷ 1 ∷ 2 ∷ 3 ∷ 4 ∷ 5 ∷ 6 ∷ 7 ∷ 8 ∷ 9 ∷ 10 ∷ 11 ∷ 12 ∷ 13 ∷ 14 ∷ 15 ∷ []) 0 1 256) (
+    on 0 (act.Reset 1 0) ∷
+    on 1 (act.Hear 1) ∷
+    on 2 (act.Hear 1) ∷
+    on 3 (act.Hear 1) ∷
+    on 4 (act.Hear 1) ∷
+    on 5 (act.Hear 1) ∷
+    on 6 (act.Hear 1) ∷
+    on 7 (act.Hear 1) ∷
+    on 8 (act.Hear 1) ∷
+    on 9 (act.Hear 1) ∷
+    on 10 (act.Hear 1) ∷
+    on 11 (act.Hear 1) ∷
+    on 12 (act.Hear 1) ∷
+    on 13 (act.Hear 1) ∷
+    on 14 (act.Hear 1) ∷
+    on 15 (act.Hear 1) ∷
+    on 0 (act.Hear 2) ∷
+    on 0 (act.Hear 3) ∷
+    on 0 (act.Hear 4) ∷
+    on 0 (act.Hear 5) ∷
+    on 0 (act.Hear 6) ∷
+    on 0 (act.Hear 7) ∷
+    on 0 (act.Hear 8) ∷
+    on 0 (act.Hear 9) ∷
+    on 0 (act.Hear 10) ∷
+    on 0 (act.Hear 11) ∷
+    on 0 (act.Hear 12) ∷
+    on 0 (act.Hear 13) ∷
+    on 0 (act.Hear 14) ∷
+    on 0 (act.Hear 15) ∷
+    on 0 (act.Hear 16) ∷
+    []) ≡ lines (
     codes "1 reset 0 1 : waiting 1,2,3,4,5,6,7,8,9,10,11,12,13,14,15 | 1 Invite to all" ∷
     codes "2 hear 1 1 : voted | 2 Vote to 0" ∷
     codes "3 hear 2 1 : voted | 3 Vote to 0" ∷
@@ -71,7 +109,39 @@ Crowded = text_of (founded (0 ∷ 1 ∷ 2 ∷ 3 ∷ 4 ∷ 5 ∷ 6 ∷ 7 ∷ 8 �
     [])
 
 abbrev pub CrowdedGivenUp : Type 0
-CrowdedGivenUp = text_of (founded (0 ∷ 1 ∷ 2 ∷ 3 ∷ 4 ∷ 5 ∷ 6 ∷ 7 ∷ 8 ∷ 9 ∷ 10 ∷ 11 ∷ 12 ∷ 13 ∷ 14 ∷ 15 ∷ []) 0 1 256) (on 15 act.Stop ∷ on 0 (act.Reset 1 0) ∷ on 1 (act.Hear 1) ∷ on 2 (act.Hear 1) ∷ on 3 (act.Hear 1) ∷ on 4 (act.Hear 1) ∷ on 5 (act.Hear 1) ∷ on 6 (act.Hear 1) ∷ on 7 (act.Hear 1) ∷ on 8 (act.Hear 1) ∷ on 9 (act.Hear 1) ∷ on 10 (act.Hear 1) ∷ on 11 (act.Hear 1) ∷ on 12 (act.Hear 1) ∷ on 13 (act.Hear 1) ∷ on 14 (act.Hear 1) ∷ on 0 (act.Hear 2) ∷ on 0 (act.Hear 3) ∷ on 0 (act.Hear 4) ∷ on 0 (act.Hear 5) ∷ on 0 (act.Hear 6) ∷ on 0 (act.Hear 7) ∷ on 0 (act.Hear 8) ∷ on 0 (act.Hear 9) ∷ on 0 (act.Hear 10) ∷ on 0 (act.Hear 11) ∷ on 0 (act.Hear 12) ∷ on 0 (act.Hear 13) ∷ on 0 (act.Hear 14) ∷ on 0 (act.Hear 15) ∷ on 0 (act.GiveUp 15) ∷ []) ≡ lines (
+CrowdedGivenUp = text_of (founded (0 ∷ 1 ∷ 2 ∷ 3 ∷ 4 ∷ 5 ∷ 6 ∷ 7 ∷ 8 ∷ 9 ∷ 10 ∷ 11 ∷ 12 ∷ 13 ∷ 14 ∷ 15 ∷ []) 0 1 256) (
+    on 15 act.Stop ∷
+    on 0 (act.Reset 1 0) ∷
+    on 1 (act.Hear 1) ∷
+    on 2 (act.Hear 1) ∷
+    on 3 (act.Hear 1) ∷
+    on 4 (act.Hear 1) ∷
+    on 5 (act.Hear 1) ∷
+    on 6 (act.Hear 1) ∷
+    on 7 (act.Hear 1) ∷
+    on 8 (act.Hear 1) ∷
+    on 9 (act.Hear 1) ∷
+    on 10 (act.Hear 1) ∷
+    on 11 (act.Hear 1) ∷
+    on 12 (act.Hear 1) ∷
+    on 13 (act.Hear 1) ∷
+    on 14 (act.Hear 1) ∷
+    on 0 (act.Hear 2) ∷
+    on 0 (act.Hear 3) ∷
+    on 0 (act.Hear 4) ∷
+    on 0 (act.Hear 5) ∷
+    on 0 (act.Hear 6) ∷
+    on 0 (act.Hear 7) ∷
+    on 0 (act.Hear 8) ∷
+    on 0 (act.Hear 9) ∷
+    on 0 (act.Hear 10) ∷
+    on 0 (act.Hear 11) ∷
+    on 0 (act.Hear 12) ∷
+    on 0 (act.Hear 13) ∷
+    on 0 (act.Hear 14) ∷
+    on 0 (act.Hear 15) ∷
+    on 0 (act.GiveUp 15) ∷
+    []) ≡ lines (
     codes "1 stop 15 : stopped" ∷
     codes "2 reset 0 1 : waiting 1,2,3,4,5,6,7,8,9,10,11,12,13,14,15 | 1 Invite to all" ∷
     codes "3 hear 1 1 : voted | 2 Vote to 0" ∷
@@ -125,7 +195,86 @@ CrowdedGivenUp = text_of (founded (0 ∷ 1 ∷ 2 ∷ 3 ∷ 4 ∷ 5 ∷ 6 ∷ 7 �
     [])
 
 abbrev pub CrowdedTaken : Type 0
-CrowdedTaken = text_of (founded (0 ∷ 1 ∷ 2 ∷ 3 ∷ 4 ∷ 5 ∷ 6 ∷ 7 ∷ 8 ∷ 9 ∷ 10 ∷ 11 ∷ 12 ∷ 13 ∷ 14 ∷ 15 ∷ []) 0 1 256) (on 0 (act.Reset 1 0) ∷ on 1 (act.Hear 1) ∷ on 2 (act.Hear 1) ∷ on 3 (act.Hear 1) ∷ on 4 (act.Hear 1) ∷ on 5 (act.Hear 1) ∷ on 6 (act.Hear 1) ∷ on 7 (act.Hear 1) ∷ on 8 (act.Hear 1) ∷ on 9 (act.Hear 1) ∷ on 10 (act.Hear 1) ∷ on 11 (act.Hear 1) ∷ on 12 (act.Hear 1) ∷ on 13 (act.Hear 1) ∷ on 14 (act.Hear 1) ∷ on 15 (act.Hear 1) ∷ on 0 (act.Hear 2) ∷ on 0 (act.Hear 3) ∷ on 0 (act.Hear 4) ∷ on 0 (act.Hear 5) ∷ on 0 (act.Hear 6) ∷ on 0 (act.Hear 7) ∷ on 0 (act.Hear 8) ∷ on 0 (act.Hear 9) ∷ on 0 (act.Hear 10) ∷ on 0 (act.Hear 11) ∷ on 0 (act.Hear 12) ∷ on 0 (act.Hear 13) ∷ on 0 (act.Hear 14) ∷ on 0 (act.Hear 15) ∷ on 0 (act.Hear 16) ∷ on 0 act.Take ∷ on 1 act.Take ∷ on 2 act.Take ∷ on 3 act.Take ∷ on 4 act.Take ∷ on 5 act.Take ∷ on 6 act.Take ∷ on 7 act.Take ∷ on 8 act.Take ∷ on 9 act.Take ∷ on 10 act.Take ∷ on 11 act.Take ∷ on 12 act.Take ∷ on 13 act.Take ∷ on 14 act.Take ∷ on 15 act.Take ∷ on 0 (act.Reset 1 0) ∷ on 1 (act.Hear 17) ∷ on 2 (act.Hear 17) ∷ on 3 (act.Hear 17) ∷ on 4 (act.Hear 17) ∷ on 5 (act.Hear 17) ∷ on 6 (act.Hear 17) ∷ on 7 (act.Hear 17) ∷ on 8 (act.Hear 17) ∷ on 9 (act.Hear 17) ∷ on 10 (act.Hear 17) ∷ on 11 (act.Hear 17) ∷ on 12 (act.Hear 17) ∷ on 13 (act.Hear 17) ∷ on 14 (act.Hear 17) ∷ on 15 (act.Hear 17) ∷ on 0 (act.Hear 18) ∷ on 0 (act.Hear 19) ∷ on 0 (act.Hear 20) ∷ on 0 (act.Hear 21) ∷ on 0 (act.Hear 22) ∷ on 0 (act.Hear 23) ∷ on 0 (act.Hear 24) ∷ on 0 (act.Hear 25) ∷ on 0 (act.Hear 26) ∷ on 0 (act.Hear 27) ∷ on 0 (act.Hear 28) ∷ on 0 (act.Hear 29) ∷ on 0 (act.Hear 30) ∷ on 0 (act.Hear 31) ∷ on 0 (act.Hear 32) ∷ []) ≡ lines (
+CrowdedTaken = text_of (founded (0 ∷ 1 ∷ 2 ∷ 3 ∷ 4 ∷ 5 ∷ 6 ∷ 7 ∷ 8 ∷ 9 ∷ 10 ∷ 11 ∷ 12 ∷ 13 ∷ 14 ∷ 15 ∷ []) 0 1 256) (
+    on 0 (act.Reset 1 0) ∷
+    on 1 (act.Hear 1) ∷
+    on 2 (act.Hear 1) ∷
+    on 3 (act.Hear 1) ∷
+    on 4 (act.Hear 1) ∷
+    on 5 (act.Hear 1) ∷
+    on 6 (act.Hear 1) ∷
+    on 7 (act.Hear 1) ∷
+    on 8 (act.Hear 1) ∷
+    on 9 (act.Hear 1) ∷
+    on 10 (act.Hear 1) ∷
+    on 11 (act.Hear 1) ∷
+    on 12 (act.Hear 1) ∷
+    on 13 (act.Hear 1) ∷
+    on 14 (act.Hear 1) ∷
+    on 15 (act.Hear 1) ∷
+    on 0 (act.Hear 2) ∷
+    on 0 (act.Hear 3) ∷
+    on 0 (act.Hear 4) ∷
+    on 0 (act.Hear 5) ∷
+    on 0 (act.Hear 6) ∷
+    on 0 (act.Hear 7) ∷
+    on 0 (act.Hear 8) ∷
+    on 0 (act.Hear 9) ∷
+    on 0 (act.Hear 10) ∷
+    on 0 (act.Hear 11) ∷
+    on 0 (act.Hear 12) ∷
+    on 0 (act.Hear 13) ∷
+    on 0 (act.Hear 14) ∷
+    on 0 (act.Hear 15) ∷
+    on 0 (act.Hear 16) ∷
+    on 0 act.Take ∷
+    on 1 act.Take ∷
+    on 2 act.Take ∷
+    on 3 act.Take ∷
+    on 4 act.Take ∷
+    on 5 act.Take ∷
+    on 6 act.Take ∷
+    on 7 act.Take ∷
+    on 8 act.Take ∷
+    on 9 act.Take ∷
+    on 10 act.Take ∷
+    on 11 act.Take ∷
+    on 12 act.Take ∷
+    on 13 act.Take ∷
+    on 14 act.Take ∷
+    on 15 act.Take ∷
+    on 0 (act.Reset 1 0) ∷
+    on 1 (act.Hear 17) ∷
+    on 2 (act.Hear 17) ∷
+    on 3 (act.Hear 17) ∷
+    on 4 (act.Hear 17) ∷
+    on 5 (act.Hear 17) ∷
+    on 6 (act.Hear 17) ∷
+    on 7 (act.Hear 17) ∷
+    on 8 (act.Hear 17) ∷
+    on 9 (act.Hear 17) ∷
+    on 10 (act.Hear 17) ∷
+    on 11 (act.Hear 17) ∷
+    on 12 (act.Hear 17) ∷
+    on 13 (act.Hear 17) ∷
+    on 14 (act.Hear 17) ∷
+    on 15 (act.Hear 17) ∷
+    on 0 (act.Hear 18) ∷
+    on 0 (act.Hear 19) ∷
+    on 0 (act.Hear 20) ∷
+    on 0 (act.Hear 21) ∷
+    on 0 (act.Hear 22) ∷
+    on 0 (act.Hear 23) ∷
+    on 0 (act.Hear 24) ∷
+    on 0 (act.Hear 25) ∷
+    on 0 (act.Hear 26) ∷
+    on 0 (act.Hear 27) ∷
+    on 0 (act.Hear 28) ∷
+    on 0 (act.Hear 29) ∷
+    on 0 (act.Hear 30) ∷
+    on 0 (act.Hear 31) ∷
+    on 0 (act.Hear 32) ∷
+    []) ≡ lines (
     codes "1 reset 0 1 : waiting 1,2,3,4,5,6,7,8,9,10,11,12,13,14,15 | 1 Invite to all" ∷
     codes "2 hear 1 1 : voted | 2 Vote to 0" ∷
     codes "3 hear 2 1 : voted | 3 Vote to 0" ∷
@@ -226,7 +375,12 @@ CrowdedTaken = text_of (founded (0 ∷ 1 ∷ 2 ∷ 3 ∷ 4 ∷ 5 ∷ 6 ∷ 7 ∷
     [])
 
 abbrev pub CutPackets : Type 0
-CutPackets = text_of (founded (0 ∷ 1 ∷ []) 0 64 256) (on 1 (act.Send (97 ∷ [])) ∷ on 0 (act.Cut 1 5) ∷ on 0 (act.Cut 1 20) ∷ on 0 (act.Hear 1) ∷ []) ≡ lines (
+CutPackets = text_of (founded (0 ∷ 1 ∷ []) 0 64 256) (
+    on 1 (act.Send (97 ∷ [])) ∷
+    on 0 (act.Cut 1 5) ∷
+    on 0 (act.Cut 1 20) ∷
+    on 0 (act.Hear 1) ∷
+    []) ≡ lines (
     codes "1 send 1 61 : queued 1 | 1 Request to 0" ∷
     codes "2 cut 0 1 5 : refused 1" ∷
     codes "3 cut 0 1 20 : refused 5" ∷
@@ -239,7 +393,40 @@ CutPackets = text_of (founded (0 ∷ 1 ∷ []) 0 64 256) (on 1 (act.Send (97 ∷
     [])
 
 abbrev pub EveryLife : Type 0
-EveryLife = text_of (founded (0 ∷ []) 1 64 256) (on 0 act.Stop ∷ on 0 act.Return ∷ on 0 act.Stop ∷ on 0 act.Return ∷ on 0 act.Stop ∷ on 0 act.Return ∷ on 0 act.Stop ∷ on 0 act.Return ∷ on 0 act.Stop ∷ on 0 act.Return ∷ on 0 act.Stop ∷ on 0 act.Return ∷ on 0 act.Stop ∷ on 0 act.Return ∷ on 0 act.Stop ∷ on 0 act.Return ∷ on 0 act.Stop ∷ on 0 act.Return ∷ on 0 act.Stop ∷ on 0 act.Return ∷ on 0 act.Stop ∷ on 0 act.Return ∷ on 0 act.Stop ∷ on 0 act.Return ∷ on 0 act.Stop ∷ on 0 act.Return ∷ on 0 act.Stop ∷ on 0 act.Return ∷ on 0 act.Stop ∷ on 0 act.Return ∷ on 0 act.Stop ∷ on 0 act.Return ∷ []) ≡ lines (
+EveryLife = text_of (founded (0 ∷ []) 1 64 256) (
+    on 0 act.Stop ∷
+    on 0 act.Return ∷
+    on 0 act.Stop ∷
+    on 0 act.Return ∷
+    on 0 act.Stop ∷
+    on 0 act.Return ∷
+    on 0 act.Stop ∷
+    on 0 act.Return ∷
+    on 0 act.Stop ∷
+    on 0 act.Return ∷
+    on 0 act.Stop ∷
+    on 0 act.Return ∷
+    on 0 act.Stop ∷
+    on 0 act.Return ∷
+    on 0 act.Stop ∷
+    on 0 act.Return ∷
+    on 0 act.Stop ∷
+    on 0 act.Return ∷
+    on 0 act.Stop ∷
+    on 0 act.Return ∷
+    on 0 act.Stop ∷
+    on 0 act.Return ∷
+    on 0 act.Stop ∷
+    on 0 act.Return ∷
+    on 0 act.Stop ∷
+    on 0 act.Return ∷
+    on 0 act.Stop ∷
+    on 0 act.Return ∷
+    on 0 act.Stop ∷
+    on 0 act.Return ∷
+    on 0 act.Stop ∷
+    on 0 act.Return ∷
+    []) ≡ lines (
     codes "1 stop 0 : stopped" ∷
     codes "2 return 0 : returned 2" ∷
     codes "3 stop 0 : stopped" ∷
@@ -278,7 +465,20 @@ EveryLife = text_of (founded (0 ∷ []) 1 64 256) (on 0 act.Stop ∷ on 0 act.Re
     [])
 
 abbrev pub JoinAsked : Type 0
-JoinAsked = text_of (founded (0 ∷ 1 ∷ []) 0 64 256) (on 2 act.Join ∷ on 0 (act.Hear 1) ∷ on 2 (act.Hear 3) ∷ on 0 (act.Hear 4) ∷ on 2 (act.Hear 5) ∷ on 2 (act.Hear 6) ∷ on 0 (act.Hear 7) ∷ on 0 act.Tick ∷ on 2 (act.Hear 8) ∷ on 0 (act.Hear 9) ∷ on 2 (act.Hear 10) ∷ on 2 act.Take ∷ []) ≡ lines (
+JoinAsked = text_of (founded (0 ∷ 1 ∷ []) 0 64 256) (
+    on 2 act.Join ∷
+    on 0 (act.Hear 1) ∷
+    on 2 (act.Hear 3) ∷
+    on 0 (act.Hear 4) ∷
+    on 2 (act.Hear 5) ∷
+    on 2 (act.Hear 6) ∷
+    on 0 (act.Hear 7) ∷
+    on 0 act.Tick ∷
+    on 2 (act.Hear 8) ∷
+    on 0 (act.Hear 9) ∷
+    on 2 (act.Hear 10) ∷
+    on 2 act.Take ∷
+    []) ≡ lines (
     codes "1 join 2 : asked | 1 JoinAsk to all" ∷
     codes "2 hear 0 1 : numbered 2 | 2 Bcast to 1 | 3 Welcome to 2" ∷
     codes "3 hear 2 3 : welcomed 2 | 4 Fetch to 0" ∷
@@ -300,7 +500,28 @@ JoinAsked = text_of (founded (0 ∷ 1 ∷ []) 0 64 256) (on 2 act.Join ∷ on 0 
     [])
 
 abbrev pub JoinWithLostWelcome : Type 0
-JoinWithLostWelcome = text_of (founded (0 ∷ 1 ∷ []) 0 64 256) (on 2 act.Join ∷ on 0 (act.Hear 1) ∷ on 1 (act.Hear 2) ∷ on 1 (act.Reset 1 0) ∷ on 0 (act.Hear 4) ∷ on 2 (act.Hear 4) ∷ on 1 (act.Hear 5) ∷ on 1 (act.Hear 6) ∷ on 2 act.Tick ∷ on 1 (act.Hear 9) ∷ on 2 (act.Hear 3) ∷ on 2 (act.Hear 10) ∷ on 1 (act.Hear 11) ∷ on 2 (act.Hear 12) ∷ on 2 (act.Hear 13) ∷ on 2 (act.Hear 14) ∷ on 1 (act.Hear 15) ∷ on 1 act.Tick ∷ on 2 (act.Hear 16) ∷ on 2 act.Take ∷ []) ≡ lines (
+JoinWithLostWelcome = text_of (founded (0 ∷ 1 ∷ []) 0 64 256) (
+    on 2 act.Join ∷
+    on 0 (act.Hear 1) ∷
+    on 1 (act.Hear 2) ∷
+    on 1 (act.Reset 1 0) ∷
+    on 0 (act.Hear 4) ∷
+    on 2 (act.Hear 4) ∷
+    on 1 (act.Hear 5) ∷
+    on 1 (act.Hear 6) ∷
+    on 2 act.Tick ∷
+    on 1 (act.Hear 9) ∷
+    on 2 (act.Hear 3) ∷
+    on 2 (act.Hear 10) ∷
+    on 1 (act.Hear 11) ∷
+    on 2 (act.Hear 12) ∷
+    on 2 (act.Hear 13) ∷
+    on 2 (act.Hear 14) ∷
+    on 1 (act.Hear 15) ∷
+    on 1 act.Tick ∷
+    on 2 (act.Hear 16) ∷
+    on 2 act.Take ∷
+    []) ≡ lines (
     codes "1 join 2 : asked | 1 JoinAsk to all" ∷
     codes "2 hear 0 1 : numbered 2 | 2 Bcast to 1 | 3 Welcome to 2" ∷
     codes "3 hear 1 2 : stored 2" ∷
@@ -331,7 +552,14 @@ JoinWithLostWelcome = text_of (founded (0 ∷ 1 ∷ []) 0 64 256) (on 2 act.Join
     [])
 
 abbrev pub LeaveAsked : Type 0
-LeaveAsked = text_of (founded (0 ∷ 1 ∷ []) 0 64 256) (on 1 act.Leave ∷ on 0 (act.Hear 1) ∷ on 1 (act.Hear 3) ∷ on 0 (act.Hear 1) ∷ on 1 act.State ∷ on 1 (act.Send (97 ∷ [])) ∷ []) ≡ lines (
+LeaveAsked = text_of (founded (0 ∷ 1 ∷ []) 0 64 256) (
+    on 1 act.Leave ∷
+    on 0 (act.Hear 1) ∷
+    on 1 (act.Hear 3) ∷
+    on 0 (act.Hear 1) ∷
+    on 1 act.State ∷
+    on 1 (act.Send (97 ∷ [])) ∷
+    []) ≡ lines (
     codes "1 leave 1 : asked | 1 LeaveAsk to 0" ∷
     codes "2 hear 0 1 : numbered 2 | 2 Bcast to 1 | 3 Gone to 1" ∷
     codes "3 hear 1 3 : departed" ∷
@@ -346,7 +574,21 @@ LeaveAsked = text_of (founded (0 ∷ 1 ∷ []) 0 64 256) (on 1 act.Leave ∷ on 
     [])
 
 abbrev pub LongBody : Type 0
-LongBody = text_of (founded (0 ∷ 1 ∷ 2 ∷ []) 0 64 256) (on 1 (act.Send (97 ∷ 97 ∷ 97 ∷ 97 ∷ 97 ∷ 97 ∷ 97 ∷ 97 ∷ 97 ∷ 97 ∷ 97 ∷ 97 ∷ 97 ∷ 97 ∷ 97 ∷ 97 ∷ 97 ∷ 97 ∷ 97 ∷ 97 ∷ 97 ∷ 97 ∷ 97 ∷ 97 ∷ 97 ∷ 97 ∷ 97 ∷ 97 ∷ 97 ∷ 97 ∷ 97 ∷ 97 ∷ 97 ∷ 97 ∷ 97 ∷ 97 ∷ 97 ∷ 97 ∷ 97 ∷ 97 ∷ 97 ∷ 97 ∷ 97 ∷ 97 ∷ 97 ∷ 97 ∷ 97 ∷ 97 ∷ 97 ∷ 97 ∷ 97 ∷ 97 ∷ 97 ∷ 97 ∷ 97 ∷ 97 ∷ 97 ∷ 97 ∷ 97 ∷ 97 ∷ 97 ∷ 97 ∷ 97 ∷ 97 ∷ 97 ∷ 97 ∷ 97 ∷ 97 ∷ 97 ∷ 97 ∷ 97 ∷ 97 ∷ 97 ∷ 97 ∷ 97 ∷ 97 ∷ 97 ∷ 97 ∷ 97 ∷ 97 ∷ 97 ∷ 97 ∷ 97 ∷ 97 ∷ 97 ∷ 97 ∷ 97 ∷ 97 ∷ 97 ∷ 97 ∷ 97 ∷ 97 ∷ 97 ∷ 97 ∷ 97 ∷ 97 ∷ 97 ∷ 97 ∷ 97 ∷ 97 ∷ 97 ∷ 97 ∷ 97 ∷ 97 ∷ 97 ∷ 97 ∷ 97 ∷ 97 ∷ 97 ∷ 97 ∷ 97 ∷ 97 ∷ 97 ∷ 97 ∷ 97 ∷ 97 ∷ 97 ∷ 97 ∷ 97 ∷ 97 ∷ 97 ∷ 97 ∷ 97 ∷ 97 ∷ 97 ∷ 97 ∷ 97 ∷ 97 ∷ 97 ∷ 97 ∷ 97 ∷ 97 ∷ 97 ∷ 97 ∷ 97 ∷ 97 ∷ 97 ∷ 97 ∷ 97 ∷ 97 ∷ 97 ∷ 97 ∷ 97 ∷ 97 ∷ 97 ∷ 97 ∷ 97 ∷ 97 ∷ 97 ∷ 97 ∷ 97 ∷ 97 ∷ 97 ∷ 97 ∷ 97 ∷ 97 ∷ 97 ∷ 97 ∷ 97 ∷ 97 ∷ 97 ∷ 97 ∷ 97 ∷ 97 ∷ 97 ∷ 97 ∷ 97 ∷ 97 ∷ 97 ∷ 97 ∷ 97 ∷ 97 ∷ 97 ∷ 97 ∷ 97 ∷ 97 ∷ 97 ∷ 97 ∷ 97 ∷ 97 ∷ 97 ∷ 97 ∷ 97 ∷ 97 ∷ 97 ∷ 97 ∷ 97 ∷ 97 ∷ 97 ∷ 97 ∷ 97 ∷ 97 ∷ 97 ∷ 97 ∷ 97 ∷ 97 ∷ 97 ∷ 97 ∷ 97 ∷ 97 ∷ 97 ∷ 97 ∷ 97 ∷ 97 ∷ 97 ∷ 97 ∷ 97 ∷ 97 ∷ 97 ∷ 97 ∷ 97 ∷ 97 ∷ 97 ∷ 97 ∷ 97 ∷ 97 ∷ 97 ∷ 97 ∷ 97 ∷ 97 ∷ 97 ∷ 97 ∷ 97 ∷ 97 ∷ 97 ∷ 97 ∷ 97 ∷ 97 ∷ 97 ∷ 97 ∷ 97 ∷ 97 ∷ 97 ∷ 97 ∷ 97 ∷ 97 ∷ 97 ∷ 97 ∷ 97 ∷ 97 ∷ 97 ∷ 97 ∷ 97 ∷ 97 ∷ 97 ∷ 97 ∷ 97 ∷ 97 ∷ 97 ∷ 97 ∷ 97 ∷ 97 ∷ 97 ∷ 97 ∷ 97 ∷ 97 ∷ 97 ∷ [])) ∷ on 2 (act.Hear 1) ∷ on 0 (act.Hear 1) ∷ on 1 (act.Hear 2) ∷ on 2 (act.Hear 2) ∷ []) ≡ lines (
+LongBody = text_of (founded (0 ∷ 1 ∷ 2 ∷ []) 0 64 256) (
+    on 1 (act.Send (97 ∷ 97 ∷ 97 ∷ 97 ∷ 97 ∷ 97 ∷ 97 ∷ 97 ∷ 97 ∷ 97 ∷ 97 ∷ 97 ∷ 97 ∷ 97 ∷ 97 ∷ 97 ∷ 97 ∷ 97 ∷ 97 ∷ 97 ∷ 97 ∷ 97 ∷ 97 ∷ 97 ∷ 97 ∷ 97 ∷
+    97 ∷ 97 ∷ 97 ∷ 97 ∷ 97 ∷ 97 ∷ 97 ∷ 97 ∷ 97 ∷ 97 ∷ 97 ∷ 97 ∷ 97 ∷ 97 ∷ 97 ∷ 97 ∷ 97 ∷ 97 ∷ 97 ∷ 97 ∷ 97 ∷ 97 ∷ 97 ∷ 97 ∷ 97 ∷ 97 ∷ 97 ∷ 97 ∷ 97 ∷
+    97 ∷ 97 ∷ 97 ∷ 97 ∷ 97 ∷ 97 ∷ 97 ∷ 97 ∷ 97 ∷ 97 ∷ 97 ∷ 97 ∷ 97 ∷ 97 ∷ 97 ∷ 97 ∷ 97 ∷ 97 ∷ 97 ∷ 97 ∷ 97 ∷ 97 ∷ 97 ∷ 97 ∷ 97 ∷ 97 ∷ 97 ∷ 97 ∷ 97 ∷
+    97 ∷ 97 ∷ 97 ∷ 97 ∷ 97 ∷ 97 ∷ 97 ∷ 97 ∷ 97 ∷ 97 ∷ 97 ∷ 97 ∷ 97 ∷ 97 ∷ 97 ∷ 97 ∷ 97 ∷ 97 ∷ 97 ∷ 97 ∷ 97 ∷ 97 ∷ 97 ∷ 97 ∷ 97 ∷ 97 ∷ 97 ∷ 97 ∷ 97 ∷
+    97 ∷ 97 ∷ 97 ∷ 97 ∷ 97 ∷ 97 ∷ 97 ∷ 97 ∷ 97 ∷ 97 ∷ 97 ∷ 97 ∷ 97 ∷ 97 ∷ 97 ∷ 97 ∷ 97 ∷ 97 ∷ 97 ∷ 97 ∷ 97 ∷ 97 ∷ 97 ∷ 97 ∷ 97 ∷ 97 ∷ 97 ∷ 97 ∷ 97 ∷
+    97 ∷ 97 ∷ 97 ∷ 97 ∷ 97 ∷ 97 ∷ 97 ∷ 97 ∷ 97 ∷ 97 ∷ 97 ∷ 97 ∷ 97 ∷ 97 ∷ 97 ∷ 97 ∷ 97 ∷ 97 ∷ 97 ∷ 97 ∷ 97 ∷ 97 ∷ 97 ∷ 97 ∷ 97 ∷ 97 ∷ 97 ∷ 97 ∷ 97 ∷
+    97 ∷ 97 ∷ 97 ∷ 97 ∷ 97 ∷ 97 ∷ 97 ∷ 97 ∷ 97 ∷ 97 ∷ 97 ∷ 97 ∷ 97 ∷ 97 ∷ 97 ∷ 97 ∷ 97 ∷ 97 ∷ 97 ∷ 97 ∷ 97 ∷ 97 ∷ 97 ∷ 97 ∷ 97 ∷ 97 ∷ 97 ∷ 97 ∷ 97 ∷
+    97 ∷ 97 ∷ 97 ∷ 97 ∷ 97 ∷ 97 ∷ 97 ∷ 97 ∷ 97 ∷ 97 ∷ 97 ∷ 97 ∷ 97 ∷ 97 ∷ 97 ∷ 97 ∷ 97 ∷ 97 ∷ 97 ∷ 97 ∷ 97 ∷ 97 ∷ 97 ∷ 97 ∷ 97 ∷ 97 ∷ 97 ∷ 97 ∷ 97 ∷
+    97 ∷ 97 ∷ 97 ∷ 97 ∷ 97 ∷ 97 ∷ 97 ∷ 97 ∷ 97 ∷ 97 ∷ 97 ∷ 97 ∷ 97 ∷ 97 ∷ 97 ∷ 97 ∷ 97 ∷ 97 ∷ 97 ∷ 97 ∷ 97 ∷ 97 ∷ 97 ∷ 97 ∷ 97 ∷ 97 ∷ 97 ∷ 97 ∷ [])) ∷
+    on 2 (act.Hear 1) ∷
+    on 0 (act.Hear 1) ∷
+    on 1 (act.Hear 2) ∷
+    on 2 (act.Hear 2) ∷
+    []) ≡ lines (
     codes "1 send 1 6161616161616161616161616161616161616161616161616161616161616161616161616161616161616161616161616161616161616161616161616161616161616161616161616161616161616161616161616161616161616161616161616161616161616161616161616161616161616161616161616161616161616161616161616161616161616161616161616161616161616161616161616161616161616161616161616161616161616161616161616161616161616161616161616161616161616161616161616161616161616161616161616161616161616161616161616161616161616161616161616161616161616161616161616161616161 : queued 1 | 1 Spread to 0,2" ∷
     codes "2 hear 2 1 : kept" ∷
     codes "3 hear 0 1 : numbered 2 | 2 Order to 1,2" ∷
@@ -361,7 +603,8 @@ LongBody = text_of (founded (0 ∷ 1 ∷ 2 ∷ []) 0 64 256) (on 1 (act.Send (97
     [])
 
 abbrev pub NoEvents : Type 0
-NoEvents = text_of (founded (0 ∷ 1 ∷ []) 0 64 256) [] ≡ lines (
+NoEvents = text_of (founded (0 ∷ 1 ∷ []) 0 64 256) (
+    []) ≡ lines (
     codes "group 1 view 1.0 0,1" ∷
     codes "log 0 empty" ∷
     codes "log 1 empty" ∷
@@ -369,7 +612,9 @@ NoEvents = text_of (founded (0 ∷ 1 ∷ []) 0 64 256) [] ≡ lines (
     [])
 
 abbrev pub OnlyFounderLeaves : Type 0
-OnlyFounderLeaves = text_of (founded (0 ∷ []) 0 64 256) (on 0 act.Leave ∷ []) ≡ lines (
+OnlyFounderLeaves = text_of (founded (0 ∷ []) 0 64 256) (
+    on 0 act.Leave ∷
+    []) ≡ lines (
     codes "1 leave 0 : departed" ∷
     codes "group 1 view 1.0 0" ∷
     codes "group 2 leave 0" ∷
@@ -378,7 +623,15 @@ OnlyFounderLeaves = text_of (founded (0 ∷ []) 0 64 256) (on 0 act.Leave ∷ []
     [])
 
 abbrev pub Reordering : Type 0
-Reordering = text_of (founded (0 ∷ 1 ∷ []) 0 64 256) (on 0 (act.Send (97 ∷ [])) ∷ on 0 (act.Send (98 ∷ [])) ∷ on 1 (act.Hear 2) ∷ on 0 (act.Hear 3) ∷ on 1 (act.Hear 4) ∷ on 1 (act.Hear 5) ∷ on 1 (act.Hear 1) ∷ []) ≡ lines (
+Reordering = text_of (founded (0 ∷ 1 ∷ []) 0 64 256) (
+    on 0 (act.Send (97 ∷ [])) ∷
+    on 0 (act.Send (98 ∷ [])) ∷
+    on 1 (act.Hear 2) ∷
+    on 0 (act.Hear 3) ∷
+    on 1 (act.Hear 4) ∷
+    on 1 (act.Hear 5) ∷
+    on 1 (act.Hear 1) ∷
+    []) ≡ lines (
     codes "1 send 0 61 : queued 1 | 1 Bcast to 1" ∷
     codes "2 send 0 62 : queued 2 | 2 Bcast to 1" ∷
     codes "3 hear 1 2 : gap 2 | 3 Nack to 0" ∷
@@ -395,7 +648,11 @@ Reordering = text_of (founded (0 ∷ 1 ∷ []) 0 64 256) (on 0 (act.Send (97 ∷
     [])
 
 abbrev pub Repeat : Type 0
-Repeat = text_of (founded (0 ∷ 1 ∷ []) 0 64 256) (on 1 (act.Send (97 ∷ [])) ∷ on 0 (act.Hear 1) ∷ on 0 (act.Hear 1) ∷ []) ≡ lines (
+Repeat = text_of (founded (0 ∷ 1 ∷ []) 0 64 256) (
+    on 1 (act.Send (97 ∷ [])) ∷
+    on 0 (act.Hear 1) ∷
+    on 0 (act.Hear 1) ∷
+    []) ≡ lines (
     codes "1 send 1 61 : queued 1 | 1 Request to 0" ∷
     codes "2 hear 0 1 : numbered 2 | 2 Bcast to 1" ∷
     codes "3 hear 0 1 : again" ∷
@@ -407,7 +664,17 @@ Repeat = text_of (founded (0 ∷ 1 ∷ []) 0 64 256) (on 1 (act.Send (97 ∷ [])
     [])
 
 abbrev pub ReturnAfterLeave : Type 0
-ReturnAfterLeave = text_of (founded (0 ∷ 1 ∷ []) 0 64 256) (on 1 act.Leave ∷ on 0 (act.Hear 1) ∷ on 1 (act.Hear 3) ∷ on 1 act.Return ∷ on 1 act.Join ∷ on 0 (act.Hear 4) ∷ on 1 (act.Hear 2) ∷ on 1 (act.Hear 5) ∷ on 0 (act.Hear 1) ∷ []) ≡ lines (
+ReturnAfterLeave = text_of (founded (0 ∷ 1 ∷ []) 0 64 256) (
+    on 1 act.Leave ∷
+    on 0 (act.Hear 1) ∷
+    on 1 (act.Hear 3) ∷
+    on 1 act.Return ∷
+    on 1 act.Join ∷
+    on 0 (act.Hear 4) ∷
+    on 1 (act.Hear 2) ∷
+    on 1 (act.Hear 5) ∷
+    on 0 (act.Hear 1) ∷
+    []) ≡ lines (
     codes "1 leave 1 : asked | 1 LeaveAsk to 0" ∷
     codes "2 hear 0 1 : numbered 2 | 2 Bcast to 1 | 3 Gone to 1" ∷
     codes "3 hear 1 3 : departed" ∷
@@ -427,7 +694,16 @@ ReturnAfterLeave = text_of (founded (0 ∷ 1 ∷ []) 0 64 256) (on 1 act.Leave �
     [])
 
 abbrev pub ReturnAfterStop : Type 0
-ReturnAfterStop = text_of (founded (0 ∷ 1 ∷ []) 1 64 256) (on 1 act.Stop ∷ on 1 act.Return ∷ on 1 act.Join ∷ on 0 (act.Hear 1) ∷ on 0 (act.Reset 1 1) ∷ on 0 (act.GiveUp 1) ∷ on 0 (act.Hear 1) ∷ on 0 act.Return ∷ []) ≡ lines (
+ReturnAfterStop = text_of (founded (0 ∷ 1 ∷ []) 1 64 256) (
+    on 1 act.Stop ∷
+    on 1 act.Return ∷
+    on 1 act.Join ∷
+    on 0 (act.Hear 1) ∷
+    on 0 (act.Reset 1 1) ∷
+    on 0 (act.GiveUp 1) ∷
+    on 0 (act.Hear 1) ∷
+    on 0 act.Return ∷
+    []) ≡ lines (
     codes "1 stop 1 : stopped" ∷
     codes "2 return 1 : returned 2" ∷
     codes "3 join 1 : asked | 1 JoinAsk to all" ∷
@@ -445,7 +721,24 @@ ReturnAfterStop = text_of (founded (0 ∷ 1 ∷ []) 1 64 256) (on 1 act.Stop ∷
     [])
 
 abbrev pub ReturnedLeaverStops : Type 0
-ReturnedLeaverStops = text_of (founded (0 ∷ 1 ∷ []) 0 64 256) (on 1 act.Leave ∷ on 0 (act.Hear 1) ∷ on 1 (act.Hear 3) ∷ on 1 act.Return ∷ on 1 act.Join ∷ on 0 (act.Hear 4) ∷ on 1 (act.Hear 5) ∷ on 1 act.Stop ∷ on 0 (act.Reset 1 0) ∷ on 0 (act.GiveUp 1) ∷ on 0 (act.GiveUp 17) ∷ on 0 (act.GiveUp 33) ∷ on 1 act.Return ∷ on 1 act.Join ∷ on 0 (act.Hear 4) ∷ on 0 (act.Hear 8) ∷ []) ≡ lines (
+ReturnedLeaverStops = text_of (founded (0 ∷ 1 ∷ []) 0 64 256) (
+    on 1 act.Leave ∷
+    on 0 (act.Hear 1) ∷
+    on 1 (act.Hear 3) ∷
+    on 1 act.Return ∷
+    on 1 act.Join ∷
+    on 0 (act.Hear 4) ∷
+    on 1 (act.Hear 5) ∷
+    on 1 act.Stop ∷
+    on 0 (act.Reset 1 0) ∷
+    on 0 (act.GiveUp 1) ∷
+    on 0 (act.GiveUp 17) ∷
+    on 0 (act.GiveUp 33) ∷
+    on 1 act.Return ∷
+    on 1 act.Join ∷
+    on 0 (act.Hear 4) ∷
+    on 0 (act.Hear 8) ∷
+    []) ≡ lines (
     codes "1 leave 1 : asked | 1 LeaveAsk to 0" ∷
     codes "2 hear 0 1 : numbered 2 | 2 Bcast to 1 | 3 Gone to 1" ∷
     codes "3 hear 1 3 : departed" ∷
@@ -474,7 +767,10 @@ ReturnedLeaverStops = text_of (founded (0 ∷ 1 ∷ []) 0 64 256) (on 1 act.Leav
     [])
 
 abbrev pub RunningMember : Type 0
-RunningMember = text_of (founded (0 ∷ 1 ∷ 2 ∷ []) 0 64 256) (on 1 (act.Reset 1 0) ∷ on 1 (act.GiveUp 0) ∷ []) ≡ lines (
+RunningMember = text_of (founded (0 ∷ 1 ∷ 2 ∷ []) 0 64 256) (
+    on 1 (act.Reset 1 0) ∷
+    on 1 (act.GiveUp 0) ∷
+    []) ≡ lines (
     codes "1 reset 1 1 : waiting 0,2 | 1 Invite to 0,2" ∷
     codes "2 giveup 1 0 : not-stopped" ∷
     codes "group 1 view 1.0 0,1,2" ∷
@@ -485,7 +781,9 @@ RunningMember = text_of (founded (0 ∷ 1 ∷ 2 ∷ []) 0 64 256) (on 1 (act.Res
     [])
 
 abbrev pub Settled : Type 0
-Settled = settled_text_of (founded (0 ∷ 1 ∷ []) 0 8 256) (on 0 (act.Send (97 ∷ [])) ∷ []) ≡ lines (
+Settled = settled_text_of (founded (0 ∷ 1 ∷ []) 0 8 256) (
+    on 0 (act.Send (97 ∷ [])) ∷
+    []) ≡ lines (
     codes "1 send 0 61 : queued 1 | 1 Bcast to 1" ∷
     codes "2 tick 0 : ticked | 2 Accept to 1" ∷
     codes "3 tick 1 : ticked | 3 Ack to 0" ∷
@@ -591,7 +889,17 @@ Settled = settled_text_of (founded (0 ∷ 1 ∷ []) 0 8 256) (on 0 (act.Send (97
     [])
 
 abbrev pub ShortBody : Type 0
-ShortBody = text_of (founded (0 ∷ 1 ∷ 2 ∷ []) 0 64 256) (on 1 (act.Send (97 ∷ 97 ∷ 97 ∷ 97 ∷ 97 ∷ 97 ∷ 97 ∷ 97 ∷ 97 ∷ 97 ∷ 97 ∷ 97 ∷ 97 ∷ 97 ∷ 97 ∷ 97 ∷ 97 ∷ 97 ∷ 97 ∷ 97 ∷ 97 ∷ 97 ∷ 97 ∷ 97 ∷ 97 ∷ 97 ∷ 97 ∷ 97 ∷ 97 ∷ 97 ∷ 97 ∷ 97 ∷ 97 ∷ 97 ∷ 97 ∷ 97 ∷ 97 ∷ 97 ∷ 97 ∷ 97 ∷ 97 ∷ 97 ∷ 97 ∷ 97 ∷ 97 ∷ 97 ∷ 97 ∷ 97 ∷ 97 ∷ 97 ∷ 97 ∷ 97 ∷ 97 ∷ 97 ∷ 97 ∷ 97 ∷ 97 ∷ 97 ∷ 97 ∷ 97 ∷ 97 ∷ 97 ∷ 97 ∷ 97 ∷ 97 ∷ 97 ∷ 97 ∷ 97 ∷ 97 ∷ 97 ∷ 97 ∷ 97 ∷ 97 ∷ 97 ∷ 97 ∷ 97 ∷ 97 ∷ 97 ∷ 97 ∷ 97 ∷ 97 ∷ 97 ∷ 97 ∷ 97 ∷ 97 ∷ 97 ∷ 97 ∷ 97 ∷ 97 ∷ 97 ∷ 97 ∷ 97 ∷ 97 ∷ 97 ∷ 97 ∷ 97 ∷ 97 ∷ 97 ∷ 97 ∷ 97 ∷ 97 ∷ 97 ∷ 97 ∷ 97 ∷ 97 ∷ 97 ∷ 97 ∷ 97 ∷ 97 ∷ 97 ∷ 97 ∷ 97 ∷ 97 ∷ 97 ∷ 97 ∷ 97 ∷ 97 ∷ 97 ∷ 97 ∷ 97 ∷ 97 ∷ 97 ∷ 97 ∷ 97 ∷ 97 ∷ 97 ∷ 97 ∷ 97 ∷ 97 ∷ 97 ∷ 97 ∷ 97 ∷ 97 ∷ 97 ∷ 97 ∷ 97 ∷ 97 ∷ 97 ∷ 97 ∷ 97 ∷ 97 ∷ 97 ∷ 97 ∷ 97 ∷ 97 ∷ 97 ∷ 97 ∷ 97 ∷ 97 ∷ 97 ∷ 97 ∷ 97 ∷ 97 ∷ 97 ∷ 97 ∷ 97 ∷ 97 ∷ 97 ∷ 97 ∷ 97 ∷ 97 ∷ 97 ∷ 97 ∷ 97 ∷ 97 ∷ 97 ∷ 97 ∷ 97 ∷ 97 ∷ 97 ∷ 97 ∷ 97 ∷ 97 ∷ 97 ∷ 97 ∷ 97 ∷ 97 ∷ 97 ∷ 97 ∷ 97 ∷ 97 ∷ 97 ∷ 97 ∷ 97 ∷ 97 ∷ 97 ∷ 97 ∷ 97 ∷ 97 ∷ 97 ∷ 97 ∷ 97 ∷ 97 ∷ 97 ∷ 97 ∷ 97 ∷ 97 ∷ 97 ∷ 97 ∷ 97 ∷ 97 ∷ 97 ∷ 97 ∷ 97 ∷ 97 ∷ 97 ∷ 97 ∷ 97 ∷ 97 ∷ 97 ∷ 97 ∷ 97 ∷ 97 ∷ 97 ∷ 97 ∷ 97 ∷ 97 ∷ 97 ∷ 97 ∷ 97 ∷ 97 ∷ 97 ∷ 97 ∷ 97 ∷ 97 ∷ 97 ∷ 97 ∷ 97 ∷ 97 ∷ 97 ∷ 97 ∷ 97 ∷ 97 ∷ 97 ∷ 97 ∷ 97 ∷ 97 ∷ 97 ∷ 97 ∷ 97 ∷ 97 ∷ 97 ∷ 97 ∷ 97 ∷ 97 ∷ 97 ∷ 97 ∷ 97 ∷ 97 ∷ 97 ∷ 97 ∷ 97 ∷ 97 ∷ 97 ∷ 97 ∷ 97 ∷ [])) ∷ []) ≡ lines (
+ShortBody = text_of (founded (0 ∷ 1 ∷ 2 ∷ []) 0 64 256) (
+    on 1 (act.Send (97 ∷ 97 ∷ 97 ∷ 97 ∷ 97 ∷ 97 ∷ 97 ∷ 97 ∷ 97 ∷ 97 ∷ 97 ∷ 97 ∷ 97 ∷ 97 ∷ 97 ∷ 97 ∷ 97 ∷ 97 ∷ 97 ∷ 97 ∷ 97 ∷ 97 ∷ 97 ∷ 97 ∷ 97 ∷ 97 ∷
+    97 ∷ 97 ∷ 97 ∷ 97 ∷ 97 ∷ 97 ∷ 97 ∷ 97 ∷ 97 ∷ 97 ∷ 97 ∷ 97 ∷ 97 ∷ 97 ∷ 97 ∷ 97 ∷ 97 ∷ 97 ∷ 97 ∷ 97 ∷ 97 ∷ 97 ∷ 97 ∷ 97 ∷ 97 ∷ 97 ∷ 97 ∷ 97 ∷ 97 ∷
+    97 ∷ 97 ∷ 97 ∷ 97 ∷ 97 ∷ 97 ∷ 97 ∷ 97 ∷ 97 ∷ 97 ∷ 97 ∷ 97 ∷ 97 ∷ 97 ∷ 97 ∷ 97 ∷ 97 ∷ 97 ∷ 97 ∷ 97 ∷ 97 ∷ 97 ∷ 97 ∷ 97 ∷ 97 ∷ 97 ∷ 97 ∷ 97 ∷ 97 ∷
+    97 ∷ 97 ∷ 97 ∷ 97 ∷ 97 ∷ 97 ∷ 97 ∷ 97 ∷ 97 ∷ 97 ∷ 97 ∷ 97 ∷ 97 ∷ 97 ∷ 97 ∷ 97 ∷ 97 ∷ 97 ∷ 97 ∷ 97 ∷ 97 ∷ 97 ∷ 97 ∷ 97 ∷ 97 ∷ 97 ∷ 97 ∷ 97 ∷ 97 ∷
+    97 ∷ 97 ∷ 97 ∷ 97 ∷ 97 ∷ 97 ∷ 97 ∷ 97 ∷ 97 ∷ 97 ∷ 97 ∷ 97 ∷ 97 ∷ 97 ∷ 97 ∷ 97 ∷ 97 ∷ 97 ∷ 97 ∷ 97 ∷ 97 ∷ 97 ∷ 97 ∷ 97 ∷ 97 ∷ 97 ∷ 97 ∷ 97 ∷ 97 ∷
+    97 ∷ 97 ∷ 97 ∷ 97 ∷ 97 ∷ 97 ∷ 97 ∷ 97 ∷ 97 ∷ 97 ∷ 97 ∷ 97 ∷ 97 ∷ 97 ∷ 97 ∷ 97 ∷ 97 ∷ 97 ∷ 97 ∷ 97 ∷ 97 ∷ 97 ∷ 97 ∷ 97 ∷ 97 ∷ 97 ∷ 97 ∷ 97 ∷ 97 ∷
+    97 ∷ 97 ∷ 97 ∷ 97 ∷ 97 ∷ 97 ∷ 97 ∷ 97 ∷ 97 ∷ 97 ∷ 97 ∷ 97 ∷ 97 ∷ 97 ∷ 97 ∷ 97 ∷ 97 ∷ 97 ∷ 97 ∷ 97 ∷ 97 ∷ 97 ∷ 97 ∷ 97 ∷ 97 ∷ 97 ∷ 97 ∷ 97 ∷ 97 ∷
+    97 ∷ 97 ∷ 97 ∷ 97 ∷ 97 ∷ 97 ∷ 97 ∷ 97 ∷ 97 ∷ 97 ∷ 97 ∷ 97 ∷ 97 ∷ 97 ∷ 97 ∷ 97 ∷ 97 ∷ 97 ∷ 97 ∷ 97 ∷ 97 ∷ 97 ∷ 97 ∷ 97 ∷ 97 ∷ 97 ∷ 97 ∷ 97 ∷ 97 ∷
+    97 ∷ 97 ∷ 97 ∷ 97 ∷ 97 ∷ 97 ∷ 97 ∷ 97 ∷ 97 ∷ 97 ∷ 97 ∷ 97 ∷ 97 ∷ 97 ∷ 97 ∷ 97 ∷ 97 ∷ 97 ∷ 97 ∷ 97 ∷ 97 ∷ 97 ∷ 97 ∷ 97 ∷ 97 ∷ 97 ∷ 97 ∷ [])) ∷
+    []) ≡ lines (
     codes "1 send 1 61616161616161616161616161616161616161616161616161616161616161616161616161616161616161616161616161616161616161616161616161616161616161616161616161616161616161616161616161616161616161616161616161616161616161616161616161616161616161616161616161616161616161616161616161616161616161616161616161616161616161616161616161616161616161616161616161616161616161616161616161616161616161616161616161616161616161616161616161616161616161616161616161616161616161616161616161616161616161616161616161616161616161616161616161616161 : queued 1 | 1 Request to 0" ∷
     codes "group 1 view 1.0 0,1,2" ∷
     codes "log 0 empty" ∷
@@ -601,7 +909,14 @@ ShortBody = text_of (founded (0 ∷ 1 ∷ 2 ∷ []) 0 64 256) (on 1 (act.Send (9
     [])
 
 abbrev pub SmallestPath : Type 0
-SmallestPath = text_of (founded (0 ∷ 1 ∷ []) 0 64 256) (on 1 (act.Send (97 ∷ [])) ∷ on 0 (act.Hear 1) ∷ on 1 (act.Hear 2) ∷ on 1 act.Take ∷ on 1 act.Take ∷ on 1 (act.Done 1) ∷ []) ≡ lines (
+SmallestPath = text_of (founded (0 ∷ 1 ∷ []) 0 64 256) (
+    on 1 (act.Send (97 ∷ [])) ∷
+    on 0 (act.Hear 1) ∷
+    on 1 (act.Hear 2) ∷
+    on 1 act.Take ∷
+    on 1 act.Take ∷
+    on 1 (act.Done 1) ∷
+    []) ≡ lines (
     codes "1 send 1 61 : queued 1 | 1 Request to 0" ∷
     codes "2 hear 0 1 : numbered 2 | 2 Bcast to 1" ∷
     codes "3 hear 1 2 : stored 2" ∷
@@ -617,7 +932,13 @@ SmallestPath = text_of (founded (0 ∷ 1 ∷ []) 0 64 256) (on 1 (act.Send (97 �
     [])
 
 abbrev pub SpreadLost : Type 0
-SpreadLost = text_of (founded (0 ∷ 1 ∷ 2 ∷ []) 0 64 0) (on 1 (act.Send (97 ∷ [])) ∷ on 0 (act.Hear 1) ∷ on 2 (act.Hear 2) ∷ on 0 (act.Hear 3) ∷ on 2 (act.Hear 4) ∷ []) ≡ lines (
+SpreadLost = text_of (founded (0 ∷ 1 ∷ 2 ∷ []) 0 64 0) (
+    on 1 (act.Send (97 ∷ [])) ∷
+    on 0 (act.Hear 1) ∷
+    on 2 (act.Hear 2) ∷
+    on 0 (act.Hear 3) ∷
+    on 2 (act.Hear 4) ∷
+    []) ≡ lines (
     codes "1 send 1 61 : queued 1 | 1 Spread to 0,2" ∷
     codes "2 hear 0 1 : numbered 2 | 2 Order to 1,2" ∷
     codes "3 hear 2 2 : no-body 1 1 | 3 Nack to 0" ∷
@@ -632,7 +953,22 @@ SpreadLost = text_of (founded (0 ∷ 1 ∷ 2 ∷ []) 0 64 0) (on 1 (act.Send (97
     [])
 
 abbrev pub WindowOfOne : Type 0
-WindowOfOne = text_of (founded (0 ∷ 1 ∷ []) 0 1 256) (on 0 act.Take ∷ on 1 act.Take ∷ on 1 (act.Send (97 ∷ [])) ∷ on 0 (act.Hear 1) ∷ on 1 (act.Hear 2) ∷ on 1 (act.Send (98 ∷ [])) ∷ on 0 (act.Hear 3) ∷ on 1 (act.Hear 5) ∷ on 0 act.Take ∷ on 1 act.Take ∷ on 1 (act.Hear 4) ∷ on 0 (act.Hear 6) ∷ on 1 act.Tick ∷ on 0 (act.Hear 7) ∷ []) ≡ lines (
+WindowOfOne = text_of (founded (0 ∷ 1 ∷ []) 0 1 256) (
+    on 0 act.Take ∷
+    on 1 act.Take ∷
+    on 1 (act.Send (97 ∷ [])) ∷
+    on 0 (act.Hear 1) ∷
+    on 1 (act.Hear 2) ∷
+    on 1 (act.Send (98 ∷ [])) ∷
+    on 0 (act.Hear 3) ∷
+    on 1 (act.Hear 5) ∷
+    on 0 act.Take ∷
+    on 1 act.Take ∷
+    on 1 (act.Hear 4) ∷
+    on 0 (act.Hear 6) ∷
+    on 1 act.Tick ∷
+    on 0 (act.Hear 7) ∷
+    []) ≡ lines (
     codes "1 take 0 : took 1 view 1.0 0,1" ∷
     codes "2 take 1 : took 1 view 1.0 0,1" ∷
     codes "3 send 1 61 : queued 1 | 1 Request to 0" ∷

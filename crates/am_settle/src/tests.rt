@@ -20,7 +20,12 @@ fn who_runs_ticks_in_each_round(rt: HostRuntime) -> Result<(), Fail> {
     let founding = Founding::new(Names::of_mask(3), 0, 1, 256).ok_or("a founding")?;
     let mut world = World::new(rt.alloc(), &founding)?;
     assert!(rt; world.step(&stop(0)).is_ok());
-    assert!(rt; settle(&mut world).is_ok());
+    let settled = settle(&mut world).ok().ok_or("a schedule that was done")?;
+    assert_eq!(rt; settled.rounds, 4);
+    assert_eq!(rt;
+        settled.events.saturating_add(1),
+        world.journal().records().len()
+    );
     let mut ticks = [0u32; 16];
     for record in world.journal().records() {
         if matches!(record.event.act, Act::Tick) {

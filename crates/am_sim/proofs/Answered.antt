@@ -4,6 +4,7 @@ use Rattle.std.specs.Io.KnownBytes.{Consumes}
 use Rattle.am_io.specs.Outside.{ReadToEnd, GaveAtMost}
 use Rattle.am_base.specs.Founding.{Rules, MayFound}
 use Rattle.am_group.specs.declared.event.Event.{Event}
+use Rattle.am_group.specs.declared.plan.RacePlan.{RacePlan}
 use Rattle.am_model.specs.World.{run}
 use Rattle.am_model.specs.Lawful.{Watch, watch_start, watch, watch_all, watched}
 use Rattle.am_model.specs.Play.{watched_text, text_of, summary_text_of}
@@ -13,6 +14,7 @@ use Rattle.am_headline.proofs.Fitted.{views_fit}
 use Rattle.am_headline.proofs.Holds.{headline_holds}
 use Rattle.am_sent.proofs.Runs.{sent_holds}
 use Rattle.am_unballoted.proofs.Holds.{unballoted_holds}
+use Rattle.am_repaired.proofs.Settled.{settled_is_repaired}
 use Rattle.am_pump.specs.Generating.{generated_rules, generated}
 use Rattle.am_pump.proofs.Rules.{may_found}
 use Rattle.am_words.specs.declared.form.Numbers.{Numbers}
@@ -20,11 +22,12 @@ use Rattle.am_script.specs.declared.script.Script.{Script}
 use Rattle.am_script.specs.declared.script.Script.TheVariants.{Play, Race}
 use Rattle.am_script.specs.declared.key.Key.TheVariants as key
 use Rattle.am_script.specs.Scripts.{reading}
-use Rattle.am_script.specs.Limits.{ScriptWithin}
+use Rattle.am_script.specs.Limits.{RaceWithin, ScriptWithin}
 use Rattle.am_sim.specs.declared.simulate.Unplayed.{Unplayed}
 use Rattle.am_sim.specs.declared.simulate.Unplayed.TheVariants as unplayed
 use Rattle.am_sim.specs.Playing.{done_of, IsRunText}
-use Rattle.am_sim.specs.Simulation.{Keeps, Played, Generated, IsText, IsUnrun, IsUnplayed, script_text}
+use Rattle.am_sim.specs.Racing.{events_of, IsRaceText}
+use Rattle.am_sim.specs.Simulation.{Keeps, Repaired, Played, Raced, Generated, IsText, IsUnrun, IsUnplayed, run_text}
 
 -- ---- a run that is settled behind its own events
 
@@ -34,12 +37,13 @@ watched_then s [] ys = refl
 watched_then s (x ∷ xs) ys = watched_then (watch s x) xs ys
 
 -- its text is that of all that was done
-text_is : (rules : Rules) (events : List Event) (settles : Bool) → text_of rules (done_of rules events settles) ≡ script_text rules events settles
+text_is : (rules : Rules) (events : List Event) (settles : Bool) → text_of rules (done_of rules events settles) ≡ run_text rules events settles
 text_is rules events false = refl
 text_is rules events true =
     let s = watched rules events in
     let world = watched_is_run rules events in
-    ap (watched_text rules) (watched_then (watch_start rules) events (settle_events rules (run rules events)) ∙ ap (λ w. watch_all s (settle_events rules w)) (sym world))
+    ap (watched_text rules) (watched_then (watch_start rules) events (settle_events rules (run rules events))
+    ∙ ap (λ w. watch_all s (settle_events rules w)) (sym world))
 
 -- each run keeps what is claimed
 keeps_all : (rules : Rules) (events : List Event) → MayFound rules → Keeps rules events
@@ -49,6 +53,10 @@ keeps_all rules events may = record {
   sent = sent_holds rules events may;
   unballoted = λ none. unballoted_holds rules events may none;
 }
+
+-- a run that is settled is repaired
+repaired : (rules : Rules) (events : List Event) → MayFound rules → Repaired rules events
+repaired rules events may place low repair name member = settled_is_repaired rules events place may low repair name member
 
 pub played_by : (bytes text : List ℕ) (script : Script) → reading key.Play bytes ≡ Ok script → ScriptWithin script → IsText script text → Played bytes text
 unfolding IsRunText
@@ -63,8 +71,19 @@ played_by bytes text (Play founding events settles) is within same =
       written = same.0 ∙ text_is founding events settles;
       few = same.1;
       keeps = keeps_all founding done may;
+      repaired = λ _settled. repaired founding events may;
     }
 played_by bytes text (Race plan) is within same = absurd same
+
+pub raced_by : (bytes text : List ℕ) (plan : RacePlan) → reading key.Race bytes ≡ Ok (Race plan) → RaceWithin plan → IsRaceText plan text → Raced bytes text
+raced_by bytes text plan is within (journal, raced, same) = record {
+  plan = plan;
+  script = is;
+  journal = journal;
+  raced = raced;
+  written = same;
+  keeps = keeps_all plan.founding (events_of journal) within.may_found;
+}
 
 -- why there is no text
 pub unplayed_by : (bytes : List ℕ) (script : Script) (e : Unplayed) → reading key.Play bytes ≡ Ok script → IsUnrun script e → IsUnplayed bytes e
@@ -90,7 +109,8 @@ generated_by numbers text is many =
 -- ---- what was given
 
 -- what was read whole was given
-pub gave_whole : (limit : ℕ) (before after : Option (List ℕ)) (bytes : List ℕ) → ReadToEnd before after bytes → length bytes ≤ limit → GaveAtMost limit before after
+pub gave_whole : (limit : ℕ) (before after : Option (List ℕ)) (bytes : List ℕ) → ReadToEnd before after bytes → length bytes ≤ limit
+    → GaveAtMost limit before after
 gave_whole limit (Some left) after bytes whole few = (bytes, subst (λ a. Consumes (Some left) a bytes) (sym whole.1) (whole.0 ∙ sym (append-nil bytes)), few)
 gave_whole limit None after bytes whole few = (bytes, tt, few)
 

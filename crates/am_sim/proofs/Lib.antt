@@ -1,3 +1,4 @@
 mod Answered
 mod Names
 mod Texts
+mod Raced

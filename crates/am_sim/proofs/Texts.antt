@@ -20,7 +20,8 @@ use Rattle.am_world.specs.Runs.{replay}
 use Rattle.am_sim.proofs.Names.{has_log_in}
 
 pub world_text : (p : worlds.Play) (text : List ℕ) (founding : Rules) (records : List Record) (group : List Entry) (each : List ℕ) (broken : Option ℕ)
-    → founding ≡ p.rules → records ≡ (replay p).records → group ≡ (replay p).group → each ≡ filter (has_log_in (replay p)) all_names → broken ≡ broken_at p.rules p.events
+    → founding ≡ p.rules → records ≡ (replay p).records → group ≡ (replay p).group → each ≡ filter (has_log_in (replay p)) all_names
+    → broken ≡ broken_at p.rules p.events
     → text ≡ play_text founding records group (logs_for records each) broken → text ≡ text_of p.rules p.events
 world_text p text founding records group each broken rules recorded agreed named mark is =
     is
@@ -40,7 +41,8 @@ summary_with records letters group broken =
     ++ (count_line (codes "held") (count_by (λ r. is_held r.outcome) records)
     ++ mark_line broken)))))
 
-summary_of_records : (records : List Record) (group : List Entry) (broken : Option ℕ) → summary_for records group broken ≡ summary_with records (length (letters_of records)) group broken
+summary_of_records : (records : List Record) (group : List Entry) (broken : Option ℕ)
+    → summary_for records group broken ≡ summary_with records (length (letters_of records)) group broken
 unfolding summary_for
 summary_of_records records group broken = refl
 

@@ -10,7 +10,7 @@ bad_script_line cause = codes "bad script " ++ decimal (number_of cause) ++ code
 
 abbrev pub line_of : Status → List ℕ
 line_of Done = []
-line_of Usage = codes "usage: play | gen --seed N --count N"
+line_of Usage = codes "usage: play | race | gen --seed N --count N"
 line_of (BadScript cause) = bad_script_line cause
 line_of TooLong = codes "too long"
 line_of ReadFault = codes "read fault"

@@ -13,7 +13,8 @@ use std::alloc::Global;
 /// The group of two numbers, of which the second is at most 100,000.
 fn generated_world(alloc: Global, numbers: Numbers) -> Result<World, NoMemory>
     requires { numbers.count ≤ most_events }
-    ensures world { IfOk result (λ world. world ≡ record { rules = generated_rules; events = generated numbers.seed numbers.count }) }
+    ensures world { IfOk result (λ world. world
+        ≡ record { rules = generated_rules; events = generated numbers.seed numbers.count }) }
     ensures count { IfOk result (λ world. length world.events ≡ numbers.count) }
 {
     match generate(alloc, numbers.seed, numbers.count) {

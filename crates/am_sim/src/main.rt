@@ -1,35 +1,46 @@
-//! The program: runs a script and prints what comes of it, or makes a run from two numbers and prints its summary.
+//! The program: runs a script and prints what comes of it, lets the threads of a race make their calls and prints what they
+//! did, or makes a run from two numbers and prints its summary.
 #![tactic(auto)]
 
 mod generating;
 mod playing;
+mod racing;
 pub mod simulate;
 mod telling;
 
+use am_calls::gate::NoGate;
 use am_io::standard::{StdSink, StdSource};
 use simulate::{Status, simulate};
+use std::alloc::Global;
 use std::process::ExitCode;
+use std::sync::Wait;
+use std::thread::Threads;
 use std::{env, io};
 use telling::line_of;
 
-/// Does what the process's words ask for, from standard input to standard output.
-fn answer(rt: &HostRuntime) -> Status {
-    let Ok(args) = env::args(rt) else {
-        return Status::NoMemory;
-    };
-    let owned: Vec<String> = match args.collect(rt.alloc()) {
-        Ok(owned) => owned,
-        Err(_) => return Status::NoMemory,
-    };
-    let mut words = Vec::new(rt.alloc());
-    for word in owned.as_slice().iter().skip(1) {
+/// The process's words; None where there was no memory for them.
+fn words_of(rt: &HostRuntime) -> Option<Vec<String>> {
+    let args = env::args(rt).ok()?;
+    args.collect(rt.alloc()).ok()
+}
+
+/// Does what the words behind the program's name ask for.
+fn answer<R: Threads + Wait + Sync>(
+    rt: &R,
+    alloc: Global,
+    input: io::Stdin,
+    output: io::Stdout,
+    owned: &[String],
+) -> Status {
+    let mut words = Vec::new(alloc);
+    for word in owned.iter().skip(1) {
         if words.push(word.as_str()).is_err() {
             return Status::NoMemory;
         }
     }
-    let mut source = StdSource::new(rt.stdin());
-    let mut sink = StdSink::new(rt.stdout());
-    simulate(rt.alloc(), words.as_slice(), &mut source, &mut sink)
+    let mut source = StdSource::new(input);
+    let mut sink = StdSink::new(output);
+    simulate(rt, alloc, &NoGate, words.as_slice(), &mut source, &mut sink)
 }
 
 /// Tells of a status, but of Done, whose line is empty.
@@ -41,11 +52,17 @@ fn tell(rt: &impl Eprint, status: Status) -> io::Result<()> {
     eprintln!(rt; "{line}")
 }
 
+/// Does what the process's words ask for, from standard input to standard output.
 fn main(rt: HostRuntime) -> ExitCode {
-    let status = answer(&rt);
+    let status = match words_of(&rt) {
+        Some(owned) => answer(&rt, rt.alloc(), rt.stdin(), rt.stdout(), owned.as_slice()),
+        None => Status::NoMemory,
+    };
     let _ = tell(&rt, status);
     ExitCode::from(status.number())
 }
 
+#[cfg(test)]
+mod race_tests;
 #[cfg(test)]
 mod script_tests;

@@ -29,7 +29,8 @@ fn push_where(each: &mut Vec<Name>, name: Name, is_due: bool) -> Result<(), NoMe
 /// The names that have or had a list, in their places' order.
 #[tactic(auto, using(crate::proofs::Names::logged_laws))]
 fn logged_names(alloc: Global, world: &World) -> Result<Vec<Name>, NoMemory>
-    ensures { IfOk result (λ each. each.items ≡ filter (λ name. has_log ((replay world.now).nodes name).status) all_names) }
+    ensures { IfOk result (λ each. each.items
+        ≡ filter (λ name. has_log ((replay world.now).nodes name).status) all_names) }
 {
     let mut each = Vec::new(alloc);
     for rank in 0..256u16 {
@@ -58,8 +59,10 @@ fn text_of_world(alloc: Global, world: &World) -> Result<String, NoMemory>
 
 /// A world does events in turn.
 fn do_events(world: &mut World, events: &[Event]) -> Result<(), WorldRefusal>
-    ensures ok { OnOk result (world.new ≡ record world.old { events = world.old.events ++ events.now }) }
-    ensures err { IfErr result (λ e. e ≡ refusals.Spent → most_events < length world.old.events + length events.now) }
+    ensures ok { OnOk result (world.new ≡ record world.old
+        { events = world.old.events ++ events.now }) }
+    ensures err { IfErr result (λ e. e ≡ refusals.Spent
+        → most_events < length world.old.events + length events.now) }
 {
     for event in events {
         world.step(event)?;
@@ -76,9 +79,12 @@ fn played(
     events: &[Event],
     settles: bool,
 ) -> Result<World, WorldRefusal>
-    ensures ok { IfOk result (λ world. world ≡ record { rules = founding.now; events = done_of founding.now events.now settles }) }
-    ensures few { IfOk result (λ world. length (done_of founding.now events.now settles) ≤ most_events) }
-    ensures err { IfErr result (λ e. e ≡ refusals.Spent → most_events < length (done_of founding.now events.now settles)) }
+    ensures ok { IfOk result (λ world. world
+        ≡ record { rules = founding.now; events = done_of founding.now events.now settles }) }
+    ensures few { IfOk result (λ world. length (done_of founding.now events.now settles)
+        ≤ most_events) }
+    ensures err { IfErr result (λ e. e ≡ refusals.Spent
+        → most_events < length (done_of founding.now events.now settles)) }
 {
     let mut world = World::new(alloc, founding)?;
     do_events(&mut world, events)?;
@@ -97,8 +103,10 @@ pub fn text_of_run(
     events: &[Event],
     settles: bool,
 ) -> Result<String, WorldRefusal>
-    ensures text { IfOk result (λ text. IsRunText founding.now events.now settles (string_bytes text)) }
-    ensures spent { IfErr result (λ e. e ≡ refusals.Spent → IsLong founding.now events.now settles) }
+    ensures text { IfOk result (λ text. IsRunText founding.now events.now settles
+        (string_bytes text)) }
+    ensures spent { IfErr result (λ e. e ≡ refusals.Spent
+        → IsLong founding.now events.now settles) }
 {
     let world = played(alloc, founding, events, settles)?;
     Ok(text_of_world(alloc, &world)?)

@@ -39,7 +39,7 @@ pub fn line_of(status: Status) -> Line
 {
     match status {
         Status::Done => ArrayString::new(),
-        Status::Usage => line("usage: play | gen --seed N --count N"),
+        Status::Usage => line("usage: play | race | gen --seed N --count N"),
         Status::BadScript(cause) => bad_script_line(cause),
         Status::TooLong => line("too long"),
         Status::ReadFault => line("read fault"),

@@ -1,38 +1,45 @@
 -- What a commit leaves.
-use Rattle.std.proofs.Common.{◌≡◌, ℕ, ◌+◌, ◌*◌, ◌<◌, Bool, true, false, List, [], ◌∷◌, ◌++◌, length, take, drop, Result, Ok, Err, IfOk, OnOk, OnErr, sym, refl, ap, ◌∙◌, subst, arith, eq-eqb}
+use Rattle.std.proofs.Common.{◌≡◌, ℕ, ◌+◌, ◌*◌, ◌<◌, Bool, true, false, List, [], ◌∷◌, ◌++◌, length, take, drop, Result, Ok, Err, IfOk, OnOk, OnErr, sym, refl}
+use Rattle.std.proofs.Common.{ap, ◌∙◌, subst, arith, eq-eqb}
 use Rattle.std.specs.Prelude.{All, if◌then◌else◌}
 use Rattle.std.proofs.lemmas.List.{length-take}
 use Rattle.am_base.specs.Most.{most_events}
 use Rattle.atomic_table.specs.Seated.{TableId}
-use Rattle.am_packet.specs.Boxes.{Letter}
 use Rattle.am_group.specs.declared.event.Record.{Record}
 use Rattle.am_wire.specs.declared.rule.Key.{Key}
 use Rattle.am_wire.specs.declared.rule.Key.TheVariants.{Place, Caller}
+use Rattle.am_wire.specs.declared.rule.Terms.{Terms}
 use Rattle.am_wire.specs.declared.rule.View.{View}
 use Rattle.am_wire.specs.declared.wire.WireRefusal.{WireRefusal}
 use Rattle.am_wire.specs.Keys.{same_key, times}
-use Rattle.am_wire.specs.Seats.{Sat, view, GoesOn, IsUpTo, IsIdle, HasTurn, Takes, Unites, Parts, Adds}
+use Rattle.am_wire.specs.Seats.{Sat, view, GoesOn, Follows, IsIdle, HasTurn, Takes, Unites, Parts, Adds}
 use Rattle.am_wire.specs.Passes.{Known, known_by, Sees, Committed}
 use Rattle.am_wire.proofs.Views.{times_append, times_cons, goes_through}
-use Rattle.am_wire.proofs.Keeps.{raised}
+use Rattle.am_wire.proofs.Keeps.{follows_more}
 use Rattle.am_wire.proofs.Passing.{Sits, goes_at, first_key, sees_by}
 
 -- a seat of two passes has taken the slot
-pub record Holds (p q : Known) (t : Sat) : Type 0 where
+pub record Holds (next : Terms → List Record → Record → Type 0) (p q : Known) (t : Sat) : Type 0 where
   pub turn : HasTurn t
+  pub terms : (t.0.terms ≡ p.terms) × (q.terms ≡ p.terms)
+  pub lawful : Follows (next p.terms) t.0.seen
   pub cut : (take 1 t.0.keys ≡ q.keys) × (drop 1 t.0.keys ≡ p.keys)
   pub keyed : (0 < length p.keys) × (0 < length q.keys)
   pub keys : (key : Key) → times key t.0.keys ≡ times key q.keys + times key p.keys
   pub goes : GoesOn p.keys p.seen t.0.seen × GoesOn q.keys q.seen t.0.seen
 
-pub holds_by : (p q : Known) (id other : TableId) (s r u t : Sat) → Sits p id s → Sits q other r → length q.keys ≡ 1 → Unites s.0 r.0 u → Takes u t
-    → Holds p q t
-holds_by p q id other s r u t sits its one unites takes =
+pub holds_by : (next : Terms → List Record → Record → Type 0) (p q : Known) (id other : TableId) (s r u t : Sat) → Sits p id s → Sits q other r
+    → q.terms ≡ p.terms
+    → length q.keys ≡ 1 → Unites next s.0 r.0 u → Takes next u t → Holds next p q t
+holds_by next p q id other s r u t sits its agree one unites takes =
+    let terms : t.0.terms ≡ p.terms = takes.terms ∙ unites.terms ∙ sym sits.terms in
     let single : length r.0.keys ≡ 1 = ap length (sym its.keys) ∙ one in
     let cut = first_key r.0.keys s.0.keys single in
     let keys : t.0.keys ≡ r.0.keys ++ s.0.keys = takes.keys ∙ unites.keys in
     let united : GoesOn (r.0.keys ++ s.0.keys) u.0.seen t.0.seen = subst (λ (ks : List Key). GoesOn ks u.0.seen t.0.seen) unites.keys takes.goes in record {
       turn = takes.turn;
+      terms = (terms, agree);
+      lawful = subst (λ (x : Terms). Follows (next x) t.0.seen) terms takes.lawful;
       cut = (ap (take 1) keys ∙ cut.0 ∙ sym its.keys, ap (drop 1) keys ∙ cut.1 ∙ sym sits.keys);
       keyed = (subst (λ (ks : List Key). 0 < length ks) (sym sits.keys) sits.keyed, subst (λ (ks : List Key). 0 < length ks) (sym its.keys) its.keyed);
       keys = λ key. ap (times key) keys ∙ times_append key r.0.keys s.0.keys
@@ -61,39 +68,43 @@ once_alone key same =
     let g : times key (key ∷ []) ≡ one (same_key key key) + times key [] = e in
     omega arith
 
-pub has_place : (p q : Known) (t : Sat) (place : ℕ) → Holds p q t → p.keys ≡ Place place ∷ [] → 0 < times (Place place) t.0.keys
-has_place p q t place holds is =
+pub has_place : (next : Terms → List Record → Record → Type 0) (p q : Known) (t : Sat) (place : ℕ) → Holds next p q t → p.keys ≡ Place place ∷ []
+    → 0 < times (Place place) t.0.keys
+has_place next p q t place holds is =
     let k = holds.keys (Place place) in
     let o : times (Place place) p.keys ≡ 1 = ap (times (Place place)) is ∙ once_alone (Place place) (eq-eqb place place refl) in
     omega arith
 
-pub has_caller : (p q : Known) (t : Sat) (caller : ℕ) → Holds p q t → q.keys ≡ Caller caller ∷ [] → 0 < times (Caller caller) t.0.keys
-has_caller p q t caller holds is =
+pub has_caller : (next : Terms → List Record → Record → Type 0) (p q : Known) (t : Sat) (caller : ℕ) → Holds next p q t → q.keys ≡ Caller caller ∷ []
+    → 0 < times (Caller caller) t.0.keys
+has_caller next p q t caller holds is =
     let k = holds.keys (Caller caller) in
     let o : times (Caller caller) q.keys ≡ 1 = ap (times (Caller caller)) is ∙ once_alone (Caller caller) (eq-eqb caller caller refl) in
     omega arith
 
-pub low_then : (p q : Known) (t : Sat) (letters : List Letter) → Holds p q t → All (λ l. IsUpTo (2 * length p.seen + 3) l.packet) letters
-    → All (λ l. IsUpTo (2 * length t.0.seen + 3) l.packet) letters
-low_then p q t letters holds low =
-    let e : length (take (length p.seen) t.0.seen) ≡ length p.seen = ap length holds.goes.0.begins in
-    let f = length-take (length p.seen) t.0.seen in
-    raised (2 * length p.seen + 3) (2 * length t.0.seen + 3) letters (omega arith) low
+-- by what others had added, the record comes next
+pub next_then : (next : Terms → List Record → Record → Type 0) (p q : Known) (t : Sat) (item : Record) → Holds next p q t
+    → ((before : List Record) → GoesOn p.keys p.seen before → GoesOn q.keys q.seen before → Follows (next p.terms) before → next p.terms before item)
+    → next t.0.terms t.0.seen item
+next_then next p q t item holds may =
+    subst (λ (x : Terms). next x t.0.seen item) (sym holds.terms.0) (may t.0.seen holds.goes.0 holds.goes.1 holds.lawful)
 
 -- ---- what is left
 
 -- the seat with the turn, after the addition or without it
 pub record After (t : Sat) (item : Record) (answer : Result ℕ WireRefusal) (a : Sat) : Type 0 where
   pub turn : HasTurn a
+  pub terms : a.0.terms ≡ t.0.terms
   pub keys : a.0.keys ≡ t.0.keys
   pub ok : OnOk answer (a.0.seen ≡ t.0.seen ++ item ∷ [])
   pub err : OnErr answer (a.0.seen ≡ t.0.seen)
 
 pub after_by : (t : Sat) (item : Record) (answer : Result ℕ WireRefusal) (a : Sat) → HasTurn t → OnOk answer (Adds t item a) → OnErr answer (a ≡ t)
     → After t item answer a
-after_by t item (Ok n) a turn ok err = record { turn = ok.turn; keys = ok.keys; ok = ok.seen; err = tt }
+after_by t item (Ok n) a turn ok err = record { turn = ok.turn; terms = ok.terms; keys = ok.keys; ok = ok.seen; err = tt }
 after_by t item (Err e) a turn ok err = record {
   turn = subst HasTurn (sym err) turn;
+  terms = ap (λ (m : Sat). m.0.terms) err;
   keys = ap (λ (m : Sat). m.0.keys) err;
   ok = tt;
   err = ap
@@ -104,51 +115,70 @@ after_by t item (Err e) a turn ok err = record {
 pub record Leaves (p q : Known) (a m o : Sat) : Type 0 where
   pub idle : IsIdle m × IsIdle o
   pub keyed : (0 < length m.0.keys) × (0 < length o.0.keys)
+  pub terms : (m.0.terms ≡ p.terms) × (o.0.terms ≡ q.terms)
   pub keys : (m.0.keys ≡ p.keys) × (o.0.keys ≡ q.keys)
   pub seen : (m.0.seen ≡ a.0.seen) × (o.0.seen ≡ a.0.seen)
 
-pub leaves : (p q : Known) (t : Sat) (item : Record) (answer : Result ℕ WireRefusal) (a g m o : Sat) → Holds p q t → After t item answer a
-    → g ≡ (view a.0.founding a.0.keys a.0.seen [] false, []) → Parts g m o → Leaves p q a m o
-leaves p q t item answer a g m o holds later gave parts =
+pub leaves : (next : Terms → List Record → Record → Type 0) (p q : Known) (t : Sat) (item : Record) (answer : Result ℕ WireRefusal) (a g m o : Sat)
+    → Holds next p q t → After t item answer a
+    → g ≡ (view a.0.terms a.0.keys a.0.seen [] false, []) → Parts g m o → Leaves p q a m o
+leaves next p q t item answer a g m o holds later gave parts =
     let keys : g.0.keys ≡ t.0.keys = ap (λ (x : Sat). x.0.keys) gave ∙ later.keys in
     let seen : g.0.seen ≡ a.0.seen = ap (λ (x : Sat). x.0.seen) gave in
+    let terms : g.0.terms ≡ p.terms = ap (λ (x : Sat). x.0.terms) gave ∙ later.terms ∙ holds.terms.0 in
     let mine : m.0.keys ≡ p.keys = parts.keys ∙ ap (drop 1) keys ∙ holds.cut.1 in
     let theirs : o.0.keys ≡ q.keys = parts.other_keys ∙ ap (take 1) keys ∙ holds.cut.0 in record {
       idle = parts.idle;
       keyed = (subst (λ (ks : List Key). 0 < length ks) (sym mine) holds.keyed.0, subst (λ (ks : List Key). 0 < length ks) (sym theirs) holds.keyed.1);
+      terms = (parts.terms ∙ terms, parts.other_terms ∙ terms ∙ sym holds.terms.1);
       keys = (mine, theirs);
       seen = (parts.seen ∙ seen, parts.other_seen ∙ seen);
     }
 
-known_as : (p : Known) (wire : TableId) (v : View) (views : List View) (seen : List Record) → views ≡ v ∷ [] → wire ≡ p.wire → v.keys ≡ p.keys
-    → v.seen ≡ seen → known_by wire views ≡ record p { seen = seen }
-known_as p wire v views seen one same keys is = ap (known_by wire) one ∙ (λ i. record { wire = same i; keys = keys i; seen = is i })
+known_as : (p : Known) (wire : TableId) (v : View) (views : List View) (seen : List Record) → views ≡ v ∷ [] → wire ≡ p.wire → v.terms ≡ p.terms
+    → v.keys ≡ p.keys → v.seen ≡ seen → known_by wire views ≡ record p { seen = seen }
+known_as p wire v views seen one same terms keys is = ap (known_by wire) one ∙ (λ i. record { wire = same i; terms = terms i; keys = keys i; seen = is i })
 
 -- what two badges tell then
 pub record Badges (p q : Known) (m o : Sat) (mine theirs : TableId) (views others : List View) : Type 0 where
   pub wires : (mine ≡ p.wire) × (theirs ≡ q.wire)
   pub one : (views ≡ m.0 ∷ []) × (others ≡ o.0 ∷ [])
 
-pub committed : (p q : Known) (t : Sat) (item : Record) (answer : Result ℕ WireRefusal) (a m o : Sat) (mine theirs : TableId) (views others : List View)
-    → Holds p q t → After t item answer a → Leaves p q a m o → Badges p q m o mine theirs views others → IfOk answer (λ n. n ≡ length t.0.seen + 1)
+pub committed : (next : Terms → List Record → Record → Type 0) (p q : Known) (t : Sat) (item : Record) (answer : Result ℕ WireRefusal) (a m o : Sat)
+    (mine theirs : TableId) (views others : List View)
+    → Holds next p q t → After t item answer a → Leaves p q a m o → Badges p q m o mine theirs views others → IfOk answer (λ n. n ≡ length t.0.seen + 1)
     → OnOk answer (length t.0.seen < most_events)
-    → IfOk answer (λ n. Committed p q item n (known_by mine views) (known_by theirs others))
-committed p q t item (Ok n) a m o mine theirs views others holds later left badges number room = record {
+    → IfOk answer (λ n. Committed (next p.terms) p q item n (known_by mine views) (known_by theirs others))
+committed next p q t item (Ok n) a m o mine theirs views others holds later left badges number room = record {
   before = t.0.seen;
   room = room;
   number = number;
   pass = holds.goes.0;
   share = holds.goes.1;
-  pass_after = known_as p mine m.0 views (t.0.seen ++ item ∷ []) badges.one.0 badges.wires.0 left.keys.0 (left.seen.0 ∙ later.ok);
-  share_after = known_as q theirs o.0 others (t.0.seen ++ item ∷ []) badges.one.1 badges.wires.1 left.keys.1 (left.seen.1 ∙ later.ok);
+  lawful = holds.lawful;
+  pass_after = known_as p mine m.0 views (t.0.seen ++ item ∷ []) badges.one.0 badges.wires.0 left.terms.0 left.keys.0 (left.seen.0 ∙ later.ok);
+  share_after = known_as q theirs o.0 others (t.0.seen ++ item ∷ []) badges.one.1 badges.wires.1 left.terms.1 left.keys.1 (left.seen.1 ∙ later.ok);
 }
-committed p q t item (Err e) a m o mine theirs views others holds later left badges number room = tt
+committed next p q t item (Err e) a m o mine theirs views others holds later left badges number room = tt
 
-pub refused : (p q : Known) (t : Sat) (item : Record) (answer : Result ℕ WireRefusal) (a m o : Sat) (mine theirs : TableId) (views others : List View)
-    → Holds p q t → After t item answer a → Leaves p q a m o → Badges p q m o mine theirs views others
+pub refused : (next : Terms → List Record → Record → Type 0) (p q : Known) (t : Sat) (item : Record) (answer : Result ℕ WireRefusal) (a m o : Sat)
+    (mine theirs : TableId) (views others : List View)
+    → Holds next p q t → After t item answer a → Leaves p q a m o → Badges p q m o mine theirs views others
     → OnErr answer (Sees p (known_by mine views) × Sees q (known_by theirs others))
-refused p q t item (Ok n) a m o mine theirs views others holds later left badges = tt
-refused p q t item (Err e) a m o mine theirs views others holds later left badges = (
-  sees_by p mine m.0 views badges.one.0 badges.wires.0 left.keys.0 (subst (GoesOn p.keys p.seen) (sym (left.seen.0 ∙ later.err)) holds.goes.0),
-  sees_by q theirs o.0 others badges.one.1 badges.wires.1 left.keys.1 (subst (GoesOn q.keys q.seen) (sym (left.seen.1 ∙ later.err)) holds.goes.1),
+refused next p q t item (Ok n) a m o mine theirs views others holds later left badges = tt
+refused next p q t item (Err e) a m o mine theirs views others holds later left badges = (
+  sees_by p mine m.0 views badges.one.0 badges.wires.0 left.terms.0 left.keys.0 (subst (GoesOn p.keys p.seen) (sym (left.seen.0 ∙ later.err)) holds.goes.0),
+  sees_by q theirs o.0 others badges.one.1 badges.wires.1 left.terms.1 left.keys.1 (subst (GoesOn q.keys q.seen) (sym (left.seen.1 ∙ later.err)) holds.goes.1),
 )
+
+-- all that is seen then follows
+pub lawful_then : (next : Terms → List Record → Record → Type 0) (p q : Known) (t : Sat) (item : Record) (answer : Result ℕ WireRefusal) (a m o : Sat)
+    (wire : TableId)
+    (views : List View) → Holds next p q t → After t item answer a → Leaves p q a m o → views ≡ m.0 ∷ [] → next t.0.terms t.0.seen item
+    → Follows (next p.terms) (known_by wire views).seen
+lawful_then next p q t item (Ok n) a m o wire views holds later left one its =
+    subst (λ (vs : List View). Follows (next p.terms) (known_by wire vs).seen) (sym one) (subst (Follows (next p.terms)) (sym (left.seen.0 ∙ later.ok))
+    (follows_more (next p.terms) t.0.seen item holds.lawful (subst (λ (x : Terms). next x t.0.seen item) holds.terms.0 its)))
+lawful_then next p q t item (Err e) a m o wire views holds later left one its =
+    subst (λ (vs : List View). Follows (next p.terms) (known_by wire vs).seen) (sym one)
+    (subst (Follows (next p.terms)) (sym (left.seen.0 ∙ later.err)) holds.lawful)

@@ -1,5 +1,6 @@
 -- A wire has each of its keys once.
-use Rattle.std.proofs.Common.{◌≡◌, ℕ, zero, suc, ◌+◌, ◌<◌, ◌≤◌, Bool, false, nat_lt, eqb, List, [], ◌∷◌, ◌++◌, length, map, take, drop, sym, refl, ap, ◌∙◌, arith, eq-eqb, ne_eqb, length-append, length-drop}
+use Rattle.std.proofs.Common.{◌≡◌, ℕ, zero, suc, ◌+◌, ◌<◌, ◌≤◌, Bool, false, nat_lt, eqb, List, [], ◌∷◌, ◌++◌, length, map, take, drop, sym, refl, ap, ◌∙◌}
+use Rattle.std.proofs.Common.{arith, eq-eqb, ne_eqb, length-append, length-drop}
 use Rattle.std.specs.Prelude.{if◌then◌else◌}
 use Rattle.std.specs.List.{range_with_len}
 use Rattle.std.proofs.lemmas.Bool.{lt-ltb, le-ltb}
@@ -11,6 +12,7 @@ use native.Mathlib.Decide.{ℕ_discrete}
 use Rattle.atomic_table.specs.Seated.{TableId}
 use Rattle.am_wire.specs.declared.rule.Key.{Key}
 use Rattle.am_wire.specs.declared.rule.Key.TheVariants.{Place, Caller}
+use Rattle.am_wire.specs.declared.rule.Terms.{Terms}
 use Rattle.am_wire.specs.Keys.{same_key, times, is_key, place_keys, caller_keys, all_keys}
 use Rattle.am_wire.specs.Seats.{Sat, IsIdle, Parts}
 use Rattle.am_wire.specs.Passes.{Known, fresh}
@@ -78,15 +80,17 @@ enough callers = omega (arith, length-append (map Place (range_with_len 0 16)) (
 
 -- ---- one by one
 
-take_more : (wire : TableId) (key : Key) (keys : List Key) (i : ℕ)
-    → map (fresh wire) (take (suc i + 1) (key ∷ keys)) ≡ fresh wire key ∷ map (fresh wire) (take (i + 1) keys)
-take_more wire key keys i = let e : suc i + 1 ≡ suc (i + 1) = omega arith in ap (λ (n : ℕ). map (fresh wire) (take n (key ∷ keys))) e
+take_more : (wire : TableId) (terms : Terms) (key : Key) (keys : List Key) (i : ℕ)
+    → map (fresh wire terms) (take (suc i + 1) (key ∷ keys)) ≡ fresh wire terms key ∷ map (fresh wire terms) (take (i + 1) keys)
+take_more wire terms key keys i = let e : suc i + 1 ≡ suc (i + 1) = omega arith in ap (λ (n : ℕ). map (fresh wire terms) (take n (key ∷ keys))) e
 
-pub one_more : (wire : TableId) (keys : List Key) (i : ℕ) → i < length keys
-    → map (fresh wire) (take (i + 1) keys) ≡ map (fresh wire) (take i keys) ++ record { wire = wire; keys = take 1 (drop i keys); seen = [] } ∷ []
-one_more wire [] i h = absurd (omega arith)
-one_more wire (key ∷ keys) zero h = refl
-one_more wire (key ∷ keys) (suc i) h = take_more wire key keys i ∙ ap (λ (l : List Known). fresh wire key ∷ l) (one_more wire keys i (omega arith))
+pub one_more : (wire : TableId) (terms : Terms) (keys : List Key) (i : ℕ) → i < length keys
+    → map (fresh wire terms) (take (i + 1) keys) ≡ map (fresh wire terms) (take i keys)
+    ++ record { wire = wire; terms = terms; keys = take 1 (drop i keys); seen = [] } ∷ []
+one_more wire terms [] i h = absurd (omega arith)
+one_more wire terms (key ∷ keys) zero h = refl
+one_more wire terms (key ∷ keys) (suc i) h = take_more wire terms key keys i
+    ∙ ap (λ (l : List Known). fresh wire terms key ∷ l) (one_more wire terms keys i (omega arith))
 
 drop_none : (i : ℕ) → drop {A = Key} i [] ≡ []
 drop_none zero = refl
@@ -101,30 +105,33 @@ pub first_there : (keys : List Key) (i : ℕ) → i < length keys → 0 < length
 first_there keys i h = omega (arith, length-take 1 (drop i keys), length-drop i keys)
 
 -- so many keys have their passes
-pub record Dealt (wire : TableId) (all : List Key) (i : ℕ) (its : TableId) (m : Sat) (made : List Known) : Type 0 where
+pub record Dealt (wire : TableId) (terms : Terms) (all : List Key) (i : ℕ) (its : TableId) (m : Sat) (made : List Known) : Type 0 where
   pub same : its ≡ wire
   pub idle : IsIdle m
   pub unseen : m.0.seen ≡ []
+  pub same_terms : m.0.terms ≡ terms
   pub keys : m.0.keys ≡ drop i all
-  pub passes : made ≡ map (fresh wire) (take i all)
+  pub passes : made ≡ map (fresh wire terms) (take i all)
 
-pub dealt_more : (wire : TableId) (all : List Key) (i : ℕ) (its : TableId) (m : Sat) (made : List Known) (its' : TableId) (m' other : Sat)
+pub dealt_more : (wire : TableId) (terms : Terms) (all : List Key) (i : ℕ) (its : TableId) (m : Sat) (made : List Known) (its' : TableId) (m' other : Sat)
     (made' : List Known) → i < length all
-    → Dealt wire all i its m made → its' ≡ its → Parts m m' other
-    → made' ≡ made ++ record { wire = its; keys = other.0.keys; seen = other.0.seen } ∷ [] → Dealt wire all (i + 1) its' m' made'
-dealt_more wire all i its m made its' m' other made' h dealt same parts pushed = record {
+    → Dealt wire terms all i its m made → its' ≡ its → Parts m m' other
+    → made' ≡ made ++ record { wire = its; terms = other.0.terms; keys = other.0.keys; seen = other.0.seen } ∷ [] → Dealt wire terms all (i + 1) its' m' made'
+dealt_more wire terms all i its m made its' m' other made' h dealt same parts pushed = record {
   same = same ∙ dealt.same;
   idle = parts.idle.0;
   unseen = parts.seen ∙ dealt.unseen;
+  same_terms = parts.terms ∙ dealt.same_terms;
   keys = parts.keys ∙ ap (drop 1) dealt.keys ∙ drop_more all i;
-  passes = pushed ∙ ap (λ (l : List Known). l ++ record { wire = its; keys = other.0.keys; seen = other.0.seen } ∷ []) dealt.passes
-      ∙ ap (λ (p : Known). map (fresh wire) (take i all) ++ p ∷ []) (λ k. record {
+  passes = pushed ∙ ap (λ (l : List Known). l ++ record { wire = its; terms = other.0.terms; keys = other.0.keys; seen = other.0.seen } ∷ []) dealt.passes
+      ∙ ap (λ (p : Known). map (fresh wire terms) (take i all) ++ p ∷ []) (λ k. record {
         wire = dealt.same k;
+        terms = (parts.other_terms ∙ dealt.same_terms) k;
         keys = (parts.other_keys
             ∙ ap (take 1) dealt.keys) k;
         seen = (parts.other_seen ∙ dealt.unseen) k;
       })
-      ∙ sym (one_more wire all i h);
+      ∙ sym (one_more wire terms all i h);
 }
 
 pub take_callers : (callers : ℕ) → take callers (caller_keys callers) ≡ caller_keys callers

@@ -5,6 +5,7 @@ use Rattle.std.proofs.lemmas.List.Sums.{sum_by-append, sum_by-cons}
 use Rattle.std.proofs.lemmas.List.Elements.{All-append}
 use Rattle.atomic_table.specs.Seated.{TableId}
 use Rattle.am_wire.specs.declared.rule.Key.{Key}
+use Rattle.am_wire.specs.declared.rule.Terms.{Terms}
 use Rattle.am_wire.specs.Keys.{times, is_key, all_keys}
 use Rattle.am_wire.specs.Seats.{GoesOn}
 use Rattle.am_wire.specs.Passes.{Known, fresh, Joined, Gathered, HasAll}
@@ -62,17 +63,17 @@ gathered_all callers made p g each key is =
     positive n e = omega arith
 
 -- passes with one key each have these keys
-pub fresh_times : (key : Key) (wire : TableId) (keys : List Key) → sum_by (λ q. times key q.keys) (map (fresh wire) keys) ≡ times key keys
-fresh_times key wire [] = refl
-fresh_times key wire (k ∷ keys) =
-    let a = sum_by-cons (λ (q : Known). times key q.keys) (fresh wire k) (map (fresh wire) keys) in
+pub fresh_times : (key : Key) (wire : TableId) (terms : Terms) (keys : List Key) → sum_by (λ q. times key q.keys) (map (fresh wire terms) keys) ≡ times key keys
+fresh_times key wire terms [] = refl
+fresh_times key wire terms (k ∷ keys) =
+    let a = sum_by-cons (λ (q : Known). times key q.keys) (fresh wire terms k) (map (fresh wire terms) keys) in
     let b = times_cons key k keys in
     let c = times_cons key k [] in
     let z : times key [] ≡ 0 = refl in
-    let r = fresh_times key wire keys in
+    let r = fresh_times key wire terms keys in
     omega arith
 
-pub fresh_wires : (wire : TableId) (keys : List Key) → All (λ q. q.wire ≡ wire) (map (fresh wire) keys)
-fresh_wires wire [] k d h = absurd (omega arith)
-fresh_wires wire (key ∷ keys) zero d h = refl
-fresh_wires wire (key ∷ keys) (suc k) d h = fresh_wires wire keys k d (omega arith)
+pub fresh_wires : (wire : TableId) (terms : Terms) (keys : List Key) → All (λ q. q.wire ≡ wire) (map (fresh wire terms) keys)
+fresh_wires wire terms [] k d h = absurd (omega arith)
+fresh_wires wire terms (key ∷ keys) zero d h = refl
+fresh_wires wire terms (key ∷ keys) (suc k) d h = fresh_wires wire terms keys k d (omega arith)

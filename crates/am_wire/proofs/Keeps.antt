@@ -1,22 +1,20 @@
 -- Each step of a wire keeps its rule.
-use Rattle.std.proofs.Common.{◌≡◌, ◌≢◌, ◌⊎◌, ℕ, zero, suc, ◌+◌, ◌*◌, ◌%◌, ◌^◌, ◌<◌, ◌≤◌, Bool, cond, true, false, true≢false, eqb, List, [], ◌∷◌, ◌++◌, length, take, drop, map, set, sym, refl, ap, ◌∙◌, subst, inl, inr, arith, append-nil, length-append, ap₂, eq-eqb}
+use Rattle.std.proofs.Common.{◌≡◌, ◌≢◌, ◌⊎◌, ℕ, zero, suc, ◌+◌, ◌*◌, ◌%◌, ◌^◌, ◌<◌, ◌≤◌, Bool, cond, true, false, true≢false, eqb, List, [], ◌∷◌, ◌++◌, length}
+use Rattle.std.proofs.Common.{take, drop, map, set, sym, refl, ap, ◌∙◌, subst, inl, inr, arith, append-nil, append_assoc, length-append, ap₂, eq-eqb}
 use Rattle.std.specs.Prelude.{slice_index, All, if◌then◌else◌}
 use Rattle.am_base.specs.Most.{most_events}
 use mathlib.Core.Option.{Option, none, some, some-injective, some-ne-none}
 use lib.ListN.{get_elem?}
 use prog.Atomic.{either}
 use Rattle.std.proofs.lemmas.Bool.{ltb-true, lt-ltb, eqb-true}
-use Rattle.std.proofs.lemmas.List.{take-append-drop}
+use Rattle.std.proofs.lemmas.List.{take-append-drop, length-take}
 use Rattle.std.proofs.Math.Nat.{mod-lt}
-use Rattle.std.proofs.lemmas.List.Concat.{flat_map-append}
+use Rattle.std.proofs.Math.Seq.{take-append_seam, drop-append_seam}
 use Rattle.std.proofs.lemmas.List.Elements.{All-append}
 use Rattle.atomic_table.specs.Table.{step, opening, keeps, takes, gives, stepped, Allows, Splits, Joins, Final, Seen, put_back, rest}
 use Rattle.atomic_table.proofs.Lists.{at_set, at_snoc, at_longer, set_again, set_else}
-use Rattle.am_base.specs.Founding.{Rules}
 use Rattle.am_base.specs.Names.{place_of}
-use Rattle.am_packet.specs.Boxes.{Letter}
 use Rattle.am_group.specs.declared.event.Record.{Record}
-use Rattle.am_group.specs.Journals.{letters_of}
 use Rattle.am_wire.specs.declared.rule.Key.{Key}
 use Rattle.am_wire.specs.declared.rule.Key.TheVariants.{Place, Caller}
 use Rattle.am_wire.specs.declared.rule.Sight.{Sight}
@@ -24,10 +22,12 @@ use Rattle.am_wire.specs.declared.rule.Terms.{Terms}
 use Rattle.am_wire.specs.declared.rule.View.{View}
 use Rattle.am_wire.specs.Keys.{is_of, of_key, same_key, times, is_key, all_keys}
 use Rattle.am_wire.specs.Stops.{Page}
-use Rattle.am_wire.specs.Seats.{view, sight_of, no_rules, longer, GoesOn, IsUpTo, AreLow, Shown, Sat, standing, Fits, IsFree, Stands, IsIdle, HasTurn, took, carried, counted, gave, Looks, looked, Unites}
+use Rattle.am_wire.specs.Seats.{view, sight_of, no_terms, longer, StartsWith, GoesOn, Follows, Shown, Sat, standing, Fits, IsFree, Stands, IsIdle, HasTurn}
+use Rattle.am_wire.specs.Seats.{took, carried, counted, gave, Looks, looked, Unites}
 use Rattle.am_wire.specs.Passes.{HasAll}
 use Rattle.am_wire.proofs.Dealt.{each_once}
-use Rattle.am_wire.proofs.Views.{rest_of, starts_by, starts_through, key_append, goes_same, times_append, times_cons, BothGo, both_go, stand_set, stand_last, stand_one, stand_two}
+use Rattle.am_wire.proofs.Views.{rest_of, starts_by, starts_through, key_append, goes_same, times_append, times_cons, BothGo, both_go, stand_set, stand_last}
+use Rattle.am_wire.proofs.Views.{stand_one, stand_two}
 
 abbrev page : Terms → List Record → Page
 page terms log = record { founding = terms.founding; records = log }
@@ -72,19 +72,23 @@ new_there (x ∷ vs) zero v w at = refl
 new_there (x ∷ vs) (suc id) v w at = new_there vs id v w at
 
 -- a seat's view is another one, with the same keys
-kept_keys : (terms : Terms) (s : Shown) (k : Stands terms s) (id : ℕ) (v w : View) → get_elem? s.views id ≡ some v → w.keys ≡ v.keys
+kept_keys : (next : Terms → List Record → Record → Type 0) (terms : Terms) (s : Shown) (k : Stands next terms s) (id : ℕ) (v w : View)
+    → get_elem? s.views id ≡ some v → w.keys ≡ v.keys
     → (key : Key) → standing key (set s.views id w) ≡ (if is_key terms.callers key then 1 else 0)
-kept_keys terms s k id v w at same key =
+kept_keys next terms s k id v w at same key =
     let e = stand_set key s.views id v w at in
     let f : times key w.keys ≡ times key v.keys = ap (times key) same in
     let o = k.once key in
     omega arith
 
+nothing_there : (before rest : List Record) (r : Record) → [] ≡ before ++ r ∷ rest → ⊥
+nothing_there before rest r e = let n : length (before ++ r ∷ rest) ≡ 0 = ap length (sym e) in omega (arith, length-append before (r ∷ rest))
+
 none_older : (P : Sight → Type 0) → All P []
 none_older P = λ k d h. absurd (omega arith)
 
 -- the whole journal, as the seat with the turn sees it
-all_seen : (terms : Terms) (log old : List Record) (v : View) → Fits terms old v → 0 < length v.keys → Fits terms log (view v.founding v.keys log [] true)
+all_seen : (terms : Terms) (log old : List Record) (v : View) → Fits terms old v → 0 < length v.keys → Fits terms log (view v.terms v.keys log [] true)
 all_seen terms log old v fits keyed = record {
   goes = goes_same v.keys log;
   older = none_older _;
@@ -126,16 +130,17 @@ unfolding SameTurns
 turns_through us vs ws p q = λ j u has. ((λ here. (q j u has).0 ((p j u has).0 here)), λ here. (p j u has).1 ((q j u has).1 here))
 
 -- the rule with other views
-with_views : (terms : Terms) (s : Shown) (k : Stands terms s) (vs : List View) → ((key : Key) → standing key vs ≡ (if is_key terms.callers key then 1 else 0))
+with_views : (next : Terms → List Record → Record → Type 0) (terms : Terms) (s : Shown) (k : Stands next terms s) (vs : List View)
+    → ((key : Key) → standing key vs ≡ (if is_key terms.callers key then 1 else 0))
     → ((id : ℕ) (v : View) → get_elem? vs id ≡ some v → Fits terms k.log v) → SameTurns s.views vs
-    → Stands terms (record { words = s.words; homes = s.homes; views = vs })
+    → Stands next terms (record { words = s.words; homes = s.homes; views = vs })
 unfolding SameTurns
-with_views terms s k vs once fits turns = record {
+with_views next terms s k vs once fits turns = record {
   log = k.log;
   two = k.two;
   count = k.count;
   most = k.most;
-  low = k.low;
+  lawful = k.lawful;
   callers = k.callers;
   once = once;
   fits = fits;
@@ -160,19 +165,20 @@ with_views terms s k vs once fits turns = record {
 
 -- ---- taking the slot
 
-free_takes : (terms : Terms) (s : Shown) (k : Stands terms s) (id : ℕ) (me : Sat) → IsFree terms s k.log → 0 < length me.0.keys
+free_takes : (next : Terms → List Record → Record → Type 0) (terms : Terms) (s : Shown) (k : Stands next terms s) (id : ℕ) (me : Sat) → IsFree terms s k.log
+    → 0 < length me.0.keys
     → get_elem? s.views id ≡ some me.0
-    → Stands terms (stepped s 0 1 id me.1 (view me.0.founding me.0.keys k.log [] true) (takes 0 (page terms k.log)))
-free_takes terms s k id me free keyed at =
-    let new : View = view me.0.founding me.0.keys k.log [] true in
+    → Stands next terms (stepped s 0 1 id me.1 (view me.0.terms me.0.keys k.log [] true) (takes 0 (page terms k.log)))
+free_takes next terms s k id me free keyed at =
+    let new : View = view me.0.terms me.0.keys k.log [] true in
     let w = two_words s.words 1 k.two in record {
       log = k.log;
       two = w.0;
       count = w.2 ∙ k.count;
       most = k.most;
-      low = k.low;
+      lawful = k.lawful;
       callers = k.callers;
-      once = kept_keys terms s k id me.0 new at refl;
+      once = kept_keys next terms s k id me.0 new at refl;
       fits = λ j v here. elim (at_set s.views id j new v here) [
         | inl t ↦ subst (Fits terms k.log) t.1 (all_seen terms k.log k.log me.0 (k.fits id me.0 at) keyed)
         | inr t ↦ k.fits j v t.1
@@ -191,35 +197,37 @@ free_takes terms s k id me free keyed at =
       });
     }
 
-unmoved : (terms : Terms) (s : Shown) (k : Stands terms s) (n id : ℕ) (me : Sat) → slice_index s.words 0 ≡ n → get_elem? s.views id ≡ some me.0
-    → Stands terms (stepped s 0 n id me.1 me.0 keeps)
-unmoved terms s k n id me is at =
+unmoved : (next : Terms → List Record → Record → Type 0) (terms : Terms) (s : Shown) (k : Stands next terms s) (n id : ℕ) (me : Sat) → slice_index s.words 0 ≡ n
+    → get_elem? s.views id ≡ some me.0
+    → Stands next terms (stepped s 0 n id me.1 me.0 keeps)
+unmoved next terms s k n id me is at =
     let same_words : set s.words 0 n ≡ s.words = same_word s.words n k.two is in
     let same_views : set s.views id me.0 ≡ s.views = set_again s.views id me.0 at in
-    subst (λ (t : List ℕ × List View). Stands terms (record { words = t.0; homes = s.homes; views = t.1 })) (λ i. (sym same_words i, sym same_views i)) k
+    subst (λ (t : List ℕ × List View). Stands next terms (record { words = t.0; homes = s.homes; views = t.1 })) (λ i. (sym same_words i, sym same_views i)) k
 
-pub take_allows : (terms : Terms) (slots id : ℕ) (me : Sat) → IsIdle me → 0 < length me.0.keys
-    → Allows (Stands terms) slots id me 0 (λ n. either (eqb n 0) 1 n) (took (step slots 0 0 1 none) me)
-take_allows terms slots id me idle keyed s k len at small = elim k.turn [
-  | inl free ↦ let x : slice_index s.words 0 ≡ 0 = free.word in let new : View = view me.0.founding me.0.keys k.log [] true in (
+pub take_allows : (next : Terms → List Record → Record → Type 0) (terms : Terms) (slots id : ℕ) (me : Sat) → IsIdle me → 0 < length me.0.keys
+    → Allows (Stands next terms) slots id me 0 (λ n. either (eqb n 0) 1 n) (took next (step slots 0 0 1 none) me)
+take_allows next terms slots id me idle keyed s k len at small = elim k.turn [
+  | inl free ↦ let x : slice_index s.words 0 ≡ 0 = free.word in let new : View = view me.0.terms me.0.keys k.log [] true in (
     new,
     takes 0 (page terms k.log),
     subst (λ hs. get_elem? hs 0 ≡ some (some (page terms k.log))) (sym free.home) refl,
-    subst (λ (n : ℕ). Stands terms (stepped s 0 (either (eqb n 0) 1 n) id me.1 new (takes 0 (page terms k.log)))) (sym x)
-        (free_takes terms s k id me free keyed at),
+    subst (λ (n : ℕ). Stands next terms (stepped s 0 (either (eqb n 0) 1 n) id me.1 new (takes 0 (page terms k.log)))) (sym x)
+        (free_takes next terms s k id me free keyed at),
     (
       (λ _. record {
         turn = record {
           turn = refl;
           older = refl;
           keyed = keyed;
-          page = ap₂ (λ (c : List (ℕ × Page)) (f : Rules). (0, record { founding = f; records = k.log }) ∷ c) idle.empty (sym
+          page = ap₂ (λ (c : List (ℕ × Page)) (f : Terms). (0, record { founding = f.founding; records = k.log }) ∷ c) idle.empty (sym
               ((k.fits id me.0 at).founded keyed));
         };
         keys = refl;
         goes = (k.fits id me.0 at).goes;
         most = k.most;
-        low = k.low;
+        terms = refl;
+        lawful = subst (λ (t : Terms). Follows (next t) k.log) (sym ((k.fits id me.0 at).founded keyed)) k.lawful;
       }),
       λ not. absurd (not x),
     ),
@@ -228,19 +236,20 @@ take_allows terms slots id me idle keyed s k len at small = elim k.turn [
     me.0,
     keeps,
     tt,
-    subst (λ (n : ℕ). Stands terms (stepped s 0 (either (eqb n 0) 1 n) id me.1 me.0 keeps)) (sym x) (unmoved terms s k 1 id me x at),
+    subst (λ (n : ℕ). Stands next terms (stepped s 0 (either (eqb n 0) 1 n) id me.1 me.0 keeps)) (sym x) (unmoved next terms s k 1 id me x at),
     ((λ (e : slice_index s.words 0 ≡ 0). absurd (omega arith)), λ _. refl),
   )
 ]
 
 -- ---- giving it back
 
-pub give_allows : (terms : Terms) (slots id : ℕ) (me : Sat) → HasTurn me → Allows (Stands terms) slots id me 0 (λ _. 0) (λ _. gave (step slots 0 0 0 none) me 0)
-give_allows terms slots id me has s k len at small =
+pub give_allows : (next : Terms → List Record → Record → Type 0) (terms : Terms) (slots id : ℕ) (me : Sat) → HasTurn me
+    → Allows (Stands next terms) slots id me 0 (λ _. 0) (λ _. gave (step slots 0 0 0 none) me 0)
+give_allows next terms slots id me has s k len at small =
     let mine = k.fits id me.0 at in
     let whole : me.0.seen ≡ k.log = mine.whole has.turn in
-    let founded : me.0.founding ≡ terms.founding = mine.founded (mine.keyed has.turn) in
-    let new : View = view me.0.founding me.0.keys me.0.seen [] false in
+    let founded : me.0.terms ≡ terms = mine.founded (mine.keyed has.turn) in
+    let new : View = view me.0.terms me.0.keys me.0.seen [] false in
     let w = two_words s.words 0 k.two in
     elim k.turn [
       | inl free ↦ absurd (true≢false (sym has.turn ∙ free.nobody id me.0 at))
@@ -253,9 +262,9 @@ give_allows terms slots id me has s k len at small =
           two = w.0;
           count = w.2 ∙ k.count;
           most = k.most;
-          low = k.low;
+          lawful = k.lawful;
           callers = k.callers;
-          once = kept_keys terms s k id me.0 new at refl;
+          once = kept_keys next terms s k id me.0 new at refl;
           fits = λ j v here. elim (at_set s.views id j new v here) [
             | inl t ↦ subst (Fits terms k.log) t.1 (record {
               goes = mine.goes;
@@ -268,8 +277,8 @@ give_allows terms slots id me has s k len at small =
           ];
           turn = inl (record {
             word = w.1;
-            home = given s.homes me.1 (record { founding = me.0.founding; records = me.0.seen }) (page terms k.log) taken.home has.page (ap₂
-                (λ (f : Rules) (l : List Record). record { founding = f; records = l }) founded whole);
+            home = given s.homes me.1 (record { founding = me.0.terms.founding; records = me.0.seen }) (page terms k.log) taken.home has.page (ap₂
+                (λ (f : Terms) (l : List Record). record { founding = f.founding; records = l }) founded whole);
             nobody = λ j v here. elim (at_set s.views id j new v here) [
               | inl t ↦ ap (λ (x : View). x.turn) (sym t.1)
               | inr t ↦ not_true v.turn (λ is. t.0 (taken.only j v t.1 is ∙ sym (taken.only id me.0 at has.turn)))
@@ -300,29 +309,51 @@ at_most_one true = omega arith
 at_most_one false = omega arith
 
 -- a key is with one seat alone
-alone : (terms : Terms) (s : Shown) (k : Stands terms s) (key : Key) (i j : ℕ) (v w : View) → i ≢ j → get_elem? s.views i ≡ some v
+alone : (next : Terms → List Record → Record → Type 0) (terms : Terms) (s : Shown) (k : Stands next terms s) (key : Key) (i j : ℕ) (v w : View) → i ≢ j
+    → get_elem? s.views i ≡ some v
     → get_elem? s.views j ≡ some w
     → 0 < times key v.keys → 0 < times key w.keys → ⊥
-alone terms s k key i j v w apart at there one two =
+alone next terms s k key i j v w apart at there one two =
     let t = stand_two key s.views i j v w apart at there in
     let o = k.once key in
     let m = at_most_one (is_key terms.callers key) in
     omega arith
 
-pub raised : (low high : ℕ) (letters : List Letter) → low ≤ high → All (λ l. IsUpTo low l.packet) letters → All (λ l. IsUpTo high l.packet) letters
-raised low high letters le all = λ k d h. let u = all k d h in let a = u.round in let b = u.base in record { round = omega arith; base = omega arith }
+snoc_same : (xs ys : List Record) (x y : Record) → xs ++ x ∷ [] ≡ ys ++ y ∷ [] → (xs ≡ ys) × (x ≡ y)
+snoc_same xs ys x y e =
+    let n : length (xs ++ x ∷ []) ≡ length (ys ++ y ∷ []) = ap length e in
+    let same : length xs ≡ length ys = omega (arith, length-append xs (x ∷ []), length-append ys (y ∷ [])) in
+    let front : xs ≡ ys = sym (take-append_seam xs (x ∷ [])) ∙ ap (take (length xs)) e ∙ ap (λ (k : ℕ). take k (ys ++ y ∷ [])) same
+    ∙ take-append_seam ys (y ∷ []) in
+    let end : x ∷ [] ≡ y ∷ [] = sym (drop-append_seam xs (x ∷ [])) ∙ ap (drop (length xs)) e ∙ ap (λ (k : ℕ). drop k (ys ++ y ∷ [])) same
+    ∙ drop-append_seam ys (y ∷ []) in
+    (front, ap (λ (l : List Record). first l) end)
+  where
+    first : List Record → Record
+    first [] = x
+    first (z ∷ zs) = z
 
-letters_more : (log : List Record) (r : Record) → letters_of (log ++ r ∷ []) ≡ letters_of log ++ r.packets
-letters_more log r = flat_map-append (λ (q : Record). q.packets) log (r ∷ []) ∙ ap (λ (l : List Letter). letters_of log ++ l) (append-nil r.packets)
+-- a beginning of one
+pub follows_first : (next : List Record → Record → Type 0) (log seen : List Record) → StartsWith log seen → Follows next log → Follows next seen
+follows_first next log seen begins each before rest r e =
+    each before (rest ++ drop (length seen) log) r
+    (rest_of log seen begins ∙ ap (λ (l : List Record). l ++ drop (length seen) log) e ∙ append_assoc before (r ∷ rest) (drop (length seen) log))
 
-low_more : (log : List Record) (r : Record) → AreLow log → All (λ l. IsUpTo (2 * length log + 3) l.packet) r.packets → AreLow (log ++ r ∷ [])
-low_more log r low its =
-    let n : length (log ++ r ∷ []) ≡ length log + 1 = length-append log (r ∷ []) in
-    let most : ℕ = 2 * length (log ++ r ∷ []) + 1 in
-    let old = raised (2 * length log + 1) most (letters_of log) (omega arith) low in
-    let new = raised (2 * length log + 3) most r.packets (omega arith) its in
-    let is : letters_of (log ++ r ∷ []) ≡ letters_of log ++ r.packets = letters_more log r in
-    subst (All (λ (l : Letter). IsUpTo most l.packet)) (sym is) (All-append (λ (l : Letter). IsUpTo most l.packet) (letters_of log) r.packets old new)
+-- a journal of which each record comes next, and one that comes next behind it
+pub follows_more : (next : List Record → Record → Type 0) (log : List Record) (r : Record) → Follows next log → next log r → Follows next (log ++ r ∷ [])
+follows_more next log r each its before others q e = behind others e
+  where
+    last_two : (rest : List Record) (x : Record) → (more : List Record) × ((y : Record) × (x ∷ rest ≡ more ++ y ∷ []))
+    last_two [] x = ([], (x, refl))
+    last_two (z ∷ rest) x = let m = last_two rest z in (x ∷ m.0, (m.1.0, ap (λ (l : List Record). x ∷ l) m.1.1))
+
+    behind : (rest : List Record) → log ++ r ∷ [] ≡ before ++ q ∷ rest → next before q
+    behind [] is = let s = snoc_same log before r q is in subst (λ (l : List Record). next l q) s.0 (subst (next log) s.1 its)
+    behind (x ∷ more) is =
+        let m = last_two more x in
+        let whole : log ++ r ∷ [] ≡ (before ++ q ∷ m.0) ++ m.1.0 ∷ [] = is ∙ ap (λ (l : List Record). before ++ q ∷ l) m.1.1
+        ∙ sym (append_assoc before (q ∷ m.0) (m.1.0 ∷ [])) in
+        each before m.0 q (snoc_same log (before ++ q ∷ m.0) r m.1.0 whole).0
 
 all_one : (P : Record → Type 0) (r : Record) → P r → All P (r ∷ [])
 all_one P r p zero d h = p
@@ -333,29 +364,31 @@ is_true_if true h = refl
 is_true_if false h = absurd (omega arith)
 
 -- a key that a seat has is one of the wire's
-key_of_wire : (terms : Terms) (s : Shown) (k : Stands terms s) (key : Key) (id : ℕ) (v : View) → get_elem? s.views id ≡ some v
+key_of_wire : (next : Terms → List Record → Record → Type 0) (terms : Terms) (s : Shown) (k : Stands next terms s) (key : Key) (id : ℕ) (v : View)
+    → get_elem? s.views id ≡ some v
     → 0 < times key v.keys → is_key terms.callers key ≡ true
-key_of_wire terms s k key id v at has = let t = stand_one key s.views id v at in let o = k.once key in is_true_if (is_key terms.callers key) (omega arith)
+key_of_wire next terms s k key id v at has = let t = stand_one key s.views id v at in let o = k.once key in is_true_if (is_key terms.callers key) (omega arith)
 
 -- what a seat is to have before it counts a record
-pub record MayCount (me : Sat) (r : Record) : Type 0 where
+pub record MayCount (next : Terms → List Record → Record → Type 0) (me : Sat) (r : Record) : Type 0 where
   pub turn : me.0.turn ≡ true
-  pub page : me.1 ≡ (0, record { founding = me.0.founding; records = me.0.seen ++ r ∷ [] }) ∷ []
+  pub page : me.1 ≡ (0, record { founding = me.0.terms.founding; records = me.0.seen ++ r ∷ [] }) ∷ []
   pub room : length me.0.seen < most_events
   pub place : 0 < times (Place (place_of r.event.node)) me.0.keys
   pub caller : 0 < times (Caller r.by.caller) me.0.keys
-  pub low : All (λ l. IsUpTo (2 * length me.0.seen + 3) l.packet) r.packets
+  pub lawful : next me.0.terms me.0.seen r
 
 -- another seat's view fits what is longer by a record
-others_fit : (terms : Terms) (s : Shown) (k : Stands terms s) (id : ℕ) (me : Sat) (r : Record) → MayCount me r → get_elem? s.views id ≡ some me.0
+others_fit : (next : Terms → List Record → Record → Type 0) (terms : Terms) (s : Shown) (k : Stands next terms s) (id : ℕ) (me : Sat) (r : Record)
+    → MayCount next me r → get_elem? s.views id ≡ some me.0
     → (j : ℕ) (u : View) → j ≢ id → get_elem? s.views j ≡ some u
     → (u.turn ≡ true → ⊥) → Fits terms (k.log ++ r ∷ []) u
-others_fit terms s k id me r may at j u apart here off = let old = k.fits j u here in record {
+others_fit next terms s k id me r may at j u apart here off = let old = k.fits j u here in record {
   goes = record {
     begins = starts_through u.seen k.log (k.log ++ r ∷ []) old.goes.begins (starts_by (k.log ++ r ∷ []) k.log (r ∷ []) refl);
     own = λ key h. key_stays key k.log r (not_true (is_of key r) (λ is. elim (is_own key r is) [
-      | inl e ↦ alone terms s k key j id u me.0 apart here at h (subst (λ (x : Key). 0 < times x me.0.keys) (sym e) may.place)
-      | inr e ↦ alone terms s k key j id u me.0 apart here at h (subst (λ (x : Key). 0 < times x me.0.keys) (sym e) may.caller)
+      | inl e ↦ alone next terms s k key j id u me.0 apart here at h (subst (λ (x : Key). 0 < times x me.0.keys) (sym e) may.place)
+      | inr e ↦ alone next terms s k key j id u me.0 apart here at h (subst (λ (x : Key). 0 < times x me.0.keys) (sym e) may.caller)
     ])) ∙ old.goes.own key h;
   };
   older = old.older;
@@ -364,15 +397,15 @@ others_fit terms s k id me r may at j u apart here off = let old = k.fits j u he
   keyed = λ is. absurd (off is);
 }
 
-pub count_allows : (terms : Terms) (slots id : ℕ) (me : Sat) (r : Record) → MayCount me r
-    → Allows (Stands terms) slots id me 1 (λ n. (n + 1) % 2 ^ 64) (counted (step slots 1 1 0 none) me)
-count_allows terms slots id me r may s k len at small =
+pub count_allows : (next : Terms → List Record → Record → Type 0) (terms : Terms) (slots id : ℕ) (me : Sat) (r : Record) → MayCount next me r
+    → Allows (Stands next terms) slots id me 1 (λ n. (n + 1) % 2 ^ 64) (counted (step slots 1 1 0 none) me)
+count_allows next terms slots id me r may s k len at small =
     let x : ℕ = slice_index s.words 1 in
     let mine = k.fits id me.0 at in
     let whole : me.0.seen ≡ k.log = mine.whole may.turn in
     let more : List Record = k.log ++ r ∷ [] in
     let is : carried me.1 ≡ more = ap carried may.page ∙ ap (λ (l : List Record). l ++ r ∷ []) whole in
-    let new : View = view me.0.founding me.0.keys (carried me.1) [] true in
+    let new : View = view me.0.terms me.0.keys (carried me.1) [] true in
     let n : ℕ = (x + 1) % 18446744073709551616 in
     let w = two_counts s.words n k.two in
     let at_x : x ≡ length k.log = k.count in
@@ -380,8 +413,10 @@ count_allows terms slots id me r may s k len at small =
     let grown : length more ≡ length k.log + 1 = length-append k.log (r ∷ []) in
     let room = may.room in
     let counts : n ≡ length more = omega arith in
-    let low : AreLow more = low_more k.log r k.low (subst (λ (m : ℕ). All (λ (l : Letter). IsUpTo (2 * m + 3) l.packet) r.packets) same may.low) in
-    let caller : r.by.caller < terms.callers = ltb-true r.by.caller terms.callers (key_of_wire terms s k (Caller r.by.caller) id me.0 at may.caller) in
+    let founded : me.0.terms ≡ terms = mine.founded (mine.keyed may.turn) in
+    let lawful : Follows (next terms) more = follows_more (next terms) k.log r k.lawful
+    (subst (λ (t : Terms). next t k.log r) founded (subst (λ (l : List Record). next me.0.terms l r) whole may.lawful)) in
+    let caller : r.by.caller < terms.callers = ltb-true r.by.caller terms.callers (key_of_wire next terms s k (Caller r.by.caller) id me.0 at may.caller) in
     elim k.turn [
       | inl free ↦ absurd (true≢false (sym may.turn ∙ free.nobody id me.0 at))
       | inr taken ↦ (
@@ -393,15 +428,15 @@ count_allows terms slots id me r may s k len at small =
           two = w.0;
           count = w.1 ∙ counts;
           most = omega arith;
-          low = low;
+          lawful = lawful;
           callers = All-append (λ (q : Record). q.by.caller < terms.callers) k.log (r ∷ []) k.callers (all_one
               (λ (q : Record). q.by.caller < terms.callers) r caller);
-          once = kept_keys terms s k id me.0 new at refl;
+          once = kept_keys next terms s k id me.0 new at refl;
           fits = λ j v here. elim (at_set s.views id j new v here) [
             | inl t ↦ subst (Fits terms more) t.1
-                (subst (λ (l : List Record). Fits terms more (view me.0.founding me.0.keys l [] true)) (sym is) (all_seen terms more k.log me.0 mine
+                (subst (λ (l : List Record). Fits terms more (view me.0.terms me.0.keys l [] true)) (sym is) (all_seen terms more k.log me.0 mine
                 (mine.keyed may.turn)))
-            | inr t ↦ others_fit terms s k id me r may at j v t.0 t.1 (λ has. absurd (t.0 (taken.only j v t.1 has ∙ sym (taken.only id me.0 at may.turn))))
+            | inr t ↦ others_fit next terms s k id me r may at j v t.0 t.1 (λ has. absurd (t.0 (taken.only j v t.1 has ∙ sym (taken.only id me.0 at may.turn))))
           ];
           turn = inr (record {
             word = w.2 ∙ taken.word;
@@ -422,18 +457,21 @@ count_allows terms slots id me r may s k len at small =
 
 -- ---- looking
 
-pub look_allows : (terms : Terms) (slots id : ℕ) (me : Sat) → me.0.turn ≡ false → me.1 ≡ []
-    → Allows (Stands terms) slots id me 1 (λ n. n) (looked (step slots 1 0 0 none) me)
-look_allows terms slots id me off empty s k len at small =
+no_longer : (log seen : List Record) → StartsWith log seen → length log ≤ most_events → length seen ≤ most_events
+no_longer log seen begins most = omega (arith, length-take (length seen) log, ap length begins)
+
+pub look_allows : (next : Terms → List Record → Record → Type 0) (terms : Terms) (slots id : ℕ) (me : Sat) → me.0.turn ≡ false → me.1 ≡ []
+    → Allows (Stands next terms) slots id me 1 (λ n. n) (looked next (step slots 1 0 0 none) me)
+look_allows next terms slots id me off empty s k len at small =
     let mine = k.fits id me.0 at in
-    let new : View = view me.0.founding me.0.keys me.0.seen [] false in
+    let new : View = view me.0.terms me.0.keys me.0.seen [] false in
     let x : ℕ = slice_index s.words 1 in
     let same_words : set s.words 1 x ≡ s.words = same_count s.words x k.two refl in (
       new,
       keeps,
       tt,
-      subst (λ (ws : List ℕ). Stands terms (record { words = ws; homes = s.homes; views = set s.views id new })) (sym same_words)
-          (with_views terms s k (set s.views id new) (kept_keys terms s k id me.0 new at refl)
+      subst (λ (ws : List ℕ). Stands next terms (record { words = ws; homes = s.homes; views = set s.views id new })) (sym same_words)
+          (with_views next terms s k (set s.views id new) (kept_keys next terms s k id me.0 new at refl)
           (λ j v here. elim (at_set s.views id j new v here) [
             | inl t ↦ subst (Fits terms k.log) t.1 (record {
               goes = mine.goes;
@@ -445,7 +483,13 @@ look_allows terms slots id me off empty s k len at small =
             | inr t ↦ k.fits j v t.1
           ])
           (turns_set s.views id me.0 new at off refl)),
-      record { same = ap (λ (c : List (ℕ × Page)). (new, c)) empty; goes = mine.older },
+      record {
+        same = ap (λ (c : List (ℕ × Page)). (new, c)) empty;
+        goes = mine.older;
+        lawful = λ keyed. subst (λ (t : Terms). Follows (next t) me.0.seen) (sym (mine.founded keyed))
+            (follows_first (next terms) k.log me.0.seen mine.goes.begins k.lawful);
+        few = no_longer k.log me.0.seen mine.goes.begins k.most;
+      },
     )
 
 -- ---- splitting
@@ -461,14 +505,14 @@ some_of : (keys : List Key) → 0 < length (take 1 keys) → 0 < length keys
 some_of [] h = absurd (omega arith)
 some_of (x ∷ xs) h = omega arith
 
-pub splits : (terms : Terms) (id : ℕ) (v : View) → v.turn ≡ false
-    → Splits (Stands terms) id v (view v.founding (drop 1 v.keys) v.seen v.older v.turn) (view v.founding (take 1 v.keys) v.seen [] false)
-splits terms id v off s k at =
+pub splits : (next : Terms → List Record → Record → Type 0) (terms : Terms) (id : ℕ) (v : View) → v.turn ≡ false
+    → Splits (Stands next terms) id v (view v.terms (drop 1 v.keys) v.seen v.older v.turn) (view v.terms (take 1 v.keys) v.seen [] false)
+splits next terms id v off s k at =
     let mine = k.fits id v at in
-    let left : View = view v.founding (drop 1 v.keys) v.seen v.older v.turn in
-    let right : View = view v.founding (take 1 v.keys) v.seen [] false in
+    let left : View = view v.terms (drop 1 v.keys) v.seen v.older v.turn in
+    let right : View = view v.terms (take 1 v.keys) v.seen [] false in
     let cut : List View = set s.views id left in
-    with_views terms s k (cut ++ right ∷ [])
+    with_views next terms s k (cut ++ right ∷ [])
     (λ key. let a = stand_set key s.views id v left at in let b = stand_last key cut right in let c = cut_keys key v.keys in let o = k.once key in omega arith)
     (λ j u here. elim (at_snoc cut right u j here) [
       | inl old ↦ elim (at_set s.views id j left u old) [
@@ -498,19 +542,19 @@ both_older P a b p q zero d h = p
 both_older P a b p q (suc zero) d h = q
 both_older P a b p q (suc (suc k)) d h = absurd (omega arith)
 
-pub joins : (terms : Terms) (id other : ℕ) (v w : View) → v.turn ≡ false → w.turn ≡ false → 0 < length v.keys
-    → Joins (Stands terms) id v other w (view v.founding (w.keys ++ v.keys) (longer v.seen w.seen) (sight_of v ∷ sight_of w ∷ []) false)
-    (view no_rules [] [] [] false)
-joins terms id other v w off gone keyed s k at apart there =
+pub joins : (next : Terms → List Record → Record → Type 0) (terms : Terms) (id other : ℕ) (v w : View) → v.turn ≡ false → w.turn ≡ false → 0 < length v.keys
+    → Joins (Stands next terms) id v other w (view v.terms (w.keys ++ v.keys) (longer v.seen w.seen) (sight_of v ∷ sight_of w ∷ []) false)
+    (view no_terms [] [] [] false)
+joins next terms id other v w off gone keyed s k at apart there =
     let seen : List Record = longer v.seen w.seen in
-    let both : View = view v.founding (w.keys ++ v.keys) seen (sight_of v ∷ sight_of w ∷ []) false in
-    let spent : View = view no_rules [] [] [] false in
+    let both : View = view v.terms (w.keys ++ v.keys) seen (sight_of v ∷ sight_of w ∷ []) false in
+    let spent : View = view no_terms [] [] [] false in
     let one : List View = set s.views id both in
     let old_w : get_elem? s.views other ≡ some w = sym (set_else s.views id other both apart) ∙ there in
     let mine = k.fits id v at in
     let its = k.fits other w old_w in
     let go : BothGo v.keys w.keys v.seen w.seen seen k.log = both_go v.keys w.keys v.seen w.seen k.log mine.goes its.goes in
-    with_views terms s k (set one other spent)
+    with_views next terms s k (set one other spent)
     (λ key.
     let a = stand_set key s.views id v both at in
     let b = stand_set key one other w spent there in
@@ -568,60 +612,72 @@ first_of (key ∷ keys) h = (key, let e = times_cons key key keys in let o = one
     same_as_itself (Caller caller) = eq-eqb caller caller refl
 
 -- the seat with all keys has seen the whole journal, which lies at home
-pub record Ends (terms : Terms) (s : Shown) (v : View) : Type 0 where
+pub record Ends (next : Terms → List Record → Record → Type 0) (terms : Terms) (s : Shown) (v : View) : Type 0 where
   pub home : s.homes ≡ some (page terms v.seen) ∷ []
   pub callers : All (λ r. r.by.caller < terms.callers) v.seen
+  pub lawful : Follows (next terms) v.seen
 
-saw_all : (terms : Terms) (s : Shown) (k : Stands terms s) (id : ℕ) (v : View) → get_elem? s.views id ≡ some v → HasAll terms.callers v.keys → k.log ≡ v.seen
-saw_all terms s k id v at all =
+saw_all : (next : Terms → List Record → Record → Type 0) (terms : Terms) (s : Shown) (k : Stands next terms s) (id : ℕ) (v : View)
+    → get_elem? s.views id ≡ some v → HasAll terms.callers v.keys → k.log ≡ v.seen
+saw_all next terms s k id v at all =
     let goes = (k.fits id v at).goes in
     let is : k.log ≡ v.seen ++ drop (length v.seen) k.log = rest_of k.log v.seen goes.begins in
     is ∙ ap (λ (l : List Record). v.seen ++ l) (all_rest v.seen (drop (length v.seen) k.log) (λ r.
     let key : Key = Place (place_of r.event.node) in
     ap (of_key key) (sym is) ∙ goes.own key (all key (lt-ltb (place_of r.event.node) 16 (mod-lt r.event.node (omega arith)))))) ∙ append-nil v.seen
 
-pub ends : (terms : Terms) (s : Shown) → Stands terms s → (id : ℕ) (v : View) → get_elem? s.views id ≡ some v → v.turn ≡ false
-    → HasAll terms.callers v.keys → Ends terms s v
-ends terms s k id v at off all =
-    let whole : k.log ≡ v.seen = saw_all terms s k id v at all in
+pub ends : (next : Terms → List Record → Record → Type 0) (terms : Terms) (s : Shown) → Stands next terms s → (id : ℕ) (v : View)
+    → get_elem? s.views id ≡ some v → v.turn ≡ false
+    → HasAll terms.callers v.keys → Ends next terms s v
+ends next terms s k id v at off all =
+    let whole : k.log ≡ v.seen = saw_all next terms s k id v at all in
     elim k.turn [
       | inl free ↦ record {
         home = free.home ∙ ap (λ (l : List Record). some (page terms l) ∷ []) whole;
         callers = subst (All (λ (r : Record). r.by.caller < terms.callers)) whole k.callers;
+        lawful = subst (Follows (next terms)) whole k.lawful;
       }
       | inr taken ↦
           let key = first_of taken.its.keys ((k.fits taken.holder taken.its taken.there).keyed taken.has) in
-          let has = all key.0 (key_of_wire terms s k key.0 taken.holder taken.its taken.there key.1) in
-          absurd (alone terms s k key.0 taken.holder id taken.its v (λ e. true≢false (sym taken.has
+          let has = all key.0 (key_of_wire next terms s k key.0 taken.holder taken.its taken.there key.1) in
+          absurd (alone next terms s k key.0 taken.holder id taken.its v (λ e. true≢false (sym taken.has
           ∙ ap (λ (u : View). u.turn) (some-injective taken.its v (sym taken.there ∙ ap (get_elem? s.views) e ∙ at)) ∙ off)) taken.there at key.1 has)
     ]
 
 -- what the slot holds then
-pub closes : (terms : Terms) (id : ℕ) (v : View) → v.turn ≡ false → HasAll terms.callers v.keys → (words : List ℕ) (pages : List Page)
-    → Final (Seen (Stands terms) id v) words pages
-    → (last : Page) → get_elem? pages 0 ≡ some last → (last ≡ page terms v.seen) × All (λ r. r.by.caller < terms.callers) v.seen
-closes terms id v off all words pages (s, seen, same_words, same_slots, homes) last at =
-    let e = ends terms s seen.0 id v seen.1 off all in
+pub closes : (next : Terms → List Record → Record → Type 0) (terms : Terms) (id : ℕ) (v : View) → v.turn ≡ false → HasAll terms.callers v.keys
+    → (words : List ℕ) (pages : List Page)
+    → Final (Seen (Stands next terms) id v) words pages
+    → (last : Page) → get_elem? pages 0 ≡ some last → (last ≡ page terms v.seen) × All (λ r. r.by.caller < terms.callers) v.seen × Follows (next terms) v.seen
+closes next terms id v off all words pages (s, seen, same_words, same_slots, homes) last at =
+    let e = ends next terms s seen.0 id v seen.1 off all in
     let there : get_elem? pages 0 ≡ some (page terms v.seen) = homes 0 (page terms v.seen) (ap (λ hs. get_elem? hs 0) e.home) in
-    (some-injective last (page terms v.seen) (sym at ∙ there), e.callers)
+    (some-injective last (page terms v.seen) (sym at ∙ there), e.callers, e.lawful)
 
 -- ---- what calls say of it
 
-unites_after : (v w : View) (m' : Sat)
-    → Looks (view v.founding (w.keys ++ v.keys) (longer v.seen w.seen) (sight_of v ∷ sight_of w ∷ []) false, []) m' → Unites v w m'
-unites_after v w m' l = subst (Unites v w) (sym l.same) (record {
+both_keyed : (keys others : List Key) → 0 < length keys → 0 < length (others ++ keys)
+both_keyed keys others h = omega (arith, length-append others keys)
+
+unites_after : (next : Terms → List Record → Record → Type 0) (v w : View) (m' : Sat) → 0 < length v.keys
+    → Looks next (view v.terms (w.keys ++ v.keys) (longer v.seen w.seen) (sight_of v ∷ sight_of w ∷ []) false, []) m' → Unites next v w m'
+unites_after next v w m' keyed l = subst (Unites next v w) (sym l.same) (record {
   idle = record { turn = refl; older = refl; empty = refl };
+  terms = refl;
+  lawful = l.lawful (both_keyed v.keys w.keys keyed);
+  few = l.few;
   keys = refl;
   seen = refl;
   mine = l.goes 0 (sight_of v) (omega arith);
   theirs = l.goes 1 (sight_of v) (omega arith);
 })
 
-pub unites_by : (v w : View) (carry : List (ℕ × Page)) (m m' : Sat)
-    → m ≡ (view v.founding (w.keys ++ v.keys) (longer v.seen w.seen) (sight_of v ∷ sight_of w ∷ []) false, carry) → carry ≡ [] → Looks m m' → Unites v w m'
-unites_by v w carry m m' is empty looks =
-    let both : View = view v.founding (w.keys ++ v.keys) (longer v.seen w.seen) (sight_of v ∷ sight_of w ∷ []) false in
-    unites_after v w m' (subst (λ (x : Sat). Looks x m') (is ∙ ap (λ (x : List (ℕ × Page)). (both, x)) empty) looks)
+pub unites_by : (next : Terms → List Record → Record → Type 0) (v w : View) (carry : List (ℕ × Page)) (m m' : Sat) → 0 < length v.keys
+    → m ≡ (view v.terms (w.keys ++ v.keys) (longer v.seen w.seen) (sight_of v ∷ sight_of w ∷ []) false, carry) → carry ≡ []
+    → Looks next m m' → Unites next v w m'
+unites_by next v w carry m m' keyed is empty looks =
+    let both : View = view v.terms (w.keys ++ v.keys) (longer v.seen w.seen) (sight_of v ∷ sight_of w ∷ []) false in
+    unites_after next v w m' keyed (subst (λ (x : Sat). Looks next x m') (is ∙ ap (λ (x : List (ℕ × Page)). (both, x)) empty) looks)
 
 -- ---- the start
 
@@ -633,15 +689,15 @@ first_standing : (key : Key) (v : View) (n : ℕ) → times key v.keys ≡ n →
 first_standing key v n is = let l = stand_last key [] v in let z : standing key [] ≡ 0 = refl in
     let l' : standing key (v ∷ []) ≡ standing key [] + times key v.keys = l in omega arith
 
-pub opens : (terms : Terms) (pages : List Page) → pages ≡ record { founding = terms.founding; records = [] } ∷ []
-    → Stands terms (opening (0 ∷ 0 ∷ []) pages (view terms.founding (all_keys terms.callers) [] [] false))
-opens terms pages is =
-    let v : View = view terms.founding (all_keys terms.callers) [] [] false in record {
+pub opens : (next : Terms → List Record → Record → Type 0) (terms : Terms) (pages : List Page) → pages ≡ record { founding = terms.founding; records = [] } ∷ []
+    → Stands next terms (opening (0 ∷ 0 ∷ []) pages (view terms (all_keys terms.callers) [] [] false))
+opens next terms pages is =
+    let v : View = view terms (all_keys terms.callers) [] [] false in record {
       log = [];
       two = refl;
       count = refl;
       most = omega arith;
-      low = λ k d h. absurd (omega arith);
+      lawful = λ before rest r e. absurd (nothing_there before rest r e);
       callers = λ k d h. absurd (omega arith);
       once = λ key. first_standing key v _ (each_once terms.callers key);
       fits = λ id u at. subst (Fits terms []) (at_first (v ∷ []) v refl id u at) (record {

@@ -1,15 +1,18 @@
 -- What a pass tells of its seat.
-use Rattle.std.proofs.Common.{◌≡◌, ◌<◌, false, List, [], ◌∷◌, ◌++◌, length, take, drop, sym, refl, ap, ◌∙◌, subst, arith, length-append}
+use Rattle.std.proofs.Common.{◌≡◌, ◌<◌, ◌≤◌, false, List, [], ◌∷◌, ◌++◌, length, take, drop, sym, refl, ap, ◌∙◌, subst, arith, length-append}
+use Rattle.am_base.specs.Most.{most_events}
 use Rattle.atomic_table.specs.Seated.{TableId}
+use Rattle.am_wire.specs.declared.rule.Terms.{Terms}
 use Rattle.am_wire.specs.declared.rule.View.{View}
 use Rattle.am_group.specs.declared.event.Record.{Record}
 use Rattle.am_wire.specs.declared.rule.Key.{Key}
-use Rattle.am_wire.specs.Seats.{Sat, view, longer, GoesOn, IsIdle, Takes, Unites, Parts}
+use Rattle.am_wire.specs.Seats.{Sat, view, longer, GoesOn, Follows, IsIdle, Takes, Unites, Parts}
 use Rattle.am_wire.specs.Passes.{Known, known_by, Rests, Sees, Joined}
 
 -- the seat of a pass between two calls
 pub record Sits (p : Known) (id : TableId) (m : Sat) : Type 0 where
   pub wire : p.wire ≡ id
+  pub terms : p.terms ≡ m.0.terms
   pub keys : p.keys ≡ m.0.keys
   pub seen : p.seen ≡ m.0.seen
   pub idle : IsIdle m
@@ -20,6 +23,7 @@ sits p id views m is rests one empty =
     let known : p ≡ known_by id (m.0 ∷ []) = is ∙ ap (known_by id) one in
     let its : rests.its ≡ m.0 = ap (head rests.its) (sym rests.one ∙ one) in record {
       wire = ap (λ (x : Known). x.wire) known;
+      terms = ap (λ (x : Known). x.terms) known;
       keys = ap (λ (x : Known). x.keys) known;
       seen = ap (λ (x : Known). x.seen) known;
       idle = record {
@@ -40,9 +44,10 @@ rests_by m views idle keyed one = record { its = m.0; one = one; turn = idle.tur
 
 -- ---- between the two: what a pass sees
 
-pub sees_by : (p : Known) (wire : TableId) (v : View) (views : List View) → views ≡ v ∷ [] → wire ≡ p.wire → v.keys ≡ p.keys
+pub sees_by : (p : Known) (wire : TableId) (v : View) (views : List View) → views ≡ v ∷ [] → wire ≡ p.wire → v.terms ≡ p.terms → v.keys ≡ p.keys
     → GoesOn p.keys p.seen v.seen → Sees p (known_by wire views)
-sees_by p wire v views one same keys goes = subst (λ (vs : List View). Sees p (known_by wire vs)) (sym one) (record { wire = same; keys = keys; goes = goes })
+sees_by p wire v views one same terms keys goes = subst (λ (vs : List View). Sees p (known_by wire vs)) (sym one)
+    (record { wire = same; terms = terms; keys = keys; goes = goes })
 
 pub goes_at : (keys keys' : List Key) (seen seen' log log' : List Record) → keys ≡ keys' → seen ≡ seen' → log ≡ log' → GoesOn keys seen log
     → GoesOn keys' seen' log'
@@ -50,17 +55,22 @@ goes_at keys keys' seen seen' log log' k s l g = subst (λ (x : List Record). Go
     (subst (λ (x : List Record). GoesOn keys' x log) s (subst (λ (x : List Key). GoesOn x seen log) k g))
 
 -- a seat that took the slot and gave it back
-pub record Visits (p : Known) (t m : Sat) : Type 0 where
+pub record Visits (next : Terms → List Record → Record → Type 0) (p : Known) (t m : Sat) : Type 0 where
   pub idle : IsIdle m
   pub keyed : 0 < length m.0.keys
+  pub terms : m.0.terms ≡ p.terms
+  pub lawful : Follows (next p.terms) m.0.seen
   pub keys : m.0.keys ≡ p.keys
   pub seen : m.0.seen ≡ t.0.seen
   pub goes : GoesOn p.keys p.seen m.0.seen
 
-pub visits : (p : Known) (id : TableId) (s t m : Sat) → Sits p id s → Takes s t → m ≡ (view t.0.founding t.0.keys t.0.seen [] false, []) → Visits p t m
-visits p id s t m sits takes is = subst (Visits p t) (sym is) (record {
+pub visits : (next : Terms → List Record → Record → Type 0) (p : Known) (id : TableId) (s t m : Sat) → Sits p id s → Takes next s t
+    → m ≡ (view t.0.terms t.0.keys t.0.seen [] false, []) → Visits next p t m
+visits next p id s t m sits takes is = subst (Visits next p t) (sym is) (record {
   idle = record { turn = refl; older = refl; empty = refl };
   keyed = takes.turn.keyed;
+  terms = takes.terms ∙ sym sits.terms;
+  lawful = subst (λ (x : Terms). Follows (next x) t.0.seen) (takes.terms ∙ sym sits.terms) takes.lawful;
   keys = takes.keys ∙ sym sits.keys;
   seen = refl;
   goes = goes_at s.0.keys p.keys s.0.seen p.seen t.0.seen t.0.seen (sym sits.keys) (sym sits.seen) refl takes.goes;
@@ -72,23 +82,31 @@ first_key [] others e = absurd (omega arith)
 first_key (key ∷ []) others e = (refl, refl)
 first_key (key ∷ more ∷ keys) others e = absurd (omega arith)
 
-pub record Meets (p q : Known) (m o : Sat) : Type 0 where
+pub record Meets (next : Terms → List Record → Record → Type 0) (p q : Known) (m o : Sat) : Type 0 where
   pub idle : IsIdle m × IsIdle o
   pub keyed : (0 < length m.0.keys) × (0 < length o.0.keys)
+  pub terms : (m.0.terms ≡ p.terms) × (o.0.terms ≡ q.terms)
+  pub lawful : Follows (next p.terms) m.0.seen
+  pub few : length m.0.seen ≤ most_events
   pub keys : (m.0.keys ≡ p.keys) × (o.0.keys ≡ q.keys)
   pub goes : GoesOn p.keys p.seen m.0.seen × GoesOn q.keys q.seen o.0.seen
   pub longer : m.0.seen ≡ longer p.seen q.seen
   pub both : o.0.seen ≡ m.0.seen
 
-pub meets : (p q : Known) (id other : TableId) (s r u m o : Sat) → Sits p id s → Sits q other r → length q.keys ≡ 1 → Unites s.0 r.0 u → Parts u m o
-    → Meets p q m o
-meets p q id other s r u m o sits its one unites parts =
+pub meets : (next : Terms → List Record → Record → Type 0) (p q : Known) (id other : TableId) (s r u m o : Sat) → Sits p id s → Sits q other r
+    → q.terms ≡ p.terms
+    → length q.keys ≡ 1 → Unites next s.0 r.0 u → Parts u m o → Meets next p q m o
+meets next p q id other s r u m o sits its agree one unites parts =
+    let terms : u.0.terms ≡ p.terms = unites.terms ∙ sym sits.terms in
     let single : length r.0.keys ≡ 1 = ap length (sym its.keys) ∙ one in
     let cut = first_key r.0.keys s.0.keys single in
     let m_keys : m.0.keys ≡ s.0.keys = parts.keys ∙ ap (drop 1) unites.keys ∙ cut.1 in
     let o_keys : o.0.keys ≡ r.0.keys = parts.other_keys ∙ ap (take 1) unites.keys ∙ cut.0 in record {
       idle = parts.idle;
       keyed = (subst (λ (ks : List Key). 0 < length ks) (sym m_keys) sits.keyed, subst (λ (ks : List Key). 0 < length ks) (sym o_keys) its.keyed);
+      terms = (parts.terms ∙ terms, parts.other_terms ∙ terms ∙ sym agree);
+      lawful = subst (Follows (next p.terms)) (sym parts.seen) (subst (λ (x : Terms). Follows (next x) u.0.seen) terms unites.lawful);
+      few = subst (λ (rs : List Record). length rs ≤ most_events) (sym parts.seen) unites.few;
       keys = (m_keys ∙ sym sits.keys, o_keys ∙ sym its.keys);
       goes = (
         goes_at s.0.keys p.keys s.0.seen p.seen u.0.seen m.0.seen (sym sits.keys) (sym sits.seen) (sym parts.seen) unites.mine,
@@ -99,15 +117,17 @@ meets p q id other s r u m o sits its one unites parts =
     }
 
 -- one that got another's keys
-pub joins_by : (p q : Known) (id other wire : TableId) (s r u : Sat) (views : List View) → Sits p id s → Sits q other r → Unites s.0 r.0 u
-    → views ≡ u.0 ∷ [] → wire ≡ p.wire → Joined p q (known_by wire views)
-joins_by p q id other wire s r u views sits its unites one same = subst (λ (vs : List View). Joined p q (known_by wire vs)) (sym one) (record {
+pub joins_by : (next : Terms → List Record → Record → Type 0) (p q : Known) (id other wire : TableId) (s r u : Sat) (views : List View) → Sits p id s
+    → Sits q other r → Unites next s.0 r.0 u → views ≡ u.0 ∷ [] → wire ≡ p.wire → Joined p q (known_by wire views)
+joins_by next p q id other wire s r u views sits its unites one same = subst (λ (vs : List View). Joined p q (known_by wire vs)) (sym one) (record {
   wire = same;
+  terms = unites.terms ∙ sym sits.terms;
   keys = unites.keys ∙ ap (λ (l : List Key). l ++ s.0.keys) (sym its.keys) ∙ ap (λ (l : List Key). q.keys ++ l) (sym sits.keys);
   seen = unites.seen ∙ ap (λ (l : List Record). longer l r.0.seen) (sym sits.seen) ∙ ap (longer p.seen) (sym its.seen);
   first = goes_at s.0.keys p.keys s.0.seen p.seen u.0.seen u.0.seen (sym sits.keys) (sym sits.seen) refl unites.mine;
   second = goes_at r.0.keys q.keys r.0.seen q.seen u.0.seen u.0.seen (sym its.keys) (sym its.seen) refl unites.theirs;
 })
 
-pub united_keyed : (s r u : Sat) → 0 < length s.0.keys → Unites s.0 r.0 u → 0 < length u.0.keys
-united_keyed s r u h unites = let e : length u.0.keys ≡ length (r.0.keys ++ s.0.keys) = ap length unites.keys in omega (arith, length-append r.0.keys s.0.keys)
+pub united_keyed : (next : Terms → List Record → Record → Type 0) (s r u : Sat) → 0 < length s.0.keys → Unites next s.0 r.0 u → 0 < length u.0.keys
+united_keyed next s r u h unites = let e : length u.0.keys ≡ length (r.0.keys ++ s.0.keys) = ap length unites.keys in
+    omega (arith, length-append r.0.keys s.0.keys)

@@ -2,35 +2,35 @@
 use Rattle.std.specs.Prelude.{◌≡◌, ℕ, ◌+◌, ◌*◌, ◌<◌, ◌≤◌, List, [], ◌∷◌, ◌++◌, length, true, false, All, sum_by}
 use Rattle.am_base.specs.Most.{most_events}
 use Rattle.atomic_table.specs.Seated.{TableId}
-use Rattle.am_base.specs.Founding.{Rules}
 use Rattle.am_group.specs.declared.event.Record.{Record}
 use Rattle.am_base.specs.Names.{place_of}
 use Rattle.am_wire.specs.declared.rule.Key.{Key}
 use Rattle.am_wire.specs.declared.rule.Key.TheVariants.{Place, Caller}
+use Rattle.am_wire.specs.declared.rule.Terms.{Terms}
 use Rattle.am_wire.specs.declared.rule.View.{View}
 use Rattle.am_wire.specs.Keys.{times, is_key}
-use Rattle.am_wire.specs.Seats.{GoesOn, IsUpTo, longer}
+use Rattle.am_wire.specs.Seats.{GoesOn, Follows, longer, no_terms}
 
--- a wire: which one it is, how its group begins, and how many callers there are
+-- a wire: which one it is, and its terms
 pub record Line : Type 0 where
   pub id : TableId
-  pub founding : Rules
-  pub callers : ℕ
+  pub terms : Terms
 
--- a pass: of which wire it is, whose records it knows, and what it has seen of the journal
+-- a pass: of which wire it is, by which terms, whose records it knows, and what it has seen of the journal
 pub record Known : Type 0 where
   pub wire : TableId
+  pub terms : Terms
   pub keys : List Key
   pub seen : List Record
 
 -- a pass with one key, which has seen nothing
-abbrev pub fresh : TableId → Key → Known
-fresh wire key = record { wire = wire; keys = key ∷ []; seen = [] }
+abbrev pub fresh : TableId → Terms → Key → Known
+fresh wire terms key = record { wire = wire; terms = terms; keys = key ∷ []; seen = [] }
 
 -- the pass of the one seat
 abbrev pub known_by : TableId → List View → Known
-known_by wire [] = record { wire = wire; keys = []; seen = [] }
-known_by wire (v ∷ vs) = record { wire = wire; keys = v.keys; seen = v.seen }
+known_by wire [] = record { wire = wire; terms = no_terms; keys = []; seen = [] }
+known_by wire (v ∷ vs) = record { wire = wire; terms = v.terms; keys = v.keys; seen = v.seen }
 
 -- there is one seat, between two calls, and it has a key
 pub record Rests (views : List View) : Type 0 where
@@ -47,32 +47,36 @@ HasAll callers keys = (key : Key) → is_key callers key ≡ true → 0 < times 
 -- the same pass, whose journal went on from what it had seen, with no record more of its keys
 pub record Sees (p p' : Known) : Type 0 where
   pub wire : p'.wire ≡ p.wire
+  pub terms : p'.terms ≡ p.terms
   pub keys : p'.keys ≡ p.keys
   pub goes : GoesOn p.keys p.seen p'.seen
 
 -- a pass with the keys of both, that has seen what either had
 pub record Joined (p q p' : Known) : Type 0 where
   pub wire : p'.wire ≡ p.wire
+  pub terms : p'.terms ≡ p.terms
   pub keys : p'.keys ≡ q.keys ++ p.keys
   pub seen : p'.seen ≡ longer p.seen q.seen
   pub first : GoesOn p.keys p.seen p'.seen
   pub second : GoesOn q.keys q.seen p'.seen
 
--- what a commit of a record wants of a pass and a share
-pub record IsReady (wire : TableId) (p q : Known) (item : Record) : Type 0 where
+-- what a commit of a record wants of a pass and a share: whatever others added meanwhile, the record comes next
+pub record IsReady (next : List Record → Record → Type 0) (wire : TableId) (p q : Known) (item : Record) : Type 0 where
   pub own : (p.wire ≡ wire) × (q.wire ≡ wire)
+  pub terms : q.terms ≡ p.terms
   pub place : p.keys ≡ Place (place_of item.event.node) ∷ []
   pub caller : q.keys ≡ Caller item.by.caller ∷ []
   pub few : length item.packets ≤ 24
-  pub low : All (λ l. IsUpTo (2 * length p.seen + 3) l.packet) item.packets
+  pub next_ : (before : List Record) → GoesOn p.keys p.seen before → GoesOn q.keys q.seen before → Follows next before → next before item
 
 -- the record was added to the journal, which both have then seen: what was there before went on from what each had seen
-pub record Committed (p q : Known) (item : Record) (count : ℕ) (p' q' : Known) : Type 0 where
+pub record Committed (next : List Record → Record → Type 0) (p q : Known) (item : Record) (count : ℕ) (p' q' : Known) : Type 0 where
   pub before : List Record
   pub room : length before < most_events
   pub number : count ≡ length before + 1
   pub pass : GoesOn p.keys p.seen before
   pub share : GoesOn q.keys q.seen before
+  pub lawful : Follows next before
   pub pass_after : p' ≡ record p { seen = before ++ item ∷ [] }
   pub share_after : q' ≡ record q { seen = before ++ item ∷ [] }
 

@@ -1,15 +1,11 @@
 -- The rule of the wire, and what its steps tell.
-use Rattle.std.specs.Prelude.{◌≡◌, ◌≢◌, ◌⊎◌, ℕ, ◌+◌, ◌*◌, ◌<◌, ◌≤◌, Bool, true, false, List, [], ◌∷◌, ◌++◌, length, take, drop, slice_index, nat_lt, if◌then◌else◌, All, sum_by}
+use Rattle.std.specs.Prelude.{◌≡◌, ◌≢◌, ◌⊎◌, ℕ, ◌+◌, ◌*◌, ◌<◌, ◌≤◌, Bool, true, false, List, [], ◌∷◌, ◌++◌, length, take, drop, slice_index, nat_lt}
+use Rattle.std.specs.Prelude.{if◌then◌else◌, All, sum_by}
 use Rattle.am_base.specs.Most.{most_events}
 use mathlib.Core.Option.{none, some}
 use lib.ListN.{get_elem?}
 use Rattle.atomic_table.specs.Table.{State, Me, Step}
-use Rattle.am_base.specs.Founding.{Rules}
-use Rattle.am_packet.specs.declared.packet.Packet.{Packet}
-use Rattle.am_packet.specs.declared.packet.Packet.TheVariants as packets
-use Rattle.am_codec.specs.Spelling.{stamp_of}
 use Rattle.am_group.specs.declared.event.Record.{Record}
-use Rattle.am_group.specs.Journals.{letters_of}
 use Rattle.am_wire.specs.declared.rule.Key.{Key}
 use Rattle.am_wire.specs.declared.rule.Sight.{Sight}
 use Rattle.am_wire.specs.declared.rule.Terms.{Terms}
@@ -19,15 +15,15 @@ use Rattle.am_wire.specs.Stops.{Page}
 
 -- ---- views
 
-abbrev pub view : Rules → List Key → List Record → List Sight → Bool → View
-view founding keys seen older turn = record { founding = founding; keys = keys; seen = seen; older = older; turn = turn }
+abbrev pub view : Terms → List Key → List Record → List Sight → Bool → View
+view terms keys seen older turn = record { terms = terms; keys = keys; seen = seen; older = older; turn = turn }
 
 abbrev pub sight_of : View → Sight
 sight_of v = record { keys = v.keys; seen = v.seen }
 
--- the founding of a seat that has no key any more
-abbrev pub no_rules : Rules
-no_rules = record { founders = []; resilience = 0; window = 0; pb_up_to = 0 }
+-- the terms of a seat that has no key any more
+abbrev pub no_terms : Terms
+no_terms = record { founding = record { founders = []; resilience = 0; window = 0; pb_up_to = 0 }; callers = 0; seed = 0; loss = 0; repeat = 0 }
 
 -- the longer of two lists
 abbrev pub longer : List Record → List Record → List Record
@@ -44,19 +40,9 @@ pub record GoesOn (keys : List Key) (seen log : List Record) : Type 0 where
   pub begins : StartsWith log seen
   pub own : (key : Key) → 0 < times key keys → of_key key log ≡ of_key key seen
 
--- the base that a Welcome tells
-abbrev pub welcome_base : Packet → ℕ
-welcome_base (packets.Welcome sender stamp base join image) = base
-welcome_base _ = 0
-
--- a packet's round, and the base of a Welcome, are at most so much
-pub record IsUpTo (most : ℕ) (packet : Packet) : Type 0 where
-  pub round : (stamp_of packet).round ≤ most
-  pub base : welcome_base packet ≤ most
-
--- of so many records no letter tells more than twice their number, and one
-abbrev pub AreLow : List Record → Type 0
-AreLow log = All (λ l. IsUpTo (2 * length log + 1) l.packet) (letters_of log)
+-- each record comes next behind those before it
+abbrev pub Follows : (List Record → Record → Type 0) → List Record → Type 0
+Follows next log = (before rest : List Record) (r : Record) → log ≡ before ++ r ∷ rest → next before r
 
 -- ---- the rule
 
@@ -74,7 +60,7 @@ standing key views = sum_by (λ v. times key v.keys) views
 pub record Fits (terms : Terms) (log : List Record) (v : View) : Type 0 where
   pub goes : GoesOn v.keys v.seen log
   pub older : All (λ o. GoesOn o.keys o.seen v.seen) v.older
-  pub founded : 0 < length v.keys → v.founding ≡ terms.founding
+  pub founded : 0 < length v.keys → v.terms ≡ terms
   pub whole : v.turn ≡ true → v.seen ≡ log
   pub keyed : v.turn ≡ true → 0 < length v.keys
 
@@ -94,13 +80,13 @@ pub record IsTaken (s : Shown) : Type 0 where
   pub has : its.turn ≡ true
   pub only : (id : ℕ) (v : View) → get_elem? s.views id ≡ some v → v.turn ≡ true → id ≡ holder
 
--- there is one journal, which the count counts; each key is with one seat, which has seen all records of it
-pub record Stands (terms : Terms) (s : Shown) : Type 0 where
+-- there is one journal, which the count counts; each record comes next; each key is with one seat, which has seen all records of it
+pub record Stands (next : Terms → List Record → Record → Type 0) (terms : Terms) (s : Shown) : Type 0 where
   pub log : List Record
   pub two : length s.words ≡ 2
   pub count : slice_index s.words 1 ≡ length log
   pub most : length log ≤ most_events
-  pub low : AreLow log
+  pub lawful : Follows (next terms) log
   pub callers : All (λ r. r.by.caller < terms.callers) log
   pub once : (key : Key) → standing key s.views ≡ (if is_key terms.callers key then 1 else 0)
   pub fits : (id : ℕ) (v : View) → get_elem? s.views id ≡ some v → Fits terms log v
@@ -119,18 +105,19 @@ pub record HasTurn (m : Sat) : Type 0 where
   pub turn : m.0.turn ≡ true
   pub older : m.0.older ≡ []
   pub keyed : 0 < length m.0.keys
-  pub page : m.1 ≡ (0, record { founding = m.0.founding; records = m.0.seen }) ∷ []
+  pub page : m.1 ≡ (0, record { founding = m.0.terms.founding; records = m.0.seen }) ∷ []
 
 -- it has the turn, and sees all that there is
-pub record Takes (m m' : Sat) : Type 0 where
+pub record Takes (next : Terms → List Record → Record → Type 0) (m m' : Sat) : Type 0 where
   pub turn : HasTurn m'
   pub keys : m'.0.keys ≡ m.0.keys
   pub goes : GoesOn m.0.keys m.0.seen m'.0.seen
   pub most : length m'.0.seen ≤ most_events
-  pub low : AreLow m'.0.seen
+  pub terms : m'.0.terms ≡ m.0.terms
+  pub lawful : Follows (next m'.0.terms) m'.0.seen
 
-abbrev pub took : Step Page → Sat → ℕ → Sat → Type 0
-took st m n m' = (n ≡ 0 → Takes m m') × (n ≢ 0 → m' ≡ m)
+abbrev pub took : (Terms → List Record → Record → Type 0) → Step Page → Sat → ℕ → Sat → Type 0
+took next st m n m' = (n ≡ 0 → Takes next m m') × (n ≢ 0 → m' ≡ m)
 
 -- the records that the seat carries
 abbrev pub carried : List (ℕ × Page) → List Record
@@ -138,22 +125,27 @@ carried [] = []
 carried (x ∷ xs) = x.1.records
 
 abbrev pub counted : Step Page → Sat → ℕ → Sat → Type 0
-counted st m n m' = m' ≡ (view m.0.founding m.0.keys (carried m.1) [] true, m.1)
+counted st m n m' = m' ≡ (view m.0.terms m.0.keys (carried m.1) [] true, m.1)
 
 abbrev pub gave : Step Page → Sat → ℕ → Sat → Type 0
-gave st m n m' = m' ≡ (view m.0.founding m.0.keys m.0.seen [] false, [])
+gave st m n m' = m' ≡ (view m.0.terms m.0.keys m.0.seen [] false, [])
 
--- what was seen goes on from each older sight
-pub record Looks (m m' : Sat) : Type 0 where
-  pub same : m' ≡ (view m.0.founding m.0.keys m.0.seen [] false, [])
+-- what was seen goes on from each older sight, and each record of it comes next
+pub record Looks (next : Terms → List Record → Record → Type 0) (m m' : Sat) : Type 0 where
+  pub same : m' ≡ (view m.0.terms m.0.keys m.0.seen [] false, [])
   pub goes : All (λ o. GoesOn o.keys o.seen m.0.seen) m.0.older
+  pub lawful : 0 < length m.0.keys → Follows (next m.0.terms) m.0.seen
+  pub few : length m.0.seen ≤ most_events
 
-abbrev pub looked : Step Page → Sat → ℕ → Sat → Type 0
-looked st m n m' = Looks m m'
+abbrev pub looked : (Terms → List Record → Record → Type 0) → Step Page → Sat → ℕ → Sat → Type 0
+looked next st m n m' = Looks next m m'
 
 -- one seat has the keys of both, and has seen the longer of what they had seen
-pub record Unites (v w : View) (m : Sat) : Type 0 where
+pub record Unites (next : Terms → List Record → Record → Type 0) (v w : View) (m : Sat) : Type 0 where
   pub idle : IsIdle m
+  pub terms : m.0.terms ≡ v.terms
+  pub lawful : Follows (next m.0.terms) m.0.seen
+  pub few : length m.0.seen ≤ most_events
   pub keys : m.0.keys ≡ w.keys ++ v.keys
   pub seen : m.0.seen ≡ longer v.seen w.seen
   pub mine : GoesOn v.keys v.seen m.0.seen
@@ -164,11 +156,14 @@ pub record Parts (m m' other : Sat) : Type 0 where
   pub idle : IsIdle m' × IsIdle other
   pub keys : m'.0.keys ≡ drop 1 m.0.keys
   pub seen : m'.0.seen ≡ m.0.seen
+  pub terms : m'.0.terms ≡ m.0.terms
+  pub other_terms : other.0.terms ≡ m.0.terms
   pub other_keys : other.0.keys ≡ take 1 m.0.keys
   pub other_seen : other.0.seen ≡ m.0.seen
 
 -- the journal has a record more
 pub record Adds (m : Sat) (item : Record) (m' : Sat) : Type 0 where
   pub turn : HasTurn m'
+  pub terms : m'.0.terms ≡ m.0.terms
   pub keys : m'.0.keys ≡ m.0.keys
   pub seen : m'.0.seen ≡ m.0.seen ++ item ∷ []

@@ -1,10 +1,10 @@
 -- What lies in the slot, and which names stopped in it.
 use Rattle.std.specs.Prelude.{ℕ, List, Bool, true, false, ◌&&◌, nat_lt, nat_le, ◌==◌, if◌then◌else◌, fold}
 use Rattle.std.specs.List.{list_any}
-use Rattle.am_base.specs.declared.outcome.Outcome.{Outcome}
-use Rattle.am_base.specs.declared.outcome.Outcome.TheVariants as said
 use Rattle.am_base.specs.Founding.{Rules}
 use Rattle.am_base.specs.Names.{nobody, with_name}
+use Rattle.am_group.specs.declared.event.Act.{Act}
+use Rattle.am_group.specs.declared.event.Act.TheVariants as act
 use Rattle.am_group.specs.declared.event.Record.{Record}
 use Rattle.am_group.specs.Deliveries.{name_of}
 
@@ -13,8 +13,8 @@ pub record Page : Type 0 where
   pub founding : Rules
   pub records : List Record
 
-abbrev pub is_stop : Outcome → Bool
-is_stop said.Stopped = true
+abbrev pub is_stop : Act → Bool
+is_stop act.Stop = true
 is_stop _ = false
 
 -- a record is of one of the sixteen lives of its place
@@ -23,7 +23,7 @@ has_life r = nat_lt 0 r.life && nat_le r.life 16
 
 -- the names that stopped, with the one that stops in a record
 abbrev pub with_stop : List ℕ → Record → List ℕ
-with_stop stopped r = if is_stop r.outcome && has_life r then with_name stopped (name_of r) else stopped
+with_stop stopped r = if is_stop r.event.act && has_life r then with_name stopped (name_of r) else stopped
 
 -- the names that stopped in these records
 abbrev pub stopped_in : List Record → List ℕ
@@ -31,4 +31,4 @@ stopped_in records = fold with_stop nobody records
 
 -- a name has stopped in one of these records
 abbrev pub has_stopped : List Record → ℕ → Bool
-has_stopped records name = list_any (λ r. is_stop r.outcome && (name_of r == name)) records
+has_stopped records name = list_any (λ r. is_stop r.event.act && (name_of r == name)) records

@@ -7,4 +7,4 @@ mod sheet;
 mod tests;
 pub mod wire;
 
-pub use rule::Key;
+pub use rule::{Key, Law, Terms};

@@ -1,13 +1,14 @@
 //! The rule of the table on which a wire stands, and what its steps tell.
 ghost use Rattle.std.specs.Prelude.{[], ◌∷◌, ◌++◌, false, take, drop};
 ghost use Rattle.am_wire.specs.Keys.{all_keys};
-ghost use Rattle.am_wire.specs.Seats.{Stands, view, took, counted, gave, looked, longer, no_rules};
+ghost use Rattle.am_wire.specs.Seats.{Stands, view, took, counted, gave, looked, longer, no_terms};
 
 use crate::sheet::Sheet;
 use am_base::founding::Founding;
 use am_group::event::Record;
 use atomic_table::{Join, Play, Split, TableRule};
 use std::collections::LinkedList;
+use std::marker::PhantomData;
 
 /// Whose records a pass knows, all of them: those done at a place, 0 to 15, or those of a caller.
 #[derive(Clone, Copy, PartialEq, Eq, Debug)]
@@ -16,11 +17,24 @@ pub enum Key {
     Caller(u32),
 }
 
-/// What a wire is told once: how its group begins, and how many callers there are.
+/// What a wire is told once: how its group begins, how many callers there are, and the numbers of their choosers: the seed,
+/// and how many of a hundred letters are lost and how many more repeated.
 #[derive(Drop)]
 pub struct Terms {
     pub founding: Founding,
     pub callers: u32,
+    pub seed: u64,
+    pub loss: u32,
+    pub repeat: u32,
+}
+
+/// Which record may come next behind others, by the terms of a wire. Each record of the wire's journal does.
+pub trait Law: Send + Sync {
+    ghost use Rattle.std.specs.Prelude.{List};
+    ghost use Rattle.am_group.specs.declared.event.Record.{Record};
+    ghost use Rattle.am_wire.specs.declared.rule.Terms.{Terms};
+
+    ghost next: { Terms → List Record → Record → Type 0 };
 }
 
 /// What a seat had seen of the journal when another joined it, and the keys that it had. No value of it is made.
@@ -29,30 +43,30 @@ pub struct Sight {
     pub seen: LinkedList<Record>,
 }
 
-/// What a seat knows: how the group begins, its keys, what it has seen of the journal, what it and another had seen
+/// What a seat knows: the wire's terms, its keys, what it has seen of the journal, what it and another had seen
 /// before they were joined, and whether it has the turn. No value of it is made.
 pub struct View {
-    pub founding: Founding,
+    pub terms: Terms,
     pub keys: LinkedList<Key>,
     pub seen: LinkedList<Record>,
     pub older: LinkedList<Sight>,
     pub turn: bool,
 }
 
-/// There is one journal.
-pub struct OneJournal;
+/// There is one journal, of which each record comes next.
+pub struct OneJournal<L: Law>(PhantomData<L>);
 
-impl TableRule<Sheet, View, Terms> for OneJournal {
-    ghost holds = { Stands };
+impl<L: Law> TableRule<Sheet, View, Terms> for OneJournal<L> {
+    ghost holds = { Stands L.next };
 
-    ghost first = { λ terms. view terms.founding (all_keys terms.callers) [] [] false };
+    ghost first = { λ terms. view terms (all_keys terms.callers) [] [] false };
 }
 
 /// Takes the slot.
-pub struct Take;
+pub struct Take<L: Law>(PhantomData<L>);
 
-impl Play<Sheet, View> for Take {
-    ghost then = { took };
+impl<L: Law> Play<Sheet, View> for Take<L> {
+    ghost then = { took L.next };
 }
 
 /// Counts a record more.
@@ -70,19 +84,19 @@ impl Play<Sheet, View> for Give {
 }
 
 /// Looks at the count.
-pub struct Look;
+pub struct Look<L: Law>(PhantomData<L>);
 
-impl Play<Sheet, View> for Look {
-    ghost then = { looked };
+impl<L: Law> Play<Sheet, View> for Look<L> {
+    ghost then = { looked L.next };
 }
 
 /// A new seat gets the first key.
 pub struct FirstKey;
 
 impl Split<View> for FirstKey {
-    ghost left = { λ v. view v.founding (drop 1 v.keys) v.seen v.older v.turn };
+    ghost left = { λ v. view v.terms (drop 1 v.keys) v.seen v.older v.turn };
 
-    ghost right = { λ v. view v.founding (take 1 v.keys) v.seen [] false };
+    ghost right = { λ v. view v.terms (take 1 v.keys) v.seen [] false };
 }
 
 /// One seat gets the keys of both, and has seen the longer of what they had seen.
@@ -91,7 +105,7 @@ pub struct Together;
 impl Join<View> for Together {
     ghost use Rattle.am_wire.specs.Seats.{sight_of};
 
-    ghost both = { λ v w. view v.founding (w.keys ++ v.keys) (longer v.seen w.seen) (sight_of v ∷ sight_of w ∷ []) false };
+    ghost both = { λ v w. view v.terms (w.keys ++ v.keys) (longer v.seen w.seen) (sight_of v ∷ sight_of w ∷ []) false };
 
-    ghost spent = { view no_rules [] [] [] false };
+    ghost spent = { view no_terms [] [] [] false };
 }

@@ -8,8 +8,7 @@ use am_base::NoMemory;
 use am_base::founding::Founding;
 use am_base::name::Name;
 use am_base::names::Names;
-use am_base::outcome::Outcome;
-use am_group::event::Record;
+use am_group::event::{Act, Record};
 use am_group::journal::Journal;
 use am_letter::letter::Letter;
 use std::alloc::Global;
@@ -33,19 +32,16 @@ impl Model for Sheet {
     ghost invariant = { λ s. s.stopped ≡ stopped_in s.journal.records };
 }
 
-fn is_stop(outcome: &Outcome) -> bool
-    ensures { result ≡ is_stop outcome.now }
+fn is_stop(act: &Act) -> bool
+    ensures { result ≡ is_stop act.now }
 {
-    match outcome {
-        Outcome::Stopped => true,
-        _ => false,
-    }
+    matches!(act, Act::Stop)
 }
 
 fn with_stop(stopped: Names, item: &Record) -> Names
     ensures { result ≡ with_stop stopped item.now }
 {
-    if !is_stop(&item.outcome) {
+    if !is_stop(&item.event.act) {
         return stopped;
     }
     match Name::of(item.event.node.place(), item.life) {

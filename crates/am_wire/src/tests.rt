@@ -1,9 +1,9 @@
-ghost use Rattle.std.specs.Prelude.{◌≡◌, ◌≤◌, [], ◌∷◌, length, All, IfOk};
+ghost use Rattle.std.specs.Prelude.{◌≡◌, ◌<◌, ◌≤◌, [], ◌∷◌, length, IfOk};
 ghost use Rattle.am_base.specs.Names.{place_of, of_mask};
 ghost use Rattle.am_wire.specs.declared.rule.Key.TheVariants.{Place, Caller};
-ghost use Rattle.am_wire.specs.Seats.{IsUpTo};
 ghost use Rattle.am_wire.specs.Passes.{IsReady};
 
+use crate::rule::{Law, Terms};
 use crate::wire::{Pass, Share, Wire, WireRefusal};
 use am_base::founding::Founding;
 use am_base::items::Items;
@@ -20,8 +20,26 @@ use std::test::*;
 use std::thread;
 use std::thread::Threads;
 
-fn founding_of(founders: u16) -> Result<Founding, Fail> {
-    Ok(Founding::new(Names::of_mask(founders), 0, 64, 256).ok_or("a founding")?)
+/// Each record has a life.
+struct HasLife;
+
+impl Law for HasLife {
+    ghost use Rattle.std.specs.Prelude.{◌<◌};
+
+    ghost next = { λ terms before r. 0 < r.life };
+}
+
+fn terms_of(founders: u16, callers: u32) -> Result<Terms, Fail>
+    ensures { IfOk result (λ terms. terms.callers ≡ callers) }
+{
+    let founding = Founding::new(Names::of_mask(founders), 0, 64, 256).ok_or("a founding")?;
+    Ok(Terms {
+        founding,
+        callers,
+        seed: 1,
+        loss: 0,
+        repeat: 0,
+    })
 }
 
 /// A stop at a place by a caller, with a letter to some names.
@@ -30,7 +48,7 @@ fn stop_at(alloc: Global, place: u8, caller: u32, to: u16) -> Result<Record, Fai
     ensures place { IfOk result (λ r. r.event.node ≡ place) }
     ensures caller { IfOk result (λ r. r.by.caller ≡ caller) }
     ensures few { IfOk result (λ r. length r.packets ≡ 1) }
-    ensures low { IfOk result (λ r. All (λ l. IsUpTo 3 l.packet) r.packets) }
+    ensures life { IfOk result (λ r. 0 < r.life) }
 {
     let node = Name::of_byte(place);
     let invite = Packet::Invite {
@@ -58,14 +76,15 @@ fn stop_at(alloc: Global, place: u8, caller: u32, to: u16) -> Result<Record, Fai
 /// Adds a record.
 fn adds<R: Wait>(
     rt: &R,
-    wire: &Wire,
+    wire: &Wire<HasLife>,
     mut pass: Pass,
     mut share: Share,
     item: Record,
 ) -> (Pass, Share, bool)
-    requires ready { IsReady wire.now.id pass share item }
+    requires ready { IsReady (λ before r. 0 < r.life) wire.now.id pass share item }
     ensures own { (result.0.wire ≡ wire.now.id) × (result.1.wire ≡ wire.now.id) }
     ensures keys { (result.0.keys ≡ pass.keys) × (result.1.keys ≡ share.keys) }
+    ensures terms { (result.0.terms ≡ pass.terms) × (result.1.terms ≡ share.terms) }
 {
     let done = wire.commit(rt, &mut pass, &mut share, item).is_ok();
     (pass, share, done)
@@ -74,26 +93,29 @@ fn adds<R: Wait>(
 /// Two threads add a record each.
 fn add_both<R: Threads + Wait + Sync>(
     rt: &R,
-    wire: &Wire,
+    wire: &Wire<HasLife>,
     first: (Pass, Share, Record),
     second: (Pass, Share, Record),
 ) -> (Pass, Share, bool)
-    requires first { IsReady wire.now.id first.0 first.1 first.2 }
-    requires second { IsReady wire.now.id second.0 second.1 second.2 }
+    requires first { IsReady (λ before r. 0 < r.life) wire.now.id first.0 first.1 first.2 }
+    requires second { IsReady (λ before r. 0 < r.life) wire.now.id second.0 second.1 second.2 }
     ensures own { (result.0.wire ≡ wire.now.id) × (result.1.wire ≡ wire.now.id) }
     ensures keys { (result.0.keys ≡ first.0.keys) × (result.1.keys ≡ second.1.keys) }
+    ensures terms { (result.0.terms ≡ first.0.terms) × (result.1.terms ≡ second.1.terms) }
 {
     let (one, mine, its) = first;
     let (two, other, item) = second;
     let ((one, _mine, a), (_two, other, b)) = thread::join(
         rt,
         || -> (Pass, Share, bool)
-            requires { IsReady wire.now.id one mine its }
-            ensures { (result.0.wire ≡ wire.entry.now.id) × (result.0.keys ≡ one.keys) }
+            requires { IsReady (λ before r. 0 < r.life) wire.now.id one mine its }
+            ensures { (result.0.wire ≡ wire.entry.now.id) × (result.0.keys ≡ one.keys)
+                × (result.0.terms ≡ one.terms) }
         { adds(rt, wire, one, mine, its) },
         || -> (Pass, Share, bool)
-            requires { IsReady wire.now.id two other item }
-            ensures { (result.1.wire ≡ wire.entry.now.id) × (result.1.keys ≡ other.keys) }
+            requires { IsReady (λ before r. 0 < r.life) wire.now.id two other item }
+            ensures { (result.1.wire ≡ wire.entry.now.id) × (result.1.keys ≡ other.keys)
+                × (result.1.terms ≡ other.terms) }
         { adds(rt, wire, two, other, item) },
     );
     (one, other, a && b)
@@ -103,7 +125,7 @@ fn add_both<R: Threads + Wait + Sync>(
 #[test]
 fn two_threads_add(rt: HostRuntime) -> Result<(), Fail> {
     let alloc = rt.alloc();
-    let (wire, passes, shares) = Wire::start(alloc, &founding_of(7)?, 2)?;
+    let (wire, passes, shares) = Wire::<HasLife>::start(alloc, &terms_of(7, 2)?)?;
     let mut passes = passes.into_iter();
     let mut shares = shares.into_iter();
     let (Some(one), Some(mine)) = (passes.next(), shares.next()) else {
@@ -140,14 +162,14 @@ fn two_threads_add(rt: HostRuntime) -> Result<(), Fail> {
 #[tactic(auto, unfolding(crate::specs::Keys::place_keys, crate::specs::Keys::caller_keys))]
 #[test]
 fn all_passes_close_a_wire(rt: HostRuntime) -> Result<(), Fail> {
-    let founding = founding_of(5)?;
-    let (wire, passes, _shares) = Wire::start(rt.alloc(), &founding, 0)?;
+    let terms = terms_of(5, 0)?;
+    let (wire, passes, _shares) = Wire::<HasLife>::start(rt.alloc(), &terms)?;
     let mut passes = passes;
     let Some(mut last) = passes.pop() else {
         return Err(Fail::from("a pass"));
     };
     wire.gather(&mut last, passes);
     let journal = wire.close(last);
-    assert!(rt; *journal.founding() == founding && journal.records().is_empty());
+    assert!(rt; *journal.founding() == terms.founding && journal.records().is_empty());
     Ok(())
 }

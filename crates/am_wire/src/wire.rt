@@ -7,13 +7,12 @@ ghost use Rattle.am_wire.specs.declared.rule.Key.TheVariants.{Place, Caller};
 ghost use Rattle.am_wire.specs.declared.wire.WireRefusal.TheVariants as refusals;
 ghost use Rattle.am_wire.specs.Keys.{place_keys, caller_keys, all_keys, times};
 ghost use Rattle.am_wire.specs.Stops.{stopped_in};
-ghost use Rattle.am_wire.specs.Seats.{IsIdle, HasTurn, Takes, Unites, Parts, Adds, IsUpTo, view, longer};
+ghost use Rattle.am_wire.specs.Seats.{IsIdle, HasTurn, Takes, Unites, Parts, Adds, Follows, view, longer};
 ghost use Rattle.am_wire.specs.Passes.{Rests, HasAll, Sees, Joined, IsReady, Committed, Gathered, fresh};
 
-use crate::rule::{Count, FirstKey, Give, Look, OneJournal, Take, Terms, Together, View};
+use crate::rule::{Count, FirstKey, Give, Law, Look, OneJournal, Take, Terms, Together, View};
 use crate::sheet::Sheet;
 use am_base::NoMemory;
-use am_base::founding::Founding;
 use am_base::limits::MOST_EVENTS;
 use am_base::name::Name;
 use am_base::names::Names;
@@ -37,20 +36,20 @@ pub enum WireRefusal {
     Spent,
 }
 
-/// The one journal of a race, of which each pass has seen a beginning. Contracts see it as which wire it is, how its group
-/// begins, and how many callers there are.
+/// The one journal of a race, of which each pass has seen a beginning. Each of its records comes next behind those before it,
+/// by the law `L`. Contracts see it as which wire it is, and its terms.
 #[derive(Drop)]
-pub struct Wire {
-    table: Table<Sheet, View, Terms, OneJournal, Global>,
+pub struct Wire<L: Law> {
+    table: Table<Sheet, View, Terms, OneJournal<L>, Global>,
 }
 
-impl Model for Wire {
+impl<L: Law> Model for Wire<L> {
     ghost use Rattle.std.specs.Prelude.{◌≡◌};
     ghost use Rattle.am_wire.specs.Passes.{Line};
 
     ghost Value = { Line };
 
-    ghost view = { λ w. record { id = w.table.shared.table_id; founding = w.table.shared.key.founding; callers = w.table.shared.key.callers } };
+    ghost view = { λ w. record { id = w.table.shared.table_id; terms = w.table.shared.key } };
 
     ghost invariant = { λ w. (w.table.shared.table_id.words ≡ 2) × (w.table.shared.table_id.slots ≡ 1) };
 }
@@ -89,7 +88,7 @@ impl Pass {
     fn of(seat: TableSeat) -> Pass
         requires idle { IsIdle seat.me }
         requires keyed { 0 < length seat.me.0.keys }
-        ensures { result ≡ record { wire = seat.table_id; keys = seat.me.0.keys; seen = seat.me.0.seen } }
+        ensures { result ≡ record { wire = seat.table_id; terms = seat.me.0.terms; keys = seat.me.0.keys; seen = seat.me.0.seen } }
     {
         Pass {
             badge: seat.into_badge(),
@@ -97,19 +96,16 @@ impl Pass {
     }
 }
 
-impl Wire {
+impl<L: Law> Wire<L> {
     /// Makes the table. Its first seat has all keys.
-    fn new(alloc: Global, founding: &Founding, callers: u32) -> Result<(Wire, TableSeat), NoMemory>
-        ensures wire { IfOk result (λ r. (r.0.founding ≡ founding.now) × (r.0.callers ≡ callers)) }
-        ensures seat { IfOk result (λ r. (r.1.table_id ≡ r.0.id) × (r.1.me ≡ (view founding.now (all_keys callers) [] [] false, []))) }
+    fn new(alloc: Global, terms: &Terms) -> Result<(Wire<L>, TableSeat), NoMemory>
+        ensures wire { IfOk result (λ r. r.0.terms ≡ terms.now) }
+        ensures seat { IfOk result (λ r. (r.1.table_id ≡ r.0.id)
+            × (r.1.me ≡ (view terms.now (all_keys terms.now.callers) [] [] false, []))) }
     {
-        let terms = Terms {
-            founding: *founding,
-            callers,
-        };
         let mut slots = Vec::new(alloc);
-        slots.push(Sheet::new(alloc, founding))?;
-        match Table::new(alloc, &[0, 0], slots, &terms) {
+        slots.push(Sheet::new(alloc, &terms.founding))?;
+        match Table::new(alloc, &[0, 0], slots, terms) {
             Ok((table, seat)) => Ok((Wire { table }, seat)),
             Err(_) => Err(AllocError),
         }
@@ -121,10 +117,10 @@ impl Wire {
         requires idle { IsIdle seat.old.me }
         requires keyed { 0 < length seat.old.me.0.keys }
         ensures same { seat.new.table_id ≡ seat.old.table_id }
-        ensures takes { Takes seat.old.me seat.new.me }
+        ensures takes { Takes L.next seat.old.me seat.new.me }
     {
         for _ in rt.forever() {
-            if self.table.shared.compare_exchange::<Take>(seat, 0, 0, 1) == 0 {
+            if self.table.shared.compare_exchange::<Take<L>>(seat, 0, 0, 1) == 0 {
                 return;
             }
             thread::yield_now();
@@ -137,7 +133,11 @@ impl Wire {
         requires own { seat.old.table_id ≡ self.now.id }
         requires turn { HasTurn seat.old.me }
         ensures same { seat.new.table_id ≡ seat.old.table_id }
-        ensures gave { seat.new.me ≡ (view seat.old.me.0.founding seat.old.me.0.keys seat.old.me.0.seen [] false, []) }
+        ensures gave { seat.new.me ≡ (
+          view seat.old.me.0.terms seat.old.me.0.keys seat.old.me.0.seen
+              [] false,
+          [],
+        ) }
     {
         self.table.shared.store::<Give>(seat, 0, 0);
     }
@@ -148,17 +148,18 @@ impl Wire {
         requires idle { IsIdle seat.old.me × IsIdle other.me }
         requires keyed { 0 < length seat.old.me.0.keys }
         ensures same { seat.new.table_id ≡ seat.old.table_id }
-        ensures unites { Unites seat.old.me.0 other.me.0 seat.new.me }
+        ensures unites { Unites L.next seat.old.me.0 other.me.0 seat.new.me }
     {
         self.table.shared.join_seat::<Together>(seat, other);
-        self.table.shared.load::<Look>(seat, 1);
+        self.table.shared.load::<Look<L>>(seat, 1);
     }
 
     /// Splits off a seat with the first key.
     fn part(&self, seat: &mut TableSeat) -> TableSeat
         requires own { seat.old.table_id ≡ self.now.id }
         requires idle { IsIdle seat.old.me }
-        ensures same { (seat.new.table_id ≡ seat.old.table_id) × (result.table_id ≡ seat.old.table_id) }
+        ensures same { (seat.new.table_id ≡ seat.old.table_id)
+            × (result.table_id ≡ seat.old.table_id) }
         ensures parts { Parts seat.old.me seat.new.me result.me }
     {
         self.table.shared.split_seat::<FirstKey>(seat)
@@ -172,13 +173,14 @@ impl Wire {
         requires place { 0 < times (Place (place_of item.event.node)) seat.old.me.0.keys }
         requires caller { 0 < times (Caller item.by.caller) seat.old.me.0.keys }
         requires few { length item.packets ≤ 24 }
-        requires low { All (λ l. IsUpTo (2 * length seat.old.me.0.seen + 3) l.packet) item.packets }
+        requires next { L.next seat.old.me.0.terms seat.old.me.0.seen item }
         ensures same { seat.new.table_id ≡ seat.old.table_id }
         ensures ok { OnOk result (Adds seat.old.me item seat.new.me) }
         ensures number { IfOk result (λ n. n ≡ length seat.old.me.0.seen + 1) }
         ensures room { OnOk result (length seat.old.me.0.seen < most_events) }
         ensures err { OnErr result (seat.new.me ≡ seat.old.me) }
-        ensures spent { IfErr result (λ e. e ≡ refusals.Spent ↔ (length seat.old.me.0.seen ≡ most_events)) }
+        ensures spent { IfErr result (λ e. e ≡ refusals.Spent
+            ↔ (length seat.old.me.0.seen ≡ most_events)) }
     {
         let sheet = seat.slot_mut(&self.table.shared, 0);
         let count = sheet.len();
@@ -198,10 +200,12 @@ impl Wire {
         requires idle { IsIdle seat.old.me }
         requires unseen { seat.old.me.0.seen ≡ [] }
         requires count { count ≤ length seat.old.me.0.keys }
-        ensures passes { IfOk result (λ v. v.items ≡ map (fresh self.now.id) (take count seat.old.me.0.keys)) }
+        ensures passes { IfOk result (λ v. v.items
+            ≡ map (fresh self.now.id seat.old.me.0.terms) (take count seat.old.me.0.keys)) }
         ensures same { seat.new.table_id ≡ seat.old.table_id }
         ensures idle { IsIdle seat.new.me }
         ensures unseen { seat.new.me.0.seen ≡ [] }
+        ensures terms { seat.new.me.0.terms ≡ seat.old.me.0.terms }
         ensures keys { OnOk result (seat.new.me.0.keys ≡ drop count seat.old.me.0.keys) }
     {
         let mut passes = Vec::new(alloc);
@@ -212,20 +216,17 @@ impl Wire {
         Ok(passes)
     }
 
-    /// The wire of a group that begins so, with a pass for each of the sixteen places and a share for each of so many
-    /// callers. None has seen a record.
-    pub fn start(
-        alloc: Global,
-        founding: &Founding,
-        callers: u32,
-    ) -> Result<(Wire, Vec<Pass>, Vec<Share>), NoMemory>
-        ensures wire { IfOk result (λ r. (r.0.founding ≡ founding.now) × (r.0.callers ≡ callers)) }
-        ensures passes { IfOk result (λ r. r.1.items ≡ map (fresh r.0.id) place_keys) }
-        ensures shares { IfOk result (λ r. r.2.items ≡ map (fresh r.0.id) (caller_keys callers)) }
+    /// The wire of these terms, with a pass for each of the sixteen places and a share for each caller. None has seen a
+    /// record.
+    pub fn start(alloc: Global, terms: &Terms) -> Result<(Wire<L>, Vec<Pass>, Vec<Share>), NoMemory>
+        ensures wire { IfOk result (λ r. r.0.terms ≡ terms.now) }
+        ensures passes { IfOk result (λ r. r.1.items ≡ map (fresh r.0.id terms.now) place_keys) }
+        ensures shares { IfOk result (λ r. r.2.items
+            ≡ map (fresh r.0.id terms.now) (caller_keys terms.now.callers)) }
     {
-        let (wire, mut seat) = Wire::new(alloc, founding, callers)?;
+        let (wire, mut seat) = Wire::new(alloc, terms)?;
         let passes = wire.deal(alloc, &mut seat, 16)?;
-        let shares = wire.deal(alloc, &mut seat, callers as usize)?;
+        let shares = wire.deal(alloc, &mut seat, terms.callers as usize)?;
         Ok((wire, passes, shares))
     }
 
@@ -242,7 +243,8 @@ impl Wire {
 
     /// A pass gets the keys of several others, and sees what any of them had seen.
     pub fn gather(&self, pass: &mut Pass, others: Vec<Pass>)
-        requires own { (pass.old.wire ≡ self.now.id) × All (λ p. p.wire ≡ self.now.id) others.items }
+        requires own { (pass.old.wire ≡ self.now.id)
+            × All (λ p. p.wire ≡ self.now.id) others.items }
         ensures wire { pass.new.wire ≡ pass.old.wire }
         ensures gathered { Gathered (pass.old ∷ others.items) pass.new }
     {
@@ -254,11 +256,14 @@ impl Wire {
     /// A pass and a share see the longer of what they had seen.
     pub fn meet(&self, pass: &mut Pass, share: &mut Share)
         requires own { (pass.old.wire ≡ self.now.id) × (share.old.wire ≡ self.now.id) }
+        requires terms { share.old.terms ≡ pass.old.terms }
         requires one { length share.old.keys ≡ 1 }
         ensures pass { Sees pass.old pass.new }
         ensures share { Sees share.old share.new }
         ensures longer { pass.new.seen ≡ longer pass.old.seen share.old.seen }
+        ensures lawful { Follows (L.next pass.old.terms) pass.new.seen }
         ensures both { share.new.seen ≡ pass.new.seen }
+        ensures few { length pass.new.seen ≤ most_events }
     {
         let mut seat = seat_in(&mut pass.badge);
         self.unite(&mut seat, seat_in(&mut share.badge));
@@ -267,8 +272,7 @@ impl Wire {
     }
 
     /// Adds a record, and answers its number, from 1. The pass is that of the record's place and the share that of its
-    /// caller; no letter of the record tells a higher round, nor in a Welcome a higher base, than the records allow that the
-    /// pass has seen. After a refusal the journal is as it was, and the record is dropped; Spent comes exactly where the
+    /// caller; whatever others have added since, the record comes next by the law. After a refusal the journal is as it was, and the record is dropped; Spent comes exactly where the
     /// journal, which both have then seen, has 100,000 records.
     pub fn commit<R: Wait>(
         &self,
@@ -277,11 +281,14 @@ impl Wire {
         share: &mut Share,
         item: Record,
     ) -> Result<u32, WireRefusal>
-        requires ready { IsReady self.now.id pass.old share.old item }
-        ensures ok { IfOk result (λ n. Committed pass.old share.old item n pass.new share.new) }
+        requires ready { IsReady (L.next pass.old.terms) self.now.id pass.old share.old item }
+        ensures ok { IfOk result (λ n. Committed
+            (L.next pass.old.terms) pass.old share.old item n pass.new share.new) }
         ensures err { OnErr result (Sees pass.old pass.new × Sees share.old share.new) }
+        ensures lawful { Follows (L.next pass.old.terms) pass.new.seen }
         ensures both { share.new.seen ≡ pass.new.seen }
-        ensures spent { IfErr result (λ e. e ≡ refusals.Spent ↔ (length pass.new.seen ≡ most_events)) }
+        ensures spent { IfErr result (λ e. e ≡ refusals.Spent
+            ↔ (length pass.new.seen ≡ most_events)) }
     {
         let mut seat = seat_in(&mut pass.badge);
         self.unite(&mut seat, seat_in(&mut share.badge));
@@ -298,7 +305,7 @@ impl Wire {
         requires own { pass.old.wire ≡ self.now.id }
         ensures sees { Sees pass.old pass.new }
         ensures letter { result ≡ letter_at (letters_of pass.new.seen) number }
-        ensures low { IfSome result (λ l. IsUpTo (2 * length pass.new.seen + 1) l.packet) }
+        ensures lawful { Follows (L.next pass.old.terms) pass.new.seen }
     {
         let mut seat = seat_in(&mut pass.badge);
         self.take(rt, &mut seat);
@@ -314,6 +321,7 @@ impl Wire {
         requires own { pass.old.wire ≡ self.now.id }
         ensures sees { Sees pass.old pass.new }
         ensures value { result ≡ next_for (letters_of pass.new.seen) node after }
+        ensures lawful { Follows (L.next pass.old.terms) pass.new.seen }
     {
         let mut seat = seat_in(&mut pass.badge);
         self.take(rt, &mut seat);
@@ -328,6 +336,7 @@ impl Wire {
         requires own { pass.old.wire ≡ self.now.id }
         ensures sees { Sees pass.old pass.new }
         ensures value { result ≡ stopped_in pass.new.seen }
+        ensures lawful { Follows (L.next pass.old.terms) pass.new.seen }
     {
         let mut seat = seat_in(&mut pass.badge);
         self.take(rt, &mut seat);
@@ -340,10 +349,11 @@ impl Wire {
     /// The journal as it stands at the end: the pass that has all keys has seen all of it.
     pub fn close(self, pass: Pass) -> Journal
         requires own { pass.wire ≡ self.id }
-        requires all { HasAll self.callers pass.keys }
-        ensures founding { result.founding ≡ self.founding }
+        requires all { HasAll self.terms.callers pass.keys }
+        ensures founding { result.founding ≡ self.terms.founding }
         ensures records { result.records ≡ pass.seen }
-        ensures callers { All (λ r. r.by.caller < self.callers) pass.seen }
+        ensures callers { All (λ r. r.by.caller < self.terms.callers) pass.seen }
+        ensures lawful { Follows (L.next self.terms) pass.seen }
     {
         let Pass { badge } = pass;
         let seat = badge.into_seat();

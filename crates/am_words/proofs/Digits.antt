@@ -11,7 +11,8 @@ use Rattle.am_words.specs.Forms.{number_of}
 own : IsNumeralModel (λ ds. list_all is_ascii_digit ds ≡ true) (digits_value 10)
 own = numerals_by_value _ (search rules)
 
-pub number_is : {E : Type 0} → (text : List ℕ) (r : Result ℕ E) → ParsesUnsigned 64 10 text r → length text ≤ 20 → list_all is_ascii_digit text ≡ true → result_ok r ≡ number_of text
+pub number_is : {E : Type 0} → (text : List ℕ) (r : Result ℕ E) → ParsesUnsigned 64 10 text r → length text ≤ 20 → list_all is_ascii_digit text ≡ true
+    → result_ok r ≡ number_of text
 unfolding number_of
 number_is {E = E} text (Ok x) h few all =
     let p = parse_digits own {E = E} 64 text (Ok x) h all in

@@ -1,5 +1,6 @@
 -- The words of `gen` fit its command.
-use Rattle.std.proofs.Common.{refl, sym, subst, codes, true, false, Bool, List, [], ◌∷◌, ◌≡◌, ◌≢◌, ◌==◌, ◌&&◌, ℕ, true≢false, Option, Some, None, option_map, arith}
+use Rattle.std.proofs.Common.{refl, sym, subst, codes, true, false, Bool, List, [], ◌∷◌, ◌≡◌, ◌≢◌, ◌==◌, ◌&&◌, ℕ, true≢false, Option, Some, None, option_map}
+use Rattle.std.proofs.Common.{arith}
 use Rattle.std.specs.Char.{is_ascii_digit}
 use Rattle.std.proofs.lemmas.Bool.Decides.{nat_tests}
 use Rattle.std.specs.Cmp.Lexicographic.{same_text}
@@ -35,19 +36,23 @@ taken_back : (d : ℕ) (ds : Text) (e : ℕ) (es : Text) → (d == 45) ≡ false
 unfolding clap_on_literals
 taken_back d ds e es nd ne = simp (nd, ne) refl
 
-seed_is : (d : ℕ) (ds : Text) (e : ℕ) (es : Text) → (d == 45) ≡ false → (e == 45) ≡ false → first_of (codes "seed") (matches_of gen_app (seed_first (d ∷ ds) (e ∷ es))) ≡ Some (d ∷ ds)
+seed_is : (d : ℕ) (ds : Text) (e : ℕ) (es : Text) → (d == 45) ≡ false → (e == 45) ≡ false
+    → first_of (codes "seed") (matches_of gen_app (seed_first (d ∷ ds) (e ∷ es))) ≡ Some (d ∷ ds)
 unfolding clap_on_literals
 seed_is d ds e es nd ne = simp (nd, ne) refl
 
-count_is : (d : ℕ) (ds : Text) (e : ℕ) (es : Text) → (d == 45) ≡ false → (e == 45) ≡ false → first_of (codes "count") (matches_of gen_app (seed_first (d ∷ ds) (e ∷ es))) ≡ Some (e ∷ es)
+count_is : (d : ℕ) (ds : Text) (e : ℕ) (es : Text) → (d == 45) ≡ false → (e == 45) ≡ false
+    → first_of (codes "count") (matches_of gen_app (seed_first (d ∷ ds) (e ∷ es))) ≡ Some (e ∷ es)
 unfolding clap_on_literals
 count_is d ds e es nd ne = simp (nd, ne) refl
 
-seed_back : (d : ℕ) (ds : Text) (e : ℕ) (es : Text) → (d == 45) ≡ false → (e == 45) ≡ false → first_of (codes "seed") (matches_of gen_app (count_first (d ∷ ds) (e ∷ es))) ≡ Some (d ∷ ds)
+seed_back : (d : ℕ) (ds : Text) (e : ℕ) (es : Text) → (d == 45) ≡ false → (e == 45) ≡ false
+    → first_of (codes "seed") (matches_of gen_app (count_first (d ∷ ds) (e ∷ es))) ≡ Some (d ∷ ds)
 unfolding clap_on_literals
 seed_back d ds e es nd ne = simp (nd, ne) refl
 
-count_back : (d : ℕ) (ds : Text) (e : ℕ) (es : Text) → (d == 45) ≡ false → (e == 45) ≡ false → first_of (codes "count") (matches_of gen_app (count_first (d ∷ ds) (e ∷ es))) ≡ Some (e ∷ es)
+count_back : (d : ℕ) (ds : Text) (e : ℕ) (es : Text) → (d == 45) ≡ false → (e == 45) ≡ false
+    → first_of (codes "count") (matches_of gen_app (count_first (d ∷ ds) (e ∷ es))) ≡ Some (e ∷ es)
 unfolding clap_on_literals
 count_back d ds e es nd ne = simp (nd, ne) refl
 
@@ -95,10 +100,20 @@ pub record Fits (words : List Text) : Type 0 where
   pub count_of : first_of (codes "count") (matches_of gen_app words) ≡ option_map (λ t. t.1) (texts_of words)
 
 fits_first : (s c : Text) → IsWord s → IsWord c → Fits (seed_first s c)
-fits_first s c (word d ds nd) (word e es ne) = record { takes_them = taken d ds e es nd ne; seed_of = seed_is d ds e es nd ne; count_of = count_is d ds e es nd ne }
+fits_first s c (word d ds nd) (word e es ne) = record {
+  takes_them = taken d ds e es nd ne;
+  seed_of = seed_is d ds e es nd ne;
+  count_of =
+      count_is d ds e es nd ne;
+}
 
 fits_back : (s c : Text) → IsWord s → IsWord c → Fits (count_first s c)
-fits_back s c (word d ds nd) (word e es ne) = record { takes_them = taken_back d ds e es nd ne; seed_of = seed_back d ds e es nd ne; count_of = count_back d ds e es nd ne }
+fits_back s c (word d ds nd) (word e es ne) = record {
+  takes_them = taken_back d ds e es nd ne;
+  seed_of = seed_back d ds e es nd ne;
+  count_of =
+      count_back d ds e es nd ne;
+}
 
 -- five words with options of these names in turn
 are_options : (w f a g b one other : Text) → has_options w f g one other ≡ true → w ∷ f ∷ a ∷ g ∷ b ∷ [] ≡ codes "gen" ∷ one ∷ a ∷ other ∷ b ∷ []
@@ -110,14 +125,16 @@ are_options w f a g b one other is =
     let y = same_text g other (sym second.1) in
     λ k. gen k ∷ x k ∷ a ∷ y k ∷ b ∷ []
 
-some_first : (w f a g b : Text) → gen_of (w ∷ f ∷ a ∷ g ∷ b ∷ []) ≢ None → has_options w f g (codes "--seed") (codes "--count") ≡ true → with_numbers (number_of a) (number_of b) ≢ None
+some_first : (w f a g b : Text) → gen_of (w ∷ f ∷ a ∷ g ∷ b ∷ []) ≢ None → has_options w f g (codes "--seed") (codes "--count") ≡ true
+    → with_numbers (number_of a) (number_of b) ≢ None
 some_first w f a g b some is = rw is at some
 
 some_back : (w f a g b : Text) → gen_of (w ∷ f ∷ a ∷ g ∷ b ∷ []) ≢ None → has_options w f g (codes "--seed") (codes "--count") ≡ false
     → has_options w f g (codes "--count") (codes "--seed") ≡ true → with_numbers (number_of b) (number_of a) ≢ None
 some_back w f a g b some other is = rw (other, is) at some
 
-none_left : (w f a g b : Text) → has_options w f g (codes "--seed") (codes "--count") ≡ false → has_options w f g (codes "--count") (codes "--seed") ≡ false → gen_of (w ∷ f ∷ a ∷ g ∷ b ∷ []) ≡ None
+none_left : (w f a g b : Text) → has_options w f g (codes "--seed") (codes "--count") ≡ false → has_options w f g (codes "--count") (codes "--seed") ≡ false
+    → gen_of (w ∷ f ∷ a ∷ g ∷ b ∷ []) ≡ None
 none_left w f a g b other none = rw (other, none) refl
 
 pub fits : (words : List Text) → gen_of words ≢ None → Fits words

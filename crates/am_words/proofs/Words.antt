@@ -1,9 +1,9 @@
 -- Lists of one and of five words.
-use Rattle.std.proofs.Common.{◌≡◌, ◌≢◌, Bool, true, false, if◌then◌else◌, codes, ℕ, List, [], ◌∷◌, length, map, Bor, Some, None, slice_index_or, option_map, subst, refl, ap, ◌∙◌, arith}
-use Rattle.std.specs.Bool.{then_some}
+use Rattle.std.proofs.Common.{◌≡◌, ◌≢◌, Bool, true, false, if◌then◌else◌, codes, ℕ, List, [], ◌∷◌, length, map, Bor, Some, None, slice_index_or, option_map}
+use Rattle.std.proofs.Common.{subst, refl, ap, arith}
 use Rattle.am_words.specs.declared.form.Form.TheVariants as form
 use Rattle.am_words.specs.declared.form.Numbers.{Numbers}
-use Rattle.am_words.specs.Forms.{same, form_of, gen_of, IsGen}
+use Rattle.am_words.specs.Forms.{same, one_form, form_of, gen_of, IsGen}
 
 abbrev texts : List (Bor (List ℕ)) → List (List ℕ)
 texts words = map (λ w. w.now) words
@@ -14,7 +14,8 @@ one_word (a ∷ []) d one = refl
 one_word (a ∷ b ∷ ws) d one = absurd (omega arith)
 
 pub five_words : (words : List (Bor (List ℕ))) (d e f g h : Bor (List ℕ)) → length words ≡ 5
-    → texts words ≡ (slice_index_or words 0 d).now ∷ (slice_index_or words 1 e).now ∷ (slice_index_or words 2 f).now ∷ (slice_index_or words 3 g).now ∷ (slice_index_or words 4 h).now ∷ []
+    → texts words ≡ (slice_index_or words 0 d).now ∷ (slice_index_or words 1 e).now ∷ (slice_index_or words 2 f).now ∷ (slice_index_or words 3 g).now
+    ∷ (slice_index_or words 4 h).now ∷ []
 five_words [] d e f g h five = absurd (omega arith)
 five_words (a ∷ []) d e f g h five = absurd (omega arith)
 five_words (a ∷ b ∷ []) d e f g h five = absurd (omega arith)
@@ -34,26 +35,23 @@ no_form (a ∷ b ∷ c ∷ x ∷ []) one five = refl
 no_form (a ∷ b ∷ c ∷ x ∷ y ∷ []) one five = absurd (five refl)
 no_form (a ∷ b ∷ c ∷ x ∷ y ∷ z ∷ ws) one five = refl
 
-then_if : {A : Type 0} (b : Bool) (x : A) → then_some b x ≡ (if b then Some x else None)
-then_if true x = refl
-then_if false x = refl
-
--- one word has the form of play or none
-pub play_form : (words : List (Bor (List ℕ))) (d : Bor (List ℕ)) (b : Bool) → length words ≡ 1 → b ≡ same (slice_index_or words 0 d).now (codes "play") → then_some b form.Play ≡ form_of (texts words)
+-- one word has its form
+pub word_form : (words : List (Bor (List ℕ))) (d : Bor (List ℕ)) → length words ≡ 1 → one_form (slice_index_or words 0 d).now ≡ form_of (texts words)
 unfolding form_of
-play_form [] d b one is = absurd (omega arith)
-play_form (a ∷ []) d b one is = ap (λ t. then_some t form.Play) is ∙ then_if (same a.now (codes "play")) form.Play
-play_form (a ∷ c ∷ ws) d b one is = absurd (omega arith)
+word_form [] d one = absurd (omega arith)
+word_form (a ∷ []) d one = refl
+word_form (a ∷ c ∷ ws) d one = absurd (omega arith)
 
-not_play : (b : Bool) → IsGen (if b then Some form.Play else None) → ⊥
-not_play true is = is
-not_play false is = is
+one_is_not_gen : (play race : Bool) → IsGen (if play then Some form.Play else (if race then Some form.Race else None)) → ⊥
+one_is_not_gen true race is = is
+one_is_not_gen false true is = is
+one_is_not_gen false false is = is
 
 -- words that are gen have numbers
 pub some_gen : (words : List (List ℕ)) → IsGen (form_of words) → gen_of words ≢ None
 unfolding form_of
 some_gen [] is none = is
-some_gen (a ∷ []) is none = not_play (same a (codes "play")) is
+some_gen (a ∷ []) is none = one_is_not_gen (same a (codes "play")) (same a (codes "race")) is
 some_gen (a ∷ b ∷ ws) is none = subst (λ n. IsGen (option_map form.Gen n)) none is
 
 -- and the form of these

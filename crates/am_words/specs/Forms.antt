@@ -53,13 +53,18 @@ numbers_in (Some texts) = numbers_of texts.0 texts.1
 abbrev pub gen_of : List (List ℕ) → Option Numbers
 gen_of words = numbers_in (texts_of words)
 
--- the one word play, or gen with its options
+-- the form of one word
+abbrev pub one_form : List ℕ → Option Form
+one_form word = if same word (codes "play") then Some form.Play else (if same word (codes "race") then Some form.Race else None)
+
+-- the one word play, the one word race, or gen with its options
 unfoldable pub form_of : List (List ℕ) → Option Form
-form_of (word ∷ []) = if same word (codes "play") then Some form.Play else None
+form_of (word ∷ []) = one_form word
 form_of words = option_map form.Gen (gen_of words)
 
 -- the words are gen
 abbrev pub IsGen : Option Form → Type 0
 IsGen (Some (form.Gen numbers)) = Unit {0}
 IsGen (Some form.Play) = ⊥
+IsGen (Some form.Race) = ⊥
 IsGen None = ⊥

@@ -2,7 +2,7 @@ ghost use Rattle.std.specs.Prelude.{◌≡◌, ◌≤◌, [], ◌∷◌, map, If
 ghost use Rattle.std.specs.List.{list_all};
 ghost use Rattle.std.specs.Char.{is_ascii_digit};
 ghost use Rattle.am_base.specs.Most.{most_events};
-ghost use Rattle.am_words.specs.Forms.{form_of, number_of, numbers_of, has_options};
+ghost use Rattle.am_words.specs.Forms.{one_form, form_of, number_of, numbers_of, has_options};
 
 use am_base::limits::MOST_EVENTS;
 
@@ -18,6 +18,8 @@ pub struct Numbers {
 pub enum Form {
     /// To run a script.
     Play,
+    /// To run the calls of threads.
+    Race,
     /// To make a run from two numbers.
     Gen(Numbers),
 }
@@ -77,13 +79,26 @@ fn form_of_five(word: &str, first: &str, one: &str, second: &str, other: &str) -
     None
 }
 
-/// The form of the words after the program's name: the one word `play`, or `gen` with the options `--seed N` and
-/// `--count N`, each once, in either order. None where they have no form.
+/// The form of one word.
+fn form_of_one(word: &str) -> Option<Form>
+    ensures { result ≡ one_form word.now }
+{
+    if word == "play" {
+        return Some(Form::Play);
+    }
+    if word == "race" {
+        return Some(Form::Race);
+    }
+    None
+}
+
+/// The form of the words after the program's name: the one word `play`, the one word `race`, or `gen` with the options
+/// `--seed N` and `--count N`, each once, in either order. None where they have no form.
 pub fn form_of(words: &[&str]) -> Option<Form>
     ensures { result ≡ form_of (map (λ word. word.now) words.now) }
 {
     match words {
-        [word] => (*word == "play").then_some(Form::Play),
+        [word] => form_of_one(word),
         [word, first, one, second, other] => form_of_five(word, first, one, second, other),
         _ => None,
     }

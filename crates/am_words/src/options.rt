@@ -15,8 +15,10 @@ fn texts<'a>(
     words: &'a [&'a str],
 ) -> Result<(Option<&'a str>, Option<&'a str>), Error>
     requires { gen_of (map (λ word. word.now) words.now) ≢ None }
-    ensures seed { IfOk result (λ r. option_map (λ s. s.now) r.0 ≡ option_map (λ t. t.0) (texts_of (map (λ word. word.now) words.entry.now))) }
-    ensures count { IfOk result (λ r. option_map (λ s. s.now) r.1 ≡ option_map (λ t. t.1) (texts_of (map (λ word. word.now) words.entry.now))) }
+    ensures seed { IfOk result (λ r. option_map (λ s. s.now) r.0
+        ≡ option_map (λ t. t.0) (texts_of (map (λ word. word.now) words.entry.now))) }
+    ensures count { IfOk result (λ r. option_map (λ s. s.now) r.1
+        ≡ option_map (λ t. t.1) (texts_of (map (λ word. word.now) words.entry.now))) }
     ensures err { IfErr result (λ e. kind_of e ≡ ErrorKind.OutOfMemory) }
 {
     let seed = Arg::new(alloc, "seed")
@@ -36,7 +38,8 @@ fn texts<'a>(
 #[tactic(auto, using(crate::proofs::Words::some_gen, crate::proofs::Words::gen_form))]
 pub fn gen_numbers(alloc: Global, words: &[&str]) -> Result<Numbers, AllocError>
     requires { IsGen (form_of (map (λ word. word.now) words.now)) }
-    ensures numbers { IfOk result (λ numbers. form_of (map (λ word. word.now) words.now) ≡ Some (form.Gen numbers)) }
+    ensures numbers { IfOk result (λ numbers. form_of (map (λ word. word.now) words.now)
+        ≡ Some (form.Gen numbers)) }
     ensures count { IfOk result (λ numbers. numbers.count ≤ most_events) }
 {
     let Ok((seed, count)) = texts(alloc, words) else {

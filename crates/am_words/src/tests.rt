@@ -27,10 +27,12 @@ const GEN: [([&str; 5], u64, u32); 4] = [
 ];
 
 /// Words that have no form.
-const OTHER: [&[&str]; 14] = [
+const OTHER: [&[&str]; 16] = [
     &[],
     &["gen"],
-    &["race"],
+    &["Race"],
+    &["race", "x"],
+    &["race", "race"],
     &["play", "x"],
     &["gen", "--seed", "1"],
     &["gen", "--seed", "1", "--seed", "1"],
@@ -55,6 +57,7 @@ fn gen_has_its_numbers(rt: HostRuntime) {
 #[test]
 fn other_words_have_no_form(rt: HostRuntime) {
     assert_eq!(rt; form_of(&["play"]), Some(Form::Play));
+    assert_eq!(rt; form_of(&["race"]), Some(Form::Race));
     for words in OTHER {
         assert_eq!(rt; form_of(words), None);
     }

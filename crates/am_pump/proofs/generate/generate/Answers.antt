@@ -27,5 +27,6 @@ returns-clause-world c =
 
 pub returns-clause-count : goal.returns-clause-count
 returns-clause-count c =
-    let many = ap (λ (p : Play). length p.events) c.into_world.ensures ∙ ap (λ (d : Drive). length d.play.events) c.loop-done.invariant ∙ so_many c.loop-done._done (begun c.args.seed) in
+    let many = ap (λ (p : Play). length p.events) c.into_world.ensures ∙ ap (λ (d : Drive). length d.play.events) c.loop-done.invariant
+    ∙ so_many c.loop-done._done (begun c.args.seed) in
     omega (arith, c.loop-done-test.false, c.loop-done.auto._done-end)

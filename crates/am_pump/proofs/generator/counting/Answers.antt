@@ -5,4 +5,5 @@ use Rattle.am_pump.proofs.generator.counting.Goals as goal
 pub returns : goal.returns
 returns c =
     c.in-Some.ensures.value
-    ∙ filled c.loop-index.bytes c.args.number c.args.size c.loop-index.index c.loop-index.invariant.0 c.requires.size c.loop-index-test.false c.loop-index.invariant.1
+    ∙ filled c.loop-index.bytes c.args.number c.args.size c.loop-index.index c.loop-index.invariant.0 c.requires.size c.loop-index-test.false
+    c.loop-index.invariant.1

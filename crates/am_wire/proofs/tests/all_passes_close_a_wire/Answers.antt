@@ -2,6 +2,7 @@ use Rattle.std.proofs.Common.{◌≡◌, ℕ, zero, suc, List, [], ◌∷◌, �
 use Rattle.std.specs.Prelude.{sum_by, All}
 use Rattle.std.proofs.lemmas.List.Sums.{sum_by-append, sum_by-cons}
 use Rattle.am_wire.specs.declared.rule.Key.{Key}
+use Rattle.am_wire.specs.declared.rule.Terms.{Terms}
 use Rattle.am_wire.specs.Keys.{times, place_keys, caller_keys, all_keys}
 use Rattle.am_wire.specs.Passes.{Known, HasAll}
 use Rattle.am_wire.proofs.Views.{times_append}
@@ -28,15 +29,21 @@ no_callers : (key : Key) → times key (all_keys 0) ≡ times key place_keys
 unfolding caller_keys
 no_callers key = let a = times_append key place_keys (caller_keys 0) in let z : times key (caller_keys 0) ≡ 0 = refl in omega arith
 
-pub gather-requires : goal.gather-requires
-gather-requires g c =
+pub gather-requires-clause-own : goal.gather-requires-clause-own
+gather-requires-clause-own g c = λ _.
     let items = sym c.in-Some.ensures.items ∙ c.in_ok-wire.ensures.passes in
     let s = split_all (λ p. p.wire ≡ c.in_ok-wire.wire.id) _ _
-    (subst (All (λ (p : Known). p.wire ≡ c.in_ok-wire.wire.id)) (sym items) (fresh_wires c.in_ok-wire.wire.id place_keys)) in record { own = s }
+    (subst (All (λ (p : Known). p.wire ≡ c.in_ok-wire.wire.id)) (sym items) (fresh_wires c.in_ok-wire.wire.id _ place_keys)) in s
 
 pub close-journal-requires-clause-all : goal.close-journal-requires-clause-all
-close-journal-requires-clause-all g c =
+close-journal-requires-clause-all g c = λ _.
     let items = sym c.in-Some.ensures.items ∙ c.in_ok-wire.ensures.passes in
-    subst (λ (n : ℕ). HasAll n c.gather.new.pass.keys) (sym c.in_ok-wire.ensures.wire.1)
+    subst (λ (n : ℕ). HasAll n c.gather.new.pass.keys) (sym (ap (λ (t : Terms). t.callers) c.in_ok-wire.ensures.wire ∙ c.in_ok-terms.ensures))
     (gathered_all 0 _ _ c.gather.ensures.gathered (λ key. turned key c.pop.new.self.items c.in-Some.last
-    ∙ ap (sum_by (λ (q : Known). times key q.keys)) items ∙ fresh_times key c.in_ok-wire.wire.id place_keys ∙ sym (no_callers key)))
+    ∙ ap (sum_by (λ (q : Known). times key q.keys)) items ∙ fresh_times key c.in_ok-wire.wire.id _ place_keys ∙ sym (no_callers key)))
+
+pub close-journal-requires-clause-own : goal.close-journal-requires-clause-own
+close-journal-requires-clause-own g c κs =
+    let items = sym c.in-Some.ensures.items ∙ c.in_ok-wire.ensures.passes in
+    c.gather.ensures.wire ∙ (split_all (λ p. p.wire ≡ c.in_ok-wire.wire.id) _ _
+    (subst (All (λ (p : Known). p.wire ≡ c.in_ok-wire.wire.id)) (sym items) (fresh_wires c.in_ok-wire.wire.id _ place_keys))).0

@@ -17,5 +17,6 @@ returns c =
     let same = c.as_bytes-digits.ensures.value in
     elim c.else-digits-le20.branch [
       | else-digits-le20-via-else-digits-le20 w ↦ too_long c.args.text.now (omega (arith, ap length same, w.if-digits-le20.false))
-      | else-digits-le20-via-then-digits-le20+else-are_digits w ↦ no_digits c.args.text.now (ap (list_all is_ascii_digit) (sym same) ∙ sym w.are_digits.ensures ∙ w.if-are_digits.false)
+      | else-digits-le20-via-then-digits-le20+else-are_digits w ↦ no_digits c.args.text.now (ap (list_all is_ascii_digit) (sym same) ∙ sym w.are_digits.ensures
+          ∙ w.if-are_digits.false)
     ]

@@ -17,7 +17,10 @@ invariant_of-self-2 c =
     let one = c.in_ok-step.ensures.one in
     let r = record_of w (record { node = c.of_byte-node.result; act = c.args.act }) one.0 one.1.0 in
     let records : v.records ≡ w.records ++ r ∷ [] = ap (λ (q : Play). (replay q).records) c.in_ok-step.ensures.ok ∙ one.1.1 in
-    let told : c.from.result ≡ bool_byte (ends_sent v.records) = c.from.ensures ∙ ap bool_byte (c.ends_sent-is_sent.ensures ∙ ap ends_sent (c.records.ensures.value ∙ c.journal.ensures.records)) in
-    let count : c.sent_by-sent.result ≡ sent_by w place = c.sent_by-sent.ensures.value ∙ ap (λ (d : Drive). sent_by (replay d.play) place) (sym c.self.view_is) in
+    let told : c.from.result ≡ bool_byte (ends_sent v.records) = c.from.ensures
+    ∙ ap bool_byte (c.ends_sent-is_sent.ensures ∙ ap ends_sent (c.records.ensures.value ∙ c.journal.ensures.records)) in
+    let count : c.sent_by-sent.result ≡ sent_by w place = c.sent_by-sent.ensures.value
+    ∙ ap (λ (d : Drive). sent_by (replay d.play) place) (sym c.self.view_is) in
     let done = more_sent sent w v r place c.from.result c.self.invariant c.requires records c.of_byte-node.ensures told in
-    subst (λ i. AreSent (slice_set sent i (c.sent_by-sent.result + c.from.result)) v) (sym c.from-2.ensures) (subst (λ s. AreSent (slice_set sent place (s + c.from.result)) v) (sym count) done)
+    subst (λ i. AreSent (slice_set sent i (c.sent_by-sent.result + c.from.result)) v) (sym c.from-2.ensures)
+    (subst (λ s. AreSent (slice_set sent place (s + c.from.result)) v) (sym count) done)

@@ -16,7 +16,8 @@ returns-clause-ok c =
     let at = c.draw-place.ensures.value ∙ ap (λ (d : Drive). draw d.words 4) back in
     let turns = c.turn_of-turn.ensures ∙ ap turn_of (c.draw.ensures.value ∙ ap (λ (w : Lcg). draw w 16) c.draw-place.ensures.drawn)
     ∙ ap (λ (d : Drive). turn_of (draw (drawn d.words) 16)) back in
-    on_ok_weaker c.happen.result (step_is c.args.self.now _ c.act.new.self c.happen.new.self c.draw-place.result c.turn_of-turn.result c.in_ok-act.act mid at turns c.in_ok-act.ensures.act c.act.ensures.turned)
+    on_ok_weaker c.happen.result (step_is c.args.self.now _ c.act.new.self c.happen.new.self c.draw-place.result c.turn_of-turn.result c.in_ok-act.act mid at
+    turns c.in_ok-act.ensures.act c.act.ensures.turned)
     c.happen.ensures.ok
 
 pub returns-clause-spent : goal.returns-clause-spent

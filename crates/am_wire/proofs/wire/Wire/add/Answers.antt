@@ -8,19 +8,19 @@ use Rattle.am_wire.proofs.Keeps.{count_allows}
 use Rattle.am_wire.proofs.wire.Wire.add.Goals as goal
 
 pub slot_mut-sheet-requires : goal.slot_mut-sheet-requires
-slot_mut-sheet-requires c = let t = c.requires.turn.page in (
+slot_mut-sheet-requires g c = let t = c.requires.turn.page in (
   search rules,
-  (_, t ∙ sym (ap (λ (z : List (ℕ × Page)). (0, record { founding = c.args.seat.now.me.0.founding; records = c.args.seat.now.me.0.seen }) ∷ rest z) t)),
+  (_, t ∙ sym (ap (λ (z : List (ℕ × Page)). (0, record { founding = c.args.seat.now.me.0.terms.founding; records = c.args.seat.now.me.0.seen }) ∷ rest z) t)),
 )
 
 -- the page that the seat then carries
 carries : (m : Sat) (item : Record) (old new : Page) → HasTurn m → m.1 ≡ (0, old) ∷ rest m.1 → new.founding ≡ old.founding
     → new.records ≡ old.records ++ item ∷ []
-    → (0, new) ∷ rest m.1 ≡ (0, record { founding = m.0.founding; records = m.0.seen ++ item ∷ [] }) ∷ []
+    → (0, new) ∷ rest m.1 ≡ (0, record { founding = m.0.terms.founding; records = m.0.seen ++ item ∷ [] }) ∷ []
 carries m item old new has held founded added =
-    let is : old ≡ record { founding = m.0.founding; records = m.0.seen } = ap first_page (sym held ∙ has.page) in
+    let is : old ≡ record { founding = m.0.terms.founding; records = m.0.seen } = ap first_page (sym held ∙ has.page) in
     let alone : rest m.1 ≡ [] = ap rest has.page in
-    let f : new.founding ≡ m.0.founding = founded ∙ ap (λ (p : Page). p.founding) is in
+    let f : new.founding ≡ m.0.terms.founding = founded ∙ ap (λ (p : Page). p.founding) is in
     let r : new.records ≡ m.0.seen ++ item ∷ [] = added ∙ ap (λ (p : Page). p.records ++ item ∷ []) is in
     λ i. (0, record { founding = f i; records = r i }) ∷ alone i
   where
@@ -36,7 +36,7 @@ held_records m old has held = ap records_in (sym held ∙ has.page)
     records_in (x ∷ xs) = x.1.records
 
 pub fetch_add-requires : goal.fetch_add-requires
-fetch_add-requires c =
+fetch_add-requires g c =
     let m : Sat = c.args.seat.now.me in
     let has : HasTurn m = c.requires.turn in
     let held : m.1 ≡ (0, c.slot_mut-sheet.result.now) ∷ rest m.1 = c.slot_mut-sheet.ensures.value in
@@ -47,12 +47,12 @@ fetch_add-requires c =
     let below : c.len-count.result < most_events = c.if-count-ge-MOST_EVENTS.false in (
       search rules,
       search rules,
-      count_allows _ _ _ _ c.args.item (record {
+      count_allows _ _ _ _ _ c.args.item (record {
         turn = has.turn;
         page = page;
         room = omega arith;
         place = c.requires.place;
         caller = c.requires.caller;
-        low = c.requires.low;
+        lawful = c.requires.next;
       }),
     )

@@ -4,11 +4,17 @@ use Rattle.am_wire.proofs.Dealt.{dealt_more}
 use Rattle.am_wire.proofs.wire.Wire.deal.Goals as goal
 
 pub loop-done-preserved : goal.loop-done-preserved
-loop-done-preserved c =
+loop-done-preserved g c =
     let below : c.loop-done._done < c.args.count = c.loop-done-test.true in
     let count = c.requires.count in
     let pushed = c.in_ok-push.ensures.items in
     let same = c.part-other.ensures.same in
-    let made = c.of.ensures ∙ (λ k. record { wire = same.1 k; keys = c.part-other.result.me.0.keys; seen = c.part-other.result.me.0.seen }) in
-    dealt_more _ _ _ _ _ _ _ _ _ _ (omega arith) c.loop-done.invariant same.0 c.part-other.ensures.parts (pushed
+    let made = c.of.ensures ∙ (λ k. record {
+      wire = same.1 k;
+      terms = c.part-other.result.me.0.terms;
+      keys = c.part-other.result.me.0.keys;
+      seen =
+          c.part-other.result.me.0.seen;
+    }) in
+    dealt_more _ _ _ _ _ _ _ _ _ _ _ (omega arith) c.loop-done.invariant same.0 c.part-other.ensures.parts (pushed
     ∙ ap (λ (p : Known). c.loop-done.passes.items ++ p ∷ []) made)

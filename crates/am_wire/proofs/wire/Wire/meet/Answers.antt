@@ -1,19 +1,20 @@
 use Rattle.std.proofs.Common.{rules, sym}
 use Rattle.am_wire.proofs.Passing.{sits, rests_by, sees_by, Meets, meets}
+use Rattle.am_wire.proofs.wire.Wire.meet.Given.{Over}
 use Rattle.am_wire.proofs.wire.Wire.meet.Goals as goal
 
-they_met : (c : goal.After-drop-pass-inside) → Meets c.args.pass.now c.args.share.now c.part.new.seat.me c.part.result.me
-they_met c =
-    meets _ _ _ _ c.seat_in-seat.result.me c.seat_in.result.me _ _ _
+they_met : (g : Over) (c : goal.After-drop-pass-inside g) → Meets g.L.Law.next c.args.pass.now c.args.share.now c.part.new.seat.me c.part.result.me
+they_met g c =
+    meets _ _ _ _ _ c.seat_in-seat.result.me c.seat_in.result.me _ _ _
     (sits _ _ _ c.seat_in-seat.result.me (sym c.pass.view_is) c.pass.invariant c.seat_in-seat.ensures.one c.seat_in-seat.ensures.empty)
     (sits _ _ _ c.seat_in.result.me (sym c.share.view_is) c.share.invariant c.seat_in.ensures.one c.seat_in.ensures.empty)
-    c.requires.one c.unite.ensures.unites c.part.ensures.parts
+    c.requires.terms c.requires.one c.unite.ensures.unites c.part.ensures.parts
 
 pub invariant_of-pass : goal.invariant_of-pass
-invariant_of-pass c = let m = they_met c in rests_by c.part.new.seat.me _ m.idle.0 m.keyed.0 c.into_badge-2.ensures.2
+invariant_of-pass g c = let m = they_met g c in rests_by c.part.new.seat.me _ m.idle.0 m.keyed.0 c.into_badge-2.ensures.2
 
 pub returns-clause-pass : goal.returns-clause-pass
-returns-clause-pass c = let m = they_met c in sees_by _ _ _ _ c.into_badge-2.ensures.2 (search rules) m.keys.0 m.goes.0
+returns-clause-pass g c = let m = they_met g c in sees_by _ _ _ _ c.into_badge-2.ensures.2 (search rules) m.terms.0 m.keys.0 m.goes.0
 
 pub returns-clause-share : goal.returns-clause-share
-returns-clause-share c = let m = they_met c in sees_by _ _ _ _ c.into_badge.ensures.2 (search rules) m.keys.1 m.goes.1
+returns-clause-share g c = let m = they_met g c in sees_by _ _ _ _ c.into_badge.ensures.2 (search rules) m.terms.1 m.keys.1 m.goes.1

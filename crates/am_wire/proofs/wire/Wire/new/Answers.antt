@@ -3,4 +3,4 @@ use Rattle.am_wire.proofs.Keeps.{opens}
 use Rattle.am_wire.proofs.wire.Wire.new.Goals as goal
 
 pub new-requires-2 : goal.new-requires-2
-new-requires-2 c = opens _ _ (search rules)
+new-requires-2 g c = opens _ _ _ (search rules)

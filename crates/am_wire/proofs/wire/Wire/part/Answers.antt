@@ -3,4 +3,4 @@ use Rattle.am_wire.proofs.Keeps.{splits}
 use Rattle.am_wire.proofs.wire.Wire.part.Goals as goal
 
 pub split_seat-requires : goal.split_seat-requires
-split_seat-requires c = (search rules, search rules, splits _ _ _ c.requires.idle.turn)
+split_seat-requires g c = (search rules, search rules, splits _ _ _ _ c.requires.idle.turn)

@@ -1,5 +1,6 @@
 use Rattle.std.proofs.Common.{◌≡◌, ◌≤◌, List, length, take, drop, map, sym, ap, ◌∙◌, subst, arith}
 use Rattle.am_wire.specs.declared.rule.Key.{Key}
+use Rattle.am_wire.specs.declared.rule.Terms.{Terms}
 use Rattle.am_wire.specs.Keys.{caller_keys}
 use Rattle.am_wire.specs.Seats.{Sat}
 use Rattle.am_wire.specs.Passes.{fresh}
@@ -7,22 +8,26 @@ use Rattle.am_wire.proofs.Dealt.{sixteen, so_many, enough, take_callers}
 use Rattle.am_wire.proofs.wire.Wire.start.Goals as goal
 
 pub deal-requires-clause-count : goal.deal-requires-clause-count
-deal-requires-clause-count c = subst (λ (ks : List Key). 16 ≤ length ks) (sym (ap (λ (m : Sat). m.0.keys) c.in_ok-wire.ensures.seat.1)) (enough c.args.callers)
+deal-requires-clause-count g c = λ _ _. subst (λ (ks : List Key). 16 ≤ length ks) (sym (ap (λ (m : Sat). m.0.keys) c.in_ok-wire.ensures.seat.1))
+    (enough c.args.terms.now.callers)
 
 pub deal-requires-2-clause-count : goal.deal-requires-2-clause-count
-deal-requires-2-clause-count c =
-    let left : c.deal.new.seat.me.0.keys ≡ caller_keys c.args.callers =
-    c.in_ok-passes.ensures.keys ∙ ap (λ (m : Sat). drop 16 m.0.keys) c.in_ok-wire.ensures.seat.1 ∙ (sixteen c.args.callers).1
+deal-requires-2-clause-count g c = λ _ _.
+    let left : c.deal.new.seat.me.0.keys ≡ caller_keys c.args.terms.now.callers =
+    c.in_ok-passes.ensures.keys ∙ ap (λ (m : Sat). drop 16 m.0.keys) c.in_ok-wire.ensures.seat.1 ∙ (sixteen c.args.terms.now.callers).1
     in
-    let many : length c.deal.new.seat.me.0.keys ≡ c.args.callers = ap length left ∙ so_many c.args.callers in
+    let many : length c.deal.new.seat.me.0.keys ≡ c.args.terms.now.callers = ap length left ∙ so_many c.args.terms.now.callers in
     omega arith
 
 pub returns-clause-passes : goal.returns-clause-passes
-returns-clause-passes c = c.in_ok-passes.ensures.passes ∙ ap (λ (m : Sat). map (fresh c.in_ok-wire.wire.id) (take 16 m.0.keys)) c.in_ok-wire.ensures.seat.1
-    ∙ ap (map (fresh c.in_ok-wire.wire.id)) (sixteen c.args.callers).0
+returns-clause-passes g c =
+    c.in_ok-passes.ensures.passes ∙ ap (λ (m : Sat). map (fresh c.in_ok-wire.wire.id m.0.terms) (take 16 m.0.keys)) c.in_ok-wire.ensures.seat.1
+    ∙ ap (map (fresh c.in_ok-wire.wire.id c.args.terms.now)) (sixteen c.args.terms.now.callers).0
 
 pub returns-clause-shares : goal.returns-clause-shares
-returns-clause-shares c =
-    let left = c.in_ok-passes.ensures.keys ∙ ap (λ (m : Sat). drop 16 m.0.keys) c.in_ok-wire.ensures.seat.1 ∙ (sixteen c.args.callers).1 in
-    c.in_ok-shares.ensures.passes ∙ ap (λ (ks : List Key). map (fresh c.in_ok-wire.wire.id) (take c.args.callers ks)) left
-    ∙ ap (map (fresh c.in_ok-wire.wire.id)) (take_callers c.args.callers)
+returns-clause-shares g c =
+    let left = c.in_ok-passes.ensures.keys ∙ ap (λ (m : Sat). drop 16 m.0.keys) c.in_ok-wire.ensures.seat.1 ∙ (sixteen c.args.terms.now.callers).1 in
+    let terms = c.deal.ensures.terms ∙ ap (λ (m : Sat). m.0.terms) c.in_ok-wire.ensures.seat.1 in
+    c.in_ok-shares.ensures.passes ∙ ap (λ (t : Terms). map (fresh c.in_ok-wire.wire.id t) (take c.args.terms.now.callers c.deal.new.seat.me.0.keys)) terms
+    ∙ ap (λ (ks : List Key). map (fresh c.in_ok-wire.wire.id c.args.terms.now) (take c.args.terms.now.callers ks)) left
+    ∙ ap (map (fresh c.in_ok-wire.wire.id c.args.terms.now)) (take_callers c.args.terms.now.callers)

@@ -7,6 +7,6 @@ pub compare_exchange-requires : goal.compare_exchange-requires
 compare_exchange-requires g c = (
   search rules,
   search rules,
-  take_allows _ _ _ _ (subst IsIdle (sym c.loop.invariant.3) c.requires.idle)
+  take_allows _ _ _ _ _ (subst IsIdle (sym c.loop.invariant.3) c.requires.idle)
       (subst (λ (m : Sat). 0 < length m.0.keys) (sym c.loop.invariant.3) c.requires.keyed),
 )

@@ -1,0 +1,139 @@
+//! Calls of threads, over nodes with a lock each and one shared journal, or over one lock round a whole group. Without arguments
+//! it prints how many records one thread leaves in each; with a number of threads and one of rounds, how many events a second.
+#![tactic(auto)]
+
+mod locked;
+
+use am_base::NoMemory;
+use am_base::body::Body;
+use am_base::founding::Founding;
+use am_base::items::Items;
+use am_base::name::Name;
+use am_base::names::Names;
+use am_calls::gate::NoGate;
+use am_calls::plans::may_race;
+use am_calls::race::race;
+use am_group::event::Act;
+use am_group::plan::{RacePlan, ThreadPlan};
+use locked::race_in_one;
+use std::alloc::Global;
+use std::rt::Clock;
+use std::sync::Wait;
+use std::thread::Threads;
+use std::time::Instant;
+use std::{env, io};
+
+/// How many turns a call has.
+const TURNS: u32 = 200;
+
+/// How many calls all threads make together: with their turns and checks they fill no journal.
+const CALLS: u32 = 480;
+
+/// The calls of a thread: sends and takes in turn.
+fn calls(alloc: Global, many: u32) -> Result<Items<Act>, NoMemory> {
+    let mut calls = Items::new(alloc);
+    let body = Body::of(b"a").unwrap_or_default();
+    for number in 0..many {
+        if number % 2 == 0 {
+            calls.push(Act::send(alloc, body.copied())?)?;
+        } else {
+            calls.push(Act::Take)?;
+        }
+    }
+    Ok(calls)
+}
+
+/// A race of so many threads, each at a founder of its own.
+fn plan_of(alloc: Global, founding: Founding, many: u8) -> Result<RacePlan, NoMemory> {
+    let mut threads = Items::new(alloc);
+    for place in 0..many {
+        threads.push(ThreadPlan {
+            node: Name::of_byte(place),
+            calls: calls(alloc, CALLS / u32::from(many))?,
+        })?;
+    }
+    Ok(RacePlan {
+        founding,
+        seed_number: 1,
+        loss: 10,
+        repeat: 5,
+        turns: TURNS,
+        threads,
+    })
+}
+
+/// How many records a race leaves, whose nodes have a lock each; 0 where there was no memory, or too many calls.
+fn race_in_boxes<R: Threads + Wait + Sync>(rt: &R, alloc: Global, plan: &RacePlan) -> usize {
+    if !may_race(plan) {
+        return 0;
+    }
+    match race(rt, alloc, plan, &NoGate) {
+        Ok(journal) => journal.records().len(),
+        Err(_) => 0,
+    }
+}
+
+/// What a lock is round.
+#[derive(Clone, Copy)]
+enum Lock {
+    /// One node.
+    Node,
+    /// The whole group.
+    Group,
+}
+
+/// How many records a race leaves, with locks round nodes or round the group.
+fn records<R: Threads + Wait + Sync>(rt: &R, alloc: Global, plan: &RacePlan, lock: Lock) -> usize {
+    match lock {
+        Lock::Node => race_in_boxes(rt, alloc, plan),
+        Lock::Group => race_in_one(rt, alloc, plan),
+    }
+}
+
+/// How many events so many races do in a second.
+fn rate<R: Clock + Threads + Wait + Sync>(
+    rt: &R,
+    alloc: Global,
+    plan: &RacePlan,
+    lock: Lock,
+    rounds: u32,
+) -> io::Result<u128> {
+    let start = Instant::now(rt)?;
+    let mut events = 0u64;
+    for _ in 0..rounds {
+        events = events.wrapping_add(records(rt, alloc, plan, lock) as u64);
+    }
+    let spent = start.elapsed(rt)?.as_micros().max(1);
+    Ok(u128::from(events) * 1_000_000 / spent)
+}
+
+/// The number of a word, or 0.
+fn number_in(words: &[String], at: usize) -> u32 {
+    match words.get(at) {
+        Some(word) => word.as_str().parse::<u32>().unwrap_or(0),
+        None => 0,
+    }
+}
+
+fn main(rt: HostRuntime) -> io::Result<()> {
+    let alloc = rt.alloc();
+    let words: Vec<String> = env::args(&rt)?.collect(alloc)?;
+    let threads = number_in(words.as_slice(), 1).clamp(1, 16) as u8;
+    let rounds = number_in(words.as_slice(), 2);
+    let founders = Names::of_mask(u16::MAX >> (16 - threads));
+    let Some(founding) = Founding::new(founders, 0, 64, 256) else {
+        return Ok(());
+    };
+    let plan = plan_of(alloc, founding, threads)?;
+    if rounds == 0 {
+        println!(rt;
+            "{} {}",
+            records(&rt, alloc, &plan, Lock::Node),
+            records(&rt, alloc, &plan, Lock::Group)
+        )?;
+        return Ok(());
+    }
+    let nodes = rate(&rt, alloc, &plan, Lock::Node, rounds)?;
+    let group = rate(&rt, alloc, &plan, Lock::Group, rounds)?;
+    println!(rt; "{threads} {nodes} {group}")
+}

@@ -1,0 +1,33 @@
+use Rattle.std.proofs.Common.{ℕ, sym, subst}
+use Rattle.am_calls.specs.Callings.{IsHand}
+use Rattle.am_calls.proofs.Making.{make_fresh, make_caller, make_has, make_called}
+use Rattle.am_calls.proofs.kernels.Kernels.make.Goals as goal
+
+pub do_call-answer-requires-clause-fresh : goal.do_call-answer-requires-clause-fresh
+do_call-answer-requires-clause-fresh g c κs within =
+    make_fresh g.N.Racing.plan c.caller.inside.number c.caller.inside.calls _ c.args.caller.now c.next_call-tag.result c.caller.view_is c.next_call-tag.ensures
+    c.caller.invariant.1
+
+pub do_call-answer-requires-clause-hand : goal.do_call-answer-requires-clause-hand
+do_call-answer-requires-clause-hand g c κs within =
+    subst (λ (n : ℕ). IsHand g.N.Racing.wire g.N.Racing.plan n c.caller.inside.hand.share c.caller.inside.hand.chooser)
+    (sym (make_caller g.N.Racing.plan c.caller.inside.number c.caller.inside.calls _ c.args.caller.now c.next_call-tag.result c.caller.view_is
+    c.next_call-tag.ensures c.caller.invariant.1))
+    c.caller.invariant.0
+
+pub invariant_of-caller : goal.invariant_of-caller
+invariant_of-caller g c = (
+  subst (λ (n : ℕ). IsHand g.N.Racing.wire g.N.Racing.plan n c.do_call-answer.new.hand.share c.do_call-answer.new.hand.chooser)
+      (make_caller g.N.Racing.plan c.caller.inside.number c.caller.inside.calls _ c.args.caller.now c.next_call-tag.result c.caller.view_is
+      c.next_call-tag.ensures c.caller.invariant.1)
+      c.do_call-answer.ensures.hand,
+  make_has g.N.Racing.plan c.caller.inside.number c.caller.inside.calls _ c.args.caller.now c.next_call-tag.result c.caller.view_is c.next_call-tag.ensures
+      c.caller.invariant.1
+      c.args.node c.args.act.now _ c.do_call-answer.result c.requires.planned c.do_call-answer.ensures.made,
+)
+
+pub returns : goal.returns
+returns g c =
+    make_called g.N.Racing.plan c.caller.inside.number c.caller.inside.calls _ c.args.caller.now c.next_call-tag.result c.caller.view_is c.next_call-tag.ensures
+    c.caller.invariant.1
+    c.args.node c.args.act.now _ c.do_call-answer.result c.do_call-answer.ensures.made

@@ -1,0 +1,22 @@
+use Rattle.std.proofs.Common.{ap, ◌∙◌, subst}
+use Rattle.am_group.specs.declared.event.Act.{Act}
+use Rattle.am_group.specs.declared.event.By.{By}
+use Rattle.am_calls.specs.Going.{by_of, is_asked, end_part, Asked}
+use Rattle.am_calls.specs.Tags.{is_turn_part}
+use Rattle.am_calls.proofs.Looking.{end_asks, end_no_turn, end_done}
+use Rattle.am_calls.proofs.node_box.NodeBox.end.Goals as goal
+
+pub ask-requires-clause-asks : goal.ask-requires-clause-asks
+ask-requires-clause-asks g c κs within = ap is_asked c.end_act-last.ensures ∙ end_asks c.args.act.now c.args.came.now
+
+pub ask-requires-clause-no_turn : goal.ask-requires-clause-no_turn
+ask-requires-clause-no_turn g c κs within =
+    ap (λ (b : By). is_turn_part b.part) c.with.ensures ∙ ap is_turn_part c.end_part-part.ensures ∙ end_no_turn c.args.act.now
+
+pub returns-in-Ok-clause-ok : goal.returns-in-Ok-clause-ok
+returns-in-Ok-clause-ok g c =
+    end_done g.N.Racing.plan c.args.self.now.name c.args.tag c.args.act.now c.args.came.now c.in-Ok.came _ _
+    (subst (λ (x : Act). Asked g.N.Racing.plan c.args.self.now.name x
+    (by_of c.args.tag (end_part c.args.act.now)) c.in-Ok.came c.args.hand.now.share.seen c.ask.new.hand.share.seen) c.end_act-last.ensures
+    (subst (λ (b : By). Asked g.N.Racing.plan c.args.self.now.name c.end_act-last.result b c.in-Ok.came c.args.hand.now.share.seen c.ask.new.hand.share.seen)
+    (c.with.ensures ∙ ap (by_of c.args.tag) c.end_part-part.ensures) c.in-Ok.ensures.ok))

@@ -1,0 +1,22 @@
+use Rattle.std.proofs.Common.{sym, subst}
+use Rattle.am_calls.specs.Boxes.{Boxed}
+use Rattle.am_calls.specs.Lawful.{IsSent}
+use Rattle.am_calls.proofs.Boxing.{sees_more}
+use Rattle.am_calls.proofs.Turning.{sent_by, not_there, hears_it}
+use Rattle.am_calls.proofs.node_box.NodeBox.letter.Goals as goal
+
+pub invariant_of-self : goal.invariant_of-self
+invariant_of-self g c = sees_more _ _ _ _ _ _ _ _ _ _ _ c.self.view_is c.self.invariant c.requires.open_ c.read.ensures.sees c.read.ensures.lawful
+
+pub unreachable-requires : goal.unreachable-requires
+unreachable-requires g c =
+    not_there _ _ _ c.read.result c.read.ensures.letter
+    (sent_by _ _ _ _ c.read.ensures.sees.goes.begins (subst (λ (b : Boxed). IsSent b.seen b.name c.args.number) (sym c.self.view_is) c.requires.sent))
+    c.in-None.is
+
+pub returns-clause-hears : goal.returns-clause-hears
+returns-clause-hears g c =
+    hears_it _ _ _ c.read.result c.in-Some.letter c.read.ensures.letter
+    (sent_by _ _ _ _ c.read.ensures.sees.goes.begins (subst (λ (b : Boxed). IsSent b.seen b.name c.args.number) (sym c.self.view_is) c.requires.sent))
+    c.in-Some.is
+    c.bytes-bytes.ensures.packet

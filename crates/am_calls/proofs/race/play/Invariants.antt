@@ -1,0 +1,5 @@
+use Rattle.am_calls.proofs.Playing.{Plays}
+use Rattle.am_calls.proofs.race.play.Given as goal
+
+abbrev pub invariant-loop-act : goal.invariant-loop-act
+invariant-loop-act g l = Plays g.N.Racing.plan l.thread l.initial.caller.number l.act-index l.caller

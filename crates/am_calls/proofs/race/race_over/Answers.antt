@@ -1,0 +1,29 @@
+use Rattle.std.proofs.Common.{◌≡◌, length, Some, sym, ◌∙◌, subst}
+use Rattle.am_wire.specs.declared.wire.WireRefusal.{WireRefusal}
+use Rattle.am_wire.specs.declared.wire.WireRefusal.TheVariants as refusals
+use Rattle.am_calls.proofs.Raced.{run_numbers, run_did, are_played, not_spent}
+use Rattle.am_calls.proofs.race.race_over.Goals as goal
+
+pub finish-journal-requires-clause-callers : goal.finish-journal-requires-clause-callers
+finish-journal-requires-clause-callers g c κs within =
+    run_numbers _ c.in_ok-ran.ran.items c.in_ok-callers.callers.items c.in_ok-kernels.callers.items (length g.N.Racing.plan.threads)
+    c.in_ok-callers.ensures.callers c.in_ok-ran.ensures.numbers c.in_ok-kernels.ensures
+
+pub unreachable-requires : goal.unreachable-requires
+unreachable-requires g c =
+    let spent : c.in-Some-Spent.field-0 ≡ refusals.Spent = rw c.in-Some-Spent.is at c.in-Some-Spent.field-0-is in
+    let numbers = run_numbers _ c.in_ok-ran.ran.items c.in_ok-callers.callers.items c.in_ok-kernels.callers.items (length g.N.Racing.plan.threads)
+    c.in_ok-callers.ensures.callers c.in_ok-ran.ensures.numbers c.in_ok-kernels.ensures in
+    not_spent g.N.Racing.plan c.finish-journal.result.records _ c.requires.within c.finish-journal.ensures.callers
+    (run_did _ _ g.N.Racing.plan c.finish-journal.result.records c.in_ok-ran.ran.items c.in_ok-callers.callers.items c.in_ok-callers.ensures.callers numbers
+    c.in_ok-ran.ensures.ran c.finish-journal.ensures.ends)
+    (sym c.in_ok-callers.ensures.refusal ∙ subst (λ (r : WireRefusal). c.in_ok-callers.refusal ≡ Some r) spent c.in-Some-Spent.is)
+
+pub returns-in-None-clause-played : goal.returns-in-None-clause-played
+returns-in-None-clause-played g c =
+    let numbers = run_numbers _ c.in_ok-ran.ran.items c.in_ok-callers.callers.items c.in_ok-kernels.callers.items (length g.N.Racing.plan.threads)
+    c.in_ok-callers.ensures.callers c.in_ok-ran.ensures.numbers c.in_ok-kernels.ensures in
+    are_played g.N.Racing.plan c.finish-journal.result.records _
+    (run_did _ _ g.N.Racing.plan c.finish-journal.result.records c.in_ok-ran.ran.items c.in_ok-callers.callers.items c.in_ok-callers.ensures.callers numbers
+    c.in_ok-ran.ensures.ran c.finish-journal.ensures.ends)
+    (sym c.in_ok-callers.ensures.refusal ∙ c.in-None.is)

@@ -1,0 +1,124 @@
+ghost use Rattle.std.specs.Prelude.{◌≡◌, ◌<◌, [], ◌∷◌};
+ghost use Rattle.am_wire.specs.declared.rule.Key.TheVariants.{Caller as CallerKey};
+ghost use Rattle.am_wire.specs.Passes.{fresh};
+ghost use Rattle.am_calls.specs.Callings.{HasMade, luck_after};
+ghost use Rattle.am_calls.specs.Going.{by_of};
+ghost use Rattle.am_calls.specs.Lawful.{terms_of};
+
+use crate::naming::Racing;
+use am_group::event::{By, Part};
+use am_group::plan::RacePlan;
+use am_pump::chooser::Chooser;
+use am_wire::wire::Share;
+use std::marker::{Model, PhantomData};
+
+/// Which call it is: whose, and the number of the call.
+#[derive(Clone, Copy, PartialEq, Eq, Debug)]
+pub struct Tag {
+    pub caller: u32,
+    pub call: u32,
+}
+
+impl Tag {
+    /// The tag of a record of the call, of this part.
+    pub fn with(self, part: Part) -> By
+        ensures { result ≡ by_of self part }
+    {
+        By {
+            caller: self.caller,
+            call: self.call,
+            part,
+        }
+    }
+}
+
+/// What a caller acts with: its share, and its chooser, which stands behind the words that its turns drew.
+#[derive(Drop)]
+pub struct Hand {
+    pub share: Share,
+    pub chooser: Chooser,
+}
+
+impl Hand {
+    /// The hand of a caller that has drawn no word.
+    fn new(plan: &RacePlan, number: u32, share: Share) -> Hand
+        ensures share { result.share ≡ share }
+        ensures chooser { result.chooser ≡ luck_after plan.now number 0 }
+    {
+        Hand {
+            share,
+            chooser: Chooser::new(plan.seed_number, u64::from(number), plan.loss, plan.repeat),
+        }
+    }
+}
+
+/// Who makes the calls of one thread of a race, one after the other. Contracts see it as its number, how many calls it has
+/// made, and what it has seen of the journal; of what it has seen, its own records are those of its planned calls.
+#[derive(Drop)]
+pub struct Caller<N: Racing> {
+    pub(crate) number: u32,
+    pub(crate) calls: u32,
+    pub(crate) hand: Hand,
+    race: PhantomData<N>,
+}
+
+impl<N: Racing> Model for Caller<N> {
+    ghost use Rattle.am_calls.specs.Callings.{Calling, IsHand, HasMade};
+    ghost use Rattle.std.specs.Prelude.{◌≡◌};
+
+    ghost Value = { Calling };
+
+    ghost view = { λ c. record { number = c.number; calls = c.calls; seen = c.hand.share.seen } };
+
+    ghost invariant = { λ c. IsHand N.wire N.plan c.number c.hand.share c.hand.chooser × HasMade N.plan c.number c.calls c.hand.share.seen };
+}
+
+impl<N: Racing> Caller<N> {
+    /// A caller that has made no call.
+    pub fn new(plan: &RacePlan, number: u32, share: Share) -> Caller<N>
+        requires plan { plan.now ≡ N.plan }
+        requires share { share ≡ fresh N.wire (terms_of N.plan) (CallerKey number) }
+        ensures { result ≡ record { number = number; calls = 0; seen = [] } }
+    {
+        Caller {
+            number,
+            calls: 0,
+            hand: Hand::new(plan, number, share),
+            race: PhantomData,
+        }
+    }
+
+    /// Its number.
+    pub fn number(&self) -> u32
+        ensures { result ≡ self.now.number }
+    {
+        self.number
+    }
+
+    /// Its next call.
+    pub fn next_call(&self) -> Tag
+        ensures { result ≡ record { caller = self.now.number; call = self.now.calls } }
+    {
+        Tag {
+            caller: self.number,
+            call: self.calls,
+        }
+    }
+
+    /// Its share alone.
+    pub fn into_share(self) -> Share
+        ensures own { result.wire ≡ N.wire }
+        ensures keys { result.keys ≡ CallerKey self.number ∷ [] }
+        ensures seen { result.seen ≡ self.seen }
+        ensures planned { HasMade N.plan self.number self.calls self.seen }
+    {
+        self.hand.share
+    }
+
+    /// How many calls it has made.
+    pub fn calls(&self) -> u32
+        ensures { result ≡ self.now.calls }
+    {
+        self.calls
+    }
+}

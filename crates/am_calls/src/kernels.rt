@@ -1,0 +1,338 @@
+ghost use Rattle.std.specs.Prelude.{◌≡◌, ◌+◌, ◌<◌, ◌≤◌, [], ◌∷◌, Some, slice_get, IfOk, IfErr, true, vec_len, map, length, All};
+ghost use Rattle.std.specs.List.{range_with_len};
+ghost use Rattle.am_base.specs.Names.{place_of};
+ghost use Rattle.am_group.specs.declared.event.Act.TheVariants as acts;
+ghost use Rattle.am_model.specs.World.{first_node};
+ghost use Rattle.am_node.specs.Info.{info_of};
+ghost use Rattle.am_node.specs.Stands.{state_of};
+ghost use Rattle.am_wire.specs.declared.rule.Key.TheVariants.{Place, Caller as CallerKey};
+ghost use Rattle.am_wire.specs.Keys.{place_keys, caller_keys};
+ghost use Rattle.am_wire.specs.Passes.{Sees, fresh};
+ghost use Rattle.am_wire.specs.Seats.{GoesOn};
+ghost use Rattle.am_calls.specs.Boxes.{node_by};
+ghost use Rattle.am_calls.specs.Callings.{Called, IsHand};
+ghost use Rattle.am_calls.specs.Going.{IsCame, HasBegun, Began, HasLooked, WasRefused, Made};
+ghost use Rattle.am_calls.specs.Tags.{of_call, own_of};
+ghost use Rattle.am_calls.specs.Lawful.{terms_of};
+ghost use Rattle.am_calls.specs.Legal.{IsLegalWithTags};
+ghost use Rattle.am_calls.specs.Plans.{calls_of, is_call};
+ghost use Rattle.am_calls.specs.Ran.{fresh_callers, numbers_of, EndsFor, HasPlaces, IsIn};
+
+use crate::answer::Answer;
+use crate::caller::{Caller, Hand, Tag};
+use crate::dealing::{all_places, boxes_of, callers_of, with_callers};
+use crate::gate::Gate;
+use crate::naming::{RaceLaw, Racing};
+use crate::node_box::{Looked, NodeBox};
+use crate::outcomes::{answer_at_end, is_take, late_after, own_answer, request_in_call};
+use crate::ready::Came;
+use am_base::NoMemory;
+use am_base::body::Body;
+use am_base::founding::Founding;
+use am_base::name::Name;
+use am_base::outcome::Outcome;
+use am_group::event::Act;
+use am_group::journal::Journal;
+use am_group::plan::RacePlan;
+use am_node::info::Info;
+use am_node::node::Node;
+use am_wire::wire::{Pass, Share, Wire, WireRefusal};
+use std::alloc::Global;
+use std::sync::{Mutex, Wait};
+
+/// The nodes of a race, each in its box under a lock, over one journal; its callers make blocking calls at them.
+#[derive(Drop)]
+pub struct Kernels<'g, N: Racing, G: Gate> {
+    alloc: Global,
+    wire: Wire<RaceLaw>,
+    boxes: Vec<Mutex<NodeBox<N>>>,
+    gate: &'g G,
+    turns: u32,
+    ghost named: { wire.id ≡ N.wire },
+    ghost planned: { wire.terms ≡ terms_of N.plan },
+    ghost turned: { turns ≡ N.plan.turns },
+    ghost sixteen: { vec_len boxes ≡ 16 },
+}
+
+impl<'g, N: Racing, G: Gate> Kernels<'g, N, G> {
+    /// The nodes of a plan's founding, to which nothing has happened, and a caller for each of its threads. The wire, its
+    /// passes and its shares are fresh.
+    pub fn start(
+        alloc: Global,
+        plan: &RacePlan,
+        gate: &'g G,
+        wire: Wire<RaceLaw>,
+        passes: Vec<Pass>,
+        shares: Vec<Share>,
+    ) -> Result<(Kernels<'g, N, G>, Vec<Caller<N>>), NoMemory>
+        requires plan { plan.now ≡ N.plan }
+        requires few { length N.plan.threads ≤ 16 }
+        requires wire { wire ≡ record { id = N.wire; terms = terms_of N.plan } }
+        requires passes { passes.items ≡ map (fresh N.wire (terms_of N.plan)) place_keys }
+        requires shares { shares.items ≡ map (fresh N.wire (terms_of N.plan))
+            (caller_keys (length N.plan.threads)) }
+        ensures { IfOk result (λ r. r.1.items ≡ fresh_callers (length N.plan.threads)) }
+    {
+        let boxes = boxes_of(alloc, &plan.founding, passes)?;
+        let callers = callers_of(alloc, plan, shares)?;
+        let kernels = Kernels {
+            alloc,
+            wire,
+            boxes,
+            gate,
+            turns: plan.turns,
+        };
+        Ok((kernels, callers))
+    }
+
+    /// The first look of a call that is no receive: its own act.
+    fn begin<R: Wait>(
+        &self,
+        rt: &R,
+        hand: &mut Hand,
+        tag: Tag,
+        node: Name,
+        act: &Act,
+    ) -> Result<Came, Answer>
+        requires hand { IsHand N.wire N.plan tag.caller hand.old.share hand.old.chooser }
+        requires call { is_call act.now ≡ true }
+        ensures hand { IsHand N.wire N.plan tag.caller hand.new.share hand.new.chooser }
+        ensures ok { IfOk result (λ came. Began
+            (place_of node) tag act.entry.now came hand.old.share.seen hand.new.share.seen) }
+        ensures err { IfErr result (WasRefused
+            (place_of node) tag.caller hand.old.share.seen hand.new.share.seen) }
+    {
+        for _ in rt.forever() {
+            let mut guard = self.boxes[usize::from(node.place())].lock(rt);
+            if guard.name().place() == node.place() {
+                return guard.begin(rt, self.alloc, &self.wire, self.gate, hand, tag, act);
+            }
+        }
+        unreachable!()
+    }
+
+    /// A further look of a call.
+    fn look<R: Wait>(
+        &self,
+        rt: &R,
+        hand: &mut Hand,
+        tag: Tag,
+        node: Name,
+        act: &Act,
+        came: &Option<Came>,
+        has_turn: bool,
+    ) -> Result<Looked, Answer>
+        requires hand { IsHand N.wire N.plan tag.caller hand.old.share hand.old.chooser }
+        requires came { IsCame act.now came.now
+            (own_of (of_call tag.caller tag.call hand.old.share.seen)) }
+        ensures hand { IsHand N.wire N.plan tag.caller hand.new.share hand.new.chooser }
+        ensures ok { IfOk result (HasLooked
+            (place_of node) tag act.entry.now came.entry.now has_turn hand.old.share.seen
+            hand.new.share.seen) }
+        ensures err { IfErr result (WasRefused
+            (place_of node) tag.caller hand.old.share.seen hand.new.share.seen) }
+    {
+        for _ in rt.forever() {
+            let mut guard = self.boxes[usize::from(node.place())].lock(rt);
+            if guard.name().place() == node.place() {
+                return guard.look(
+                    rt, self.alloc, &self.wire, self.gate, hand, tag, act, came, has_turn,
+                );
+            }
+        }
+        unreachable!()
+    }
+
+    /// Looks at the node until the call has its answer.
+    fn go_on<R: Wait>(
+        &self,
+        rt: &R,
+        hand: &mut Hand,
+        tag: Tag,
+        node: Name,
+        act: &Act,
+        came: &Option<Came>,
+    ) -> Answer
+        requires hand { IsHand N.wire N.plan tag.caller hand.old.share hand.old.chooser }
+        requires begun { HasBegun act.now came.now
+            (of_call tag.caller tag.call hand.old.share.seen) }
+        ensures hand { IsHand N.wire N.plan tag.caller hand.new.share hand.new.chooser }
+        ensures made { Made N.plan node tag act.entry.now
+            (of_call tag.caller tag.call hand.old.share.seen) hand.old.share.seen
+            hand.new.share.seen result }
+    {
+        let request = request_in_call(act, came);
+        let mut late = Answer::Late { turns: self.turns };
+        for spent in 0..self.turns {
+            match self.look(rt, hand, tag, node, act, came, true) {
+                Err(answer) => return answer,
+                Ok(Looked::End(outcome)) => return answer_at_end(act, request, &outcome, late),
+                Ok(Looked::Turn(outcome)) => late = late_after(request, late, &outcome),
+            }
+        }
+        match self.look(rt, hand, tag, node, act, came, false) {
+            Err(answer) => answer,
+            Ok(Looked::End(outcome)) => answer_at_end(act, request, &outcome, late),
+            Ok(Looked::Turn(_)) => unreachable!(),
+        }
+    }
+
+    /// Makes a call of which nothing is done yet.
+    fn do_call<R: Wait>(&self, rt: &R, hand: &mut Hand, tag: Tag, node: Name, act: &Act) -> Answer
+        requires hand { IsHand N.wire N.plan tag.caller hand.old.share hand.old.chooser }
+        requires call { is_call act.now ≡ true }
+        requires fresh { of_call tag.caller tag.call hand.old.share.seen ≡ [] }
+        ensures hand { IsHand N.wire N.plan tag.caller hand.new.share hand.new.chooser }
+        ensures made { Made N.plan node tag act.entry.now
+            [] hand.old.share.seen hand.new.share.seen result }
+    {
+        if is_take(act) {
+            return self.go_on(rt, hand, tag, node, act, &None);
+        }
+        match self.begin(rt, hand, tag, node, act) {
+            Err(answer) => answer,
+            Ok(came) => match own_answer(act, &came.outcome) {
+                Some(answer) => answer,
+                None => self.go_on(rt, hand, tag, node, act, &Some(came)),
+            },
+        }
+    }
+
+    /// Makes a call, which is the caller's next planned one, and answers by its records (docs/PROTOCOL.md, "Races"). It ends
+    /// after its own act, at most as many turns as the race says, and its check.
+    pub fn make<R: Wait>(&self, rt: &R, caller: &mut Caller<N>, node: Name, act: &Act) -> Answer
+        requires planned { slice_get (calls_of N.plan caller.old.number) caller.old.calls
+            ≡ Some act.now }
+        requires call { is_call act.now ≡ true }
+        requires room { caller.old.calls < 4294967295 }
+        ensures { Called N.plan node caller.old caller.new result }
+    {
+        let tag = caller.next_call();
+        let answer = self.do_call(rt, &mut caller.hand, tag, node, act);
+        caller.calls += 1;
+        answer
+    }
+
+    /// Sends a body to the group. Sent with its number in the list; Late or PutOff where its turns were used before.
+    pub fn send<R: Wait>(&self, rt: &R, caller: &mut Caller<N>, node: Name, body: Body) -> Answer
+        requires planned { slice_get (calls_of N.plan caller.old.number) caller.old.calls
+            ≡ Some (acts.Send body) }
+        requires room { caller.old.calls < 4294967295 }
+        ensures { Called N.plan node caller.old caller.new result }
+    {
+        match Act::send(self.alloc, body) {
+            Ok(act) => self.make(rt, caller, node, &act),
+            Err(_) => {
+                caller.calls += 1;
+                Answer::NoMemory
+            }
+        }
+    }
+
+    /// Takes the next accepted entry. Took with it; Late where its turns were used before there was one.
+    pub fn receive<R: Wait>(&self, rt: &R, caller: &mut Caller<N>, node: Name) -> Answer
+        requires planned { slice_get (calls_of N.plan caller.old.number) caller.old.calls
+            ≡ Some acts.Take }
+        requires room { caller.old.calls < 4294967295 }
+        ensures { Called N.plan node caller.old caller.new result }
+    {
+        self.make(rt, caller, node, &Act::Take)
+    }
+
+    /// Joins the group. Joined with the number of its Join; Late where its turns were used before.
+    pub fn join<R: Wait>(&self, rt: &R, caller: &mut Caller<N>, node: Name) -> Answer
+        requires planned { slice_get (calls_of N.plan caller.old.number) caller.old.calls
+            ≡ Some acts.Join }
+        requires room { caller.old.calls < 4294967295 }
+        ensures { Called N.plan node caller.old caller.new result }
+    {
+        self.make(rt, caller, node, &Act::Join)
+    }
+
+    /// Leaves the group. Left, or Late where its turns were used before.
+    pub fn leave<R: Wait>(&self, rt: &R, caller: &mut Caller<N>, node: Name) -> Answer
+        requires planned { slice_get (calls_of N.plan caller.old.number) caller.old.calls
+            ≡ Some acts.Leave }
+        requires room { caller.old.calls < 4294967295 }
+        ensures { Called N.plan node caller.old caller.new result }
+    {
+        self.make(rt, caller, node, &Act::Leave)
+    }
+
+    /// Rebuilds the group with at least so many members. Decided with its new view; else why there is none, or Late.
+    pub fn reset<R: Wait>(
+        &self,
+        rt: &R,
+        caller: &mut Caller<N>,
+        node: Name,
+        least: u8,
+        resilience: u8,
+    ) -> Answer
+        requires planned { slice_get (calls_of N.plan caller.old.number) caller.old.calls
+            ≡ Some (acts.Reset least resilience) }
+        requires room { caller.old.calls < 4294967295 }
+        ensures { Called N.plan node caller.old caller.new result }
+    {
+        self.make(rt, caller, node, &Act::Reset { least, resilience })
+    }
+
+    /// Stops the node for good.
+    pub fn stop<R: Wait>(&self, rt: &R, caller: &mut Caller<N>, node: Name) -> Answer
+        requires planned { slice_get (calls_of N.plan caller.old.number) caller.old.calls
+            ≡ Some acts.Stop }
+        requires room { caller.old.calls < 4294967295 }
+        ensures { Called N.plan node caller.old caller.new result }
+    {
+        self.make(rt, caller, node, &Act::Stop)
+    }
+
+    /// A look at what a node knows.
+    fn info_at<R: Wait>(&self, rt: &R, hand: &mut Hand, node: Name) -> Result<Info, WireRefusal>
+        requires own { hand.old.share.wire ≡ N.wire }
+        requires terms { hand.old.share.terms ≡ terms_of N.plan }
+        requires one { length hand.old.share.keys ≡ 1 }
+        ensures share { Sees hand.old.share hand.new.share }
+        ensures chooser { hand.new.chooser ≡ hand.old.chooser }
+        ensures ok { IfOk result (λ info. info
+            ≡ info_of (node_by N.plan hand.new.share.seen (place_of node))) }
+    {
+        for _ in rt.forever() {
+            let mut guard = self.boxes[usize::from(node.place())].lock(rt);
+            if guard.name().place() == node.place() {
+                return guard.info(&self.wire, hand);
+            }
+        }
+        unreachable!()
+    }
+
+    /// What a node knows of itself and of its group, by what the caller has then seen. It makes no record, and is no call that
+    /// counts. It is an error where the node's box was closed by one.
+    pub fn info<R: Wait>(
+        &self,
+        rt: &R,
+        caller: &mut Caller<N>,
+        node: Name,
+    ) -> Result<Info, WireRefusal>
+        ensures number { caller.new.number ≡ caller.old.number }
+        ensures calls { caller.new.calls ≡ caller.old.calls }
+        ensures goes { GoesOn (CallerKey caller.old.number ∷ []) caller.old.seen caller.new.seen }
+        ensures ok { IfOk result (λ info. info
+            ≡ info_of (node_by N.plan caller.new.seen (place_of node))) }
+    {
+        self.info_at(rt, &mut caller.hand, node)
+    }
+
+    /// Ends a race, to which all its callers are handed in: the journal that they leave.
+    pub fn finish<R: Wait>(self, rt: &R, callers: Vec<Caller<N>>) -> Journal
+        requires callers { numbers_of callers.items ≡ range_with_len 0 (length N.plan.threads) }
+        ensures founding { result.founding ≡ N.plan.founding }
+        ensures legal { IsLegalWithTags N.plan (calls_of N.plan) result.records }
+        ensures ends { All (EndsFor result.records) callers.items }
+        ensures callers { All (λ r. r.by.caller < length N.plan.threads) result.records }
+    {
+        let Kernels { wire, boxes, .. } = self;
+        let pass = all_places(rt, &wire, boxes);
+        let pass = with_callers(&wire, pass, callers);
+        wire.close(pass)
+    }
+}

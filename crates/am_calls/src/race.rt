@@ -1,0 +1,210 @@
+ghost use Rattle.std.specs.List.{list_all};
+ghost use Rattle.std.specs.Prelude.{◌≡◌, ◌≤◌, true, IfOk, Some, map, length, slice_get, All};
+ghost use Rattle.am_base.specs.Most.{most_events};
+ghost use Rattle.am_calls.specs.Lawful.{terms_of};
+ghost use Rattle.am_calls.specs.Legal.{IsLegalWithTags};
+ghost use Rattle.am_calls.specs.Plans.{calls_of, is_call, MayRace, ArePlayed};
+ghost use Rattle.am_wire.specs.Keys.{place_keys, caller_keys};
+ghost use Rattle.am_wire.specs.Passes.{fresh};
+ghost use Rattle.am_calls.specs.Ran.{fresh_caller, fresh_callers, numbers_of, HasRun, refusal_in, ends_thread, first_refusal};
+
+use crate::answer::Answer;
+use crate::caller::Caller;
+use crate::gate::Gate;
+use crate::kernels::Kernels;
+use crate::naming::{RaceLaw, Racing};
+use am_base::NoMemory;
+use am_group::journal::Journal;
+use am_group::plan::{RacePlan, ThreadPlan};
+use am_wire::Terms;
+use am_wire::wire::{Pass, Share, Wire, WireRefusal};
+use std::alloc::Global;
+use std::marker::{Brand, PhantomData};
+use std::sync::Wait;
+use std::thread;
+use std::thread::Threads;
+
+/// A caller whose thread has ended, with the refusal that ended it, if one did.
+#[derive(Drop)]
+struct Ran<N: Racing> {
+    caller: Caller<N>,
+    refusal: Option<WireRefusal>,
+}
+
+/// The refusal that an answer is, if it is one.
+fn refusal_of(answer: &Answer) -> Option<WireRefusal>
+    ensures { result ≡ refusal_in answer.now }
+{
+    match answer {
+        Answer::NoMemory => Some(WireRefusal::NoMemory),
+        Answer::Spent => Some(WireRefusal::Spent),
+        _ => None,
+    }
+}
+
+/// Whether a thread ends with this answer.
+fn is_last(answer: &Answer) -> bool
+    ensures { result ≡ ends_thread answer.now }
+{
+    matches!(
+        answer,
+        Answer::Late { .. }
+            | Answer::PutOff { .. }
+            | Answer::Stopped
+            | Answer::Spent
+            | Answer::NoMemory
+    )
+}
+
+/// A thread makes its calls, as far as they go on.
+fn play<R: Wait, N: Racing, G: Gate>(
+    rt: &R,
+    kernels: &Kernels<N, G>,
+    thread: &ThreadPlan,
+    mut caller: Caller<N>,
+) -> Ran<N>
+    requires fresh { caller ≡ fresh_caller caller.number }
+    requires its { slice_get N.plan.threads caller.number ≡ Some thread.now }
+    requires calls { list_all is_call thread.now.calls ≡ true }
+    requires few { length thread.now.calls ≤ most_events }
+    ensures number { result.caller.number ≡ caller.number }
+    ensures ran { HasRun N.plan result.caller result.refusal }
+{
+    for act in thread.calls.as_slice() {
+        let answer = kernels.make(rt, &mut caller, thread.node, act);
+        if is_last(&answer) {
+            let refusal = refusal_of(&answer);
+            return Ran { caller, refusal };
+        }
+    }
+    Ran {
+        caller,
+        refusal: None,
+    }
+}
+
+/// A caller makes the calls of its thread.
+fn run<R: Wait, N: Racing, G: Gate>(
+    rt: &R,
+    kernels: &Kernels<N, G>,
+    threads: &[ThreadPlan],
+    caller: Caller<N>,
+) -> Ran<N>
+    requires plan { MayRace N.plan }
+    requires threads { threads.now ≡ N.plan.threads }
+    requires fresh { caller ≡ fresh_caller caller.number }
+    ensures number { result.caller.number ≡ caller.number }
+    ensures ran { HasRun N.plan result.caller result.refusal }
+{
+    match threads.get(caller.number() as usize) {
+        Some(thread) => play(rt, kernels, thread, caller),
+        None => Ran {
+            caller,
+            refusal: None,
+        },
+    }
+}
+
+/// Each caller makes the calls of its thread, in a thread of its own.
+fn all_run<R: Threads + Wait + Sync, N: Racing, G: Gate + Sync>(
+    rt: &R,
+    kernels: &Kernels<N, G>,
+    threads: &[ThreadPlan],
+    callers: Vec<Caller<N>>,
+) -> Result<Vec<Ran<N>>, NoMemory>
+    requires plan { MayRace N.plan }
+    requires threads { threads.now ≡ N.plan.threads }
+    requires fresh { callers.items ≡ fresh_callers (length N.plan.threads) }
+    ensures numbers { IfOk result (λ ran. map (λ r. r.caller.number) ran.items
+        ≡ numbers_of callers.items) }
+    ensures ran { IfOk result (λ ran. All (λ r. HasRun N.plan r.caller r.refusal) ran.items) }
+{
+    let ran = thread::map_vec(
+        rt,
+        callers,
+        &|caller: Caller<N>| -> Ran<N>
+            requires plan { MayRace N.plan }
+            requires threads { threads.now ≡ N.plan.threads }
+            requires fresh { caller ≡ fresh_caller caller.number }
+            ensures number { result.caller.number ≡ caller.number }
+            ensures ran { HasRun N.plan result.caller result.refusal }
+        { run(rt, kernels, threads, caller) },
+    )?;
+    Ok(ran)
+}
+
+/// The callers, and a refusal that ended one, if one did.
+fn apart<N: Racing>(
+    alloc: Global,
+    ran: Vec<Ran<N>>,
+) -> Result<(Vec<Caller<N>>, Option<WireRefusal>), NoMemory>
+    ensures callers { IfOk result (λ r. r.0.items ≡ map (λ one. one.caller) ran.items) }
+    ensures refusal { IfOk result (λ r. r.1 ≡ first_refusal (map (λ one. one.refusal) ran.items)) }
+{
+    let mut callers = Vec::with_capacity(alloc, ran.len())?;
+    let mut refusal = None;
+    for one in ran {
+        refusal = refusal.or(one.refusal);
+        callers.push_reserved(one.caller);
+    }
+    Ok((callers, refusal))
+}
+
+/// The race of a plan, over a fresh wire of it. The journal is never full, since all calls together have room in it.
+fn race_over<R: Threads + Wait + Sync, N: Racing, G: Gate + Sync>(
+    rt: &R,
+    alloc: Global,
+    plan: &RacePlan,
+    gate: &G,
+    wire: Wire<RaceLaw>,
+    passes: Vec<Pass>,
+    shares: Vec<Share>,
+    _of: PhantomData<N>,
+) -> Result<Journal, NoMemory>
+    requires plan { plan.now ≡ N.plan }
+    requires within { MayRace N.plan }
+    requires wire { wire ≡ record { id = N.wire; terms = terms_of N.plan } }
+    requires passes { passes.items ≡ map (fresh N.wire (terms_of N.plan)) place_keys }
+    requires shares { shares.items ≡ map (fresh N.wire (terms_of N.plan))
+        (caller_keys (length N.plan.threads)) }
+    ensures founding { IfOk result (λ journal. journal.founding ≡ N.plan.founding) }
+    ensures legal { IfOk result (λ journal. IsLegalWithTags N.plan
+        (calls_of N.plan) journal.records) }
+    ensures played { IfOk result (λ journal. ArePlayed N.plan journal.records) }
+{
+    let (kernels, callers) = Kernels::<N, G>::start(alloc, plan, gate, wire, passes, shares)?;
+    let ran = all_run(rt, &kernels, plan.threads.as_slice(), callers)?;
+    let (callers, refusal) = apart(alloc, ran)?;
+    let journal = kernels.finish(rt, callers);
+    match refusal {
+        None => Ok(journal),
+        Some(WireRefusal::NoMemory) => Err(NoMemory),
+        Some(WireRefusal::Spent) => unreachable!(),
+    }
+}
+
+/// Does a race (docs/PROTOCOL.md, "Races"): a thread for each thread plan makes its calls, and the journal that they leave is
+/// legal with their tags. Each thread's calls are done as far as they go on. There is no journal where a call, or the race
+/// itself, had no memory.
+pub fn race<R: Threads + Wait + Sync, G: Gate + Sync>(
+    rt: &R,
+    alloc: Global,
+    plan: &RacePlan,
+    gate: &G,
+) -> Result<Journal, NoMemory>
+    requires within { MayRace plan.now }
+    ensures founding { IfOk result (λ journal. journal.founding ≡ plan.now.founding) }
+    ensures legal { IfOk result (λ journal. IsLegalWithTags plan.now
+        (calls_of plan.now) journal.records) }
+    ensures played { IfOk result (λ journal. ArePlayed plan.now journal.records) }
+{
+    let terms = Terms {
+        founding: plan.founding,
+        callers: plan.threads.as_slice().len() as u32,
+        seed: plan.seed_number,
+        loss: plan.loss,
+        repeat: plan.repeat,
+    };
+    let (wire, passes, shares) = Wire::<RaceLaw>::start(alloc, &terms)?;
+    race_over::<R, Brand, G>(rt, alloc, plan, gate, wire, passes, shares, PhantomData)
+}

@@ -1,0 +1,103 @@
+ghost use Rattle.std.specs.Prelude.{◌≡◌};
+ghost use Rattle.am_model.specs.Group.{has_log};
+ghost use Rattle.am_model.specs.World.{has_departed};
+ghost use Rattle.am_node.specs.Stands.{state_of};
+ghost use Rattle.am_calls.specs.Ready.{invited, round_in, is_ended, is_sent, is_ready_after, may_take};
+
+use crate::outcomes::ballot_answer;
+use am_base::outcome::Outcome;
+use am_group::event::Act;
+use am_letter::letter::Letter;
+use am_model::status::Status;
+use am_node::info::BallotEnd;
+use am_node::node::Node;
+use am_packet::packet::Packet;
+
+/// What came of a call's own act: its outcome, and the round of the ballot that it began, 0 where it began none.
+#[derive(Drop)]
+pub struct Came {
+    pub outcome: Outcome,
+    pub round: u32,
+}
+
+/// The round of a packet that is an Invite.
+fn invited(packet: &Packet) -> Option<u32>
+    ensures { result ≡ invited packet.now }
+{
+    match packet {
+        Packet::Invite { stamp, .. } => Some(stamp.round),
+        _ => None,
+    }
+}
+
+/// The round of the ballot whose Invite is among these letters, and else 0.
+pub fn round_in(letters: &[Letter]) -> u32
+    ensures { result ≡ round_in letters.now }
+{
+    for letter in letters {
+        if let Some(round) = invited(&letter.packet()) {
+            return round;
+        }
+    }
+    0
+}
+
+fn has_log(status: Status) -> bool
+    ensures { result ≡ has_log status }
+{
+    match status {
+        Status::Stranger | Status::Asking => false,
+        Status::Member | Status::Departed => true,
+    }
+}
+
+fn has_departed(status: Status) -> bool
+    ensures { result ≡ has_departed status }
+{
+    match status {
+        Status::Departed => true,
+        Status::Stranger | Status::Asking | Status::Member => false,
+    }
+}
+
+/// Whether a ballot is over, with an answer.
+fn is_ended(end: &Option<BallotEnd>) -> bool
+    ensures { result ≡ is_ended end.now }
+{
+    match end {
+        Some(BallotEnd::Ended(outcome)) => ballot_answer(outcome).is_some(),
+        Some(BallotEnd::Going(_)) | None => false,
+    }
+}
+
+fn is_sent(node: &Node, outcome: &Outcome) -> bool
+    ensures { result ≡ is_sent (state_of node.now) outcome.now }
+{
+    match outcome {
+        Outcome::Queued { req } => node.settled(*req),
+        _ => false,
+    }
+}
+
+/// Whether a node has an accepted entry for its application to take.
+pub fn may_take(node: &Node) -> bool
+    ensures { result ≡ may_take (state_of node.now) }
+{
+    match node.status() {
+        Status::Member => node.info().taken < node.accepted(),
+        Status::Stranger | Status::Asking | Status::Departed => false,
+    }
+}
+
+/// Whether the check of a call would tell its answer, where this came of its own act.
+pub fn is_ready_after(node: &Node, act: &Act, came: &Came) -> bool
+    ensures { result ≡ is_ready_after (state_of node.now) act.now came.now.outcome came.now.round }
+{
+    match act {
+        Act::Send(_) => is_sent(node, &came.outcome),
+        Act::Join => has_log(node.status()),
+        Act::Leave => has_departed(node.status()),
+        Act::Reset { .. } => is_ended(&node.ballot(came.round)),
+        _ => false,
+    }
+}

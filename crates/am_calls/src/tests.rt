@@ -1,0 +1,121 @@
+ghost use Rattle.std.specs.Prelude.{◌≡◌, IfOk};
+
+use crate::gate::Gate;
+use crate::race::race;
+use am_base::body::Body;
+use am_base::founding::Founding;
+use am_base::items::Items;
+use am_base::name::Name;
+use am_base::names::Names;
+use am_group::delivered::deliveries;
+use am_group::event::{Act, By};
+use am_group::plan::{RacePlan, ThreadPlan};
+use std::sync::atomic::{AtomicBool, AtomicU64, Ordering};
+use std::test::*;
+use std::thread;
+
+/// How often a node's gate looks for the other.
+const MOST_LOOKS: u32 = 100_000_000;
+
+/// How often a node that is ahead looks whether the other has come as far.
+const MOST_WAITS: u32 = 1000;
+
+/// Each of two nodes waits until the other is there too.
+#[derive(Drop)]
+struct Meeting {
+    here: [AtomicBool; 2],
+    met: [AtomicBool; 2],
+}
+
+impl Gate for Meeting {
+    fn between(&self, node: Name, _by: &By) {
+        let mine = usize::from(node.place() % 2);
+        self.here[mine].store(true, Ordering::SeqCst);
+        for _ in 0..MOST_LOOKS {
+            if self.here[1 - mine].load(Ordering::SeqCst) {
+                self.met[mine].store(true, Ordering::SeqCst);
+                return;
+            }
+        }
+    }
+}
+
+/// Two nodes go in step, so that none spends all its turns while the other's thread doesn't run.
+#[derive(Drop)]
+struct InStep {
+    acts: [AtomicU64; 2],
+}
+
+impl Gate for InStep {
+    fn between(&self, node: Name, _by: &By) {
+        let mine = usize::from(node.place() % 2);
+        let count = self.acts[mine].fetch_add(1, Ordering::SeqCst);
+        for _ in 0..MOST_WAITS {
+            if count <= self.acts[1 - mine].load(Ordering::SeqCst) {
+                return;
+            }
+            thread::yield_now();
+        }
+    }
+}
+
+fn thread_of(place: u8, calls: Vec<Act>) -> ThreadPlan
+    ensures { result.calls ≡ calls.items }
+{
+    ThreadPlan {
+        node: Name::of_byte(place),
+        calls: Items::of(calls),
+    }
+}
+
+fn plan_of(threads: Vec<ThreadPlan>, turns: u32) -> Result<RacePlan, Fail>
+    ensures threads { IfOk result (λ plan. plan.threads ≡ threads.items) }
+    ensures turns { IfOk result (λ plan. plan.turns ≡ turns) }
+{
+    let founding = Founding::new(Names::of_mask(3), 0, 64, 256).ok_or("a founding")?;
+    Ok(RacePlan {
+        founding,
+        seed_number: 1,
+        loss: 10,
+        repeat: 5,
+        turns,
+        threads: Items::of(threads),
+    })
+}
+
+/// Each of two calls at two nodes waits under its node's lock for the other.
+#[test]
+fn two_nodes_at_once(rt: HostRuntime) -> Result<(), Fail> {
+    let alloc = rt.alloc();
+    let first = thread_of(0, vec![in alloc; Act::Take]?);
+    let second = thread_of(1, vec![in alloc; Act::Take]?);
+    let plan = plan_of(vec![in alloc; first, second]?, 200)?;
+    let gate = Meeting {
+        here: [AtomicBool::new(false), AtomicBool::new(false)],
+        met: [AtomicBool::new(false), AtomicBool::new(false)],
+    };
+    let journal = race(&rt, alloc, &plan, &gate).ok().ok_or("a journal")?;
+    assert!(rt; gate.met[0].load(Ordering::SeqCst) && gate.met[1].load(Ordering::SeqCst));
+    assert_eq!(rt; journal.records().len(), 2);
+    Ok(())
+}
+
+/// A thread sends and receives, and another receives the same.
+#[test]
+fn both_receive_what_one_sends(rt: HostRuntime) -> Result<(), Fail> {
+    let alloc = rt.alloc();
+    let body = Body::of(b"a").ok_or("a body")?;
+    let sends = vec![in alloc; Act::send(alloc, body)?, Act::Take, Act::Take]?;
+    let first = thread_of(0, sends);
+    let second = thread_of(1, vec![in alloc; Act::Take, Act::Take]?);
+    let plan = plan_of(vec![in alloc; first, second]?, 10000)?;
+    let gate = InStep {
+        acts: [AtomicU64::new(0), AtomicU64::new(0)],
+    };
+    let journal = race(&rt, alloc, &plan, &gate).ok().ok_or("a journal")?;
+    for node in [0, 1] {
+        let given = deliveries(alloc, journal.records(), Name::of_byte(node))?;
+        assert_eq!(rt; given.len(), 2, "of {node}");
+    }
+    Ok(())
+}

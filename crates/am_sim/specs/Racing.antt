@@ -1,0 +1,30 @@
+-- What a race writes.
+use Rattle.std.specs.Prelude.{◌≡◌, ℕ, ◌≤◌, List, ◌++◌, length, map}
+use Rattle.am_base.specs.Most.{most_events}
+use Rattle.am_base.specs.Founding.{Rules}
+use Rattle.am_group.specs.declared.event.Event.{Event}
+use Rattle.am_group.specs.declared.event.Record.{Record}
+use Rattle.am_group.specs.declared.plan.RacePlan.{RacePlan}
+use Rattle.am_model.specs.Text.{newline}
+use Rattle.am_model.specs.Play.{text_of}
+use Rattle.am_report.specs.Schedules.{script_text}
+use Rattle.am_calls.specs.Legal.{IsLegalWithTags}
+use Rattle.am_calls.specs.Plans.{calls_of, ArePlayed}
+
+-- what was done
+abbrev pub events_of : List Record → List Event
+events_of records = map (λ r. r.event) records
+
+-- what was done as a script, which is one line, and the text of the run of that
+abbrev pub race_text : Rules → List Event → List ℕ
+race_text rules events = script_text rules events ++ (newline ++ text_of rules events)
+
+-- the journal of a race: legal with its tags, with each thread's calls done as far as they go on, and no longer than a run
+pub record IsRaced (plan : RacePlan) (journal : List Record) : Type 0 where
+  pub legal : IsLegalWithTags plan (calls_of plan) journal
+  pub played : ArePlayed plan journal
+  pub few : length journal ≤ most_events
+
+-- a text is that of a journal of a race
+abbrev pub IsRaceText : RacePlan → List ℕ → Type 0
+IsRaceText plan text = (journal : List Record) × IsRaced plan journal × (text ≡ race_text plan.founding (events_of journal))
