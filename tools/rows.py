@@ -62,6 +62,17 @@ def fitted_uses(line):
     return "\n".join(head + ", ".join(some.split(" ")) + "}" for some in lines)
 
 
+def packed(events):
+    """The lines of a list's events, as many to a line as fit."""
+    lines = []
+    for event in events:
+        if lines and len(lines[-1]) + len(event) < 150:
+            lines[-1] += " " + event + " ∷"
+        else:
+            lines.append("    " + event + " ∷")
+    return [fitted(line) + "\n" for line in lines]
+
+
 def items(xs):
     """A list term."""
     return "[]" if not xs else "(" + " ∷ ".join(xs) + " ∷ [])"
@@ -106,8 +117,7 @@ def statement(title, script, text):
     founding = "(founded %s %d %d %d)" % (name_list(play["founders"]), resilience, play.get("window", 64),
                                           play.get("pb_up_to", 256))
     words = "settled_text_of" if play.get("settle") else "text_of"
-    done = "".join(fitted("    %s ∷" % event) + "\n" for event in events)
-    run = fitted("%s = %s %s (" % (title, words, founding)) + "\n" + done + "    [])"
+    run = fitted("%s = %s %s (" % (title, words, founding)) + "\n" + "".join(packed(events)) + "    [])"
     lines = "".join('    codes "%s" ∷\n' % line for line in text.splitlines())
     return "abbrev pub %s : Type 0\n%s ≡ lines (\n%s    [])\n" % (title, run, lines)
 

@@ -6,16 +6,8 @@ use Rattle.am_rows.specs.Scripts.{founded, on, lines}
 
 abbrev pub AskedAfterALeave : Type 0
 AskedAfterALeave = text_of (founded (0 ∷ 1 ∷ 2 ∷ []) 0 64 256) (
-    on 2 act.Leave ∷
-    on 0 (act.Reset 1 0) ∷
-    on 1 (act.Hear 2) ∷
-    on 2 (act.Hear 2) ∷
-    on 0 (act.Hear 3) ∷
-    on 0 (act.Hear 4) ∷
-    on 1 (act.Hear 6) ∷
-    on 0 (act.Hear 1) ∷
-    on 0 (act.Ask 2) ∷
-    on 2 act.Stop ∷
+    on 2 act.Leave ∷ on 0 (act.Reset 1 0) ∷ on 1 (act.Hear 2) ∷ on 2 (act.Hear 2) ∷ on 0 (act.Hear 3) ∷ on 0 (act.Hear 4) ∷ on 1 (act.Hear 6) ∷
+    on 0 (act.Hear 1) ∷ on 0 (act.Ask 2) ∷ on 2 act.Stop ∷
     []) ≡ lines (
     codes "1 leave 2 : asked | 1 LeaveAsk to 0,1" ∷
     codes "2 reset 0 1 : waiting 1,2 | 2 Invite to 1,2" ∷
@@ -38,38 +30,11 @@ AskedAfterALeave = text_of (founded (0 ∷ 1 ∷ 2 ∷ []) 0 64 256) (
 
 abbrev pub AskedBeforeTwoStops : Type 0
 AskedBeforeTwoStops = text_of (founded (0 ∷ 1 ∷ 2 ∷ 3 ∷ []) 1 64 256) (
-    on 2 act.Leave ∷
-    on 0 (act.Reset 1 1) ∷
-    on 1 (act.Hear 2) ∷
-    on 2 (act.Hear 2) ∷
-    on 3 (act.Hear 2) ∷
-    on 0 (act.Hear 3) ∷
-    on 0 (act.Hear 4) ∷
-    on 0 (act.Hear 5) ∷
-    on 1 (act.Hear 6) ∷
-    on 3 (act.Hear 6) ∷
-    on 0 (act.Hear 1) ∷
-    on 0 (act.Ask 2) ∷
-    on 2 (act.Hear 6) ∷
-    on 2 (act.Hear 9) ∷
-    on 2 act.Tick ∷
-    on 0 (act.Hear 10) ∷
-    on 0 (act.Hear 11) ∷
-    on 0 act.Take ∷
-    on 0 act.Take ∷
-    on 0 act.Take ∷
-    on 2 act.Stop ∷
-    on 0 act.Stop ∷
-    on 1 (act.Reset 1 1) ∷
-    on 3 (act.Hear 14) ∷
-    on 1 (act.GiveUp 0) ∷
-    on 1 (act.GiveUp 2) ∷
-    on 1 (act.Hear 15) ∷
-    on 3 (act.Hear 16) ∷
-    on 1 (act.Hear 17) ∷
-    on 1 act.Take ∷
-    on 1 act.Take ∷
-    on 1 act.Take ∷
+    on 2 act.Leave ∷ on 0 (act.Reset 1 1) ∷ on 1 (act.Hear 2) ∷ on 2 (act.Hear 2) ∷ on 3 (act.Hear 2) ∷ on 0 (act.Hear 3) ∷ on 0 (act.Hear 4) ∷
+    on 0 (act.Hear 5) ∷ on 1 (act.Hear 6) ∷ on 3 (act.Hear 6) ∷ on 0 (act.Hear 1) ∷ on 0 (act.Ask 2) ∷ on 2 (act.Hear 6) ∷ on 2 (act.Hear 9) ∷
+    on 2 act.Tick ∷ on 0 (act.Hear 10) ∷ on 0 (act.Hear 11) ∷ on 0 act.Take ∷ on 0 act.Take ∷ on 0 act.Take ∷ on 2 act.Stop ∷ on 0 act.Stop ∷
+    on 1 (act.Reset 1 1) ∷ on 3 (act.Hear 14) ∷ on 1 (act.GiveUp 0) ∷ on 1 (act.GiveUp 2) ∷ on 1 (act.Hear 15) ∷ on 3 (act.Hear 16) ∷
+    on 1 (act.Hear 17) ∷ on 1 act.Take ∷ on 1 act.Take ∷ on 1 act.Take ∷
     []) ≡ lines (
     codes "1 leave 2 : asked | 1 LeaveAsk to 0,1,3" ∷
     codes "2 reset 0 1 : waiting 1,2,3 | 2 Invite to 1,2,3" ∷
@@ -119,23 +84,9 @@ AskedBeforeTwoStops = text_of (founded (0 ∷ 1 ∷ 2 ∷ 3 ∷ []) 1 64 256) (
 
 abbrev pub AskedInAnotherView : Type 0
 AskedInAnotherView = text_of (founded (0 ∷ 1 ∷ 2 ∷ []) 0 64 256) (
-    on 2 act.Leave ∷
-    on 0 (act.Reset 1 0) ∷
-    on 1 (act.Hear 2) ∷
-    on 2 (act.Hear 2) ∷
-    on 0 (act.Hear 3) ∷
-    on 0 (act.Hear 4) ∷
-    on 1 (act.Hear 6) ∷
-    on 1 (act.Reset 1 0) ∷
-    on 0 (act.Hear 8) ∷
-    on 2 (act.Hear 8) ∷
-    on 1 (act.Hear 9) ∷
-    on 1 (act.Hear 10) ∷
-    on 0 (act.Hear 12) ∷
-    on 1 (act.Hear 1) ∷
-    on 0 (act.Hear 14) ∷
-    on 0 (act.Ask 2) ∷
-    on 2 act.Stop ∷
+    on 2 act.Leave ∷ on 0 (act.Reset 1 0) ∷ on 1 (act.Hear 2) ∷ on 2 (act.Hear 2) ∷ on 0 (act.Hear 3) ∷ on 0 (act.Hear 4) ∷ on 1 (act.Hear 6) ∷
+    on 1 (act.Reset 1 0) ∷ on 0 (act.Hear 8) ∷ on 2 (act.Hear 8) ∷ on 1 (act.Hear 9) ∷ on 1 (act.Hear 10) ∷ on 0 (act.Hear 12) ∷ on 1 (act.Hear 1) ∷
+    on 0 (act.Hear 14) ∷ on 0 (act.Ask 2) ∷ on 2 act.Stop ∷
     []) ≡ lines (
     codes "1 leave 2 : asked | 1 LeaveAsk to 0,1" ∷
     codes "2 reset 0 1 : waiting 1,2 | 2 Invite to 1,2" ∷
@@ -166,19 +117,9 @@ AskedInAnotherView = text_of (founded (0 ∷ 1 ∷ 2 ∷ []) 0 64 256) (
 
 abbrev pub DecidedByFetching : Type 0
 DecidedByFetching = text_of (founded (0 ∷ 1 ∷ 2 ∷ []) 0 64 256) (
-    on 2 act.Leave ∷
-    on 0 (act.Send (97 ∷ [])) ∷
-    on 1 (act.Reset 1 0) ∷
-    on 0 (act.Hear 3) ∷
-    on 2 (act.Hear 3) ∷
-    on 1 (act.Hear 4) ∷
-    on 1 (act.Hear 5) ∷
-    on 0 (act.Hear 6) ∷
-    on 1 (act.Hear 7) ∷
-    on 0 (act.Hear 9) ∷
-    on 1 (act.Hear 1) ∷
-    on 1 (act.Ask 2) ∷
-    on 2 act.Stop ∷
+    on 2 act.Leave ∷ on 0 (act.Send (97 ∷ [])) ∷ on 1 (act.Reset 1 0) ∷ on 0 (act.Hear 3) ∷ on 2 (act.Hear 3) ∷ on 1 (act.Hear 4) ∷ on 1 (act.Hear 5)
+    ∷
+    on 0 (act.Hear 6) ∷ on 1 (act.Hear 7) ∷ on 0 (act.Hear 9) ∷ on 1 (act.Hear 1) ∷ on 1 (act.Ask 2) ∷ on 2 act.Stop ∷
     []) ≡ lines (
     codes "1 leave 2 : asked | 1 LeaveAsk to 0,1" ∷
     codes "2 send 0 61 : queued 1 | 2 Bcast to 1,2" ∷
@@ -205,20 +146,8 @@ DecidedByFetching = text_of (founded (0 ∷ 1 ∷ 2 ∷ []) 0 64 256) (
 
 abbrev pub DecidedByGivingUp : Type 0
 DecidedByGivingUp = text_of (founded (0 ∷ 1 ∷ 2 ∷ 3 ∷ []) 1 64 256) (
-    on 2 act.Leave ∷
-    on 3 act.Stop ∷
-    on 0 (act.Reset 1 1) ∷
-    on 1 (act.Hear 2) ∷
-    on 2 (act.Hear 2) ∷
-    on 0 (act.Hear 3) ∷
-    on 0 (act.Hear 4) ∷
-    on 0 (act.GiveUp 3) ∷
-    on 1 (act.Hear 5) ∷
-    on 0 (act.Hear 6) ∷
-    on 0 (act.Hear 1) ∷
-    on 0 (act.Ask 2) ∷
-    on 2 act.Stop ∷
-    on 1 act.Stop ∷
+    on 2 act.Leave ∷ on 3 act.Stop ∷ on 0 (act.Reset 1 1) ∷ on 1 (act.Hear 2) ∷ on 2 (act.Hear 2) ∷ on 0 (act.Hear 3) ∷ on 0 (act.Hear 4) ∷
+    on 0 (act.GiveUp 3) ∷ on 1 (act.Hear 5) ∷ on 0 (act.Hear 6) ∷ on 0 (act.Hear 1) ∷ on 0 (act.Ask 2) ∷ on 2 act.Stop ∷ on 1 act.Stop ∷
     []) ≡ lines (
     codes "1 leave 2 : asked | 1 LeaveAsk to 0,1,3" ∷
     codes "2 stop 3 : stopped" ∷

@@ -6,21 +6,8 @@ use Rattle.am_rows.specs.Scripts.{founded, on, lines}
 
 abbrev pub All1 : Type 0
 All1 = text_of (founded (1 ∷ []) 1 1 0) (
-    on 2 (act.Done 3) ∷
-    on 1 act.Take ∷
-    on 2 act.Take ∷
-    on 0 act.Tick ∷
-    on 0 act.Take ∷
-    on 2 act.Tick ∷
-    on 0 (act.Done 1) ∷
-    on 2 (act.Done 1) ∷
-    on 2 (act.Ask 1) ∷
-    on 1 act.Join ∷
-    on 2 act.Take ∷
-    on 2 act.Join ∷
-    on 1 (act.Cut 1 24) ∷
-    on 2 (act.Hear 2) ∷
-    on 2 (act.Hear 2) ∷
+    on 2 (act.Done 3) ∷ on 1 act.Take ∷ on 2 act.Take ∷ on 0 act.Tick ∷ on 0 act.Take ∷ on 2 act.Tick ∷ on 0 (act.Done 1) ∷ on 2 (act.Done 1) ∷
+    on 2 (act.Ask 1) ∷ on 1 act.Join ∷ on 2 act.Take ∷ on 2 act.Join ∷ on 1 (act.Cut 1 24) ∷ on 2 (act.Hear 2) ∷ on 2 (act.Hear 2) ∷
     []) ≡ lines (
     codes "1 done 2 3 : unknown" ∷
     codes "2 take 1 : took 1 view 1.1 1" ∷
@@ -46,36 +33,10 @@ All1 = text_of (founded (1 ∷ []) 1 1 0) (
 
 abbrev pub All10 : Type 0
 All10 = text_of (founded (0 ∷ 1 ∷ 2 ∷ []) 1 16 0) (
-    on 1 act.Take ∷
-    on 0 act.Take ∷
-    on 2 act.Take ∷
-    on 0 (act.Ask 3) ∷
-    on 0 act.Leave ∷
-    on 1 (act.Hear 1) ∷
-    on 2 (act.Hear 2) ∷
-    on 0 (act.Hear 2) ∷
-    on 1 (act.GiveUp 2) ∷
-    on 1 (act.GiveUp 2) ∷
-    on 1 (act.Hear 3) ∷
-    on 0 act.Take ∷
-    on 1 (act.Hear 4) ∷
-    on 0 (act.Cut 5 12) ∷
-    on 2 (act.Hear 5) ∷
-    on 1 (act.Hear 6) ∷
-    on 2 (act.Hear 7) ∷
-    on 2 act.Take ∷
-    on 0 (act.Hear 7) ∷
-    on 1 act.Join ∷
-    on 1 act.Join ∷
-    on 0 act.Take ∷
-    on 2 act.Take ∷
-    on 1 act.Join ∷
-    on 0 act.Take ∷
-    on 0 (act.Send []) ∷
-    on 1 (act.Hear 1) ∷
-    on 0 (act.Reset 1 1) ∷
-    on 1 (act.Hear 6) ∷
-    on 1 act.Tick ∷
+    on 1 act.Take ∷ on 0 act.Take ∷ on 2 act.Take ∷ on 0 (act.Ask 3) ∷ on 0 act.Leave ∷ on 1 (act.Hear 1) ∷ on 2 (act.Hear 2) ∷ on 0 (act.Hear 2) ∷
+    on 1 (act.GiveUp 2) ∷ on 1 (act.GiveUp 2) ∷ on 1 (act.Hear 3) ∷ on 0 act.Take ∷ on 1 (act.Hear 4) ∷ on 0 (act.Cut 5 12) ∷ on 2 (act.Hear 5) ∷
+    on 1 (act.Hear 6) ∷ on 2 (act.Hear 7) ∷ on 2 act.Take ∷ on 0 (act.Hear 7) ∷ on 1 act.Join ∷ on 1 act.Join ∷ on 0 act.Take ∷ on 2 act.Take ∷
+    on 1 act.Join ∷ on 0 act.Take ∷ on 0 (act.Send []) ∷ on 1 (act.Hear 1) ∷ on 0 (act.Reset 1 1) ∷ on 1 (act.Hear 6) ∷ on 1 act.Tick ∷
     []) ≡ lines (
     codes "1 take 1 : took 1 view 1.0 0,1,2" ∷
     codes "2 take 0 : took 1 view 1.0 0,1,2" ∷
@@ -118,21 +79,10 @@ All10 = text_of (founded (0 ∷ 1 ∷ 2 ∷ []) 1 16 0) (
 
 abbrev pub All2 : Type 0
 All2 = text_of (founded (1 ∷ 2 ∷ 3 ∷ 4 ∷ []) 1 64 0) (
-    on 2 act.Tick ∷
-    on 0 act.Tick ∷
-    on 0 act.Tick ∷
-    on 1 (act.Hear 1) ∷
-    on 4 act.Tick ∷
-    on 3 (act.Send (250 ∷ [])) ∷
-    on 4 (act.Hear 3) ∷
-    on 2 act.Join ∷
-    on 2 act.Tick ∷
-    on 4 (act.Send (64 ∷ 116 ∷ 145 ∷ 106 ∷ 239 ∷ [])) ∷
-    on 3 (act.Hear 5) ∷
-    on 0 act.Tick ∷
-    on 0 (act.Send (190 ∷ [])) ∷
-    on 1 (act.Hear 2) ∷
-    on 4 (act.Done 1) ∷
+    on 2 act.Tick ∷ on 0 act.Tick ∷ on 0 act.Tick ∷ on 1 (act.Hear 1) ∷ on 4 act.Tick ∷ on 3 (act.Send (250 ∷ [])) ∷ on 4 (act.Hear 3) ∷ on 2 act.Join
+    ∷
+    on 2 act.Tick ∷ on 4 (act.Send (64 ∷ 116 ∷ 145 ∷ 106 ∷ 239 ∷ [])) ∷ on 3 (act.Hear 5) ∷ on 0 act.Tick ∷ on 0 (act.Send (190 ∷ [])) ∷
+    on 1 (act.Hear 2) ∷ on 4 (act.Done 1) ∷
     []) ≡ lines (
     codes "1 tick 2 : ticked | 1 Ack to 1" ∷
     codes "2 tick 0 : idle" ∷
@@ -159,20 +109,8 @@ All2 = text_of (founded (1 ∷ 2 ∷ 3 ∷ 4 ∷ []) 1 64 0) (
 
 abbrev pub All3 : Type 0
 All3 = text_of (founded (0 ∷ 1 ∷ 2 ∷ 3 ∷ []) 0 3 0) (
-    on 0 act.Tick ∷
-    on 0 (act.Hear 1) ∷
-    on 1 (act.Hear 1) ∷
-    on 0 act.Join ∷
-    on 3 (act.Hear 1) ∷
-    on 0 (act.Ask 2) ∷
-    on 1 (act.Hear 1) ∷
-    on 1 (act.Hear 1) ∷
-    on 0 (act.Hear 4) ∷
-    on 1 act.Take ∷
-    on 2 (act.Done 3) ∷
-    on 3 act.Join ∷
-    on 0 (act.Hear 2) ∷
-    on 2 (act.Hear 1) ∷
+    on 0 act.Tick ∷ on 0 (act.Hear 1) ∷ on 1 (act.Hear 1) ∷ on 0 act.Join ∷ on 3 (act.Hear 1) ∷ on 0 (act.Ask 2) ∷ on 1 (act.Hear 1) ∷
+    on 1 (act.Hear 1) ∷ on 0 (act.Hear 4) ∷ on 1 act.Take ∷ on 2 (act.Done 3) ∷ on 3 act.Join ∷ on 0 (act.Hear 2) ∷ on 2 (act.Hear 1) ∷
     on 0 (act.Hear 4) ∷
     []) ≡ lines (
     codes "1 tick 0 : ticked | 1 Accept to 1,2,3" ∷
@@ -200,21 +138,9 @@ All3 = text_of (founded (0 ∷ 1 ∷ 2 ∷ 3 ∷ []) 0 3 0) (
 
 abbrev pub All4 : Type 0
 All4 = text_of (founded (0 ∷ 1 ∷ 2 ∷ 3 ∷ []) 0 64 0) (
-    on 1 act.State ∷
-    on 0 (act.Send (210 ∷ [])) ∷
-    on 1 (act.Hear 1) ∷
-    on 2 (act.Hear 1) ∷
-    on 1 (act.Reset 3 0) ∷
-    on 1 act.Take ∷
-    on 3 (act.Hear 1) ∷
-    on 1 (act.Hear 1) ∷
-    on 0 (act.Hear 2) ∷
-    on 3 (act.Hear 2) ∷
-    on 0 (act.Hear 2) ∷
-    on 2 act.Leave ∷
-    on 1 (act.Hear 1) ∷
-    on 2 (act.Send (147 ∷ 19 ∷ 129 ∷ 146 ∷ 234 ∷ [])) ∷
-    on 1 act.Tick ∷
+    on 1 act.State ∷ on 0 (act.Send (210 ∷ [])) ∷ on 1 (act.Hear 1) ∷ on 2 (act.Hear 1) ∷ on 1 (act.Reset 3 0) ∷ on 1 act.Take ∷ on 3 (act.Hear 1) ∷
+    on 1 (act.Hear 1) ∷ on 0 (act.Hear 2) ∷ on 3 (act.Hear 2) ∷ on 0 (act.Hear 2) ∷ on 2 act.Leave ∷ on 1 (act.Hear 1) ∷
+    on 2 (act.Send (147 ∷ 19 ∷ 129 ∷ 146 ∷ 234 ∷ [])) ∷ on 1 act.Tick ∷
     []) ≡ lines (
     codes "1 state 1 : joined 1" ∷
     codes "2 send 0 d2 : queued 1 | 1 Bcast to 1,2,3" ∷
@@ -242,22 +168,11 @@ All4 = text_of (founded (0 ∷ 1 ∷ 2 ∷ 3 ∷ []) 0 64 0) (
 
 abbrev pub All5 : Type 0
 All5 = text_of (founded (0 ∷ 2 ∷ 3 ∷ []) 0 2 0) (
-    on 2 act.Tick ∷
-    on 0 (act.Hear 1) ∷
+    on 2 act.Tick ∷ on 0 (act.Hear 1) ∷
     on 3 (act.Send (172 ∷ 87 ∷ 48 ∷ 107 ∷ 131 ∷ 108 ∷ 239 ∷ 251 ∷ 143 ∷ 102 ∷ 76 ∷ 1 ∷ 204 ∷ 18 ∷ 248 ∷ 244 ∷ 211 ∷ 188 ∷ 62 ∷ 27 ∷ 94 ∷ 78 ∷ 135 ∷ 46
     ∷ 222 ∷ 214 ∷ 44 ∷ 139 ∷ 252 ∷ 131 ∷ 31 ∷ 3 ∷ 31 ∷ 161 ∷ 64 ∷ 200 ∷ 196 ∷ 220 ∷ 138 ∷ 222 ∷ [])) ∷
-    on 2 (act.Hear 2) ∷
-    on 0 (act.Hear 2) ∷
-    on 2 (act.Hear 3) ∷
-    on 1 act.Tick ∷
-    on 3 (act.Hear 3) ∷
-    on 2 act.Take ∷
-    on 0 (act.Ask 4) ∷
-    on 1 act.Join ∷
-    on 3 (act.Hear 4) ∷
-    on 0 (act.Hear 4) ∷
-    on 3 (act.Hear 5) ∷
-    on 3 act.State ∷
+    on 2 (act.Hear 2) ∷ on 0 (act.Hear 2) ∷ on 2 (act.Hear 3) ∷ on 1 act.Tick ∷ on 3 (act.Hear 3) ∷ on 2 act.Take ∷ on 0 (act.Ask 4) ∷ on 1 act.Join ∷
+    on 3 (act.Hear 4) ∷ on 0 (act.Hear 4) ∷ on 3 (act.Hear 5) ∷ on 3 act.State ∷
     []) ≡ lines (
     codes "1 tick 2 : ticked | 1 Ack to 0" ∷
     codes "2 hear 0 1 : noted" ∷
@@ -284,15 +199,8 @@ All5 = text_of (founded (0 ∷ 2 ∷ 3 ∷ []) 0 2 0) (
 
 abbrev pub All6 : Type 0
 All6 = text_of (founded (0 ∷ 1 ∷ 2 ∷ []) 0 64 0) (
-    on 0 act.Tick ∷
-    on 1 (act.Hear 1) ∷
-    on 0 (act.Hear 2) ∷
-    on 2 act.State ∷
-    on 0 (act.Hear 2) ∷
-    on 0 (act.Hear 2) ∷
-    on 0 (act.Hear 2) ∷
-    on 1 (act.Hear 1) ∷
-    on 0 (act.Hear 3) ∷
+    on 0 act.Tick ∷ on 1 (act.Hear 1) ∷ on 0 (act.Hear 2) ∷ on 2 act.State ∷ on 0 (act.Hear 2) ∷ on 0 (act.Hear 2) ∷ on 0 (act.Hear 2) ∷
+    on 1 (act.Hear 1) ∷ on 0 (act.Hear 3) ∷
     on 3 (act.Send (97 ∷ 68 ∷ 186 ∷ 140 ∷ 18 ∷ 136 ∷ 13 ∷ 246 ∷ 15 ∷ 199 ∷ 97 ∷ 227 ∷ 111 ∷ 22 ∷ 198 ∷ 0 ∷ 250 ∷ 78 ∷ 253 ∷ 246 ∷ 240 ∷ 70 ∷ 47 ∷ 93 ∷
     206 ∷ 20 ∷ 209 ∷ 170 ∷ 28 ∷ 77 ∷ 35 ∷ 175 ∷ 134 ∷ 29 ∷ 65 ∷ 143 ∷ 164 ∷ 135 ∷ 24 ∷ 169 ∷ 157 ∷ 69 ∷ 71 ∷ 193 ∷ 44 ∷ 10 ∷ 131 ∷ 230 ∷ 34 ∷ 15 ∷ 64
     ∷ 60 ∷ 52 ∷ 41 ∷ 236 ∷ 188 ∷ 207 ∷ 182 ∷ 36 ∷ 40 ∷ 243 ∷ 112 ∷ 73 ∷ 106 ∷ 244 ∷ 144 ∷ 0 ∷ 211 ∷ 39 ∷ 55 ∷ 249 ∷ 103 ∷ 8 ∷ 235 ∷ 98 ∷ 109 ∷ 174 ∷ 0
@@ -303,11 +211,7 @@ All6 = text_of (founded (0 ∷ 1 ∷ 2 ∷ []) 0 64 0) (
     194 ∷ 205 ∷ 115 ∷ 105 ∷ 255 ∷ 195 ∷ 196 ∷ 90 ∷ 38 ∷ 153 ∷ 197 ∷ 180 ∷ 43 ∷ 82 ∷ 214 ∷ 215 ∷ 127 ∷ 65 ∷ 100 ∷ 175 ∷ 97 ∷ 194 ∷ 197 ∷ 190 ∷ 225 ∷
     125 ∷ 94 ∷ 218 ∷ 195 ∷ 165 ∷ 75 ∷ 250 ∷ 188 ∷ 42 ∷ 169 ∷ 171 ∷ 10 ∷ 196 ∷ 130 ∷ 40 ∷ 194 ∷ 220 ∷ 97 ∷ 92 ∷ 172 ∷ 78 ∷ 70 ∷ 78 ∷ 140 ∷ 153 ∷ 226 ∷
     207 ∷ 88 ∷ 205 ∷ 217 ∷ 68 ∷ 217 ∷ 69 ∷ 24 ∷ 51 ∷ 182 ∷ 178 ∷ 248 ∷ 76 ∷ 165 ∷ 34 ∷ 46 ∷ 1 ∷ 52 ∷ 103 ∷ 19 ∷ 46 ∷ 236 ∷ 55 ∷ 99 ∷ [])) ∷
-    on 2 (act.Hear 1) ∷
-    on 3 act.Take ∷
-    on 2 (act.Hear 1) ∷
-    on 3 act.State ∷
-    on 0 (act.Hear 5) ∷
+    on 2 (act.Hear 1) ∷ on 3 act.Take ∷ on 2 (act.Hear 1) ∷ on 3 act.State ∷ on 0 (act.Hear 5) ∷
     []) ≡ lines (
     codes "1 tick 0 : ticked | 1 Accept to 1,2" ∷
     codes "2 hear 1 1 : known | 2 Ack to 0" ∷
@@ -333,36 +237,11 @@ All6 = text_of (founded (0 ∷ 1 ∷ 2 ∷ []) 0 64 0) (
 
 abbrev pub All7 : Type 0
 All7 = text_of (founded (0 ∷ 1 ∷ 2 ∷ []) 2 16 256) (
-    on 2 act.Tick ∷
-    on 0 (act.Hear 1) ∷
-    on 0 (act.Cut 1 40) ∷
-    on 2 (act.Send (29 ∷ [])) ∷
-    on 0 (act.Hear 2) ∷
-    on 0 act.Leave ∷
-    on 1 (act.Hear 3) ∷
-    on 0 (act.Hear 5) ∷
-    on 1 (act.Hear 4) ∷
-    on 1 (act.Hear 3) ∷
-    on 0 (act.Hear 6) ∷
-    on 1 (act.Hear 4) ∷
-    on 2 (act.Hear 6) ∷
-    on 2 (act.Hear 6) ∷
-    on 1 (act.Hear 4) ∷
-    on 1 (act.GiveUp 0) ∷
-    on 2 (act.Hear 3) ∷
-    on 0 (act.Hear 2) ∷
-    on 1 (act.Done 1) ∷
-    on 0 act.Take ∷
-    on 2 (act.Hear 6) ∷
-    on 1 (act.Hear 10) ∷
-    on 0 act.Tick ∷
-    on 1 (act.Hear 8) ∷
-    on 0 (act.Hear 5) ∷
-    on 1 (act.Hear 11) ∷
-    on 1 act.Tick ∷
-    on 1 (act.Hear 7) ∷
-    on 1 (act.Hear 9) ∷
-    on 1 (act.Hear 8) ∷
+    on 2 act.Tick ∷ on 0 (act.Hear 1) ∷ on 0 (act.Cut 1 40) ∷ on 2 (act.Send (29 ∷ [])) ∷ on 0 (act.Hear 2) ∷ on 0 act.Leave ∷ on 1 (act.Hear 3) ∷
+    on 0 (act.Hear 5) ∷ on 1 (act.Hear 4) ∷ on 1 (act.Hear 3) ∷ on 0 (act.Hear 6) ∷ on 1 (act.Hear 4) ∷ on 2 (act.Hear 6) ∷ on 2 (act.Hear 6) ∷
+    on 1 (act.Hear 4) ∷ on 1 (act.GiveUp 0) ∷ on 2 (act.Hear 3) ∷ on 0 (act.Hear 2) ∷ on 1 (act.Done 1) ∷ on 0 act.Take ∷ on 2 (act.Hear 6) ∷
+    on 1 (act.Hear 10) ∷ on 0 act.Tick ∷ on 1 (act.Hear 8) ∷ on 0 (act.Hear 5) ∷ on 1 (act.Hear 11) ∷ on 1 act.Tick ∷ on 1 (act.Hear 7) ∷
+    on 1 (act.Hear 9) ∷ on 1 (act.Hear 8) ∷
     []) ≡ lines (
     codes "1 tick 2 : ticked | 1 Ack to 0" ∷
     codes "2 hear 0 1 : noted" ∷
@@ -403,36 +282,11 @@ All7 = text_of (founded (0 ∷ 1 ∷ 2 ∷ []) 2 16 256) (
 
 abbrev pub All8 : Type 0
 All8 = text_of (founded (0 ∷ 1 ∷ 3 ∷ []) 0 16 4) (
-    on 0 (act.Done 4) ∷
-    on 3 act.Tick ∷
-    on 0 (act.Hear 1) ∷
-    on 0 (act.Reset 1 0) ∷
-    on 1 (act.Hear 2) ∷
-    on 0 (act.Hear 3) ∷
-    on 1 (act.Hear 2) ∷
-    on 1 (act.Hear 2) ∷
-    on 0 (act.GiveUp 3) ∷
-    on 0 (act.Hear 3) ∷
-    on 0 (act.Hear 5) ∷
-    on 1 (act.Done 2) ∷
-    on 0 (act.GiveUp 3) ∷
-    on 1 act.Take ∷
-    on 2 (act.Hear 5) ∷
-    on 0 (act.GiveUp 3) ∷
-    on 1 (act.Done 3) ∷
-    on 2 (act.Done 2) ∷
-    on 3 (act.Hear 2) ∷
-    on 3 act.Take ∷
-    on 1 act.Take ∷
-    on 3 (act.Done 4) ∷
-    on 3 (act.Reset 1 0) ∷
-    on 0 (act.GiveUp 3) ∷
-    on 3 act.Leave ∷
-    on 0 (act.Hear 6) ∷
-    on 0 (act.Hear 4) ∷
-    on 3 (act.GiveUp 1) ∷
-    on 1 (act.Hear 7) ∷
-    on 1 (act.Hear 7) ∷
+    on 0 (act.Done 4) ∷ on 3 act.Tick ∷ on 0 (act.Hear 1) ∷ on 0 (act.Reset 1 0) ∷ on 1 (act.Hear 2) ∷ on 0 (act.Hear 3) ∷ on 1 (act.Hear 2) ∷
+    on 1 (act.Hear 2) ∷ on 0 (act.GiveUp 3) ∷ on 0 (act.Hear 3) ∷ on 0 (act.Hear 5) ∷ on 1 (act.Done 2) ∷ on 0 (act.GiveUp 3) ∷ on 1 act.Take ∷
+    on 2 (act.Hear 5) ∷ on 0 (act.GiveUp 3) ∷ on 1 (act.Done 3) ∷ on 2 (act.Done 2) ∷ on 3 (act.Hear 2) ∷ on 3 act.Take ∷ on 1 act.Take ∷
+    on 3 (act.Done 4) ∷ on 3 (act.Reset 1 0) ∷ on 0 (act.GiveUp 3) ∷ on 3 act.Leave ∷ on 0 (act.Hear 6) ∷ on 0 (act.Hear 4) ∷ on 3 (act.GiveUp 1) ∷
+    on 1 (act.Hear 7) ∷ on 1 (act.Hear 7) ∷
     []) ≡ lines (
     codes "1 done 0 4 : unknown" ∷
     codes "2 tick 3 : ticked | 1 Ack to 0" ∷
@@ -474,37 +328,12 @@ All8 = text_of (founded (0 ∷ 1 ∷ 3 ∷ []) 0 16 4) (
 
 abbrev pub All9 : Type 0
 All9 = text_of (founded (3 ∷ []) 1 3 4) (
-    on 2 act.Tick ∷
-    on 0 (act.Reset 1 1) ∷
-    on 0 act.Stop ∷
-    on 4 act.Stop ∷
-    on 1 act.Tick ∷
-    on 2 act.Join ∷
-    on 1 (act.Hear 1) ∷
-    on 1 (act.Hear 1) ∷
+    on 2 act.Tick ∷ on 0 (act.Reset 1 1) ∷ on 0 act.Stop ∷ on 4 act.Stop ∷ on 1 act.Tick ∷ on 2 act.Join ∷ on 1 (act.Hear 1) ∷ on 1 (act.Hear 1) ∷
     on 2 (act.Send (148 ∷ 30 ∷ 194 ∷ 94 ∷ 100 ∷ 163 ∷ 70 ∷ 38 ∷ 31 ∷ 223 ∷ 38 ∷ 234 ∷ 244 ∷ 237 ∷ 203 ∷ 255 ∷ 111 ∷ 43 ∷ 23 ∷ 163 ∷ 229 ∷ 200 ∷ 52 ∷ 7
     ∷ 189 ∷ 227 ∷ 160 ∷ 80 ∷ 106 ∷ 62 ∷ 157 ∷ 33 ∷ 175 ∷ 237 ∷ 148 ∷ 15 ∷ 23 ∷ 174 ∷ 158 ∷ 209 ∷ [])) ∷
-    on 0 act.Return ∷
-    on 3 act.Take ∷
-    on 0 (act.Hear 1) ∷
-    on 4 act.Return ∷
-    on 3 (act.Hear 1) ∷
-    on 3 act.Tick ∷
-    on 2 (act.Hear 2) ∷
-    on 2 (act.Ask 2) ∷
-    on 4 (act.Hear 1) ∷
-    on 2 (act.Send (190 ∷ 178 ∷ [])) ∷
-    on 3 act.Tick ∷
-    on 1 act.State ∷
-    on 2 (act.Hear 6) ∷
-    on 2 act.Take ∷
-    on 3 (act.Hear 7) ∷
-    on 2 (act.Done 1) ∷
-    on 3 act.Tick ∷
-    on 4 act.Leave ∷
-    on 2 (act.Hear 8) ∷
-    on 2 act.Tick ∷
-    on 3 act.Tick ∷
+    on 0 act.Return ∷ on 3 act.Take ∷ on 0 (act.Hear 1) ∷ on 4 act.Return ∷ on 3 (act.Hear 1) ∷ on 3 act.Tick ∷ on 2 (act.Hear 2) ∷ on 2 (act.Ask 2) ∷
+    on 4 (act.Hear 1) ∷ on 2 (act.Send (190 ∷ 178 ∷ [])) ∷ on 3 act.Tick ∷ on 1 act.State ∷ on 2 (act.Hear 6) ∷ on 2 act.Take ∷ on 3 (act.Hear 7) ∷
+    on 2 (act.Done 1) ∷ on 3 act.Tick ∷ on 4 act.Leave ∷ on 2 (act.Hear 8) ∷ on 2 act.Tick ∷ on 3 act.Tick ∷
     []) ≡ lines (
     codes "1 tick 2 : idle" ∷
     codes "2 reset 0 1 : not-member" ∷

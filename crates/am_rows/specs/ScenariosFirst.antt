@@ -6,20 +6,8 @@ use Rattle.am_rows.specs.Scripts.{founded, on, lines}
 
 abbrev pub First1 : Type 0
 First1 = text_of (founded (0 ∷ 1 ∷ []) 0 64 256) (
-    on 1 act.Take ∷
-    on 1 (act.Done 2) ∷
-    on 0 act.Take ∷
-    on 0 (act.Done 1) ∷
-    on 1 (act.Done 2) ∷
-    on 0 (act.Done 5) ∷
-    on 0 (act.Done 1) ∷
-    on 1 (act.Done 3) ∷
-    on 1 (act.Done 5) ∷
-    on 1 (act.Done 3) ∷
-    on 1 (act.Done 3) ∷
-    on 1 (act.Done 3) ∷
-    on 1 (act.Done 4) ∷
-    on 0 (act.Done 5) ∷
+    on 1 act.Take ∷ on 1 (act.Done 2) ∷ on 0 act.Take ∷ on 0 (act.Done 1) ∷ on 1 (act.Done 2) ∷ on 0 (act.Done 5) ∷ on 0 (act.Done 1) ∷
+    on 1 (act.Done 3) ∷ on 1 (act.Done 5) ∷ on 1 (act.Done 3) ∷ on 1 (act.Done 3) ∷ on 1 (act.Done 3) ∷ on 1 (act.Done 4) ∷ on 0 (act.Done 5) ∷
     on 0 (act.Done 1) ∷
     []) ≡ lines (
     codes "1 take 1 : took 1 view 1.0 0,1" ∷
@@ -45,66 +33,16 @@ First1 = text_of (founded (0 ∷ 1 ∷ []) 0 64 256) (
 
 abbrev pub First10 : Type 0
 First10 = text_of (founded (0 ∷ 1 ∷ 2 ∷ 3 ∷ 4 ∷ []) 0 64 256) (
-    on 4 (act.Send (150 ∷ [])) ∷
-    on 0 (act.Hear 1) ∷
-    on 2 (act.Hear 2) ∷
-    on 2 (act.Hear 2) ∷
-    on 3 (act.Hear 2) ∷
-    on 1 (act.Hear 2) ∷
-    on 1 (act.Hear 2) ∷
-    on 4 (act.Hear 2) ∷
-    on 4 (act.Hear 2) ∷
-    on 3 (act.Hear 2) ∷
-    on 3 (act.Send []) ∷
-    on 4 act.Take ∷
-    on 1 act.Take ∷
-    on 2 (act.Hear 2) ∷
-    on 0 (act.Hear 1) ∷
-    on 0 (act.Hear 3) ∷
-    on 1 act.Take ∷
-    on 0 (act.Send (33 ∷ 127 ∷ 56 ∷ 236 ∷ 84 ∷ [])) ∷
-    on 3 (act.Hear 5) ∷
-    on 1 (act.Done 4) ∷
-    on 2 (act.Hear 5) ∷
-    on 1 (act.Hear 4) ∷
-    on 4 (act.Hear 4) ∷
-    on 4 (act.Hear 5) ∷
-    on 1 (act.Hear 4) ∷
-    on 2 (act.Hear 5) ∷
-    on 2 (act.Hear 4) ∷
-    on 1 (act.Hear 2) ∷
-    on 4 (act.Hear 5) ∷
-    on 2 (act.Hear 2) ∷
-    on 0 (act.Hear 6) ∷
-    on 0 (act.Hear 7) ∷
-    on 3 (act.Hear 4) ∷
-    on 0 (act.Hear 7) ∷
-    on 3 (act.Hear 5) ∷
-    on 3 (act.Hear 9) ∷
-    on 0 (act.Hear 8) ∷
-    on 1 (act.Hear 5) ∷
-    on 3 (act.Hear 9) ∷
-    on 4 (act.Hear 2) ∷
-    on 0 (act.Done 3) ∷
-    on 4 (act.Hear 2) ∷
-    on 2 (act.Hear 11) ∷
-    on 1 (act.Hear 5) ∷
-    on 4 (act.Hear 5) ∷
-    on 3 (act.Hear 10) ∷
-    on 2 (act.Hear 12) ∷
-    on 3 (act.Hear 9) ∷
-    on 2 (act.Done 4) ∷
-    on 0 act.Take ∷
-    on 3 act.Take ∷
-    on 2 (act.Hear 11) ∷
-    on 3 (act.Done 1) ∷
-    on 0 act.Take ∷
-    on 3 act.Take ∷
-    on 2 (act.Hear 11) ∷
-    on 3 (act.Hear 2) ∷
-    on 2 (act.Hear 5) ∷
-    on 0 (act.Hear 6) ∷
-    on 3 act.Take ∷
+    on 4 (act.Send (150 ∷ [])) ∷ on 0 (act.Hear 1) ∷ on 2 (act.Hear 2) ∷ on 2 (act.Hear 2) ∷ on 3 (act.Hear 2) ∷ on 1 (act.Hear 2) ∷ on 1 (act.Hear 2)
+    ∷
+    on 4 (act.Hear 2) ∷ on 4 (act.Hear 2) ∷ on 3 (act.Hear 2) ∷ on 3 (act.Send []) ∷ on 4 act.Take ∷ on 1 act.Take ∷ on 2 (act.Hear 2) ∷
+    on 0 (act.Hear 1) ∷ on 0 (act.Hear 3) ∷ on 1 act.Take ∷ on 0 (act.Send (33 ∷ 127 ∷ 56 ∷ 236 ∷ 84 ∷ [])) ∷ on 3 (act.Hear 5) ∷ on 1 (act.Done 4) ∷
+    on 2 (act.Hear 5) ∷ on 1 (act.Hear 4) ∷ on 4 (act.Hear 4) ∷ on 4 (act.Hear 5) ∷ on 1 (act.Hear 4) ∷ on 2 (act.Hear 5) ∷ on 2 (act.Hear 4) ∷
+    on 1 (act.Hear 2) ∷ on 4 (act.Hear 5) ∷ on 2 (act.Hear 2) ∷ on 0 (act.Hear 6) ∷ on 0 (act.Hear 7) ∷ on 3 (act.Hear 4) ∷ on 0 (act.Hear 7) ∷
+    on 3 (act.Hear 5) ∷ on 3 (act.Hear 9) ∷ on 0 (act.Hear 8) ∷ on 1 (act.Hear 5) ∷ on 3 (act.Hear 9) ∷ on 4 (act.Hear 2) ∷ on 0 (act.Done 3) ∷
+    on 4 (act.Hear 2) ∷ on 2 (act.Hear 11) ∷ on 1 (act.Hear 5) ∷ on 4 (act.Hear 5) ∷ on 3 (act.Hear 10) ∷ on 2 (act.Hear 12) ∷ on 3 (act.Hear 9) ∷
+    on 2 (act.Done 4) ∷ on 0 act.Take ∷ on 3 act.Take ∷ on 2 (act.Hear 11) ∷ on 3 (act.Done 1) ∷ on 0 act.Take ∷ on 3 act.Take ∷ on 2 (act.Hear 11) ∷
+    on 3 (act.Hear 2) ∷ on 2 (act.Hear 5) ∷ on 0 (act.Hear 6) ∷ on 3 act.Take ∷
     []) ≡ lines (
     codes "1 send 4 96 : queued 1 | 1 Request to 0" ∷
     codes "2 hear 0 1 : numbered 2 | 2 Bcast to 1,2,3,4" ∷
@@ -184,21 +122,8 @@ First10 = text_of (founded (0 ∷ 1 ∷ 2 ∷ 3 ∷ 4 ∷ []) 0 64 256) (
 
 abbrev pub First2 : Type 0
 First2 = text_of (founded (0 ∷ 1 ∷ []) 0 64 256) (
-    on 0 act.Take ∷
-    on 1 act.Take ∷
-    on 1 (act.Done 1) ∷
-    on 0 act.Take ∷
-    on 1 act.Take ∷
-    on 1 (act.Done 2) ∷
-    on 0 (act.Done 3) ∷
-    on 1 (act.Done 4) ∷
-    on 1 act.Take ∷
-    on 1 act.Take ∷
-    on 0 act.Take ∷
-    on 1 act.Take ∷
-    on 0 (act.Done 5) ∷
-    on 0 (act.Send (3 ∷ [])) ∷
-    on 1 (act.Hear 1) ∷
+    on 0 act.Take ∷ on 1 act.Take ∷ on 1 (act.Done 1) ∷ on 0 act.Take ∷ on 1 act.Take ∷ on 1 (act.Done 2) ∷ on 0 (act.Done 3) ∷ on 1 (act.Done 4) ∷
+    on 1 act.Take ∷ on 1 act.Take ∷ on 0 act.Take ∷ on 1 act.Take ∷ on 0 (act.Done 5) ∷ on 0 (act.Send (3 ∷ [])) ∷ on 1 (act.Hear 1) ∷
     []) ≡ lines (
     codes "1 take 0 : took 1 view 1.0 0,1" ∷
     codes "2 take 1 : took 1 view 1.0 0,1" ∷
@@ -224,21 +149,8 @@ First2 = text_of (founded (0 ∷ 1 ∷ []) 0 64 256) (
 
 abbrev pub First3 : Type 0
 First3 = text_of (founded (0 ∷ 1 ∷ 2 ∷ 3 ∷ []) 0 64 256) (
-    on 3 act.Take ∷
-    on 1 act.Take ∷
-    on 3 act.Take ∷
-    on 3 act.Take ∷
-    on 0 act.Take ∷
-    on 0 (act.Send []) ∷
-    on 2 (act.Hear 1) ∷
-    on 2 (act.Done 3) ∷
-    on 1 (act.Hear 1) ∷
-    on 1 (act.Hear 1) ∷
-    on 0 act.Take ∷
-    on 3 act.Take ∷
-    on 1 (act.Send []) ∷
-    on 2 (act.Hear 1) ∷
-    on 1 act.Take ∷
+    on 3 act.Take ∷ on 1 act.Take ∷ on 3 act.Take ∷ on 3 act.Take ∷ on 0 act.Take ∷ on 0 (act.Send []) ∷ on 2 (act.Hear 1) ∷ on 2 (act.Done 3) ∷
+    on 1 (act.Hear 1) ∷ on 1 (act.Hear 1) ∷ on 0 act.Take ∷ on 3 act.Take ∷ on 1 (act.Send []) ∷ on 2 (act.Hear 1) ∷ on 1 act.Take ∷
     []) ≡ lines (
     codes "1 take 3 : took 1 view 1.0 0,1,2,3" ∷
     codes "2 take 1 : took 1 view 1.0 0,1,2,3" ∷
@@ -268,21 +180,9 @@ First3 = text_of (founded (0 ∷ 1 ∷ 2 ∷ 3 ∷ []) 0 64 256) (
 
 abbrev pub First4 : Type 0
 First4 = text_of (founded (0 ∷ 1 ∷ 2 ∷ 3 ∷ []) 0 64 256) (
-    on 0 act.Take ∷
-    on 3 (act.Send (19 ∷ 174 ∷ [])) ∷
-    on 0 (act.Hear 1) ∷
-    on 0 (act.Hear 1) ∷
-    on 0 (act.Hear 1) ∷
-    on 0 (act.Send (183 ∷ 153 ∷ [])) ∷
-    on 3 (act.Send (55 ∷ [])) ∷
-    on 1 (act.Send (145 ∷ [])) ∷
-    on 0 (act.Done 1) ∷
-    on 1 (act.Done 1) ∷
-    on 0 (act.Send []) ∷
-    on 2 (act.Hear 3) ∷
-    on 2 (act.Done 2) ∷
-    on 1 (act.Hear 2) ∷
-    on 1 (act.Done 1) ∷
+    on 0 act.Take ∷ on 3 (act.Send (19 ∷ 174 ∷ [])) ∷ on 0 (act.Hear 1) ∷ on 0 (act.Hear 1) ∷ on 0 (act.Hear 1) ∷ on 0 (act.Send (183 ∷ 153 ∷ [])) ∷
+    on 3 (act.Send (55 ∷ [])) ∷ on 1 (act.Send (145 ∷ [])) ∷ on 0 (act.Done 1) ∷ on 1 (act.Done 1) ∷ on 0 (act.Send []) ∷ on 2 (act.Hear 3) ∷
+    on 2 (act.Done 2) ∷ on 1 (act.Hear 2) ∷ on 1 (act.Done 1) ∷
     []) ≡ lines (
     codes "1 take 0 : took 1 view 1.0 0,1,2,3" ∷
     codes "2 send 3 13ae : queued 1 | 1 Request to 0" ∷
@@ -312,21 +212,9 @@ First4 = text_of (founded (0 ∷ 1 ∷ 2 ∷ 3 ∷ []) 0 64 256) (
 
 abbrev pub First5 : Type 0
 First5 = text_of (founded (0 ∷ 1 ∷ 2 ∷ 3 ∷ []) 0 64 256) (
-    on 0 act.Take ∷
-    on 3 act.Take ∷
-    on 3 (act.Send (37 ∷ 122 ∷ 253 ∷ 99 ∷ 125 ∷ [])) ∷
-    on 1 act.Take ∷
-    on 0 (act.Hear 1) ∷
-    on 1 (act.Hear 2) ∷
-    on 2 (act.Hear 2) ∷
-    on 0 (act.Done 4) ∷
-    on 3 (act.Hear 2) ∷
-    on 0 (act.Send []) ∷
-    on 0 (act.Hear 1) ∷
-    on 2 (act.Hear 2) ∷
-    on 2 act.Take ∷
-    on 2 (act.Hear 3) ∷
-    on 1 (act.Hear 2) ∷
+    on 0 act.Take ∷ on 3 act.Take ∷ on 3 (act.Send (37 ∷ 122 ∷ 253 ∷ 99 ∷ 125 ∷ [])) ∷ on 1 act.Take ∷ on 0 (act.Hear 1) ∷ on 1 (act.Hear 2) ∷
+    on 2 (act.Hear 2) ∷ on 0 (act.Done 4) ∷ on 3 (act.Hear 2) ∷ on 0 (act.Send []) ∷ on 0 (act.Hear 1) ∷ on 2 (act.Hear 2) ∷ on 2 act.Take ∷
+    on 2 (act.Hear 3) ∷ on 1 (act.Hear 2) ∷
     []) ≡ lines (
     codes "1 take 0 : took 1 view 1.0 0,1,2,3" ∷
     codes "2 take 3 : took 1 view 1.0 0,1,2,3" ∷
@@ -355,35 +243,11 @@ First5 = text_of (founded (0 ∷ 1 ∷ 2 ∷ 3 ∷ []) 0 64 256) (
 
 abbrev pub First6 : Type 0
 First6 = text_of (founded (0 ∷ 1 ∷ 2 ∷ 3 ∷ 4 ∷ []) 0 64 256) (
-    on 4 act.Take ∷
-    on 3 act.Take ∷
-    on 4 (act.Done 2) ∷
-    on 4 (act.Send []) ∷
-    on 3 act.Take ∷
-    on 0 (act.Hear 1) ∷
-    on 3 (act.Hear 2) ∷
-    on 4 (act.Hear 2) ∷
-    on 1 (act.Send (226 ∷ [])) ∷
-    on 2 (act.Done 3) ∷
-    on 3 (act.Hear 2) ∷
-    on 1 act.Take ∷
-    on 0 act.Take ∷
-    on 1 (act.Hear 2) ∷
-    on 0 (act.Hear 1) ∷
-    on 1 (act.Hear 2) ∷
-    on 2 (act.Hear 2) ∷
-    on 0 (act.Hear 3) ∷
-    on 2 act.Take ∷
-    on 2 (act.Hear 4) ∷
-    on 1 (act.Hear 4) ∷
-    on 1 (act.Hear 2) ∷
-    on 2 (act.Hear 4) ∷
-    on 1 (act.Hear 4) ∷
-    on 1 (act.Hear 4) ∷
-    on 4 (act.Hear 4) ∷
-    on 4 (act.Hear 4) ∷
-    on 2 (act.Hear 4) ∷
-    on 3 (act.Hear 4) ∷
+    on 4 act.Take ∷ on 3 act.Take ∷ on 4 (act.Done 2) ∷ on 4 (act.Send []) ∷ on 3 act.Take ∷ on 0 (act.Hear 1) ∷ on 3 (act.Hear 2) ∷ on 4 (act.Hear 2)
+    ∷
+    on 1 (act.Send (226 ∷ [])) ∷ on 2 (act.Done 3) ∷ on 3 (act.Hear 2) ∷ on 1 act.Take ∷ on 0 act.Take ∷ on 1 (act.Hear 2) ∷ on 0 (act.Hear 1) ∷
+    on 1 (act.Hear 2) ∷ on 2 (act.Hear 2) ∷ on 0 (act.Hear 3) ∷ on 2 act.Take ∷ on 2 (act.Hear 4) ∷ on 1 (act.Hear 4) ∷ on 1 (act.Hear 2) ∷
+    on 2 (act.Hear 4) ∷ on 1 (act.Hear 4) ∷ on 1 (act.Hear 4) ∷ on 4 (act.Hear 4) ∷ on 4 (act.Hear 4) ∷ on 2 (act.Hear 4) ∷ on 3 (act.Hear 4) ∷
     on 3 (act.Send (130 ∷ 158 ∷ 93 ∷ 71 ∷ 112 ∷ 228 ∷ 13 ∷ 229 ∷ 17 ∷ 0 ∷ 127 ∷ 13 ∷ 244 ∷ 115 ∷ 112 ∷ 175 ∷ 144 ∷ 143 ∷ 159 ∷ 236 ∷ 74 ∷ 156 ∷ 230 ∷
     43 ∷ 126 ∷ 234 ∷ 163 ∷ 30 ∷ 132 ∷ 0 ∷ 3 ∷ 144 ∷ 136 ∷ 109 ∷ 82 ∷ 147 ∷ 121 ∷ 254 ∷ 147 ∷ 244 ∷ [])) ∷
     []) ≡ lines (
@@ -430,36 +294,11 @@ First6 = text_of (founded (0 ∷ 1 ∷ 2 ∷ 3 ∷ 4 ∷ []) 0 64 256) (
 
 abbrev pub First7 : Type 0
 First7 = text_of (founded (0 ∷ 1 ∷ 2 ∷ 3 ∷ []) 0 64 256) (
-    on 3 (act.Send (106 ∷ [])) ∷
-    on 0 (act.Hear 1) ∷
-    on 3 (act.Hear 2) ∷
-    on 1 (act.Hear 2) ∷
-    on 0 act.Take ∷
-    on 1 act.Take ∷
-    on 3 act.Take ∷
-    on 0 act.Take ∷
-    on 2 (act.Hear 2) ∷
-    on 2 act.Take ∷
-    on 0 act.Take ∷
-    on 0 (act.Send (88 ∷ 67 ∷ [])) ∷
-    on 2 (act.Hear 3) ∷
-    on 3 (act.Hear 3) ∷
-    on 3 (act.Done 1) ∷
-    on 1 (act.Hear 3) ∷
-    on 3 (act.Done 5) ∷
-    on 0 act.Take ∷
-    on 0 act.Take ∷
-    on 2 act.Take ∷
-    on 1 act.Take ∷
-    on 1 act.Take ∷
-    on 1 act.Take ∷
-    on 2 act.Take ∷
-    on 3 act.Take ∷
-    on 3 (act.Done 5) ∷
-    on 2 (act.Send (240 ∷ 105 ∷ 66 ∷ 158 ∷ 87 ∷ [])) ∷
-    on 0 (act.Done 1) ∷
-    on 3 act.Take ∷
-    on 0 act.Take ∷
+    on 3 (act.Send (106 ∷ [])) ∷ on 0 (act.Hear 1) ∷ on 3 (act.Hear 2) ∷ on 1 (act.Hear 2) ∷ on 0 act.Take ∷ on 1 act.Take ∷ on 3 act.Take ∷
+    on 0 act.Take ∷ on 2 (act.Hear 2) ∷ on 2 act.Take ∷ on 0 act.Take ∷ on 0 (act.Send (88 ∷ 67 ∷ [])) ∷ on 2 (act.Hear 3) ∷ on 3 (act.Hear 3) ∷
+    on 3 (act.Done 1) ∷ on 1 (act.Hear 3) ∷ on 3 (act.Done 5) ∷ on 0 act.Take ∷ on 0 act.Take ∷ on 2 act.Take ∷ on 1 act.Take ∷ on 1 act.Take ∷
+    on 1 act.Take ∷ on 2 act.Take ∷ on 3 act.Take ∷ on 3 (act.Done 5) ∷ on 2 (act.Send (240 ∷ 105 ∷ 66 ∷ 158 ∷ 87 ∷ [])) ∷ on 0 (act.Done 1) ∷
+    on 3 act.Take ∷ on 0 act.Take ∷
     []) ≡ lines (
     codes "1 send 3 6a : queued 1 | 1 Request to 0" ∷
     codes "2 hear 0 1 : numbered 2 | 2 Bcast to 1,2,3" ∷
@@ -511,36 +350,11 @@ First7 = text_of (founded (0 ∷ 1 ∷ 2 ∷ 3 ∷ []) 0 64 256) (
 
 abbrev pub First8 : Type 0
 First8 = text_of (founded (0 ∷ 1 ∷ 2 ∷ 3 ∷ []) 0 64 256) (
-    on 1 act.Take ∷
-    on 2 (act.Send []) ∷
-    on 0 (act.Send (172 ∷ 243 ∷ [])) ∷
-    on 0 (act.Hear 1) ∷
-    on 1 act.Take ∷
-    on 2 (act.Hear 2) ∷
-    on 0 act.Take ∷
-    on 3 (act.Hear 2) ∷
-    on 1 (act.Hear 3) ∷
-    on 1 (act.Send []) ∷
-    on 2 (act.Hear 2) ∷
-    on 1 (act.Hear 3) ∷
-    on 2 act.Take ∷
-    on 0 (act.Hear 4) ∷
-    on 0 (act.Hear 4) ∷
-    on 2 (act.Hear 3) ∷
-    on 2 (act.Done 1) ∷
-    on 0 (act.Hear 4) ∷
-    on 1 (act.Hear 11) ∷
-    on 1 (act.Hear 8) ∷
-    on 0 (act.Hear 4) ∷
-    on 3 act.Take ∷
-    on 0 (act.Hear 5) ∷
-    on 1 (act.Send (154 ∷ 128 ∷ 59 ∷ 49 ∷ 204 ∷ [])) ∷
-    on 0 (act.Hear 6) ∷
-    on 2 (act.Send (136 ∷ 16 ∷ 8 ∷ 10 ∷ 99 ∷ [])) ∷
-    on 3 (act.Hear 2) ∷
-    on 0 (act.Hear 6) ∷
-    on 2 (act.Hear 15) ∷
-    on 1 act.Take ∷
+    on 1 act.Take ∷ on 2 (act.Send []) ∷ on 0 (act.Send (172 ∷ 243 ∷ [])) ∷ on 0 (act.Hear 1) ∷ on 1 act.Take ∷ on 2 (act.Hear 2) ∷ on 0 act.Take ∷
+    on 3 (act.Hear 2) ∷ on 1 (act.Hear 3) ∷ on 1 (act.Send []) ∷ on 2 (act.Hear 2) ∷ on 1 (act.Hear 3) ∷ on 2 act.Take ∷ on 0 (act.Hear 4) ∷
+    on 0 (act.Hear 4) ∷ on 2 (act.Hear 3) ∷ on 2 (act.Done 1) ∷ on 0 (act.Hear 4) ∷ on 1 (act.Hear 11) ∷ on 1 (act.Hear 8) ∷ on 0 (act.Hear 4) ∷
+    on 3 act.Take ∷ on 0 (act.Hear 5) ∷ on 1 (act.Send (154 ∷ 128 ∷ 59 ∷ 49 ∷ 204 ∷ [])) ∷ on 0 (act.Hear 6) ∷
+    on 2 (act.Send (136 ∷ 16 ∷ 8 ∷ 10 ∷ 99 ∷ [])) ∷ on 3 (act.Hear 2) ∷ on 0 (act.Hear 6) ∷ on 2 (act.Hear 15) ∷ on 1 act.Take ∷
     []) ≡ lines (
     codes "1 take 1 : took 1 view 1.0 0,1,2,3" ∷
     codes "2 send 2 - : queued 1 | 1 Request to 0" ∷
@@ -586,66 +400,18 @@ First8 = text_of (founded (0 ∷ 1 ∷ 2 ∷ 3 ∷ []) 0 64 256) (
 
 abbrev pub First9 : Type 0
 First9 = text_of (founded (0 ∷ 1 ∷ 2 ∷ []) 0 64 256) (
-    on 0 act.Take ∷
-    on 0 act.Take ∷
-    on 1 (act.Done 2) ∷
-    on 2 act.Take ∷
-    on 1 (act.Done 1) ∷
-    on 0 act.Take ∷
-    on 2 act.Take ∷
-    on 2 (act.Done 4) ∷
-    on 1 act.Take ∷
-    on 2 act.Take ∷
-    on 1 act.Take ∷
-    on 1 (act.Done 5) ∷
-    on 2 act.Take ∷
-    on 1 (act.Send (197 ∷ [])) ∷
-    on 2 act.Take ∷
-    on 0 (act.Hear 1) ∷
-    on 2 (act.Hear 2) ∷
-    on 1 (act.Hear 2) ∷
-    on 2 (act.Hear 2) ∷
-    on 1 (act.Hear 2) ∷
-    on 0 (act.Hear 1) ∷
-    on 1 (act.Hear 2) ∷
-    on 1 (act.Hear 2) ∷
-    on 0 act.Take ∷
-    on 0 act.Take ∷
-    on 2 (act.Send (95 ∷ 68 ∷ 67 ∷ 254 ∷ 83 ∷ [])) ∷
-    on 1 (act.Hear 2) ∷
-    on 0 (act.Hear 3) ∷
-    on 1 (act.Hear 4) ∷
-    on 0 (act.Hear 3) ∷
-    on 2 (act.Hear 4) ∷
-    on 0 (act.Hear 3) ∷
-    on 2 (act.Hear 4) ∷
-    on 1 (act.Hear 4) ∷
-    on 2 act.Take ∷
-    on 1 act.Take ∷
-    on 1 act.Take ∷
-    on 1 (act.Hear 2) ∷
-    on 2 act.Take ∷
-    on 1 (act.Hear 4) ∷
-    on 0 (act.Send (131 ∷ 33 ∷ 168 ∷ 171 ∷ 130 ∷ [])) ∷
-    on 0 act.Take ∷
-    on 0 (act.Hear 1) ∷
-    on 1 (act.Done 1) ∷
-    on 1 (act.Hear 5) ∷
-    on 2 (act.Hear 5) ∷
-    on 2 (act.Hear 5) ∷
-    on 0 (act.Hear 3) ∷
-    on 1 (act.Hear 5) ∷
-    on 2 (act.Hear 2) ∷
-    on 1 (act.Hear 2) ∷
-    on 1 (act.Done 2) ∷
-    on 1 act.Take ∷
-    on 0 (act.Send (193 ∷ 190 ∷ 62 ∷ 132 ∷ 220 ∷ [])) ∷
-    on 1 (act.Hear 6) ∷
-    on 0 (act.Hear 1) ∷
-    on 1 (act.Hear 2) ∷
-    on 2 (act.Hear 6) ∷
-    on 2 (act.Hear 4) ∷
-    on 2 (act.Hear 5) ∷
+    on 0 act.Take ∷ on 0 act.Take ∷ on 1 (act.Done 2) ∷ on 2 act.Take ∷ on 1 (act.Done 1) ∷ on 0 act.Take ∷ on 2 act.Take ∷ on 2 (act.Done 4) ∷
+    on 1 act.Take ∷ on 2 act.Take ∷ on 1 act.Take ∷ on 1 (act.Done 5) ∷ on 2 act.Take ∷ on 1 (act.Send (197 ∷ [])) ∷ on 2 act.Take ∷ on 0 (act.Hear 1)
+    ∷
+    on 2 (act.Hear 2) ∷ on 1 (act.Hear 2) ∷ on 2 (act.Hear 2) ∷ on 1 (act.Hear 2) ∷ on 0 (act.Hear 1) ∷ on 1 (act.Hear 2) ∷ on 1 (act.Hear 2) ∷
+    on 0 act.Take ∷ on 0 act.Take ∷ on 2 (act.Send (95 ∷ 68 ∷ 67 ∷ 254 ∷ 83 ∷ [])) ∷ on 1 (act.Hear 2) ∷ on 0 (act.Hear 3) ∷ on 1 (act.Hear 4) ∷
+    on 0 (act.Hear 3) ∷ on 2 (act.Hear 4) ∷ on 0 (act.Hear 3) ∷ on 2 (act.Hear 4) ∷ on 1 (act.Hear 4) ∷ on 2 act.Take ∷ on 1 act.Take ∷ on 1 act.Take
+    ∷
+    on 1 (act.Hear 2) ∷ on 2 act.Take ∷ on 1 (act.Hear 4) ∷ on 0 (act.Send (131 ∷ 33 ∷ 168 ∷ 171 ∷ 130 ∷ [])) ∷ on 0 act.Take ∷ on 0 (act.Hear 1) ∷
+    on 1 (act.Done 1) ∷ on 1 (act.Hear 5) ∷ on 2 (act.Hear 5) ∷ on 2 (act.Hear 5) ∷ on 0 (act.Hear 3) ∷ on 1 (act.Hear 5) ∷ on 2 (act.Hear 2) ∷
+    on 1 (act.Hear 2) ∷ on 1 (act.Done 2) ∷ on 1 act.Take ∷ on 0 (act.Send (193 ∷ 190 ∷ 62 ∷ 132 ∷ 220 ∷ [])) ∷ on 1 (act.Hear 6) ∷ on 0 (act.Hear 1)
+    ∷
+    on 1 (act.Hear 2) ∷ on 2 (act.Hear 6) ∷ on 2 (act.Hear 4) ∷ on 2 (act.Hear 5) ∷
     []) ≡ lines (
     codes "1 take 0 : took 1 view 1.0 0,1,2" ∷
     codes "2 take 0 : empty" ∷

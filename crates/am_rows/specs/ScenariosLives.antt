@@ -6,21 +6,8 @@ use Rattle.am_rows.specs.Scripts.{founded, on, lines}
 
 abbrev pub Lives1 : Type 0
 Lives1 = text_of (founded (1 ∷ 2 ∷ []) 1 2 0) (
-    on 1 act.Tick ∷
-    on 2 (act.Hear 1) ∷
-    on 2 (act.Hear 1) ∷
-    on 1 act.Tick ∷
-    on 0 act.Tick ∷
-    on 1 act.Stop ∷
-    on 2 (act.Hear 4) ∷
-    on 0 (act.Send []) ∷
-    on 2 (act.Hear 4) ∷
-    on 2 act.Take ∷
-    on 2 (act.Reset 3 1) ∷
-    on 2 (act.GiveUp 1) ∷
-    on 2 (act.Hear 4) ∷
-    on 2 (act.Hear 4) ∷
-    on 0 act.Take ∷
+    on 1 act.Tick ∷ on 2 (act.Hear 1) ∷ on 2 (act.Hear 1) ∷ on 1 act.Tick ∷ on 0 act.Tick ∷ on 1 act.Stop ∷ on 2 (act.Hear 4) ∷ on 0 (act.Send []) ∷
+    on 2 (act.Hear 4) ∷ on 2 act.Take ∷ on 2 (act.Reset 3 1) ∷ on 2 (act.GiveUp 1) ∷ on 2 (act.Hear 4) ∷ on 2 (act.Hear 4) ∷ on 0 act.Take ∷
     []) ≡ lines (
     codes "1 tick 1 : ticked | 1 Accept to 2" ∷
     codes "2 hear 2 1 : known | 2 Ack to 1" ∷
@@ -45,34 +32,10 @@ Lives1 = text_of (founded (1 ∷ 2 ∷ []) 1 2 0) (
 
 abbrev pub Lives10 : Type 0
 Lives10 = text_of (founded (0 ∷ 1 ∷ []) 1 16 4) (
-    on 0 act.Tick ∷
-    on 0 act.Tick ∷
-    on 1 act.Take ∷
-    on 1 (act.Hear 1) ∷
-    on 1 (act.Hear 2) ∷
-    on 0 (act.Reset 1 1) ∷
-    on 0 act.Join ∷
-    on 1 (act.Hear 5) ∷
-    on 1 (act.Hear 2) ∷
-    on 0 (act.Hear 4) ∷
-    on 1 (act.Reset 1 1) ∷
-    on 0 (act.Hear 7) ∷
-    on 0 (act.Hear 4) ∷
-    on 1 act.Tick ∷
-    on 1 (act.GiveUp 0) ∷
-    on 1 (act.Hear 8) ∷
-    on 0 act.Tick ∷
-    on 0 (act.Hear 6) ∷
-    on 1 act.Take ∷
-    on 0 act.Take ∷
-    on 0 (act.Hear 7) ∷
-    on 0 (act.Hear 7) ∷
-    on 0 act.Tick ∷
-    on 1 (act.Hear 11) ∷
-    on 1 (act.Hear 5) ∷
-    on 1 (act.Hear 12) ∷
-    on 0 act.Take ∷
-    on 0 (act.Hear 15) ∷
+    on 0 act.Tick ∷ on 0 act.Tick ∷ on 1 act.Take ∷ on 1 (act.Hear 1) ∷ on 1 (act.Hear 2) ∷ on 0 (act.Reset 1 1) ∷ on 0 act.Join ∷ on 1 (act.Hear 5) ∷
+    on 1 (act.Hear 2) ∷ on 0 (act.Hear 4) ∷ on 1 (act.Reset 1 1) ∷ on 0 (act.Hear 7) ∷ on 0 (act.Hear 4) ∷ on 1 act.Tick ∷ on 1 (act.GiveUp 0) ∷
+    on 1 (act.Hear 8) ∷ on 0 act.Tick ∷ on 0 (act.Hear 6) ∷ on 1 act.Take ∷ on 0 act.Take ∷ on 0 (act.Hear 7) ∷ on 0 (act.Hear 7) ∷ on 0 act.Tick ∷
+    on 1 (act.Hear 11) ∷ on 1 (act.Hear 5) ∷ on 1 (act.Hear 12) ∷ on 0 act.Take ∷ on 0 (act.Hear 15) ∷
     on 1 (act.Send (163 ∷ 134 ∷ 213 ∷ 93 ∷ 189 ∷ 47 ∷ 237 ∷ 167 ∷ 64 ∷ 141 ∷ 186 ∷ 222 ∷ 208 ∷ 149 ∷ 21 ∷ 227 ∷ 133 ∷ 165 ∷ 16 ∷ 175 ∷ 228 ∷ 140 ∷ 65
     ∷ 162 ∷ 82 ∷ 147 ∷ 165 ∷ 195 ∷ 84 ∷ 108 ∷ 207 ∷ 165 ∷ 216 ∷ 52 ∷ 59 ∷ 200 ∷ 255 ∷ 97 ∷ 125 ∷ 30 ∷ 37 ∷ 174 ∷ 67 ∷ 187 ∷ 170 ∷ 25 ∷ 170 ∷ 44 ∷ 29 ∷
     6 ∷ 149 ∷ 231 ∷ 82 ∷ 12 ∷ 163 ∷ 54 ∷ 98 ∷ 75 ∷ 189 ∷ 82 ∷ 243 ∷ 90 ∷ 161 ∷ 90 ∷ 236 ∷ 127 ∷ 189 ∷ 119 ∷ 151 ∷ 80 ∷ 19 ∷ 201 ∷ 44 ∷ 143 ∷ 150 ∷ 0 ∷
@@ -123,22 +86,11 @@ Lives10 = text_of (founded (0 ∷ 1 ∷ []) 1 16 4) (
 
 abbrev pub Lives2 : Type 0
 Lives2 = text_of (founded (0 ∷ 1 ∷ 2 ∷ 3 ∷ 4 ∷ []) 1 1 256) (
-    on 3 act.Take ∷
-    on 1 act.Return ∷
-    on 3 (act.Reset 3 0) ∷
+    on 3 act.Take ∷ on 1 act.Return ∷ on 3 (act.Reset 3 0) ∷
     on 0 (act.Send (111 ∷ 207 ∷ 254 ∷ 209 ∷ 81 ∷ 223 ∷ 73 ∷ 206 ∷ 190 ∷ 216 ∷ 207 ∷ 113 ∷ 142 ∷ 65 ∷ 24 ∷ 88 ∷ 69 ∷ 108 ∷ 184 ∷ 152 ∷ 155 ∷ 4 ∷ 162 ∷
     191 ∷ 226 ∷ 180 ∷ 169 ∷ 255 ∷ 195 ∷ 33 ∷ 68 ∷ 122 ∷ 129 ∷ 127 ∷ 74 ∷ 112 ∷ 123 ∷ 61 ∷ 219 ∷ 122 ∷ [])) ∷
-    on 1 (act.Done 5) ∷
-    on 1 (act.Hear 1) ∷
-    on 2 (act.Hear 1) ∷
-    on 3 (act.GiveUp 0) ∷
-    on 3 (act.Hear 2) ∷
-    on 3 (act.Hear 3) ∷
-    on 3 (act.GiveUp 4) ∷
-    on 0 (act.Hear 1) ∷
-    on 4 (act.Done 3) ∷
-    on 4 act.Tick ∷
-    on 2 (act.Hear 1) ∷
+    on 1 (act.Done 5) ∷ on 1 (act.Hear 1) ∷ on 2 (act.Hear 1) ∷ on 3 (act.GiveUp 0) ∷ on 3 (act.Hear 2) ∷ on 3 (act.Hear 3) ∷ on 3 (act.GiveUp 4) ∷
+    on 0 (act.Hear 1) ∷ on 4 (act.Done 3) ∷ on 4 act.Tick ∷ on 2 (act.Hear 1) ∷
     []) ≡ lines (
     codes "1 take 3 : took 1 view 1.0 0,1,2,3,4" ∷
     codes "2 return 1 : running 1" ∷
@@ -166,36 +118,10 @@ Lives2 = text_of (founded (0 ∷ 1 ∷ 2 ∷ 3 ∷ 4 ∷ []) 1 1 256) (
 
 abbrev pub Lives3 : Type 0
 Lives3 = text_of (founded (0 ∷ 2 ∷ []) 0 3 256) (
-    on 1 act.Tick ∷
-    on 1 act.Tick ∷
-    on 1 act.Tick ∷
-    on 2 act.Tick ∷
-    on 0 act.Join ∷
-    on 0 (act.Hear 1) ∷
-    on 0 (act.Hear 1) ∷
-    on 2 (act.Hear 1) ∷
-    on 2 act.Take ∷
-    on 2 act.Take ∷
-    on 0 act.Tick ∷
-    on 2 act.Tick ∷
-    on 2 (act.Hear 2) ∷
-    on 2 act.Take ∷
-    on 1 act.Tick ∷
-    on 0 (act.Hear 3) ∷
-    on 1 act.Take ∷
-    on 0 act.Take ∷
-    on 2 (act.Hear 2) ∷
-    on 2 (act.Done 3) ∷
-    on 2 act.Take ∷
-    on 2 act.Stop ∷
-    on 0 act.Take ∷
-    on 2 act.Return ∷
-    on 0 (act.Hear 4) ∷
-    on 2 act.Take ∷
-    on 0 act.Tick ∷
-    on 0 (act.Hear 5) ∷
-    on 0 (act.Hear 4) ∷
-    on 1 act.Take ∷
+    on 1 act.Tick ∷ on 1 act.Tick ∷ on 1 act.Tick ∷ on 2 act.Tick ∷ on 0 act.Join ∷ on 0 (act.Hear 1) ∷ on 0 (act.Hear 1) ∷ on 2 (act.Hear 1) ∷
+    on 2 act.Take ∷ on 2 act.Take ∷ on 0 act.Tick ∷ on 2 act.Tick ∷ on 2 (act.Hear 2) ∷ on 2 act.Take ∷ on 1 act.Tick ∷ on 0 (act.Hear 3) ∷
+    on 1 act.Take ∷ on 0 act.Take ∷ on 2 (act.Hear 2) ∷ on 2 (act.Done 3) ∷ on 2 act.Take ∷ on 2 act.Stop ∷ on 0 act.Take ∷ on 2 act.Return ∷
+    on 0 (act.Hear 4) ∷ on 2 act.Take ∷ on 0 act.Tick ∷ on 0 (act.Hear 5) ∷ on 0 (act.Hear 4) ∷ on 1 act.Take ∷
     []) ≡ lines (
     codes "1 tick 1 : idle" ∷
     codes "2 tick 1 : idle" ∷
@@ -235,37 +161,13 @@ Lives3 = text_of (founded (0 ∷ 2 ∷ []) 0 3 256) (
 
 abbrev pub Lives4 : Type 0
 Lives4 = text_of (founded (4 ∷ []) 2 64 256) (
-    on 1 act.Return ∷
-    on 0 act.Tick ∷
-    on 1 (act.Reset 1 2) ∷
-    on 0 act.Return ∷
-    on 3 act.Tick ∷
-    on 3 act.Tick ∷
-    on 4 act.Leave ∷
-    on 2 act.Tick ∷
-    on 1 act.Tick ∷
-    on 3 act.Take ∷
-    on 1 act.Join ∷
-    on 4 act.Join ∷
-    on 2 (act.Hear 1) ∷
-    on 4 (act.Hear 1) ∷
-    on 4 (act.Hear 1) ∷
-    on 0 (act.Hear 1) ∷
-    on 3 (act.Hear 1) ∷
-    on 2 act.Tick ∷
+    on 1 act.Return ∷ on 0 act.Tick ∷ on 1 (act.Reset 1 2) ∷ on 0 act.Return ∷ on 3 act.Tick ∷ on 3 act.Tick ∷ on 4 act.Leave ∷ on 2 act.Tick ∷
+    on 1 act.Tick ∷ on 3 act.Take ∷ on 1 act.Join ∷ on 4 act.Join ∷ on 2 (act.Hear 1) ∷ on 4 (act.Hear 1) ∷ on 4 (act.Hear 1) ∷ on 0 (act.Hear 1) ∷
+    on 3 (act.Hear 1) ∷ on 2 act.Tick ∷
     on 4 (act.Send (245 ∷ 20 ∷ 30 ∷ 67 ∷ 142 ∷ 83 ∷ 70 ∷ 79 ∷ 153 ∷ 207 ∷ 125 ∷ 20 ∷ 235 ∷ 20 ∷ 83 ∷ 251 ∷ 106 ∷ 115 ∷ 17 ∷ 69 ∷ 248 ∷ 105 ∷ 26 ∷ 96 ∷
     126 ∷ 246 ∷ 80 ∷ 19 ∷ 198 ∷ 158 ∷ 182 ∷ 215 ∷ 182 ∷ 0 ∷ 84 ∷ 252 ∷ 108 ∷ 161 ∷ 195 ∷ 7 ∷ [])) ∷
-    on 3 (act.Hear 1) ∷
-    on 1 act.Stop ∷
-    on 2 act.Tick ∷
-    on 0 act.Tick ∷
-    on 4 (act.Hear 1) ∷
-    on 1 act.Return ∷
-    on 2 act.Tick ∷
-    on 1 (act.Hear 2) ∷
-    on 4 act.Return ∷
-    on 0 (act.Hear 1) ∷
-    on 3 (act.Hear 1) ∷
+    on 3 (act.Hear 1) ∷ on 1 act.Stop ∷ on 2 act.Tick ∷ on 0 act.Tick ∷ on 4 (act.Hear 1) ∷ on 1 act.Return ∷ on 2 act.Tick ∷ on 1 (act.Hear 2) ∷
+    on 4 act.Return ∷ on 0 (act.Hear 1) ∷ on 3 (act.Hear 1) ∷
     []) ≡ lines (
     codes "1 return 1 : running 1" ∷
     codes "2 tick 0 : idle" ∷
@@ -305,36 +207,11 @@ Lives4 = text_of (founded (4 ∷ []) 2 64 256) (
 
 abbrev pub Lives5 : Type 0
 Lives5 = text_of (founded (0 ∷ 4 ∷ []) 3 2 4) (
-    on 4 (act.Send (254 ∷ 220 ∷ 35 ∷ 6 ∷ 1 ∷ [])) ∷
-    on 0 (act.Hear 1) ∷
-    on 4 (act.Hear 2) ∷
-    on 3 act.Leave ∷
-    on 0 (act.Hear 3) ∷
-    on 3 act.Take ∷
-    on 5 act.Join ∷
-    on 4 act.Take ∷
-    on 1 act.Join ∷
-    on 0 (act.Hear 5) ∷
-    on 2 (act.Hear 5) ∷
-    on 1 act.Take ∷
-    on 0 (act.Hear 6) ∷
-    on 5 (act.Hear 6) ∷
-    on 4 (act.Hear 4) ∷
-    on 3 (act.Hear 5) ∷
-    on 3 (act.Hear 6) ∷
-    on 2 (act.Hear 6) ∷
-    on 4 (act.Hear 5) ∷
-    on 4 (act.Hear 6) ∷
-    on 2 act.Join ∷
-    on 1 (act.Hear 5) ∷
-    on 2 act.Leave ∷
-    on 4 (act.Hear 9) ∷
-    on 3 (act.Hear 9) ∷
-    on 4 (act.Hear 7) ∷
-    on 5 (act.Hear 9) ∷
-    on 2 act.Take ∷
-    on 1 (act.Send (229 ∷ [])) ∷
-    on 4 (act.Hear 8) ∷
+    on 4 (act.Send (254 ∷ 220 ∷ 35 ∷ 6 ∷ 1 ∷ [])) ∷ on 0 (act.Hear 1) ∷ on 4 (act.Hear 2) ∷ on 3 act.Leave ∷ on 0 (act.Hear 3) ∷ on 3 act.Take ∷
+    on 5 act.Join ∷ on 4 act.Take ∷ on 1 act.Join ∷ on 0 (act.Hear 5) ∷ on 2 (act.Hear 5) ∷ on 1 act.Take ∷ on 0 (act.Hear 6) ∷ on 5 (act.Hear 6) ∷
+    on 4 (act.Hear 4) ∷ on 3 (act.Hear 5) ∷ on 3 (act.Hear 6) ∷ on 2 (act.Hear 6) ∷ on 4 (act.Hear 5) ∷ on 4 (act.Hear 6) ∷ on 2 act.Join ∷
+    on 1 (act.Hear 5) ∷ on 2 act.Leave ∷ on 4 (act.Hear 9) ∷ on 3 (act.Hear 9) ∷ on 4 (act.Hear 7) ∷ on 5 (act.Hear 9) ∷ on 2 act.Take ∷
+    on 1 (act.Send (229 ∷ [])) ∷ on 4 (act.Hear 8) ∷
     []) ≡ lines (
     codes "1 send 4 fedc230601 : queued 1 | 1 Spread to 0" ∷
     codes "2 hear 0 1 : numbered 2 | 2 Order to 4" ∷
@@ -385,20 +262,8 @@ Lives6 = text_of (founded (2 ∷ []) 2 3 0) (
     101 ∷ 236 ∷ 170 ∷ 24 ∷ 7 ∷ 142 ∷ 157 ∷ 13 ∷ 65 ∷ 13 ∷ 59 ∷ 66 ∷ 188 ∷ 156 ∷ 123 ∷ 131 ∷ 116 ∷ 239 ∷ 125 ∷ 155 ∷ 161 ∷ 227 ∷ 114 ∷ 229 ∷ 181 ∷ 106
     ∷ 45 ∷ 44 ∷ 111 ∷ 68 ∷ 98 ∷ 246 ∷ 143 ∷ 158 ∷ 217 ∷ 203 ∷ 114 ∷ 58 ∷ 228 ∷ 7 ∷ 29 ∷ 199 ∷ 10 ∷ 7 ∷ 44 ∷ 148 ∷ 75 ∷ 134 ∷ 197 ∷ 214 ∷ 43 ∷ 147 ∷ 35
     ∷ 193 ∷ 167 ∷ 9 ∷ 242 ∷ 66 ∷ 170 ∷ 239 ∷ 67 ∷ 56 ∷ 54 ∷ 85 ∷ 173 ∷ 36 ∷ 151 ∷ 59 ∷ 7 ∷ 155 ∷ 133 ∷ 141 ∷ 115 ∷ 164 ∷ 181 ∷ 195 ∷ 139 ∷ [])) ∷
-    on 2 act.Join ∷
-    on 2 act.Join ∷
-    on 1 act.Tick ∷
-    on 1 (act.Send (121 ∷ [])) ∷
-    on 1 act.Join ∷
-    on 0 (act.Hear 1) ∷
-    on 0 (act.Hear 1) ∷
-    on 2 (act.Hear 1) ∷
-    on 3 (act.Hear 1) ∷
-    on 0 (act.Hear 1) ∷
-    on 3 (act.Hear 1) ∷
-    on 1 (act.Hear 2) ∷
-    on 2 (act.Hear 3) ∷
-    on 2 act.Return ∷
+    on 2 act.Join ∷ on 2 act.Join ∷ on 1 act.Tick ∷ on 1 (act.Send (121 ∷ [])) ∷ on 1 act.Join ∷ on 0 (act.Hear 1) ∷ on 0 (act.Hear 1) ∷
+    on 2 (act.Hear 1) ∷ on 3 (act.Hear 1) ∷ on 0 (act.Hear 1) ∷ on 3 (act.Hear 1) ∷ on 1 (act.Hear 2) ∷ on 2 (act.Hear 3) ∷ on 2 act.Return ∷
     []) ≡ lines (
     codes "1 send 0 b101022cce28e541af04eb3d7d0923f61094a959427ec03c4d1d2818699e4fc21f0bc4af47a2f7b12d3f281569890cdb4469c74874f29da1cd502290b7f37c5812df6b2870f37d8a3a700dd5a2736165d7395ecb43bd9b748adbf2b76375fd85c8a14eb4a81238edd27f74ee0bb2ed658d00897a29a54f810e2dc0413a941e5bb5adf3e79f8fb56af64360fdbd2d140f0fc418dc5871e7faf702240e8059f0f47a70370e68abbe9d7a5de571c78a296b7a5db34a65ecaa18078e9d0d410d3b42bc9c7b8374ef7d9ba1e372e5b56a2d2c6f4462f68f9ed9cb723ae4071dc70a072c944b86c5d62b9323c1a709f242aaef43383655ad24973b079b858d73a4b5c38b : not-member" ∷
     codes "2 join 2 : joined 1" ∷
@@ -424,17 +289,8 @@ Lives6 = text_of (founded (2 ∷ []) 2 3 0) (
 
 abbrev pub Lives7 : Type 0
 Lives7 = text_of (founded (2 ∷ []) 0 3 4) (
-    on 2 (act.Done 2) ∷
-    on 0 act.Stop ∷
-    on 2 (act.Send []) ∷
-    on 1 (act.Done 1) ∷
-    on 2 act.Tick ∷
-    on 2 act.Tick ∷
-    on 0 act.Return ∷
-    on 0 act.Join ∷
-    on 2 (act.Hear 1) ∷
-    on 1 (act.Hear 1) ∷
-    on 2 (act.Hear 1) ∷
+    on 2 (act.Done 2) ∷ on 0 act.Stop ∷ on 2 (act.Send []) ∷ on 1 (act.Done 1) ∷ on 2 act.Tick ∷ on 2 act.Tick ∷ on 0 act.Return ∷ on 0 act.Join ∷
+    on 2 (act.Hear 1) ∷ on 1 (act.Hear 1) ∷ on 2 (act.Hear 1) ∷
     on 1 (act.Send (222 ∷ 43 ∷ 64 ∷ 174 ∷ 47 ∷ 66 ∷ 224 ∷ 232 ∷ 177 ∷ 231 ∷ 210 ∷ 82 ∷ 210 ∷ 206 ∷ 28 ∷ 110 ∷ 169 ∷ 40 ∷ 121 ∷ 79 ∷ 138 ∷ 148 ∷ 219 ∷
     122 ∷ 126 ∷ 218 ∷ 230 ∷ 245 ∷ 138 ∷ 70 ∷ 160 ∷ 167 ∷ 74 ∷ 39 ∷ 210 ∷ 160 ∷ 253 ∷ 0 ∷ 245 ∷ 229 ∷ 127 ∷ 86 ∷ 126 ∷ 9 ∷ 99 ∷ 41 ∷ 202 ∷ 140 ∷ 45 ∷
     216 ∷ 148 ∷ 239 ∷ 21 ∷ 77 ∷ 160 ∷ 58 ∷ 89 ∷ 13 ∷ 189 ∷ 236 ∷ 105 ∷ 58 ∷ 224 ∷ 76 ∷ 152 ∷ 149 ∷ 185 ∷ 227 ∷ 63 ∷ 200 ∷ 31 ∷ 53 ∷ 186 ∷ 234 ∷ 16 ∷
@@ -445,9 +301,7 @@ Lives7 = text_of (founded (2 ∷ []) 0 3 4) (
     195 ∷ 233 ∷ 127 ∷ 7 ∷ 92 ∷ 69 ∷ 190 ∷ 109 ∷ 76 ∷ 71 ∷ 117 ∷ 139 ∷ 88 ∷ 133 ∷ 71 ∷ 211 ∷ 40 ∷ 181 ∷ 169 ∷ 109 ∷ 173 ∷ 238 ∷ 75 ∷ 253 ∷ 119 ∷ 148 ∷
     243 ∷ 45 ∷ 99 ∷ 54 ∷ 73 ∷ 97 ∷ 90 ∷ 68 ∷ 47 ∷ 100 ∷ 214 ∷ 46 ∷ 67 ∷ 179 ∷ 5 ∷ 215 ∷ 169 ∷ 246 ∷ 2 ∷ 194 ∷ 86 ∷ 200 ∷ 16 ∷ 44 ∷ 1 ∷ 190 ∷ 163 ∷ 209
     ∷ 24 ∷ 149 ∷ 214 ∷ 57 ∷ 45 ∷ 1 ∷ 109 ∷ 223 ∷ 126 ∷ 156 ∷ 101 ∷ 243 ∷ 222 ∷ 50 ∷ 166 ∷ 205 ∷ 188 ∷ 157 ∷ 108 ∷ 188 ∷ 89 ∷ 131 ∷ 223 ∷ 48 ∷ [])) ∷
-    on 0 (act.Hear 2) ∷
-    on 0 (act.Reset 1 0) ∷
-    on 1 act.Take ∷
+    on 0 (act.Hear 2) ∷ on 0 (act.Reset 1 0) ∷ on 1 act.Take ∷
     []) ≡ lines (
     codes "1 done 2 2 : unknown" ∷
     codes "2 stop 0 : stopped" ∷
@@ -474,37 +328,14 @@ Lives7 = text_of (founded (2 ∷ []) 0 3 4) (
 
 abbrev pub Lives8 : Type 0
 Lives8 = text_of (founded (0 ∷ 2 ∷ []) 2 5 0) (
-    on 0 act.Take ∷
-    on 2 act.Take ∷
-    on 0 (act.Reset 1 2) ∷
-    on 1 act.Take ∷
-    on 2 (act.Hear 1) ∷
-    on 1 (act.Send []) ∷
-    on 1 act.Take ∷
-    on 1 (act.Hear 1) ∷
-    on 1 act.Take ∷
-    on 0 (act.GiveUp 2) ∷
-    on 0 (act.Hear 2) ∷
-    on 2 (act.Hear 3) ∷
+    on 0 act.Take ∷ on 2 act.Take ∷ on 0 (act.Reset 1 2) ∷ on 1 act.Take ∷ on 2 (act.Hear 1) ∷ on 1 (act.Send []) ∷ on 1 act.Take ∷ on 1 (act.Hear 1)
+    ∷
+    on 1 act.Take ∷ on 0 (act.GiveUp 2) ∷ on 0 (act.Hear 2) ∷ on 2 (act.Hear 3) ∷
     on 1 (act.Send (12 ∷ 62 ∷ 191 ∷ 166 ∷ 223 ∷ 164 ∷ 68 ∷ 118 ∷ 206 ∷ 0 ∷ 109 ∷ 254 ∷ 161 ∷ 179 ∷ 36 ∷ 217 ∷ 203 ∷ 49 ∷ 83 ∷ 20 ∷ 1 ∷ 190 ∷ 213 ∷ 227
     ∷ 215 ∷ 119 ∷ 62 ∷ 194 ∷ 5 ∷ 198 ∷ 33 ∷ 245 ∷ 116 ∷ 147 ∷ 146 ∷ 72 ∷ 237 ∷ 27 ∷ 35 ∷ 90 ∷ [])) ∷
-    on 1 act.Take ∷
-    on 0 act.Take ∷
-    on 0 (act.Hear 4) ∷
-    on 2 act.Tick ∷
-    on 0 (act.Hear 6) ∷
-    on 1 act.Take ∷
-    on 0 act.Join ∷
-    on 0 act.Take ∷
-    on 1 (act.Send (138 ∷ 10 ∷ 220 ∷ 151 ∷ 133 ∷ [])) ∷
-    on 1 act.Take ∷
-    on 1 (act.Reset 3 1) ∷
-    on 1 (act.Reset 2 2) ∷
-    on 2 (act.Hear 3) ∷
-    on 0 (act.Reset 1 2) ∷
-    on 2 (act.Hear 3) ∷
-    on 2 (act.Reset 1 2) ∷
-    on 1 act.Take ∷
+    on 1 act.Take ∷ on 0 act.Take ∷ on 0 (act.Hear 4) ∷ on 2 act.Tick ∷ on 0 (act.Hear 6) ∷ on 1 act.Take ∷ on 0 act.Join ∷ on 0 act.Take ∷
+    on 1 (act.Send (138 ∷ 10 ∷ 220 ∷ 151 ∷ 133 ∷ [])) ∷ on 1 act.Take ∷ on 1 (act.Reset 3 1) ∷ on 1 (act.Reset 2 2) ∷ on 2 (act.Hear 3) ∷
+    on 0 (act.Reset 1 2) ∷ on 2 (act.Hear 3) ∷ on 2 (act.Reset 1 2) ∷ on 1 act.Take ∷
     []) ≡ lines (
     codes "1 take 0 : took 1 view 1.0 0,2" ∷
     codes "2 take 2 : took 1 view 1.0 0,2" ∷
@@ -546,11 +377,7 @@ Lives8 = text_of (founded (0 ∷ 2 ∷ []) 2 5 0) (
 
 abbrev pub Lives9 : Type 0
 Lives9 = text_of (founded (0 ∷ 1 ∷ 2 ∷ 3 ∷ 4 ∷ []) 2 64 4) (
-    on 4 (act.Done 3) ∷
-    on 3 act.Leave ∷
-    on 2 (act.Hear 1) ∷
-    on 0 (act.Hear 1) ∷
-    on 1 (act.Hear 1) ∷
+    on 4 (act.Done 3) ∷ on 3 act.Leave ∷ on 2 (act.Hear 1) ∷ on 0 (act.Hear 1) ∷ on 1 (act.Hear 1) ∷
     on 2 (act.Send (1 ∷ 126 ∷ 223 ∷ 208 ∷ 1 ∷ 125 ∷ 19 ∷ 159 ∷ 189 ∷ 51 ∷ 215 ∷ 43 ∷ 138 ∷ 9 ∷ 60 ∷ 113 ∷ 113 ∷ 240 ∷ 95 ∷ 166 ∷ 214 ∷ 121 ∷ 28 ∷ 134
     ∷ 173 ∷ 209 ∷ 122 ∷ 60 ∷ 238 ∷ 20 ∷ 23 ∷ 71 ∷ 144 ∷ 40 ∷ 180 ∷ 49 ∷ 91 ∷ 186 ∷ 131 ∷ 14 ∷ 181 ∷ 213 ∷ 226 ∷ 159 ∷ 73 ∷ 52 ∷ 171 ∷ 14 ∷ 148 ∷ 5 ∷
     166 ∷ 100 ∷ 235 ∷ 68 ∷ 2 ∷ 33 ∷ 163 ∷ 200 ∷ 97 ∷ 242 ∷ 33 ∷ 33 ∷ 13 ∷ 209 ∷ 0 ∷ 253 ∷ 189 ∷ 206 ∷ 55 ∷ 163 ∷ 255 ∷ 86 ∷ 112 ∷ 223 ∷ 162 ∷ 82 ∷ 253
@@ -561,30 +388,10 @@ Lives9 = text_of (founded (0 ∷ 1 ∷ 2 ∷ 3 ∷ 4 ∷ []) 2 64 4) (
     ∷ 77 ∷ 224 ∷ 41 ∷ 69 ∷ 248 ∷ 30 ∷ 215 ∷ 17 ∷ 18 ∷ 125 ∷ 208 ∷ 208 ∷ 124 ∷ 13 ∷ 58 ∷ 16 ∷ 151 ∷ 114 ∷ 116 ∷ 51 ∷ 12 ∷ 246 ∷ 228 ∷ 43 ∷ 57 ∷ 181 ∷
     151 ∷ 81 ∷ 235 ∷ 191 ∷ 230 ∷ 124 ∷ 179 ∷ 214 ∷ 213 ∷ 240 ∷ 94 ∷ 234 ∷ 35 ∷ 12 ∷ 203 ∷ 69 ∷ 110 ∷ 198 ∷ 18 ∷ 114 ∷ 250 ∷ 176 ∷ 241 ∷ 86 ∷ 249 ∷ 216
     ∷ 238 ∷ 245 ∷ 205 ∷ 132 ∷ 123 ∷ 66 ∷ 143 ∷ 103 ∷ 64 ∷ 156 ∷ 30 ∷ 233 ∷ 242 ∷ 150 ∷ 57 ∷ 47 ∷ 171 ∷ 20 ∷ 243 ∷ 231 ∷ 197 ∷ [])) ∷
-    on 3 (act.Hear 2) ∷
-    on 1 (act.Hear 2) ∷
-    on 2 (act.Hear 2) ∷
-    on 4 (act.Hear 1) ∷
-    on 2 (act.Hear 2) ∷
-    on 1 act.Take ∷
-    on 0 (act.Hear 3) ∷
-    on 0 (act.Hear 4) ∷
-    on 1 (act.Hear 3) ∷
-    on 0 (act.Hear 1) ∷
-    on 2 (act.Hear 6) ∷
-    on 1 (act.Hear 2) ∷
-    on 3 (act.Hear 2) ∷
-    on 3 (act.Hear 3) ∷
-    on 1 (act.Hear 6) ∷
-    on 2 (act.Hear 6) ∷
-    on 0 (act.Hear 5) ∷
-    on 2 (act.Hear 1) ∷
-    on 1 act.Leave ∷
-    on 0 act.Take ∷
-    on 0 (act.Hear 7) ∷
-    on 1 (act.Hear 9) ∷
-    on 1 (act.Send (24 ∷ [])) ∷
-    on 4 act.Return ∷
+    on 3 (act.Hear 2) ∷ on 1 (act.Hear 2) ∷ on 2 (act.Hear 2) ∷ on 4 (act.Hear 1) ∷ on 2 (act.Hear 2) ∷ on 1 act.Take ∷ on 0 (act.Hear 3) ∷
+    on 0 (act.Hear 4) ∷ on 1 (act.Hear 3) ∷ on 0 (act.Hear 1) ∷ on 2 (act.Hear 6) ∷ on 1 (act.Hear 2) ∷ on 3 (act.Hear 2) ∷ on 3 (act.Hear 3) ∷
+    on 1 (act.Hear 6) ∷ on 2 (act.Hear 6) ∷ on 0 (act.Hear 5) ∷ on 2 (act.Hear 1) ∷ on 1 act.Leave ∷ on 0 act.Take ∷ on 0 (act.Hear 7) ∷
+    on 1 (act.Hear 9) ∷ on 1 (act.Send (24 ∷ [])) ∷ on 4 act.Return ∷
     []) ≡ lines (
     codes "1 done 4 3 : unknown" ∷
     codes "2 leave 3 : asked | 1 LeaveAsk to 0,1,2,4" ∷

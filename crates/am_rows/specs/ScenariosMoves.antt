@@ -6,21 +6,8 @@ use Rattle.am_rows.specs.Scripts.{founded, on, lines}
 
 abbrev pub Moves1 : Type 0
 Moves1 = text_of (founded (0 ∷ []) 1 16 256) (
-    on 0 act.Tick ∷
-    on 2 act.Tick ∷
-    on 0 act.Tick ∷
-    on 0 act.Take ∷
-    on 0 (act.Send (173 ∷ 24 ∷ 110 ∷ 98 ∷ 222 ∷ [])) ∷
-    on 0 act.Take ∷
-    on 0 act.Take ∷
-    on 3 act.Tick ∷
-    on 0 act.Tick ∷
-    on 1 act.Take ∷
-    on 3 act.Take ∷
-    on 0 act.Take ∷
-    on 0 act.Tick ∷
-    on 3 act.Take ∷
-    on 1 act.Tick ∷
+    on 0 act.Tick ∷ on 2 act.Tick ∷ on 0 act.Tick ∷ on 0 act.Take ∷ on 0 (act.Send (173 ∷ 24 ∷ 110 ∷ 98 ∷ 222 ∷ [])) ∷ on 0 act.Take ∷ on 0 act.Take ∷
+    on 3 act.Tick ∷ on 0 act.Tick ∷ on 1 act.Take ∷ on 3 act.Take ∷ on 0 act.Take ∷ on 0 act.Tick ∷ on 3 act.Take ∷ on 1 act.Tick ∷
     []) ≡ lines (
     codes "1 tick 0 : ticked" ∷
     codes "2 tick 2 : idle" ∷
@@ -46,23 +33,9 @@ Moves1 = text_of (founded (0 ∷ []) 1 16 256) (
 
 abbrev pub Moves10 : Type 0
 Moves10 = text_of (founded (0 ∷ 2 ∷ 3 ∷ 4 ∷ []) 1 16 0) (
-    on 2 (act.Done 4) ∷
-    on 2 act.Tick ∷
-    on 0 (act.Hear 1) ∷
-    on 3 (act.Done 3) ∷
-    on 1 (act.Send (81 ∷ 156 ∷ [])) ∷
-    on 0 (act.Hear 1) ∷
-    on 3 act.Take ∷
-    on 3 (act.Done 1) ∷
-    on 3 (act.Done 3) ∷
-    on 0 act.Take ∷
-    on 3 act.Join ∷
-    on 2 (act.Done 4) ∷
-    on 0 (act.Send []) ∷
-    on 2 (act.Send (101 ∷ [])) ∷
-    on 0 act.Join ∷
-    on 4 (act.Hear 3) ∷
-    on 4 act.State ∷
+    on 2 (act.Done 4) ∷ on 2 act.Tick ∷ on 0 (act.Hear 1) ∷ on 3 (act.Done 3) ∷ on 1 (act.Send (81 ∷ 156 ∷ [])) ∷ on 0 (act.Hear 1) ∷ on 3 act.Take ∷
+    on 3 (act.Done 1) ∷ on 3 (act.Done 3) ∷ on 0 act.Take ∷ on 3 act.Join ∷ on 2 (act.Done 4) ∷ on 0 (act.Send []) ∷ on 2 (act.Send (101 ∷ [])) ∷
+    on 0 act.Join ∷ on 4 (act.Hear 3) ∷ on 4 act.State ∷
     on 0 (act.Send (128 ∷ 52 ∷ 115 ∷ 207 ∷ 251 ∷ 151 ∷ 210 ∷ 67 ∷ 11 ∷ 185 ∷ 100 ∷ 136 ∷ 56 ∷ 0 ∷ 86 ∷ 194 ∷ 67 ∷ 35 ∷ 44 ∷ 155 ∷ 74 ∷ 141 ∷ 61 ∷ 210
     ∷ 217 ∷ 64 ∷ 112 ∷ 74 ∷ 94 ∷ 40 ∷ 169 ∷ 74 ∷ 211 ∷ 36 ∷ 198 ∷ 61 ∷ 48 ∷ 48 ∷ 91 ∷ 215 ∷ 113 ∷ 209 ∷ 2 ∷ 60 ∷ 231 ∷ 123 ∷ 168 ∷ 55 ∷ 71 ∷ 46 ∷ 211
     ∷ 117 ∷ 160 ∷ 248 ∷ 253 ∷ 199 ∷ 231 ∷ 195 ∷ 126 ∷ 121 ∷ 48 ∷ 233 ∷ 190 ∷ 196 ∷ 109 ∷ 162 ∷ 165 ∷ 66 ∷ 3 ∷ 120 ∷ 10 ∷ 13 ∷ 253 ∷ 208 ∷ 237 ∷ 217 ∷
@@ -73,18 +46,9 @@ Moves10 = text_of (founded (0 ∷ 2 ∷ 3 ∷ 4 ∷ []) 1 16 0) (
     163 ∷ 63 ∷ 201 ∷ 133 ∷ 23 ∷ 66 ∷ 159 ∷ 230 ∷ 57 ∷ 109 ∷ 244 ∷ 164 ∷ 129 ∷ 246 ∷ 194 ∷ 87 ∷ 245 ∷ 228 ∷ 110 ∷ 53 ∷ 171 ∷ 112 ∷ 114 ∷ 9 ∷ 237 ∷ 90 ∷
     197 ∷ 27 ∷ 248 ∷ 166 ∷ 128 ∷ 37 ∷ 78 ∷ 110 ∷ 185 ∷ 160 ∷ 92 ∷ 249 ∷ 23 ∷ 221 ∷ 108 ∷ 57 ∷ 121 ∷ 203 ∷ 133 ∷ 186 ∷ 46 ∷ 104 ∷ 161 ∷ 217 ∷ 108 ∷ 18
     ∷ 119 ∷ 6 ∷ 193 ∷ 36 ∷ 117 ∷ 237 ∷ 221 ∷ 3 ∷ 63 ∷ 160 ∷ 20 ∷ 74 ∷ 57 ∷ 196 ∷ 191 ∷ 4 ∷ 183 ∷ 199 ∷ 98 ∷ 207 ∷ 201 ∷ 8 ∷ 253 ∷ [])) ∷
-    on 2 act.Join ∷
-    on 3 (act.Done 5) ∷
-    on 0 (act.Hear 3) ∷
-    on 1 act.Join ∷
-    on 3 (act.Hear 2) ∷
-    on 3 act.Take ∷
-    on 4 (act.Hear 4) ∷
-    on 0 (act.Hear 3) ∷
-    on 3 act.Take ∷
-    on 2 (act.Hear 2) ∷
-    on 0 (act.Hear 5) ∷
-    on 3 (act.Hear 3) ∷
+    on 2 act.Join ∷ on 3 (act.Done 5) ∷ on 0 (act.Hear 3) ∷ on 1 act.Join ∷ on 3 (act.Hear 2) ∷ on 3 act.Take ∷ on 4 (act.Hear 4) ∷ on 0 (act.Hear 3)
+    ∷
+    on 3 act.Take ∷ on 2 (act.Hear 2) ∷ on 0 (act.Hear 5) ∷ on 3 (act.Hear 3) ∷
     []) ≡ lines (
     codes "1 done 2 4 : unknown" ∷
     codes "2 tick 2 : ticked | 1 Ack to 0" ∷
@@ -126,20 +90,8 @@ Moves10 = text_of (founded (0 ∷ 2 ∷ 3 ∷ 4 ∷ []) 1 16 0) (
 
 abbrev pub Moves2 : Type 0
 Moves2 = text_of (founded (0 ∷ []) 1 3 0) (
-    on 2 act.Tick ∷
-    on 0 act.Tick ∷
-    on 0 act.Tick ∷
-    on 2 act.Join ∷
-    on 1 (act.Hear 1) ∷
-    on 1 act.Tick ∷
-    on 1 act.Tick ∷
-    on 0 act.Tick ∷
-    on 2 (act.Done 3) ∷
-    on 1 act.Join ∷
-    on 0 (act.Hear 1) ∷
-    on 1 (act.Send (157 ∷ 11 ∷ 198 ∷ 79 ∷ 112 ∷ [])) ∷
-    on 2 act.Tick ∷
-    on 1 (act.Done 5) ∷
+    on 2 act.Tick ∷ on 0 act.Tick ∷ on 0 act.Tick ∷ on 2 act.Join ∷ on 1 (act.Hear 1) ∷ on 1 act.Tick ∷ on 1 act.Tick ∷ on 0 act.Tick ∷
+    on 2 (act.Done 3) ∷ on 1 act.Join ∷ on 0 (act.Hear 1) ∷ on 1 (act.Send (157 ∷ 11 ∷ 198 ∷ 79 ∷ 112 ∷ [])) ∷ on 2 act.Tick ∷ on 1 (act.Done 5) ∷
     on 1 (act.Hear 4) ∷
     []) ≡ lines (
     codes "1 tick 2 : idle" ∷
@@ -165,20 +117,9 @@ Moves2 = text_of (founded (0 ∷ []) 1 3 0) (
 
 abbrev pub Moves3 : Type 0
 Moves3 = text_of (founded (0 ∷ 1 ∷ []) 0 64 256) (
-    on 3 act.Take ∷
-    on 0 act.Tick ∷
-    on 0 (act.Send (73 ∷ 116 ∷ 59 ∷ 85 ∷ 75 ∷ [])) ∷
-    on 3 act.Leave ∷
-    on 1 (act.Hear 1) ∷
-    on 0 (act.Hear 3) ∷
-    on 1 (act.Hear 1) ∷
-    on 1 act.Join ∷
-    on 3 act.Tick ∷
-    on 5 act.Join ∷
-    on 4 (act.Hear 5) ∷
-    on 3 (act.Hear 5) ∷
-    on 2 (act.Hear 5) ∷
-    on 0 (act.Hear 4) ∷
+    on 3 act.Take ∷ on 0 act.Tick ∷ on 0 (act.Send (73 ∷ 116 ∷ 59 ∷ 85 ∷ 75 ∷ [])) ∷ on 3 act.Leave ∷ on 1 (act.Hear 1) ∷ on 0 (act.Hear 3) ∷
+    on 1 (act.Hear 1) ∷ on 1 act.Join ∷ on 3 act.Tick ∷ on 5 act.Join ∷ on 4 (act.Hear 5) ∷ on 3 (act.Hear 5) ∷ on 2 (act.Hear 5) ∷ on 0 (act.Hear 4)
+    ∷
     on 0 (act.Hear 4) ∷
     []) ≡ lines (
     codes "1 take 3 : not-member" ∷
@@ -205,21 +146,8 @@ Moves3 = text_of (founded (0 ∷ 1 ∷ []) 0 64 256) (
 
 abbrev pub Moves4 : Type 0
 Moves4 = text_of (founded (0 ∷ 2 ∷ 4 ∷ 5 ∷ []) 0 5 256) (
-    on 4 act.Take ∷
-    on 4 (act.Done 1) ∷
-    on 5 act.Take ∷
-    on 1 (act.Done 3) ∷
-    on 4 act.Tick ∷
-    on 2 act.Tick ∷
-    on 3 act.Tick ∷
-    on 0 act.Tick ∷
-    on 1 act.Leave ∷
-    on 5 act.Take ∷
-    on 4 act.Take ∷
-    on 0 (act.Hear 1) ∷
-    on 1 act.Tick ∷
-    on 3 act.Tick ∷
-    on 2 (act.Hear 3) ∷
+    on 4 act.Take ∷ on 4 (act.Done 1) ∷ on 5 act.Take ∷ on 1 (act.Done 3) ∷ on 4 act.Tick ∷ on 2 act.Tick ∷ on 3 act.Tick ∷ on 0 act.Tick ∷
+    on 1 act.Leave ∷ on 5 act.Take ∷ on 4 act.Take ∷ on 0 (act.Hear 1) ∷ on 1 act.Tick ∷ on 3 act.Tick ∷ on 2 (act.Hear 3) ∷
     []) ≡ lines (
     codes "1 take 4 : took 1 view 1.0 0,2,4,5" ∷
     codes "2 done 4 1 : unknown" ∷
@@ -246,21 +174,8 @@ Moves4 = text_of (founded (0 ∷ 2 ∷ 4 ∷ 5 ∷ []) 0 5 256) (
 
 abbrev pub Moves5 : Type 0
 Moves5 = text_of (founded (0 ∷ 1 ∷ 2 ∷ 3 ∷ 4 ∷ []) 1 64 4) (
-    on 4 act.Tick ∷
-    on 0 (act.Hear 1) ∷
-    on 0 act.Tick ∷
-    on 1 act.Tick ∷
-    on 4 act.Tick ∷
-    on 4 act.Tick ∷
-    on 1 act.Tick ∷
-    on 3 (act.Hear 2) ∷
-    on 2 (act.Hear 2) ∷
-    on 0 (act.Hear 3) ∷
-    on 1 act.State ∷
-    on 0 act.Tick ∷
-    on 3 act.Tick ∷
-    on 1 (act.Done 4) ∷
-    on 1 (act.Hear 9) ∷
+    on 4 act.Tick ∷ on 0 (act.Hear 1) ∷ on 0 act.Tick ∷ on 1 act.Tick ∷ on 4 act.Tick ∷ on 4 act.Tick ∷ on 1 act.Tick ∷ on 3 (act.Hear 2) ∷
+    on 2 (act.Hear 2) ∷ on 0 (act.Hear 3) ∷ on 1 act.State ∷ on 0 act.Tick ∷ on 3 act.Tick ∷ on 1 (act.Done 4) ∷ on 1 (act.Hear 9) ∷
     []) ≡ lines (
     codes "1 tick 4 : ticked | 1 Ack to 0" ∷
     codes "2 hear 0 1 : noted" ∷
@@ -288,37 +203,13 @@ Moves5 = text_of (founded (0 ∷ 1 ∷ 2 ∷ 3 ∷ 4 ∷ []) 1 64 4) (
 
 abbrev pub Moves6 : Type 0
 Moves6 = text_of (founded (0 ∷ []) 1 16 0) (
-    on 0 act.Tick ∷
-    on 1 act.Tick ∷
-    on 1 act.Take ∷
-    on 0 act.Tick ∷
-    on 1 act.Take ∷
-    on 2 (act.Done 5) ∷
-    on 0 act.Tick ∷
-    on 1 (act.Done 1) ∷
-    on 2 act.Take ∷
-    on 2 act.Tick ∷
+    on 0 act.Tick ∷ on 1 act.Tick ∷ on 1 act.Take ∷ on 0 act.Tick ∷ on 1 act.Take ∷ on 2 (act.Done 5) ∷ on 0 act.Tick ∷ on 1 (act.Done 1) ∷
+    on 2 act.Take ∷ on 2 act.Tick ∷
     on 1 (act.Send (184 ∷ 193 ∷ 249 ∷ 205 ∷ 153 ∷ 166 ∷ 195 ∷ 38 ∷ 72 ∷ 141 ∷ 215 ∷ 169 ∷ 183 ∷ 137 ∷ 228 ∷ 163 ∷ 125 ∷ 138 ∷ 178 ∷ 151 ∷ 162 ∷ 241 ∷
     152 ∷ 130 ∷ 83 ∷ 99 ∷ 127 ∷ 139 ∷ 144 ∷ 14 ∷ 248 ∷ 253 ∷ 6 ∷ 252 ∷ 211 ∷ 24 ∷ 112 ∷ 223 ∷ 28 ∷ 241 ∷ [])) ∷
-    on 1 (act.Done 3) ∷
-    on 0 act.Take ∷
-    on 2 (act.Done 5) ∷
-    on 2 (act.Send (188 ∷ 167 ∷ 101 ∷ 9 ∷ 170 ∷ [])) ∷
-    on 1 act.Tick ∷
-    on 0 (act.Done 5) ∷
-    on 0 act.Tick ∷
-    on 0 (act.Done 3) ∷
-    on 1 act.Join ∷
-    on 0 (act.Done 4) ∷
-    on 0 act.Tick ∷
-    on 0 act.Take ∷
-    on 0 (act.Hear 1) ∷
-    on 1 (act.Hear 2) ∷
-    on 0 act.Leave ∷
-    on 1 (act.Hear 4) ∷
-    on 2 (act.Hear 1) ∷
-    on 1 act.Take ∷
-    on 0 act.State ∷
+    on 1 (act.Done 3) ∷ on 0 act.Take ∷ on 2 (act.Done 5) ∷ on 2 (act.Send (188 ∷ 167 ∷ 101 ∷ 9 ∷ 170 ∷ [])) ∷ on 1 act.Tick ∷ on 0 (act.Done 5) ∷
+    on 0 act.Tick ∷ on 0 (act.Done 3) ∷ on 1 act.Join ∷ on 0 (act.Done 4) ∷ on 0 act.Tick ∷ on 0 act.Take ∷ on 0 (act.Hear 1) ∷ on 1 (act.Hear 2) ∷
+    on 0 act.Leave ∷ on 1 (act.Hear 4) ∷ on 2 (act.Hear 1) ∷ on 1 act.Take ∷ on 0 act.State ∷
     []) ≡ lines (
     codes "1 tick 0 : ticked" ∷
     codes "2 tick 1 : idle" ∷
@@ -359,17 +250,8 @@ Moves6 = text_of (founded (0 ∷ []) 1 16 0) (
 
 abbrev pub Moves7 : Type 0
 Moves7 = text_of (founded (0 ∷ []) 0 64 0) (
-    on 1 act.Tick ∷
-    on 0 act.State ∷
-    on 0 act.State ∷
-    on 0 act.Take ∷
-    on 2 act.Take ∷
-    on 2 act.Take ∷
-    on 2 act.Take ∷
-    on 0 act.Tick ∷
-    on 0 act.Join ∷
-    on 1 act.Leave ∷
-    on 1 (act.Send (223 ∷ 50 ∷ 229 ∷ 154 ∷ 217 ∷ [])) ∷
+    on 1 act.Tick ∷ on 0 act.State ∷ on 0 act.State ∷ on 0 act.Take ∷ on 2 act.Take ∷ on 2 act.Take ∷ on 2 act.Take ∷ on 0 act.Tick ∷ on 0 act.Join ∷
+    on 1 act.Leave ∷ on 1 (act.Send (223 ∷ 50 ∷ 229 ∷ 154 ∷ 217 ∷ [])) ∷
     on 2 (act.Send (82 ∷ 184 ∷ 74 ∷ 207 ∷ 97 ∷ 37 ∷ 161 ∷ 95 ∷ 85 ∷ 18 ∷ 61 ∷ 66 ∷ 95 ∷ 213 ∷ 136 ∷ 241 ∷ 35 ∷ 104 ∷ 174 ∷ 232 ∷ 12 ∷ 200 ∷ 133 ∷ 77 ∷
     186 ∷ 146 ∷ 52 ∷ 239 ∷ 166 ∷ 175 ∷ 215 ∷ 155 ∷ 116 ∷ 76 ∷ 4 ∷ 179 ∷ 8 ∷ 112 ∷ 209 ∷ 108 ∷ 245 ∷ 112 ∷ 107 ∷ 255 ∷ 150 ∷ 108 ∷ 132 ∷ 38 ∷ 11 ∷ 96 ∷
     217 ∷ 42 ∷ 139 ∷ 217 ∷ 147 ∷ 36 ∷ 73 ∷ 189 ∷ 153 ∷ 243 ∷ 158 ∷ 91 ∷ 90 ∷ 101 ∷ 154 ∷ 66 ∷ 244 ∷ 146 ∷ 91 ∷ 48 ∷ 91 ∷ 182 ∷ 126 ∷ 137 ∷ 133 ∷ 61 ∷
@@ -380,9 +262,7 @@ Moves7 = text_of (founded (0 ∷ []) 0 64 0) (
     ∷ 48 ∷ 236 ∷ 48 ∷ 190 ∷ 244 ∷ 68 ∷ 104 ∷ 91 ∷ 12 ∷ 230 ∷ 244 ∷ 116 ∷ 218 ∷ 151 ∷ 231 ∷ 254 ∷ 220 ∷ 178 ∷ 44 ∷ 38 ∷ 246 ∷ 197 ∷ 156 ∷ 73 ∷ 132 ∷ 8
     ∷ 210 ∷ 74 ∷ 70 ∷ 223 ∷ 33 ∷ 156 ∷ 62 ∷ 48 ∷ 251 ∷ 162 ∷ 187 ∷ 23 ∷ 238 ∷ 240 ∷ 167 ∷ 39 ∷ 81 ∷ 135 ∷ 10 ∷ 117 ∷ 226 ∷ 141 ∷ 66 ∷ 252 ∷ 223 ∷ 88 ∷
     186 ∷ 86 ∷ 68 ∷ 168 ∷ 48 ∷ 7 ∷ 220 ∷ 214 ∷ 115 ∷ 125 ∷ 161 ∷ 111 ∷ 58 ∷ 7 ∷ 216 ∷ 165 ∷ 182 ∷ 29 ∷ 170 ∷ 43 ∷ 82 ∷ 88 ∷ 6 ∷ 85 ∷ [])) ∷
-    on 1 act.Take ∷
-    on 2 act.Take ∷
-    on 1 act.Tick ∷
+    on 1 act.Take ∷ on 2 act.Take ∷ on 1 act.Tick ∷
     []) ≡ lines (
     codes "1 tick 1 : idle" ∷
     codes "2 state 0 : joined 1" ∷
@@ -406,37 +286,13 @@ Moves7 = text_of (founded (0 ∷ []) 0 64 0) (
 
 abbrev pub Moves8 : Type 0
 Moves8 = text_of (founded (0 ∷ 1 ∷ []) 0 64 256) (
-    on 1 act.Join ∷
-    on 1 act.Take ∷
-    on 1 act.Tick ∷
-    on 1 act.Tick ∷
-    on 0 (act.Hear 2) ∷
-    on 1 act.Take ∷
-    on 1 act.Tick ∷
-    on 0 (act.Hear 3) ∷
-    on 0 act.Take ∷
-    on 0 act.Tick ∷
-    on 0 act.Tick ∷
-    on 1 (act.Hear 4) ∷
-    on 1 (act.Hear 5) ∷
+    on 1 act.Join ∷ on 1 act.Take ∷ on 1 act.Tick ∷ on 1 act.Tick ∷ on 0 (act.Hear 2) ∷ on 1 act.Take ∷ on 1 act.Tick ∷ on 0 (act.Hear 3) ∷
+    on 0 act.Take ∷ on 0 act.Tick ∷ on 0 act.Tick ∷ on 1 (act.Hear 4) ∷ on 1 (act.Hear 5) ∷
     on 0 (act.Send (138 ∷ 158 ∷ 146 ∷ 114 ∷ 146 ∷ 141 ∷ 254 ∷ 74 ∷ 93 ∷ 102 ∷ 224 ∷ 48 ∷ 144 ∷ 14 ∷ 145 ∷ 53 ∷ 171 ∷ 149 ∷ 142 ∷ 91 ∷ 133 ∷ 144 ∷ 114
     ∷ 46 ∷ 249 ∷ 80 ∷ 248 ∷ 209 ∷ 231 ∷ 200 ∷ 13 ∷ 179 ∷ 186 ∷ 226 ∷ 64 ∷ 16 ∷ 55 ∷ 215 ∷ 85 ∷ 60 ∷ [])) ∷
-    on 0 (act.Hear 6) ∷
-    on 1 (act.Hear 4) ∷
-    on 0 (act.Hear 7) ∷
-    on 1 (act.Hear 8) ∷
-    on 0 (act.Send (110 ∷ [])) ∷
-    on 0 (act.Hear 9) ∷
-    on 1 (act.Hear 10) ∷
-    on 0 (act.Hear 7) ∷
-    on 1 (act.Done 2) ∷
-    on 0 (act.Hear 3) ∷
-    on 1 (act.Done 5) ∷
-    on 0 act.Tick ∷
-    on 1 (act.Hear 11) ∷
-    on 0 (act.Hear 12) ∷
-    on 0 (act.Hear 9) ∷
-    on 0 act.Join ∷
+    on 0 (act.Hear 6) ∷ on 1 (act.Hear 4) ∷ on 0 (act.Hear 7) ∷ on 1 (act.Hear 8) ∷ on 0 (act.Send (110 ∷ [])) ∷ on 0 (act.Hear 9) ∷
+    on 1 (act.Hear 10) ∷ on 0 (act.Hear 7) ∷ on 1 (act.Done 2) ∷ on 0 (act.Hear 3) ∷ on 1 (act.Done 5) ∷ on 0 act.Tick ∷ on 1 (act.Hear 11) ∷
+    on 0 (act.Hear 12) ∷ on 0 (act.Hear 9) ∷ on 0 act.Join ∷
     []) ≡ lines (
     codes "1 join 1 : joined 1" ∷
     codes "2 take 1 : took 1 view 1.0 0,1" ∷
@@ -478,37 +334,15 @@ Moves8 = text_of (founded (0 ∷ 1 ∷ []) 0 64 256) (
 
 abbrev pub Moves9 : Type 0
 Moves9 = text_of (founded (2 ∷ 3 ∷ 4 ∷ []) 0 2 0) (
-    on 0 act.Tick ∷
-    on 0 act.Take ∷
-    on 3 act.Take ∷
-    on 4 (act.Send (94 ∷ [])) ∷
-    on 2 (act.Hear 1) ∷
-    on 3 (act.Hear 1) ∷
-    on 3 (act.Hear 2) ∷
-    on 4 (act.Hear 2) ∷
-    on 3 (act.Done 2) ∷
-    on 2 (act.Done 1) ∷
-    on 2 (act.Hear 1) ∷
-    on 2 act.Take ∷
-    on 2 (act.Hear 1) ∷
-    on 1 act.Tick ∷
-    on 1 act.State ∷
-    on 4 (act.Send (251 ∷ 165 ∷ 98 ∷ 124 ∷ 155 ∷ [])) ∷
-    on 3 (act.Hear 3) ∷
-    on 2 (act.Hear 3) ∷
-    on 1 (act.Hear 7) ∷
-    on 2 act.Join ∷
-    on 3 (act.Hear 4) ∷
-    on 2 (act.Hear 1) ∷
-    on 2 (act.Hear 3) ∷
+    on 0 act.Tick ∷ on 0 act.Take ∷ on 3 act.Take ∷ on 4 (act.Send (94 ∷ [])) ∷ on 2 (act.Hear 1) ∷ on 3 (act.Hear 1) ∷ on 3 (act.Hear 2) ∷
+    on 4 (act.Hear 2) ∷ on 3 (act.Done 2) ∷ on 2 (act.Done 1) ∷ on 2 (act.Hear 1) ∷ on 2 act.Take ∷ on 2 (act.Hear 1) ∷ on 1 act.Tick ∷ on 1 act.State
+    ∷
+    on 4 (act.Send (251 ∷ 165 ∷ 98 ∷ 124 ∷ 155 ∷ [])) ∷ on 3 (act.Hear 3) ∷ on 2 (act.Hear 3) ∷ on 1 (act.Hear 7) ∷ on 2 act.Join ∷ on 3 (act.Hear 4)
+    ∷
+    on 2 (act.Hear 1) ∷ on 2 (act.Hear 3) ∷
     on 2 (act.Send (247 ∷ 208 ∷ 232 ∷ 220 ∷ 201 ∷ 153 ∷ 39 ∷ 213 ∷ 8 ∷ 132 ∷ 108 ∷ 142 ∷ 103 ∷ 3 ∷ 230 ∷ 150 ∷ 90 ∷ 167 ∷ 39 ∷ 248 ∷ 88 ∷ 94 ∷ 226 ∷
     126 ∷ 107 ∷ 181 ∷ 121 ∷ 29 ∷ 93 ∷ 94 ∷ 90 ∷ 196 ∷ 212 ∷ 23 ∷ 29 ∷ 165 ∷ 44 ∷ 235 ∷ 232 ∷ 141 ∷ [])) ∷
-    on 3 act.Tick ∷
-    on 4 (act.Hear 4) ∷
-    on 2 act.Tick ∷
-    on 2 (act.Hear 10) ∷
-    on 2 (act.Hear 3) ∷
-    on 3 (act.Hear 7) ∷
+    on 3 act.Tick ∷ on 4 (act.Hear 4) ∷ on 2 act.Tick ∷ on 2 (act.Hear 10) ∷ on 2 (act.Hear 3) ∷ on 3 (act.Hear 7) ∷
     []) ≡ lines (
     codes "1 tick 0 : idle" ∷
     codes "2 take 0 : not-member" ∷

@@ -6,21 +6,8 @@ use Rattle.am_rows.specs.Scripts.{founded, on, lines}
 
 abbrev pub Resets1 : Type 0
 Resets1 = text_of (founded (0 ∷ 1 ∷ 2 ∷ 3 ∷ []) 0 3 4) (
-    on 3 act.Take ∷
-    on 3 act.Tick ∷
-    on 0 (act.Hear 1) ∷
-    on 1 act.Take ∷
-    on 0 (act.Hear 1) ∷
-    on 0 (act.Hear 1) ∷
-    on 2 act.Take ∷
-    on 3 act.Take ∷
-    on 1 (act.Hear 3) ∷
-    on 3 act.Take ∷
-    on 0 act.Tick ∷
-    on 0 (act.Reset 1 0) ∷
-    on 3 (act.Hear 2) ∷
-    on 3 (act.Hear 3) ∷
-    on 2 (act.Hear 2) ∷
+    on 3 act.Take ∷ on 3 act.Tick ∷ on 0 (act.Hear 1) ∷ on 1 act.Take ∷ on 0 (act.Hear 1) ∷ on 0 (act.Hear 1) ∷ on 2 act.Take ∷ on 3 act.Take ∷
+    on 1 (act.Hear 3) ∷ on 3 act.Take ∷ on 0 act.Tick ∷ on 0 (act.Reset 1 0) ∷ on 3 (act.Hear 2) ∷ on 3 (act.Hear 3) ∷ on 2 (act.Hear 2) ∷
     []) ≡ lines (
     codes "1 take 3 : took 1 view 1.0 0,1,2,3" ∷
     codes "2 tick 3 : ticked | 1 Ack to 0" ∷
@@ -47,35 +34,10 @@ Resets1 = text_of (founded (0 ∷ 1 ∷ 2 ∷ 3 ∷ []) 0 3 4) (
 
 abbrev pub Resets10 : Type 0
 Resets10 = text_of (founded (0 ∷ 1 ∷ 2 ∷ 3 ∷ []) 2 3 0) (
-    on 1 act.Take ∷
-    on 2 act.Tick ∷
-    on 0 (act.Hear 1) ∷
-    on 1 (act.Reset 1 2) ∷
-    on 3 (act.Hear 2) ∷
-    on 0 (act.Hear 2) ∷
-    on 2 (act.Send []) ∷
-    on 2 (act.Hear 2) ∷
-    on 0 act.Take ∷
-    on 3 act.Take ∷
-    on 3 (act.Reset 1 2) ∷
-    on 1 (act.Hear 3) ∷
-    on 1 act.Tick ∷
-    on 0 (act.Hear 7) ∷
-    on 0 act.Take ∷
-    on 1 (act.Hear 4) ∷
-    on 3 (act.Hear 9) ∷
-    on 1 (act.Hear 6) ∷
-    on 2 (act.Hear 7) ∷
-    on 3 (act.Hear 10) ∷
-    on 2 (act.Hear 8) ∷
-    on 0 (act.Hear 8) ∷
-    on 1 (act.Hear 7) ∷
-    on 0 (act.Hear 10) ∷
-    on 1 (act.Hear 12) ∷
-    on 3 (act.Hear 11) ∷
-    on 1 act.Take ∷
-    on 2 (act.Hear 10) ∷
-    on 1 (act.Hear 13) ∷
+    on 1 act.Take ∷ on 2 act.Tick ∷ on 0 (act.Hear 1) ∷ on 1 (act.Reset 1 2) ∷ on 3 (act.Hear 2) ∷ on 0 (act.Hear 2) ∷ on 2 (act.Send []) ∷
+    on 2 (act.Hear 2) ∷ on 0 act.Take ∷ on 3 act.Take ∷ on 3 (act.Reset 1 2) ∷ on 1 (act.Hear 3) ∷ on 1 act.Tick ∷ on 0 (act.Hear 7) ∷ on 0 act.Take ∷
+    on 1 (act.Hear 4) ∷ on 3 (act.Hear 9) ∷ on 1 (act.Hear 6) ∷ on 2 (act.Hear 7) ∷ on 3 (act.Hear 10) ∷ on 2 (act.Hear 8) ∷ on 0 (act.Hear 8) ∷
+    on 1 (act.Hear 7) ∷ on 0 (act.Hear 10) ∷ on 1 (act.Hear 12) ∷ on 3 (act.Hear 11) ∷ on 1 act.Take ∷ on 2 (act.Hear 10) ∷ on 1 (act.Hear 13) ∷
     on 3 (act.GiveUp 1) ∷
     []) ≡ lines (
     codes "1 take 1 : took 1 view 1.0 0,1,2,3" ∷
@@ -118,21 +80,9 @@ Resets10 = text_of (founded (0 ∷ 1 ∷ 2 ∷ 3 ∷ []) 2 3 0) (
 
 abbrev pub Resets2 : Type 0
 Resets2 = text_of (founded (0 ∷ 1 ∷ 2 ∷ 3 ∷ 4 ∷ 5 ∷ []) 0 1 4) (
-    on 0 (act.Done 4) ∷
-    on 3 act.Tick ∷
-    on 1 (act.Reset 1 0) ∷
-    on 5 (act.Hear 2) ∷
-    on 0 act.Tick ∷
-    on 1 (act.Hear 4) ∷
-    on 5 (act.Send (142 ∷ 209 ∷ 115 ∷ 233 ∷ 55 ∷ [])) ∷
-    on 0 (act.Hear 2) ∷
-    on 1 (act.Hear 3) ∷
-    on 2 (act.Hear 2) ∷
-    on 4 (act.Hear 4) ∷
-    on 2 (act.Hear 4) ∷
-    on 3 act.Take ∷
-    on 4 (act.Hear 4) ∷
-    on 4 (act.Hear 2) ∷
+    on 0 (act.Done 4) ∷ on 3 act.Tick ∷ on 1 (act.Reset 1 0) ∷ on 5 (act.Hear 2) ∷ on 0 act.Tick ∷ on 1 (act.Hear 4) ∷
+    on 5 (act.Send (142 ∷ 209 ∷ 115 ∷ 233 ∷ 55 ∷ [])) ∷ on 0 (act.Hear 2) ∷ on 1 (act.Hear 3) ∷ on 2 (act.Hear 2) ∷ on 4 (act.Hear 4) ∷
+    on 2 (act.Hear 4) ∷ on 3 act.Take ∷ on 4 (act.Hear 4) ∷ on 4 (act.Hear 2) ∷
     []) ≡ lines (
     codes "1 done 0 4 : unknown" ∷
     codes "2 tick 3 : ticked | 1 Ack to 0" ∷
@@ -161,20 +111,8 @@ Resets2 = text_of (founded (0 ∷ 1 ∷ 2 ∷ 3 ∷ 4 ∷ 5 ∷ []) 0 1 4) (
 
 abbrev pub Resets3 : Type 0
 Resets3 = text_of (founded (0 ∷ 1 ∷ 2 ∷ 3 ∷ 4 ∷ 5 ∷ []) 3 3 256) (
-    on 3 (act.Reset 1 3) ∷
-    on 0 (act.Hear 1) ∷
-    on 2 (act.Hear 1) ∷
-    on 3 (act.Hear 3) ∷
-    on 2 (act.Hear 1) ∷
-    on 5 (act.Done 4) ∷
-    on 2 (act.Hear 1) ∷
-    on 4 (act.Hear 1) ∷
-    on 1 (act.Hear 1) ∷
-    on 5 (act.Hear 1) ∷
-    on 3 (act.GiveUp 4) ∷
-    on 5 (act.Hear 1) ∷
-    on 1 (act.Hear 1) ∷
-    on 2 act.Take ∷
+    on 3 (act.Reset 1 3) ∷ on 0 (act.Hear 1) ∷ on 2 (act.Hear 1) ∷ on 3 (act.Hear 3) ∷ on 2 (act.Hear 1) ∷ on 5 (act.Done 4) ∷ on 2 (act.Hear 1) ∷
+    on 4 (act.Hear 1) ∷ on 1 (act.Hear 1) ∷ on 5 (act.Hear 1) ∷ on 3 (act.GiveUp 4) ∷ on 5 (act.Hear 1) ∷ on 1 (act.Hear 1) ∷ on 2 act.Take ∷
     on 1 (act.Hear 1) ∷
     []) ≡ lines (
     codes "1 reset 3 1 : waiting 0,1,2,4,5 | 1 Invite to 0,1,2,4,5" ∷
@@ -204,21 +142,9 @@ Resets3 = text_of (founded (0 ∷ 1 ∷ 2 ∷ 3 ∷ 4 ∷ 5 ∷ []) 3 3 256) (
 
 abbrev pub Resets4 : Type 0
 Resets4 = text_of (founded (0 ∷ 1 ∷ 2 ∷ 3 ∷ 4 ∷ 5 ∷ []) 3 5 0) (
-    on 4 act.Tick ∷
-    on 4 act.Tick ∷
-    on 1 (act.Reset 3 3) ∷
-    on 4 (act.Hear 3) ∷
-    on 0 (act.Hear 1) ∷
-    on 1 (act.Hear 4) ∷
-    on 5 (act.Hear 3) ∷
-    on 0 (act.Hear 2) ∷
-    on 3 (act.Hear 3) ∷
-    on 0 (act.Hear 3) ∷
-    on 0 (act.Send (108 ∷ 76 ∷ [])) ∷
-    on 4 (act.Reset 1 3) ∷
-    on 5 (act.Reset 2 3) ∷
-    on 2 (act.Hear 3) ∷
-    on 4 (act.Hear 3) ∷
+    on 4 act.Tick ∷ on 4 act.Tick ∷ on 1 (act.Reset 3 3) ∷ on 4 (act.Hear 3) ∷ on 0 (act.Hear 1) ∷ on 1 (act.Hear 4) ∷ on 5 (act.Hear 3) ∷
+    on 0 (act.Hear 2) ∷ on 3 (act.Hear 3) ∷ on 0 (act.Hear 3) ∷ on 0 (act.Send (108 ∷ 76 ∷ [])) ∷ on 4 (act.Reset 1 3) ∷ on 5 (act.Reset 2 3) ∷
+    on 2 (act.Hear 3) ∷ on 4 (act.Hear 3) ∷
     []) ≡ lines (
     codes "1 tick 4 : ticked | 1 Ack to 0" ∷
     codes "2 tick 4 : ticked | 2 Ack to 0" ∷
@@ -247,21 +173,11 @@ Resets4 = text_of (founded (0 ∷ 1 ∷ 2 ∷ 3 ∷ 4 ∷ 5 ∷ []) 3 5 0) (
 
 abbrev pub Resets5 : Type 0
 Resets5 = text_of (founded (0 ∷ 1 ∷ 2 ∷ 3 ∷ 4 ∷ []) 2 64 4) (
-    on 1 act.Tick ∷
-    on 1 (act.Done 1) ∷
-    on 1 (act.Reset 3 2) ∷
-    on 4 (act.Send []) ∷
-    on 0 (act.Hear 1) ∷
-    on 2 (act.Hear 2) ∷
-    on 3 act.Take ∷
+    on 1 act.Tick ∷ on 1 (act.Done 1) ∷ on 1 (act.Reset 3 2) ∷ on 4 (act.Send []) ∷ on 0 (act.Hear 1) ∷ on 2 (act.Hear 2) ∷ on 3 act.Take ∷
     on 0 (act.Hear 2) ∷
     on 0 (act.Send (114 ∷ 72 ∷ 88 ∷ 248 ∷ 169 ∷ 85 ∷ 237 ∷ 209 ∷ 72 ∷ 90 ∷ 158 ∷ 241 ∷ 241 ∷ 6 ∷ 221 ∷ 248 ∷ 107 ∷ 162 ∷ 75 ∷ 136 ∷ 60 ∷ 181 ∷ 55 ∷
     212 ∷ 246 ∷ 245 ∷ 11 ∷ 148 ∷ 74 ∷ 181 ∷ 156 ∷ 76 ∷ 88 ∷ 64 ∷ 130 ∷ 184 ∷ 15 ∷ 175 ∷ 216 ∷ 173 ∷ [])) ∷
-    on 3 (act.Hear 2) ∷
-    on 0 (act.Hear 3) ∷
-    on 0 (act.Hear 3) ∷
-    on 0 (act.Send (89 ∷ 200 ∷ 211 ∷ 154 ∷ 144 ∷ [])) ∷
-    on 1 (act.Done 3) ∷
+    on 3 (act.Hear 2) ∷ on 0 (act.Hear 3) ∷ on 0 (act.Hear 3) ∷ on 0 (act.Send (89 ∷ 200 ∷ 211 ∷ 154 ∷ 144 ∷ [])) ∷ on 1 (act.Done 3) ∷
     on 1 (act.Reset 1 2) ∷
     []) ≡ lines (
     codes "1 tick 1 : ticked | 1 Ack to 0" ∷
@@ -290,21 +206,9 @@ Resets5 = text_of (founded (0 ∷ 1 ∷ 2 ∷ 3 ∷ 4 ∷ []) 2 64 4) (
 
 abbrev pub Resets6 : Type 0
 Resets6 = text_of (founded (0 ∷ 1 ∷ 2 ∷ 3 ∷ 4 ∷ []) 1 3 0) (
-    on 4 act.Tick ∷
-    on 0 (act.Send (111 ∷ 202 ∷ 249 ∷ 116 ∷ 22 ∷ [])) ∷
-    on 4 act.Take ∷
-    on 1 (act.Hear 2) ∷
-    on 4 (act.Hear 2) ∷
-    on 1 act.Take ∷
-    on 3 (act.Reset 3 1) ∷
-    on 1 (act.Hear 4) ∷
-    on 0 (act.Reset 3 1) ∷
-    on 2 act.Tick ∷
-    on 1 (act.Hear 4) ∷
-    on 0 (act.GiveUp 1) ∷
-    on 3 act.Tick ∷
-    on 3 (act.Hear 6) ∷
-    on 0 (act.GiveUp 3) ∷
+    on 4 act.Tick ∷ on 0 (act.Send (111 ∷ 202 ∷ 249 ∷ 116 ∷ 22 ∷ [])) ∷ on 4 act.Take ∷ on 1 (act.Hear 2) ∷ on 4 (act.Hear 2) ∷ on 1 act.Take ∷
+    on 3 (act.Reset 3 1) ∷ on 1 (act.Hear 4) ∷ on 0 (act.Reset 3 1) ∷ on 2 act.Tick ∷ on 1 (act.Hear 4) ∷ on 0 (act.GiveUp 1) ∷ on 3 act.Tick ∷
+    on 3 (act.Hear 6) ∷ on 0 (act.GiveUp 3) ∷
     []) ≡ lines (
     codes "1 tick 4 : ticked | 1 Ack to 0" ∷
     codes "2 send 0 6fcaf97416 : queued 1 | 2 Bcast to 1,2,3,4" ∷
@@ -332,22 +236,11 @@ Resets6 = text_of (founded (0 ∷ 1 ∷ 2 ∷ 3 ∷ 4 ∷ []) 1 3 0) (
 
 abbrev pub Resets7 : Type 0
 Resets7 = text_of (founded (0 ∷ 1 ∷ 2 ∷ 3 ∷ 4 ∷ 5 ∷ []) 0 3 0) (
-    on 0 act.Tick ∷
-    on 2 act.Take ∷
-    on 5 act.Tick ∷
-    on 0 act.Take ∷
-    on 0 (act.Hear 2) ∷
-    on 3 act.Tick ∷
-    on 2 (act.Hear 1) ∷
-    on 5 (act.Hear 1) ∷
-    on 4 (act.Send (212 ∷ [])) ∷
-    on 2 (act.Send (219 ∷ [])) ∷
-    on 5 act.Take ∷
-    on 1 (act.Hear 1) ∷
+    on 0 act.Tick ∷ on 2 act.Take ∷ on 5 act.Tick ∷ on 0 act.Take ∷ on 0 (act.Hear 2) ∷ on 3 act.Tick ∷ on 2 (act.Hear 1) ∷ on 5 (act.Hear 1) ∷
+    on 4 (act.Send (212 ∷ [])) ∷ on 2 (act.Send (219 ∷ [])) ∷ on 5 act.Take ∷ on 1 (act.Hear 1) ∷
     on 0 (act.Send (13 ∷ 28 ∷ 123 ∷ 140 ∷ 79 ∷ 78 ∷ 195 ∷ 237 ∷ 61 ∷ 97 ∷ 46 ∷ 67 ∷ 26 ∷ 129 ∷ 197 ∷ 23 ∷ 150 ∷ 186 ∷ 183 ∷ 255 ∷ 90 ∷ 189 ∷ 254 ∷ 134
     ∷ 113 ∷ 255 ∷ 19 ∷ 61 ∷ 189 ∷ 246 ∷ 97 ∷ 82 ∷ 120 ∷ 132 ∷ 102 ∷ 172 ∷ 15 ∷ 168 ∷ 254 ∷ 239 ∷ [])) ∷
-    on 0 (act.Hear 4) ∷
-    on 1 (act.Hear 6) ∷
+    on 0 (act.Hear 4) ∷ on 1 (act.Hear 6) ∷
     []) ≡ lines (
     codes "1 tick 0 : ticked | 1 Accept to 1,2,3,4,5" ∷
     codes "2 take 2 : took 1 view 1.0 0,1,2,3,4,5" ∷
@@ -377,36 +270,11 @@ Resets7 = text_of (founded (0 ∷ 1 ∷ 2 ∷ 3 ∷ 4 ∷ 5 ∷ []) 0 3 0) (
 
 abbrev pub Resets8 : Type 0
 Resets8 = text_of (founded (0 ∷ 1 ∷ 2 ∷ []) 0 16 4) (
-    on 1 act.Tick ∷
-    on 0 (act.Hear 1) ∷
-    on 0 (act.Ask 4) ∷
-    on 1 act.Tick ∷
-    on 1 act.Tick ∷
-    on 0 (act.Hear 3) ∷
-    on 2 act.Take ∷
-    on 0 (act.Hear 3) ∷
-    on 1 act.Tick ∷
-    on 2 (act.Hear 2) ∷
-    on 0 act.Take ∷
-    on 2 (act.Reset 1 0) ∷
-    on 0 (act.Hear 4) ∷
-    on 2 (act.GiveUp 0) ∷
-    on 1 (act.Hear 5) ∷
-    on 2 (act.Hear 6) ∷
-    on 0 (act.Send (240 ∷ 157 ∷ [])) ∷
-    on 1 (act.Hear 7) ∷
-    on 2 act.Take ∷
-    on 0 (act.Hear 1) ∷
-    on 2 (act.Send (205 ∷ [])) ∷
-    on 0 (act.Hear 5) ∷
-    on 1 act.Tick ∷
-    on 1 act.Take ∷
-    on 0 act.Take ∷
-    on 2 (act.Hear 7) ∷
-    on 1 (act.Hear 7) ∷
-    on 1 (act.Send (80 ∷ 248 ∷ 130 ∷ 66 ∷ 252 ∷ [])) ∷
-    on 0 act.Take ∷
-    on 2 (act.Hear 9) ∷
+    on 1 act.Tick ∷ on 0 (act.Hear 1) ∷ on 0 (act.Ask 4) ∷ on 1 act.Tick ∷ on 1 act.Tick ∷ on 0 (act.Hear 3) ∷ on 2 act.Take ∷ on 0 (act.Hear 3) ∷
+    on 1 act.Tick ∷ on 2 (act.Hear 2) ∷ on 0 act.Take ∷ on 2 (act.Reset 1 0) ∷ on 0 (act.Hear 4) ∷ on 2 (act.GiveUp 0) ∷ on 1 (act.Hear 5) ∷
+    on 2 (act.Hear 6) ∷ on 0 (act.Send (240 ∷ 157 ∷ [])) ∷ on 1 (act.Hear 7) ∷ on 2 act.Take ∷ on 0 (act.Hear 1) ∷ on 2 (act.Send (205 ∷ [])) ∷
+    on 0 (act.Hear 5) ∷ on 1 act.Tick ∷ on 1 act.Take ∷ on 0 act.Take ∷ on 2 (act.Hear 7) ∷ on 1 (act.Hear 7) ∷
+    on 1 (act.Send (80 ∷ 248 ∷ 130 ∷ 66 ∷ 252 ∷ [])) ∷ on 0 act.Take ∷ on 2 (act.Hear 9) ∷
     []) ≡ lines (
     codes "1 tick 1 : ticked | 1 Ack to 0" ∷
     codes "2 hear 0 1 : noted" ∷
@@ -449,36 +317,11 @@ Resets8 = text_of (founded (0 ∷ 1 ∷ 2 ∷ []) 0 16 4) (
 
 abbrev pub Resets9 : Type 0
 Resets9 = text_of (founded (0 ∷ 1 ∷ 2 ∷ []) 3 64 4) (
-    on 1 act.Tick ∷
-    on 0 (act.Hear 1) ∷
-    on 2 (act.Reset 1 3) ∷
-    on 1 (act.Hear 2) ∷
-    on 1 (act.Hear 2) ∷
-    on 2 act.Tick ∷
-    on 2 (act.GiveUp 1) ∷
-    on 2 (act.Reset 2 3) ∷
-    on 2 (act.Hear 3) ∷
-    on 1 act.Tick ∷
-    on 1 (act.Hear 5) ∷
-    on 0 (act.Ask 1) ∷
-    on 1 (act.Hear 5) ∷
-    on 0 (act.Hear 1) ∷
-    on 1 (act.Send (54 ∷ 71 ∷ 220 ∷ 64 ∷ 189 ∷ [])) ∷
-    on 0 act.Tick ∷
-    on 2 (act.Hear 3) ∷
-    on 1 (act.Hear 6) ∷
-    on 0 (act.Send (127 ∷ [])) ∷
-    on 2 (act.GiveUp 0) ∷
-    on 1 (act.Done 1) ∷
-    on 1 (act.Hear 10) ∷
-    on 0 act.Take ∷
-    on 0 (act.Done 1) ∷
-    on 2 (act.Hear 7) ∷
-    on 2 (act.GiveUp 0) ∷
-    on 2 (act.GiveUp 0) ∷
-    on 0 (act.Send (0 ∷ [])) ∷
-    on 1 (act.Reset 2 3) ∷
-    on 0 (act.Reset 1 3) ∷
+    on 1 act.Tick ∷ on 0 (act.Hear 1) ∷ on 2 (act.Reset 1 3) ∷ on 1 (act.Hear 2) ∷ on 1 (act.Hear 2) ∷ on 2 act.Tick ∷ on 2 (act.GiveUp 1) ∷
+    on 2 (act.Reset 2 3) ∷ on 2 (act.Hear 3) ∷ on 1 act.Tick ∷ on 1 (act.Hear 5) ∷ on 0 (act.Ask 1) ∷ on 1 (act.Hear 5) ∷ on 0 (act.Hear 1) ∷
+    on 1 (act.Send (54 ∷ 71 ∷ 220 ∷ 64 ∷ 189 ∷ [])) ∷ on 0 act.Tick ∷ on 2 (act.Hear 3) ∷ on 1 (act.Hear 6) ∷ on 0 (act.Send (127 ∷ [])) ∷
+    on 2 (act.GiveUp 0) ∷ on 1 (act.Done 1) ∷ on 1 (act.Hear 10) ∷ on 0 act.Take ∷ on 0 (act.Done 1) ∷ on 2 (act.Hear 7) ∷ on 2 (act.GiveUp 0) ∷
+    on 2 (act.GiveUp 0) ∷ on 0 (act.Send (0 ∷ [])) ∷ on 1 (act.Reset 2 3) ∷ on 0 (act.Reset 1 3) ∷
     []) ≡ lines (
     codes "1 tick 1 : ticked | 1 Ack to 0" ∷
     codes "2 hear 0 1 : noted" ∷

@@ -6,21 +6,8 @@ use Rattle.am_rows.specs.Scripts.{founded, on, lines}
 
 abbrev pub Window1 : Type 0
 Window1 = text_of (founded (0 ∷ 1 ∷ 2 ∷ 3 ∷ []) 2 2 256) (
-    on 0 (act.Done 4) ∷
-    on 0 act.Take ∷
-    on 2 (act.Done 2) ∷
-    on 3 (act.Done 2) ∷
-    on 0 act.Take ∷
-    on 0 act.Take ∷
-    on 0 (act.Done 1) ∷
-    on 1 act.Take ∷
-    on 2 (act.Send []) ∷
-    on 0 (act.Hear 1) ∷
-    on 2 (act.Hear 2) ∷
-    on 0 (act.Hear 3) ∷
-    on 0 act.Take ∷
-    on 3 (act.Hear 2) ∷
-    on 1 (act.Hear 2) ∷
+    on 0 (act.Done 4) ∷ on 0 act.Take ∷ on 2 (act.Done 2) ∷ on 3 (act.Done 2) ∷ on 0 act.Take ∷ on 0 act.Take ∷ on 0 (act.Done 1) ∷ on 1 act.Take ∷
+    on 2 (act.Send []) ∷ on 0 (act.Hear 1) ∷ on 2 (act.Hear 2) ∷ on 0 (act.Hear 3) ∷ on 0 act.Take ∷ on 3 (act.Hear 2) ∷ on 1 (act.Hear 2) ∷
     []) ≡ lines (
     codes "1 done 0 4 : unknown" ∷
     codes "2 take 0 : took 1 view 1.0 0,1,2,3" ∷
@@ -47,8 +34,7 @@ Window1 = text_of (founded (0 ∷ 1 ∷ 2 ∷ 3 ∷ []) 2 2 256) (
 
 abbrev pub Window10 : Type 0
 Window10 = text_of (founded (0 ∷ 1 ∷ 2 ∷ 3 ∷ 4 ∷ 5 ∷ []) 3 2 4) (
-    on 3 act.Take ∷
-    on 4 act.Take ∷
+    on 3 act.Take ∷ on 4 act.Take ∷
     on 4 (act.Send (224 ∷ 54 ∷ 96 ∷ 29 ∷ 240 ∷ 150 ∷ 180 ∷ 74 ∷ 9 ∷ 73 ∷ 121 ∷ 61 ∷ 179 ∷ 49 ∷ 34 ∷ 72 ∷ 179 ∷ 54 ∷ 177 ∷ 232 ∷ 205 ∷ 43 ∷ 148 ∷ 80 ∷
     60 ∷ 100 ∷ 108 ∷ 82 ∷ 59 ∷ 45 ∷ 61 ∷ 2 ∷ 33 ∷ 134 ∷ 85 ∷ 243 ∷ 196 ∷ 143 ∷ 146 ∷ 226 ∷ 209 ∷ 158 ∷ 120 ∷ 92 ∷ 207 ∷ 58 ∷ 172 ∷ 116 ∷ 224 ∷ 162 ∷
     166 ∷ 11 ∷ 168 ∷ 254 ∷ 3 ∷ 138 ∷ 100 ∷ 99 ∷ 52 ∷ 61 ∷ 41 ∷ 69 ∷ 165 ∷ 82 ∷ 91 ∷ 183 ∷ 115 ∷ 9 ∷ 33 ∷ 145 ∷ 2 ∷ 96 ∷ 212 ∷ 157 ∷ 193 ∷ 36 ∷ 242 ∷ 2
@@ -59,34 +45,14 @@ Window10 = text_of (founded (0 ∷ 1 ∷ 2 ∷ 3 ∷ 4 ∷ 5 ∷ []) 3 2 4) (
     ∷ 188 ∷ 26 ∷ 47 ∷ 156 ∷ 218 ∷ 166 ∷ 60 ∷ 105 ∷ 170 ∷ 90 ∷ 136 ∷ 232 ∷ 224 ∷ 69 ∷ 9 ∷ 10 ∷ 177 ∷ 169 ∷ 248 ∷ 135 ∷ 93 ∷ 194 ∷ 247 ∷ 125 ∷ 138 ∷ 43
     ∷ 228 ∷ 143 ∷ 129 ∷ 54 ∷ 211 ∷ 7 ∷ 101 ∷ 96 ∷ 151 ∷ 89 ∷ 30 ∷ 118 ∷ 207 ∷ 119 ∷ 204 ∷ 127 ∷ 156 ∷ 183 ∷ 249 ∷ 107 ∷ 173 ∷ 121 ∷ 94 ∷ 24 ∷ 218 ∷
     112 ∷ 67 ∷ 57 ∷ 13 ∷ 8 ∷ 172 ∷ 124 ∷ 89 ∷ 48 ∷ 235 ∷ 138 ∷ 222 ∷ 113 ∷ 38 ∷ 48 ∷ 150 ∷ 239 ∷ 155 ∷ 80 ∷ 218 ∷ 223 ∷ 51 ∷ [])) ∷
-    on 2 (act.Hear 1) ∷
-    on 3 act.Take ∷
-    on 3 (act.Hear 1) ∷
-    on 1 (act.Hear 1) ∷
-    on 2 (act.Send []) ∷
-    on 0 (act.Hear 1) ∷
-    on 3 (act.Hear 3) ∷
-    on 5 (act.Hear 1) ∷
-    on 3 act.Take ∷
-    on 0 (act.Hear 1) ∷
-    on 2 act.Take ∷
-    on 1 (act.Hear 3) ∷
-    on 5 (act.Hear 1) ∷
-    on 5 (act.Hear 1) ∷
-    on 5 act.Take ∷
+    on 2 (act.Hear 1) ∷ on 3 act.Take ∷ on 3 (act.Hear 1) ∷ on 1 (act.Hear 1) ∷ on 2 (act.Send []) ∷ on 0 (act.Hear 1) ∷ on 3 (act.Hear 3) ∷
+    on 5 (act.Hear 1) ∷ on 3 act.Take ∷ on 0 (act.Hear 1) ∷ on 2 act.Take ∷ on 1 (act.Hear 3) ∷ on 5 (act.Hear 1) ∷ on 5 (act.Hear 1) ∷ on 5 act.Take
+    ∷
     on 0 (act.Send (95 ∷ 75 ∷ 55 ∷ 253 ∷ 205 ∷ 197 ∷ 100 ∷ 106 ∷ 173 ∷ 9 ∷ 74 ∷ 199 ∷ 144 ∷ 231 ∷ 150 ∷ 148 ∷ 63 ∷ 209 ∷ 139 ∷ 226 ∷ 250 ∷ 172 ∷ 192 ∷
     221 ∷ 192 ∷ 173 ∷ 151 ∷ 119 ∷ 76 ∷ 255 ∷ 176 ∷ 96 ∷ 164 ∷ 99 ∷ 231 ∷ 10 ∷ 36 ∷ 107 ∷ 78 ∷ 105 ∷ [])) ∷
-    on 0 (act.Hear 2) ∷
-    on 0 act.Take ∷
-    on 1 (act.Hear 6) ∷
-    on 2 (act.Hear 3) ∷
-    on 0 (act.Hear 4) ∷
-    on 3 (act.Send (217 ∷ 245 ∷ 151 ∷ 243 ∷ 185 ∷ [])) ∷
-    on 5 (act.Send (113 ∷ 39 ∷ 243 ∷ 54 ∷ 57 ∷ [])) ∷
-    on 0 (act.Hear 1) ∷
-    on 4 (act.Hear 3) ∷
-    on 4 (act.Done 1) ∷
-    on 4 (act.Hear 6) ∷
+    on 0 (act.Hear 2) ∷ on 0 act.Take ∷ on 1 (act.Hear 6) ∷ on 2 (act.Hear 3) ∷ on 0 (act.Hear 4) ∷ on 3 (act.Send (217 ∷ 245 ∷ 151 ∷ 243 ∷ 185 ∷ []))
+    ∷
+    on 5 (act.Send (113 ∷ 39 ∷ 243 ∷ 54 ∷ 57 ∷ [])) ∷ on 0 (act.Hear 1) ∷ on 4 (act.Hear 3) ∷ on 4 (act.Done 1) ∷ on 4 (act.Hear 6) ∷
     []) ≡ lines (
     codes "1 take 3 : took 1 view 1.0 0,1,2,3,4,5" ∷
     codes "2 take 4 : took 1 view 1.0 0,1,2,3,4,5" ∷
@@ -130,21 +96,8 @@ Window10 = text_of (founded (0 ∷ 1 ∷ 2 ∷ 3 ∷ 4 ∷ 5 ∷ []) 3 2 4) (
 
 abbrev pub Window2 : Type 0
 Window2 = text_of (founded (0 ∷ 1 ∷ 2 ∷ 3 ∷ 4 ∷ []) 1 16 0) (
-    on 4 act.Tick ∷
-    on 1 act.Tick ∷
-    on 0 (act.Hear 2) ∷
-    on 1 act.Tick ∷
-    on 2 act.Tick ∷
-    on 3 (act.Done 1) ∷
-    on 2 (act.Done 1) ∷
-    on 1 act.Tick ∷
-    on 0 act.Tick ∷
-    on 3 (act.Hear 6) ∷
-    on 2 (act.Hear 6) ∷
-    on 1 act.Take ∷
-    on 3 act.Tick ∷
-    on 4 (act.Hear 6) ∷
-    on 4 act.Tick ∷
+    on 4 act.Tick ∷ on 1 act.Tick ∷ on 0 (act.Hear 2) ∷ on 1 act.Tick ∷ on 2 act.Tick ∷ on 3 (act.Done 1) ∷ on 2 (act.Done 1) ∷ on 1 act.Tick ∷
+    on 0 act.Tick ∷ on 3 (act.Hear 6) ∷ on 2 (act.Hear 6) ∷ on 1 act.Take ∷ on 3 act.Tick ∷ on 4 (act.Hear 6) ∷ on 4 act.Tick ∷
     []) ≡ lines (
     codes "1 tick 4 : ticked | 1 Ack to 0" ∷
     codes "2 tick 1 : ticked | 2 Ack to 0" ∷
@@ -172,22 +125,11 @@ Window2 = text_of (founded (0 ∷ 1 ∷ 2 ∷ 3 ∷ 4 ∷ []) 1 16 0) (
 
 abbrev pub Window3 : Type 0
 Window3 = text_of (founded (0 ∷ 1 ∷ 2 ∷ []) 0 1 0) (
-    on 1 act.Take ∷
-    on 0 (act.Send (213 ∷ 224 ∷ 230 ∷ 54 ∷ 174 ∷ [])) ∷
-    on 1 act.Take ∷
-    on 1 act.Take ∷
-    on 2 (act.Send (113 ∷ 55 ∷ 207 ∷ 168 ∷ 13 ∷ [])) ∷
-    on 1 (act.Send (64 ∷ 142 ∷ [])) ∷
-    on 1 (act.Done 1) ∷
-    on 1 act.Take ∷
-    on 0 (act.Hear 2) ∷
+    on 1 act.Take ∷ on 0 (act.Send (213 ∷ 224 ∷ 230 ∷ 54 ∷ 174 ∷ [])) ∷ on 1 act.Take ∷ on 1 act.Take ∷
+    on 2 (act.Send (113 ∷ 55 ∷ 207 ∷ 168 ∷ 13 ∷ [])) ∷ on 1 (act.Send (64 ∷ 142 ∷ [])) ∷ on 1 (act.Done 1) ∷ on 1 act.Take ∷ on 0 (act.Hear 2) ∷
     on 0 (act.Send (85 ∷ 206 ∷ 33 ∷ 113 ∷ 251 ∷ 18 ∷ 161 ∷ 19 ∷ 100 ∷ 252 ∷ 8 ∷ 218 ∷ 218 ∷ 110 ∷ 95 ∷ 191 ∷ 118 ∷ 66 ∷ 10 ∷ 202 ∷ 229 ∷ 92 ∷ 38 ∷ 230
     ∷ 76 ∷ 148 ∷ 218 ∷ 146 ∷ 23 ∷ 237 ∷ 168 ∷ 220 ∷ 72 ∷ 115 ∷ 85 ∷ 215 ∷ 111 ∷ 201 ∷ 9 ∷ 233 ∷ [])) ∷
-    on 2 (act.Hear 3) ∷
-    on 1 act.Take ∷
-    on 1 act.Take ∷
-    on 1 (act.Hear 1) ∷
-    on 2 (act.Hear 2) ∷
+    on 2 (act.Hear 3) ∷ on 1 act.Take ∷ on 1 act.Take ∷ on 1 (act.Hear 1) ∷ on 2 (act.Hear 2) ∷
     []) ≡ lines (
     codes "1 take 1 : took 1 view 1.0 0,1,2" ∷
     codes "2 send 0 d5e0e636ae : queued 1" ∷
@@ -213,22 +155,11 @@ Window3 = text_of (founded (0 ∷ 1 ∷ 2 ∷ []) 0 1 0) (
 
 abbrev pub Window4 : Type 0
 Window4 = text_of (founded (0 ∷ 1 ∷ 2 ∷ []) 1 16 256) (
-    on 2 act.Take ∷
-    on 0 act.Take ∷
-    on 0 act.Take ∷
-    on 2 act.Take ∷
+    on 2 act.Take ∷ on 0 act.Take ∷ on 0 act.Take ∷ on 2 act.Take ∷
     on 2 (act.Send (96 ∷ 242 ∷ 130 ∷ 249 ∷ 195 ∷ 98 ∷ 95 ∷ 124 ∷ 241 ∷ 61 ∷ 208 ∷ 148 ∷ 149 ∷ 230 ∷ 46 ∷ 105 ∷ 243 ∷ 94 ∷ 103 ∷ 144 ∷ 174 ∷ 104 ∷ 170
     ∷ 156 ∷ 88 ∷ 93 ∷ 1 ∷ 137 ∷ 82 ∷ 129 ∷ 9 ∷ 156 ∷ 228 ∷ 202 ∷ 158 ∷ 19 ∷ 85 ∷ 221 ∷ 220 ∷ 212 ∷ [])) ∷
-    on 1 act.Take ∷
-    on 2 (act.Done 5) ∷
-    on 0 act.Tick ∷
-    on 1 act.Take ∷
-    on 0 (act.Hear 1) ∷
-    on 0 (act.Done 2) ∷
-    on 0 act.Take ∷
-    on 2 act.Tick ∷
-    on 2 (act.Hear 3) ∷
-    on 0 act.Take ∷
+    on 1 act.Take ∷ on 2 (act.Done 5) ∷ on 0 act.Tick ∷ on 1 act.Take ∷ on 0 (act.Hear 1) ∷ on 0 (act.Done 2) ∷ on 0 act.Take ∷ on 2 act.Tick ∷
+    on 2 (act.Hear 3) ∷ on 0 act.Take ∷
     []) ≡ lines (
     codes "1 take 2 : took 1 view 1.0 0,1,2" ∷
     codes "2 take 0 : took 1 view 1.0 0,1,2" ∷
@@ -254,22 +185,11 @@ Window4 = text_of (founded (0 ∷ 1 ∷ 2 ∷ []) 1 16 256) (
 
 abbrev pub Window5 : Type 0
 Window5 = text_of (founded (0 ∷ 1 ∷ 2 ∷ []) 2 64 4) (
-    on 0 (act.Send (37 ∷ [])) ∷
-    on 0 act.Tick ∷
+    on 0 (act.Send (37 ∷ [])) ∷ on 0 act.Tick ∷
     on 2 (act.Send (73 ∷ 36 ∷ 63 ∷ 215 ∷ 27 ∷ 166 ∷ 244 ∷ 71 ∷ 220 ∷ 230 ∷ 215 ∷ 198 ∷ 48 ∷ 125 ∷ 154 ∷ 214 ∷ 53 ∷ 193 ∷ 2 ∷ 221 ∷ 11 ∷ 135 ∷ 34 ∷ 235
     ∷ 80 ∷ 13 ∷ 135 ∷ 48 ∷ 110 ∷ 107 ∷ 39 ∷ 195 ∷ 117 ∷ 111 ∷ 194 ∷ 219 ∷ 87 ∷ 151 ∷ 20 ∷ 81 ∷ [])) ∷
-    on 2 (act.Hear 1) ∷
-    on 0 (act.Hear 3) ∷
-    on 1 (act.Done 5) ∷
-    on 1 (act.Send (119 ∷ [])) ∷
-    on 1 (act.Hear 1) ∷
-    on 2 (act.Hear 5) ∷
-    on 1 act.Tick ∷
-    on 1 (act.Hear 2) ∷
-    on 0 (act.Hear 3) ∷
-    on 1 (act.Done 1) ∷
-    on 1 (act.Hear 3) ∷
-    on 2 (act.Hear 2) ∷
+    on 2 (act.Hear 1) ∷ on 0 (act.Hear 3) ∷ on 1 (act.Done 5) ∷ on 1 (act.Send (119 ∷ [])) ∷ on 1 (act.Hear 1) ∷ on 2 (act.Hear 5) ∷ on 1 act.Tick ∷
+    on 1 (act.Hear 2) ∷ on 0 (act.Hear 3) ∷ on 1 (act.Done 1) ∷ on 1 (act.Hear 3) ∷ on 2 (act.Hear 2) ∷
     []) ≡ lines (
     codes "1 send 0 25 : queued 1 | 1 Bcast to 1,2" ∷
     codes "2 tick 0 : ticked | 2 Accept to 1,2" ∷
@@ -295,18 +215,8 @@ Window5 = text_of (founded (0 ∷ 1 ∷ 2 ∷ []) 2 64 4) (
 
 abbrev pub Window6 : Type 0
 Window6 = text_of (founded (0 ∷ 1 ∷ []) 0 16 0) (
-    on 1 (act.Send (41 ∷ [])) ∷
-    on 1 (act.Done 1) ∷
-    on 0 (act.Hear 1) ∷
-    on 0 (act.Hear 1) ∷
-    on 1 (act.Hear 2) ∷
-    on 1 act.Tick ∷
-    on 0 (act.Hear 1) ∷
-    on 0 (act.Send (35 ∷ 34 ∷ [])) ∷
-    on 0 (act.Send (43 ∷ 129 ∷ 190 ∷ 188 ∷ 234 ∷ [])) ∷
-    on 0 (act.Hear 3) ∷
-    on 1 (act.Hear 5) ∷
-    on 0 act.Take ∷
+    on 1 (act.Send (41 ∷ [])) ∷ on 1 (act.Done 1) ∷ on 0 (act.Hear 1) ∷ on 0 (act.Hear 1) ∷ on 1 (act.Hear 2) ∷ on 1 act.Tick ∷ on 0 (act.Hear 1) ∷
+    on 0 (act.Send (35 ∷ 34 ∷ [])) ∷ on 0 (act.Send (43 ∷ 129 ∷ 190 ∷ 188 ∷ 234 ∷ [])) ∷ on 0 (act.Hear 3) ∷ on 1 (act.Hear 5) ∷ on 0 act.Take ∷
     on 0 (act.Hear 6) ∷
     on 0 (act.Send (179 ∷ 233 ∷ 30 ∷ 196 ∷ 65 ∷ 31 ∷ 74 ∷ 109 ∷ 77 ∷ 184 ∷ 232 ∷ 64 ∷ 224 ∷ 151 ∷ 121 ∷ 160 ∷ 51 ∷ 189 ∷ 62 ∷ 105 ∷ 245 ∷ 225 ∷ 64 ∷
     209 ∷ 195 ∷ 17 ∷ 44 ∷ 26 ∷ 225 ∷ 55 ∷ 41 ∷ 83 ∷ 22 ∷ 171 ∷ 191 ∷ 8 ∷ 143 ∷ 129 ∷ 120 ∷ 249 ∷ [])) ∷
@@ -339,35 +249,11 @@ Window6 = text_of (founded (0 ∷ 1 ∷ []) 0 16 0) (
 
 abbrev pub Window7 : Type 0
 Window7 = text_of (founded (0 ∷ 1 ∷ 2 ∷ 3 ∷ []) 0 16 4) (
-    on 0 act.Tick ∷
-    on 1 (act.Hear 1) ∷
-    on 2 (act.Hear 1) ∷
-    on 3 (act.Hear 1) ∷
-    on 0 act.Take ∷
-    on 0 (act.Hear 2) ∷
-    on 0 act.Take ∷
-    on 1 (act.Hear 1) ∷
-    on 0 (act.Hear 3) ∷
-    on 1 (act.Hear 1) ∷
-    on 0 (act.Hear 4) ∷
-    on 1 (act.Hear 1) ∷
-    on 0 (act.Hear 5) ∷
-    on 2 (act.Hear 1) ∷
-    on 0 act.Take ∷
-    on 1 act.Tick ∷
-    on 2 (act.Done 5) ∷
-    on 0 (act.Hear 6) ∷
-    on 2 (act.Hear 1) ∷
-    on 2 act.Take ∷
-    on 1 (act.Hear 1) ∷
-    on 3 (act.Hear 1) ∷
-    on 2 (act.Hear 1) ∷
-    on 3 act.Tick ∷
-    on 0 (act.Hear 7) ∷
-    on 1 (act.Hear 1) ∷
-    on 0 (act.Hear 8) ∷
-    on 3 (act.Hear 1) ∷
-    on 0 act.Take ∷
+    on 0 act.Tick ∷ on 1 (act.Hear 1) ∷ on 2 (act.Hear 1) ∷ on 3 (act.Hear 1) ∷ on 0 act.Take ∷ on 0 (act.Hear 2) ∷ on 0 act.Take ∷ on 1 (act.Hear 1)
+    ∷
+    on 0 (act.Hear 3) ∷ on 1 (act.Hear 1) ∷ on 0 (act.Hear 4) ∷ on 1 (act.Hear 1) ∷ on 0 (act.Hear 5) ∷ on 2 (act.Hear 1) ∷ on 0 act.Take ∷
+    on 1 act.Tick ∷ on 2 (act.Done 5) ∷ on 0 (act.Hear 6) ∷ on 2 (act.Hear 1) ∷ on 2 act.Take ∷ on 1 (act.Hear 1) ∷ on 3 (act.Hear 1) ∷
+    on 2 (act.Hear 1) ∷ on 3 act.Tick ∷ on 0 (act.Hear 7) ∷ on 1 (act.Hear 1) ∷ on 0 (act.Hear 8) ∷ on 3 (act.Hear 1) ∷ on 0 act.Take ∷
     on 0 (act.Hear 9) ∷
     []) ≡ lines (
     codes "1 tick 0 : ticked | 1 Accept to 1,2,3" ∷
@@ -420,20 +306,8 @@ Window8 = text_of (founded (0 ∷ 1 ∷ 2 ∷ []) 1 1 4) (
     242 ∷ 30 ∷ 30 ∷ 199 ∷ 5 ∷ 88 ∷ 238 ∷ 220 ∷ 255 ∷ 126 ∷ 81 ∷ 223 ∷ 0 ∷ 30 ∷ 119 ∷ 136 ∷ 214 ∷ 214 ∷ 83 ∷ 204 ∷ 254 ∷ 90 ∷ 166 ∷ 141 ∷ 210 ∷ 130 ∷
     89 ∷ 128 ∷ 204 ∷ 42 ∷ 183 ∷ 95 ∷ 129 ∷ 73 ∷ 231 ∷ 98 ∷ 229 ∷ 116 ∷ 218 ∷ 79 ∷ 253 ∷ 185 ∷ 76 ∷ 70 ∷ 187 ∷ 106 ∷ 96 ∷ 22 ∷ 155 ∷ 9 ∷ 65 ∷ 228 ∷ 151
     ∷ 107 ∷ 106 ∷ 93 ∷ 23 ∷ 124 ∷ 199 ∷ 139 ∷ 160 ∷ 1 ∷ 213 ∷ 197 ∷ 43 ∷ 107 ∷ 68 ∷ 215 ∷ 250 ∷ 135 ∷ 50 ∷ 212 ∷ 88 ∷ 84 ∷ 215 ∷ 152 ∷ [])) ∷
-    on 1 act.Tick ∷
-    on 1 act.Tick ∷
-    on 0 (act.Send (92 ∷ [])) ∷
-    on 2 act.Tick ∷
-    on 1 (act.Send []) ∷
-    on 2 act.Tick ∷
-    on 1 act.Tick ∷
-    on 1 (act.Send []) ∷
-    on 2 act.Tick ∷
-    on 0 (act.Send []) ∷
-    on 0 (act.Done 1) ∷
-    on 0 act.Tick ∷
-    on 2 (act.Hear 9) ∷
-    on 1 act.Tick ∷
+    on 1 act.Tick ∷ on 1 act.Tick ∷ on 0 (act.Send (92 ∷ [])) ∷ on 2 act.Tick ∷ on 1 (act.Send []) ∷ on 2 act.Tick ∷ on 1 act.Tick ∷
+    on 1 (act.Send []) ∷ on 2 act.Tick ∷ on 0 (act.Send []) ∷ on 0 (act.Done 1) ∷ on 0 act.Tick ∷ on 2 (act.Hear 9) ∷ on 1 act.Tick ∷
     []) ≡ lines (
     codes "1 send 2 1149828bc1bca81c30fadb8cc493c1f29d594a4f26112384debc6422b8db070f4c5c1b4f2e56bab6f1bd27d364682d87f6e03c807486f4e585d4d8817298a12347c2cf234fbd96a236074316899b4264e97e9778fa19fae3a6fb4ebf8ab0da0c330b3a64f7fdbfb1c88b9d7444d3c1baf5e9d67f057bcdc41414082cab117f072473d204ab343d170368d53e8cd8574f5cb725d1b210ad975fbb07194c456024c5f7a569426fbee2d4ff8df494422721449a7f66f21e1ec70558eedcff7e51df001e7788d6d653ccfe5aa68dd2825980cc2ab75f8149e762e574da4ffdb94c46bb6a60169b0941e4976b6a5d177cc78ba001d5c52b6b44d7fa8732d45854d798 : queued 1 | 1 Spread to 0,1" ∷
     codes "2 tick 1 : ticked | 2 Ack to 0" ∷
@@ -459,66 +333,15 @@ Window8 = text_of (founded (0 ∷ 1 ∷ 2 ∷ []) 1 1 4) (
 
 abbrev pub Window9 : Type 0
 Window9 = text_of (founded (0 ∷ 1 ∷ 2 ∷ 3 ∷ 4 ∷ []) 3 2 0) (
-    on 0 act.Tick ∷
-    on 3 act.Tick ∷
-    on 0 (act.Hear 2) ∷
-    on 1 act.Take ∷
-    on 3 act.Take ∷
-    on 1 (act.Done 1) ∷
-    on 2 (act.Hear 1) ∷
-    on 3 act.Take ∷
-    on 1 act.Take ∷
-    on 3 (act.Hear 1) ∷
-    on 2 act.Take ∷
-    on 0 (act.Hear 3) ∷
-    on 3 act.Take ∷
-    on 2 (act.Send (31 ∷ [])) ∷
-    on 0 act.Take ∷
-    on 2 (act.Done 1) ∷
-    on 4 (act.Hear 1) ∷
-    on 4 act.Take ∷
-    on 4 act.Take ∷
-    on 4 act.Take ∷
-    on 0 act.Take ∷
-    on 2 act.Take ∷
-    on 2 (act.Done 5) ∷
-    on 4 (act.Hear 5) ∷
-    on 4 act.Take ∷
-    on 3 (act.Hear 5) ∷
-    on 1 (act.Hear 1) ∷
-    on 1 act.Take ∷
-    on 3 (act.Send (220 ∷ 206 ∷ [])) ∷
-    on 3 act.Take ∷
-    on 4 act.Take ∷
-    on 2 (act.Hear 8) ∷
-    on 1 act.Take ∷
-    on 3 (act.Done 1) ∷
-    on 1 act.Take ∷
-    on 4 act.Take ∷
-    on 1 act.Take ∷
-    on 4 act.Take ∷
-    on 0 act.Take ∷
-    on 0 (act.Hear 4) ∷
-    on 4 (act.Hear 8) ∷
-    on 0 act.Tick ∷
-    on 2 (act.Hear 9) ∷
-    on 0 act.Take ∷
-    on 1 (act.Done 2) ∷
-    on 1 (act.Done 3) ∷
-    on 4 (act.Hear 9) ∷
-    on 0 act.Take ∷
-    on 4 act.Take ∷
-    on 4 act.Take ∷
-    on 0 (act.Done 1) ∷
-    on 0 (act.Hear 5) ∷
-    on 3 act.Take ∷
-    on 2 act.Take ∷
-    on 3 act.Take ∷
-    on 2 (act.Hear 12) ∷
-    on 1 (act.Done 4) ∷
-    on 3 act.Take ∷
-    on 1 act.Take ∷
-    on 4 (act.Done 2) ∷
+    on 0 act.Tick ∷ on 3 act.Tick ∷ on 0 (act.Hear 2) ∷ on 1 act.Take ∷ on 3 act.Take ∷ on 1 (act.Done 1) ∷ on 2 (act.Hear 1) ∷ on 3 act.Take ∷
+    on 1 act.Take ∷ on 3 (act.Hear 1) ∷ on 2 act.Take ∷ on 0 (act.Hear 3) ∷ on 3 act.Take ∷ on 2 (act.Send (31 ∷ [])) ∷ on 0 act.Take ∷
+    on 2 (act.Done 1) ∷ on 4 (act.Hear 1) ∷ on 4 act.Take ∷ on 4 act.Take ∷ on 4 act.Take ∷ on 0 act.Take ∷ on 2 act.Take ∷ on 2 (act.Done 5) ∷
+    on 4 (act.Hear 5) ∷ on 4 act.Take ∷ on 3 (act.Hear 5) ∷ on 1 (act.Hear 1) ∷ on 1 act.Take ∷ on 3 (act.Send (220 ∷ 206 ∷ [])) ∷ on 3 act.Take ∷
+    on 4 act.Take ∷ on 2 (act.Hear 8) ∷ on 1 act.Take ∷ on 3 (act.Done 1) ∷ on 1 act.Take ∷ on 4 act.Take ∷ on 1 act.Take ∷ on 4 act.Take ∷
+    on 0 act.Take ∷ on 0 (act.Hear 4) ∷ on 4 (act.Hear 8) ∷ on 0 act.Tick ∷ on 2 (act.Hear 9) ∷ on 0 act.Take ∷ on 1 (act.Done 2) ∷ on 1 (act.Done 3)
+    ∷
+    on 4 (act.Hear 9) ∷ on 0 act.Take ∷ on 4 act.Take ∷ on 4 act.Take ∷ on 0 (act.Done 1) ∷ on 0 (act.Hear 5) ∷ on 3 act.Take ∷ on 2 act.Take ∷
+    on 3 act.Take ∷ on 2 (act.Hear 12) ∷ on 1 (act.Done 4) ∷ on 3 act.Take ∷ on 1 act.Take ∷ on 4 (act.Done 2) ∷
     []) ≡ lines (
     codes "1 tick 0 : ticked | 1 Accept to 1,2,3,4" ∷
     codes "2 tick 3 : ticked | 2 Ack to 0" ∷

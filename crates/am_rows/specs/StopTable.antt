@@ -6,16 +6,8 @@ use Rattle.am_rows.specs.Scripts.{founded, on, lines}
 
 abbrev pub StopsAfterTheAcknowledgment : Type 0
 StopsAfterTheAcknowledgment = text_of (founded (0 ∷ 1 ∷ 2 ∷ []) 1 64 256) (
-    on 0 (act.Send (97 ∷ [])) ∷
-    on 0 act.Take ∷
-    on 0 act.Take ∷
-    on 1 (act.Hear 1) ∷
-    on 0 (act.Hear 2) ∷
-    on 0 act.Stop ∷
-    on 1 (act.Reset 1 1) ∷
-    on 2 (act.Hear 4) ∷
-    on 1 (act.Hear 5) ∷
-    on 1 (act.GiveUp 0) ∷
+    on 0 (act.Send (97 ∷ [])) ∷ on 0 act.Take ∷ on 0 act.Take ∷ on 1 (act.Hear 1) ∷ on 0 (act.Hear 2) ∷ on 0 act.Stop ∷ on 1 (act.Reset 1 1) ∷
+    on 2 (act.Hear 4) ∷ on 1 (act.Hear 5) ∷ on 1 (act.GiveUp 0) ∷
     []) ≡ lines (
     codes "1 send 0 61 : queued 1 | 1 Bcast to 1,2" ∷
     codes "2 take 0 : took 1 view 1.0 0,1,2" ∷
@@ -37,13 +29,7 @@ StopsAfterTheAcknowledgment = text_of (founded (0 ∷ 1 ∷ 2 ∷ []) 1 64 256) 
 
 abbrev pub StopsAfterTheEmptyTake : Type 0
 StopsAfterTheEmptyTake = text_of (founded (0 ∷ 1 ∷ 2 ∷ []) 1 64 256) (
-    on 0 (act.Send (97 ∷ [])) ∷
-    on 0 act.Take ∷
-    on 0 act.Take ∷
-    on 0 act.Stop ∷
-    on 1 (act.Reset 1 1) ∷
-    on 2 (act.Hear 2) ∷
-    on 1 (act.Hear 3) ∷
+    on 0 (act.Send (97 ∷ [])) ∷ on 0 act.Take ∷ on 0 act.Take ∷ on 0 act.Stop ∷ on 1 (act.Reset 1 1) ∷ on 2 (act.Hear 2) ∷ on 1 (act.Hear 3) ∷
     on 1 (act.GiveUp 0) ∷
     []) ≡ lines (
     codes "1 send 0 61 : queued 1 | 1 Bcast to 1,2" ∷
@@ -63,13 +49,7 @@ StopsAfterTheEmptyTake = text_of (founded (0 ∷ 1 ∷ 2 ∷ []) 1 64 256) (
 
 abbrev pub StopsAfterTheFirstTake : Type 0
 StopsAfterTheFirstTake = text_of (founded (0 ∷ 1 ∷ 2 ∷ []) 1 64 256) (
-    on 0 (act.Send (97 ∷ [])) ∷
-    on 0 act.Take ∷
-    on 0 act.Stop ∷
-    on 1 (act.Reset 1 1) ∷
-    on 2 (act.Hear 2) ∷
-    on 1 (act.Hear 3) ∷
-    on 1 (act.GiveUp 0) ∷
+    on 0 (act.Send (97 ∷ [])) ∷ on 0 act.Take ∷ on 0 act.Stop ∷ on 1 (act.Reset 1 1) ∷ on 2 (act.Hear 2) ∷ on 1 (act.Hear 3) ∷ on 1 (act.GiveUp 0) ∷
     []) ≡ lines (
     codes "1 send 0 61 : queued 1 | 1 Bcast to 1,2" ∷
     codes "2 take 0 : took 1 view 1.0 0,1,2" ∷
@@ -87,17 +67,8 @@ StopsAfterTheFirstTake = text_of (founded (0 ∷ 1 ∷ 2 ∷ []) 1 64 256) (
 
 abbrev pub StopsAfterTheSecondTake : Type 0
 StopsAfterTheSecondTake = text_of (founded (0 ∷ 1 ∷ 2 ∷ []) 1 64 256) (
-    on 0 (act.Send (97 ∷ [])) ∷
-    on 0 act.Take ∷
-    on 0 act.Take ∷
-    on 1 (act.Hear 1) ∷
-    on 0 (act.Hear 2) ∷
-    on 0 act.Take ∷
-    on 0 act.Stop ∷
-    on 1 (act.Reset 1 1) ∷
-    on 2 (act.Hear 4) ∷
-    on 1 (act.Hear 5) ∷
-    on 1 (act.GiveUp 0) ∷
+    on 0 (act.Send (97 ∷ [])) ∷ on 0 act.Take ∷ on 0 act.Take ∷ on 1 (act.Hear 1) ∷ on 0 (act.Hear 2) ∷ on 0 act.Take ∷ on 0 act.Stop ∷
+    on 1 (act.Reset 1 1) ∷ on 2 (act.Hear 4) ∷ on 1 (act.Hear 5) ∷ on 1 (act.GiveUp 0) ∷
     []) ≡ lines (
     codes "1 send 0 61 : queued 1 | 1 Bcast to 1,2" ∷
     codes "2 take 0 : took 1 view 1.0 0,1,2" ∷
@@ -121,12 +92,7 @@ StopsAfterTheSecondTake = text_of (founded (0 ∷ 1 ∷ 2 ∷ []) 1 64 256) (
 
 abbrev pub StopsAfterTheSend : Type 0
 StopsAfterTheSend = text_of (founded (0 ∷ 1 ∷ 2 ∷ []) 1 64 256) (
-    on 0 (act.Send (97 ∷ [])) ∷
-    on 0 act.Stop ∷
-    on 1 (act.Reset 1 1) ∷
-    on 2 (act.Hear 2) ∷
-    on 1 (act.Hear 3) ∷
-    on 1 (act.GiveUp 0) ∷
+    on 0 (act.Send (97 ∷ [])) ∷ on 0 act.Stop ∷ on 1 (act.Reset 1 1) ∷ on 2 (act.Hear 2) ∷ on 1 (act.Hear 3) ∷ on 1 (act.GiveUp 0) ∷
     []) ≡ lines (
     codes "1 send 0 61 : queued 1 | 1 Bcast to 1,2" ∷
     codes "2 stop 0 : stopped" ∷
@@ -143,15 +109,8 @@ StopsAfterTheSend = text_of (founded (0 ∷ 1 ∷ 2 ∷ []) 1 64 256) (
 
 abbrev pub StopsAfterTheStoring : Type 0
 StopsAfterTheStoring = text_of (founded (0 ∷ 1 ∷ 2 ∷ []) 1 64 256) (
-    on 0 (act.Send (97 ∷ [])) ∷
-    on 0 act.Take ∷
-    on 0 act.Take ∷
-    on 1 (act.Hear 1) ∷
-    on 0 act.Stop ∷
-    on 1 (act.Reset 1 1) ∷
-    on 2 (act.Hear 3) ∷
-    on 1 (act.Hear 4) ∷
-    on 1 (act.GiveUp 0) ∷
+    on 0 (act.Send (97 ∷ [])) ∷ on 0 act.Take ∷ on 0 act.Take ∷ on 1 (act.Hear 1) ∷ on 0 act.Stop ∷ on 1 (act.Reset 1 1) ∷ on 2 (act.Hear 3) ∷
+    on 1 (act.Hear 4) ∷ on 1 (act.GiveUp 0) ∷
     []) ≡ lines (
     codes "1 send 0 61 : queued 1 | 1 Bcast to 1,2" ∷
     codes "2 take 0 : took 1 view 1.0 0,1,2" ∷
@@ -171,11 +130,7 @@ StopsAfterTheStoring = text_of (founded (0 ∷ 1 ∷ 2 ∷ []) 1 64 256) (
 
 abbrev pub StopsBeforeAnything : Type 0
 StopsBeforeAnything = text_of (founded (0 ∷ 1 ∷ 2 ∷ []) 1 64 256) (
-    on 0 act.Stop ∷
-    on 1 (act.Reset 1 1) ∷
-    on 2 (act.Hear 1) ∷
-    on 1 (act.Hear 2) ∷
-    on 1 (act.GiveUp 0) ∷
+    on 0 act.Stop ∷ on 1 (act.Reset 1 1) ∷ on 2 (act.Hear 1) ∷ on 1 (act.Hear 2) ∷ on 1 (act.GiveUp 0) ∷
     []) ≡ lines (
     codes "1 stop 0 : stopped" ∷
     codes "2 reset 1 1 : waiting 0,2 | 1 Invite to 0,2" ∷

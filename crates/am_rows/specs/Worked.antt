@@ -6,11 +6,7 @@ use Rattle.am_rows.specs.Scripts.{founded, on, lines}
 
 abbrev pub Busy : Type 0
 Busy = text_of (founded (0 ∷ 1 ∷ []) 0 64 256) (
-    on 1 (act.Send (97 ∷ [])) ∷
-    on 1 (act.Send (97 ∷ [])) ∷
-    on 1 (act.Send (97 ∷ [])) ∷
-    on 1 (act.Send (97 ∷ [])) ∷
-    on 1 (act.Send (97 ∷ [])) ∷
+    on 1 (act.Send (97 ∷ [])) ∷ on 1 (act.Send (97 ∷ [])) ∷ on 1 (act.Send (97 ∷ [])) ∷ on 1 (act.Send (97 ∷ [])) ∷ on 1 (act.Send (97 ∷ [])) ∷
     []) ≡ lines (
     codes "1 send 1 61 : queued 1 | 1 Request to 0" ∷
     codes "2 send 1 61 : queued 2" ∷
@@ -25,37 +21,11 @@ Busy = text_of (founded (0 ∷ 1 ∷ []) 0 64 256) (
 
 abbrev pub Crowded : Type 0
 Crowded = text_of (founded (0 ∷ 1 ∷ 2 ∷ 3 ∷ 4 ∷ 5 ∷ 6 ∷ 7 ∷ 8 ∷ 9 ∷ 10 ∷ 11 ∷ 12 ∷ 13 ∷ 14 ∷ 15 ∷ []) 0 1 256) (
-    on 0 (act.Reset 1 0) ∷
-    on 1 (act.Hear 1) ∷
-    on 2 (act.Hear 1) ∷
-    on 3 (act.Hear 1) ∷
-    on 4 (act.Hear 1) ∷
-    on 5 (act.Hear 1) ∷
-    on 6 (act.Hear 1) ∷
-    on 7 (act.Hear 1) ∷
-    on 8 (act.Hear 1) ∷
-    on 9 (act.Hear 1) ∷
-    on 10 (act.Hear 1) ∷
-    on 11 (act.Hear 1) ∷
-    on 12 (act.Hear 1) ∷
-    on 13 (act.Hear 1) ∷
-    on 14 (act.Hear 1) ∷
-    on 15 (act.Hear 1) ∷
-    on 0 (act.Hear 2) ∷
-    on 0 (act.Hear 3) ∷
-    on 0 (act.Hear 4) ∷
-    on 0 (act.Hear 5) ∷
-    on 0 (act.Hear 6) ∷
-    on 0 (act.Hear 7) ∷
-    on 0 (act.Hear 8) ∷
-    on 0 (act.Hear 9) ∷
-    on 0 (act.Hear 10) ∷
-    on 0 (act.Hear 11) ∷
-    on 0 (act.Hear 12) ∷
-    on 0 (act.Hear 13) ∷
-    on 0 (act.Hear 14) ∷
-    on 0 (act.Hear 15) ∷
-    on 0 (act.Hear 16) ∷
+    on 0 (act.Reset 1 0) ∷ on 1 (act.Hear 1) ∷ on 2 (act.Hear 1) ∷ on 3 (act.Hear 1) ∷ on 4 (act.Hear 1) ∷ on 5 (act.Hear 1) ∷ on 6 (act.Hear 1) ∷
+    on 7 (act.Hear 1) ∷ on 8 (act.Hear 1) ∷ on 9 (act.Hear 1) ∷ on 10 (act.Hear 1) ∷ on 11 (act.Hear 1) ∷ on 12 (act.Hear 1) ∷ on 13 (act.Hear 1) ∷
+    on 14 (act.Hear 1) ∷ on 15 (act.Hear 1) ∷ on 0 (act.Hear 2) ∷ on 0 (act.Hear 3) ∷ on 0 (act.Hear 4) ∷ on 0 (act.Hear 5) ∷ on 0 (act.Hear 6) ∷
+    on 0 (act.Hear 7) ∷ on 0 (act.Hear 8) ∷ on 0 (act.Hear 9) ∷ on 0 (act.Hear 10) ∷ on 0 (act.Hear 11) ∷ on 0 (act.Hear 12) ∷ on 0 (act.Hear 13) ∷
+    on 0 (act.Hear 14) ∷ on 0 (act.Hear 15) ∷ on 0 (act.Hear 16) ∷
     []) ≡ lines (
     codes "1 reset 0 1 : waiting 1,2,3,4,5,6,7,8,9,10,11,12,13,14,15 | 1 Invite to all" ∷
     codes "2 hear 1 1 : voted | 2 Vote to 0" ∷
@@ -110,37 +80,11 @@ Crowded = text_of (founded (0 ∷ 1 ∷ 2 ∷ 3 ∷ 4 ∷ 5 ∷ 6 ∷ 7 ∷ 8 �
 
 abbrev pub CrowdedGivenUp : Type 0
 CrowdedGivenUp = text_of (founded (0 ∷ 1 ∷ 2 ∷ 3 ∷ 4 ∷ 5 ∷ 6 ∷ 7 ∷ 8 ∷ 9 ∷ 10 ∷ 11 ∷ 12 ∷ 13 ∷ 14 ∷ 15 ∷ []) 0 1 256) (
-    on 15 act.Stop ∷
-    on 0 (act.Reset 1 0) ∷
-    on 1 (act.Hear 1) ∷
-    on 2 (act.Hear 1) ∷
-    on 3 (act.Hear 1) ∷
-    on 4 (act.Hear 1) ∷
-    on 5 (act.Hear 1) ∷
-    on 6 (act.Hear 1) ∷
-    on 7 (act.Hear 1) ∷
-    on 8 (act.Hear 1) ∷
-    on 9 (act.Hear 1) ∷
-    on 10 (act.Hear 1) ∷
-    on 11 (act.Hear 1) ∷
-    on 12 (act.Hear 1) ∷
-    on 13 (act.Hear 1) ∷
-    on 14 (act.Hear 1) ∷
-    on 0 (act.Hear 2) ∷
-    on 0 (act.Hear 3) ∷
-    on 0 (act.Hear 4) ∷
-    on 0 (act.Hear 5) ∷
-    on 0 (act.Hear 6) ∷
-    on 0 (act.Hear 7) ∷
-    on 0 (act.Hear 8) ∷
-    on 0 (act.Hear 9) ∷
-    on 0 (act.Hear 10) ∷
-    on 0 (act.Hear 11) ∷
-    on 0 (act.Hear 12) ∷
-    on 0 (act.Hear 13) ∷
-    on 0 (act.Hear 14) ∷
-    on 0 (act.Hear 15) ∷
-    on 0 (act.GiveUp 15) ∷
+    on 15 act.Stop ∷ on 0 (act.Reset 1 0) ∷ on 1 (act.Hear 1) ∷ on 2 (act.Hear 1) ∷ on 3 (act.Hear 1) ∷ on 4 (act.Hear 1) ∷ on 5 (act.Hear 1) ∷
+    on 6 (act.Hear 1) ∷ on 7 (act.Hear 1) ∷ on 8 (act.Hear 1) ∷ on 9 (act.Hear 1) ∷ on 10 (act.Hear 1) ∷ on 11 (act.Hear 1) ∷ on 12 (act.Hear 1) ∷
+    on 13 (act.Hear 1) ∷ on 14 (act.Hear 1) ∷ on 0 (act.Hear 2) ∷ on 0 (act.Hear 3) ∷ on 0 (act.Hear 4) ∷ on 0 (act.Hear 5) ∷ on 0 (act.Hear 6) ∷
+    on 0 (act.Hear 7) ∷ on 0 (act.Hear 8) ∷ on 0 (act.Hear 9) ∷ on 0 (act.Hear 10) ∷ on 0 (act.Hear 11) ∷ on 0 (act.Hear 12) ∷ on 0 (act.Hear 13) ∷
+    on 0 (act.Hear 14) ∷ on 0 (act.Hear 15) ∷ on 0 (act.GiveUp 15) ∷
     []) ≡ lines (
     codes "1 stop 15 : stopped" ∷
     codes "2 reset 0 1 : waiting 1,2,3,4,5,6,7,8,9,10,11,12,13,14,15 | 1 Invite to all" ∷
@@ -196,84 +140,19 @@ CrowdedGivenUp = text_of (founded (0 ∷ 1 ∷ 2 ∷ 3 ∷ 4 ∷ 5 ∷ 6 ∷ 7 �
 
 abbrev pub CrowdedTaken : Type 0
 CrowdedTaken = text_of (founded (0 ∷ 1 ∷ 2 ∷ 3 ∷ 4 ∷ 5 ∷ 6 ∷ 7 ∷ 8 ∷ 9 ∷ 10 ∷ 11 ∷ 12 ∷ 13 ∷ 14 ∷ 15 ∷ []) 0 1 256) (
-    on 0 (act.Reset 1 0) ∷
-    on 1 (act.Hear 1) ∷
-    on 2 (act.Hear 1) ∷
-    on 3 (act.Hear 1) ∷
-    on 4 (act.Hear 1) ∷
-    on 5 (act.Hear 1) ∷
-    on 6 (act.Hear 1) ∷
-    on 7 (act.Hear 1) ∷
-    on 8 (act.Hear 1) ∷
-    on 9 (act.Hear 1) ∷
-    on 10 (act.Hear 1) ∷
-    on 11 (act.Hear 1) ∷
-    on 12 (act.Hear 1) ∷
-    on 13 (act.Hear 1) ∷
-    on 14 (act.Hear 1) ∷
-    on 15 (act.Hear 1) ∷
-    on 0 (act.Hear 2) ∷
-    on 0 (act.Hear 3) ∷
-    on 0 (act.Hear 4) ∷
-    on 0 (act.Hear 5) ∷
-    on 0 (act.Hear 6) ∷
-    on 0 (act.Hear 7) ∷
-    on 0 (act.Hear 8) ∷
-    on 0 (act.Hear 9) ∷
-    on 0 (act.Hear 10) ∷
-    on 0 (act.Hear 11) ∷
-    on 0 (act.Hear 12) ∷
-    on 0 (act.Hear 13) ∷
-    on 0 (act.Hear 14) ∷
-    on 0 (act.Hear 15) ∷
-    on 0 (act.Hear 16) ∷
-    on 0 act.Take ∷
-    on 1 act.Take ∷
-    on 2 act.Take ∷
-    on 3 act.Take ∷
-    on 4 act.Take ∷
-    on 5 act.Take ∷
-    on 6 act.Take ∷
-    on 7 act.Take ∷
-    on 8 act.Take ∷
-    on 9 act.Take ∷
-    on 10 act.Take ∷
-    on 11 act.Take ∷
-    on 12 act.Take ∷
-    on 13 act.Take ∷
-    on 14 act.Take ∷
-    on 15 act.Take ∷
-    on 0 (act.Reset 1 0) ∷
-    on 1 (act.Hear 17) ∷
-    on 2 (act.Hear 17) ∷
-    on 3 (act.Hear 17) ∷
-    on 4 (act.Hear 17) ∷
-    on 5 (act.Hear 17) ∷
-    on 6 (act.Hear 17) ∷
-    on 7 (act.Hear 17) ∷
-    on 8 (act.Hear 17) ∷
-    on 9 (act.Hear 17) ∷
-    on 10 (act.Hear 17) ∷
-    on 11 (act.Hear 17) ∷
-    on 12 (act.Hear 17) ∷
-    on 13 (act.Hear 17) ∷
-    on 14 (act.Hear 17) ∷
-    on 15 (act.Hear 17) ∷
-    on 0 (act.Hear 18) ∷
-    on 0 (act.Hear 19) ∷
-    on 0 (act.Hear 20) ∷
-    on 0 (act.Hear 21) ∷
-    on 0 (act.Hear 22) ∷
-    on 0 (act.Hear 23) ∷
-    on 0 (act.Hear 24) ∷
-    on 0 (act.Hear 25) ∷
-    on 0 (act.Hear 26) ∷
-    on 0 (act.Hear 27) ∷
-    on 0 (act.Hear 28) ∷
-    on 0 (act.Hear 29) ∷
-    on 0 (act.Hear 30) ∷
-    on 0 (act.Hear 31) ∷
-    on 0 (act.Hear 32) ∷
+    on 0 (act.Reset 1 0) ∷ on 1 (act.Hear 1) ∷ on 2 (act.Hear 1) ∷ on 3 (act.Hear 1) ∷ on 4 (act.Hear 1) ∷ on 5 (act.Hear 1) ∷ on 6 (act.Hear 1) ∷
+    on 7 (act.Hear 1) ∷ on 8 (act.Hear 1) ∷ on 9 (act.Hear 1) ∷ on 10 (act.Hear 1) ∷ on 11 (act.Hear 1) ∷ on 12 (act.Hear 1) ∷ on 13 (act.Hear 1) ∷
+    on 14 (act.Hear 1) ∷ on 15 (act.Hear 1) ∷ on 0 (act.Hear 2) ∷ on 0 (act.Hear 3) ∷ on 0 (act.Hear 4) ∷ on 0 (act.Hear 5) ∷ on 0 (act.Hear 6) ∷
+    on 0 (act.Hear 7) ∷ on 0 (act.Hear 8) ∷ on 0 (act.Hear 9) ∷ on 0 (act.Hear 10) ∷ on 0 (act.Hear 11) ∷ on 0 (act.Hear 12) ∷ on 0 (act.Hear 13) ∷
+    on 0 (act.Hear 14) ∷ on 0 (act.Hear 15) ∷ on 0 (act.Hear 16) ∷ on 0 act.Take ∷ on 1 act.Take ∷ on 2 act.Take ∷ on 3 act.Take ∷ on 4 act.Take ∷
+    on 5 act.Take ∷ on 6 act.Take ∷ on 7 act.Take ∷ on 8 act.Take ∷ on 9 act.Take ∷ on 10 act.Take ∷ on 11 act.Take ∷ on 12 act.Take ∷ on 13 act.Take
+    ∷
+    on 14 act.Take ∷ on 15 act.Take ∷ on 0 (act.Reset 1 0) ∷ on 1 (act.Hear 17) ∷ on 2 (act.Hear 17) ∷ on 3 (act.Hear 17) ∷ on 4 (act.Hear 17) ∷
+    on 5 (act.Hear 17) ∷ on 6 (act.Hear 17) ∷ on 7 (act.Hear 17) ∷ on 8 (act.Hear 17) ∷ on 9 (act.Hear 17) ∷ on 10 (act.Hear 17) ∷ on 11 (act.Hear 17)
+    ∷
+    on 12 (act.Hear 17) ∷ on 13 (act.Hear 17) ∷ on 14 (act.Hear 17) ∷ on 15 (act.Hear 17) ∷ on 0 (act.Hear 18) ∷ on 0 (act.Hear 19) ∷
+    on 0 (act.Hear 20) ∷ on 0 (act.Hear 21) ∷ on 0 (act.Hear 22) ∷ on 0 (act.Hear 23) ∷ on 0 (act.Hear 24) ∷ on 0 (act.Hear 25) ∷ on 0 (act.Hear 26) ∷
+    on 0 (act.Hear 27) ∷ on 0 (act.Hear 28) ∷ on 0 (act.Hear 29) ∷ on 0 (act.Hear 30) ∷ on 0 (act.Hear 31) ∷ on 0 (act.Hear 32) ∷
     []) ≡ lines (
     codes "1 reset 0 1 : waiting 1,2,3,4,5,6,7,8,9,10,11,12,13,14,15 | 1 Invite to all" ∷
     codes "2 hear 1 1 : voted | 2 Vote to 0" ∷
@@ -376,10 +255,7 @@ CrowdedTaken = text_of (founded (0 ∷ 1 ∷ 2 ∷ 3 ∷ 4 ∷ 5 ∷ 6 ∷ 7 ∷
 
 abbrev pub CutPackets : Type 0
 CutPackets = text_of (founded (0 ∷ 1 ∷ []) 0 64 256) (
-    on 1 (act.Send (97 ∷ [])) ∷
-    on 0 (act.Cut 1 5) ∷
-    on 0 (act.Cut 1 20) ∷
-    on 0 (act.Hear 1) ∷
+    on 1 (act.Send (97 ∷ [])) ∷ on 0 (act.Cut 1 5) ∷ on 0 (act.Cut 1 20) ∷ on 0 (act.Hear 1) ∷
     []) ≡ lines (
     codes "1 send 1 61 : queued 1 | 1 Request to 0" ∷
     codes "2 cut 0 1 5 : refused 1" ∷
@@ -394,38 +270,10 @@ CutPackets = text_of (founded (0 ∷ 1 ∷ []) 0 64 256) (
 
 abbrev pub EveryLife : Type 0
 EveryLife = text_of (founded (0 ∷ []) 1 64 256) (
-    on 0 act.Stop ∷
-    on 0 act.Return ∷
-    on 0 act.Stop ∷
-    on 0 act.Return ∷
-    on 0 act.Stop ∷
-    on 0 act.Return ∷
-    on 0 act.Stop ∷
-    on 0 act.Return ∷
-    on 0 act.Stop ∷
-    on 0 act.Return ∷
-    on 0 act.Stop ∷
-    on 0 act.Return ∷
-    on 0 act.Stop ∷
-    on 0 act.Return ∷
-    on 0 act.Stop ∷
-    on 0 act.Return ∷
-    on 0 act.Stop ∷
-    on 0 act.Return ∷
-    on 0 act.Stop ∷
-    on 0 act.Return ∷
-    on 0 act.Stop ∷
-    on 0 act.Return ∷
-    on 0 act.Stop ∷
-    on 0 act.Return ∷
-    on 0 act.Stop ∷
-    on 0 act.Return ∷
-    on 0 act.Stop ∷
-    on 0 act.Return ∷
-    on 0 act.Stop ∷
-    on 0 act.Return ∷
-    on 0 act.Stop ∷
-    on 0 act.Return ∷
+    on 0 act.Stop ∷ on 0 act.Return ∷ on 0 act.Stop ∷ on 0 act.Return ∷ on 0 act.Stop ∷ on 0 act.Return ∷ on 0 act.Stop ∷ on 0 act.Return ∷
+    on 0 act.Stop ∷ on 0 act.Return ∷ on 0 act.Stop ∷ on 0 act.Return ∷ on 0 act.Stop ∷ on 0 act.Return ∷ on 0 act.Stop ∷ on 0 act.Return ∷
+    on 0 act.Stop ∷ on 0 act.Return ∷ on 0 act.Stop ∷ on 0 act.Return ∷ on 0 act.Stop ∷ on 0 act.Return ∷ on 0 act.Stop ∷ on 0 act.Return ∷
+    on 0 act.Stop ∷ on 0 act.Return ∷ on 0 act.Stop ∷ on 0 act.Return ∷ on 0 act.Stop ∷ on 0 act.Return ∷ on 0 act.Stop ∷ on 0 act.Return ∷
     []) ≡ lines (
     codes "1 stop 0 : stopped" ∷
     codes "2 return 0 : returned 2" ∷
@@ -466,18 +314,8 @@ EveryLife = text_of (founded (0 ∷ []) 1 64 256) (
 
 abbrev pub JoinAsked : Type 0
 JoinAsked = text_of (founded (0 ∷ 1 ∷ []) 0 64 256) (
-    on 2 act.Join ∷
-    on 0 (act.Hear 1) ∷
-    on 2 (act.Hear 3) ∷
-    on 0 (act.Hear 4) ∷
-    on 2 (act.Hear 5) ∷
-    on 2 (act.Hear 6) ∷
-    on 0 (act.Hear 7) ∷
-    on 0 act.Tick ∷
-    on 2 (act.Hear 8) ∷
-    on 0 (act.Hear 9) ∷
-    on 2 (act.Hear 10) ∷
-    on 2 act.Take ∷
+    on 2 act.Join ∷ on 0 (act.Hear 1) ∷ on 2 (act.Hear 3) ∷ on 0 (act.Hear 4) ∷ on 2 (act.Hear 5) ∷ on 2 (act.Hear 6) ∷ on 0 (act.Hear 7) ∷
+    on 0 act.Tick ∷ on 2 (act.Hear 8) ∷ on 0 (act.Hear 9) ∷ on 2 (act.Hear 10) ∷ on 2 act.Take ∷
     []) ≡ lines (
     codes "1 join 2 : asked | 1 JoinAsk to all" ∷
     codes "2 hear 0 1 : numbered 2 | 2 Bcast to 1 | 3 Welcome to 2" ∷
@@ -501,26 +339,9 @@ JoinAsked = text_of (founded (0 ∷ 1 ∷ []) 0 64 256) (
 
 abbrev pub JoinWithLostWelcome : Type 0
 JoinWithLostWelcome = text_of (founded (0 ∷ 1 ∷ []) 0 64 256) (
-    on 2 act.Join ∷
-    on 0 (act.Hear 1) ∷
-    on 1 (act.Hear 2) ∷
-    on 1 (act.Reset 1 0) ∷
-    on 0 (act.Hear 4) ∷
-    on 2 (act.Hear 4) ∷
-    on 1 (act.Hear 5) ∷
-    on 1 (act.Hear 6) ∷
-    on 2 act.Tick ∷
-    on 1 (act.Hear 9) ∷
-    on 2 (act.Hear 3) ∷
-    on 2 (act.Hear 10) ∷
-    on 1 (act.Hear 11) ∷
-    on 2 (act.Hear 12) ∷
-    on 2 (act.Hear 13) ∷
-    on 2 (act.Hear 14) ∷
-    on 1 (act.Hear 15) ∷
-    on 1 act.Tick ∷
-    on 2 (act.Hear 16) ∷
-    on 2 act.Take ∷
+    on 2 act.Join ∷ on 0 (act.Hear 1) ∷ on 1 (act.Hear 2) ∷ on 1 (act.Reset 1 0) ∷ on 0 (act.Hear 4) ∷ on 2 (act.Hear 4) ∷ on 1 (act.Hear 5) ∷
+    on 1 (act.Hear 6) ∷ on 2 act.Tick ∷ on 1 (act.Hear 9) ∷ on 2 (act.Hear 3) ∷ on 2 (act.Hear 10) ∷ on 1 (act.Hear 11) ∷ on 2 (act.Hear 12) ∷
+    on 2 (act.Hear 13) ∷ on 2 (act.Hear 14) ∷ on 1 (act.Hear 15) ∷ on 1 act.Tick ∷ on 2 (act.Hear 16) ∷ on 2 act.Take ∷
     []) ≡ lines (
     codes "1 join 2 : asked | 1 JoinAsk to all" ∷
     codes "2 hear 0 1 : numbered 2 | 2 Bcast to 1 | 3 Welcome to 2" ∷
@@ -553,12 +374,7 @@ JoinWithLostWelcome = text_of (founded (0 ∷ 1 ∷ []) 0 64 256) (
 
 abbrev pub LeaveAsked : Type 0
 LeaveAsked = text_of (founded (0 ∷ 1 ∷ []) 0 64 256) (
-    on 1 act.Leave ∷
-    on 0 (act.Hear 1) ∷
-    on 1 (act.Hear 3) ∷
-    on 0 (act.Hear 1) ∷
-    on 1 act.State ∷
-    on 1 (act.Send (97 ∷ [])) ∷
+    on 1 act.Leave ∷ on 0 (act.Hear 1) ∷ on 1 (act.Hear 3) ∷ on 0 (act.Hear 1) ∷ on 1 act.State ∷ on 1 (act.Send (97 ∷ [])) ∷
     []) ≡ lines (
     codes "1 leave 1 : asked | 1 LeaveAsk to 0" ∷
     codes "2 hear 0 1 : numbered 2 | 2 Bcast to 1 | 3 Gone to 1" ∷
@@ -584,10 +400,7 @@ LongBody = text_of (founded (0 ∷ 1 ∷ 2 ∷ []) 0 64 256) (
     97 ∷ 97 ∷ 97 ∷ 97 ∷ 97 ∷ 97 ∷ 97 ∷ 97 ∷ 97 ∷ 97 ∷ 97 ∷ 97 ∷ 97 ∷ 97 ∷ 97 ∷ 97 ∷ 97 ∷ 97 ∷ 97 ∷ 97 ∷ 97 ∷ 97 ∷ 97 ∷ 97 ∷ 97 ∷ 97 ∷ 97 ∷ 97 ∷ 97 ∷
     97 ∷ 97 ∷ 97 ∷ 97 ∷ 97 ∷ 97 ∷ 97 ∷ 97 ∷ 97 ∷ 97 ∷ 97 ∷ 97 ∷ 97 ∷ 97 ∷ 97 ∷ 97 ∷ 97 ∷ 97 ∷ 97 ∷ 97 ∷ 97 ∷ 97 ∷ 97 ∷ 97 ∷ 97 ∷ 97 ∷ 97 ∷ 97 ∷ 97 ∷
     97 ∷ 97 ∷ 97 ∷ 97 ∷ 97 ∷ 97 ∷ 97 ∷ 97 ∷ 97 ∷ 97 ∷ 97 ∷ 97 ∷ 97 ∷ 97 ∷ 97 ∷ 97 ∷ 97 ∷ 97 ∷ 97 ∷ 97 ∷ 97 ∷ 97 ∷ 97 ∷ 97 ∷ 97 ∷ 97 ∷ 97 ∷ 97 ∷ [])) ∷
-    on 2 (act.Hear 1) ∷
-    on 0 (act.Hear 1) ∷
-    on 1 (act.Hear 2) ∷
-    on 2 (act.Hear 2) ∷
+    on 2 (act.Hear 1) ∷ on 0 (act.Hear 1) ∷ on 1 (act.Hear 2) ∷ on 2 (act.Hear 2) ∷
     []) ≡ lines (
     codes "1 send 1 6161616161616161616161616161616161616161616161616161616161616161616161616161616161616161616161616161616161616161616161616161616161616161616161616161616161616161616161616161616161616161616161616161616161616161616161616161616161616161616161616161616161616161616161616161616161616161616161616161616161616161616161616161616161616161616161616161616161616161616161616161616161616161616161616161616161616161616161616161616161616161616161616161616161616161616161616161616161616161616161616161616161616161616161616161616161 : queued 1 | 1 Spread to 0,2" ∷
     codes "2 hear 2 1 : kept" ∷
@@ -624,12 +437,7 @@ OnlyFounderLeaves = text_of (founded (0 ∷ []) 0 64 256) (
 
 abbrev pub Reordering : Type 0
 Reordering = text_of (founded (0 ∷ 1 ∷ []) 0 64 256) (
-    on 0 (act.Send (97 ∷ [])) ∷
-    on 0 (act.Send (98 ∷ [])) ∷
-    on 1 (act.Hear 2) ∷
-    on 0 (act.Hear 3) ∷
-    on 1 (act.Hear 4) ∷
-    on 1 (act.Hear 5) ∷
+    on 0 (act.Send (97 ∷ [])) ∷ on 0 (act.Send (98 ∷ [])) ∷ on 1 (act.Hear 2) ∷ on 0 (act.Hear 3) ∷ on 1 (act.Hear 4) ∷ on 1 (act.Hear 5) ∷
     on 1 (act.Hear 1) ∷
     []) ≡ lines (
     codes "1 send 0 61 : queued 1 | 1 Bcast to 1" ∷
@@ -649,9 +457,7 @@ Reordering = text_of (founded (0 ∷ 1 ∷ []) 0 64 256) (
 
 abbrev pub Repeat : Type 0
 Repeat = text_of (founded (0 ∷ 1 ∷ []) 0 64 256) (
-    on 1 (act.Send (97 ∷ [])) ∷
-    on 0 (act.Hear 1) ∷
-    on 0 (act.Hear 1) ∷
+    on 1 (act.Send (97 ∷ [])) ∷ on 0 (act.Hear 1) ∷ on 0 (act.Hear 1) ∷
     []) ≡ lines (
     codes "1 send 1 61 : queued 1 | 1 Request to 0" ∷
     codes "2 hear 0 1 : numbered 2 | 2 Bcast to 1" ∷
@@ -665,15 +471,8 @@ Repeat = text_of (founded (0 ∷ 1 ∷ []) 0 64 256) (
 
 abbrev pub ReturnAfterLeave : Type 0
 ReturnAfterLeave = text_of (founded (0 ∷ 1 ∷ []) 0 64 256) (
-    on 1 act.Leave ∷
-    on 0 (act.Hear 1) ∷
-    on 1 (act.Hear 3) ∷
-    on 1 act.Return ∷
-    on 1 act.Join ∷
-    on 0 (act.Hear 4) ∷
-    on 1 (act.Hear 2) ∷
-    on 1 (act.Hear 5) ∷
-    on 0 (act.Hear 1) ∷
+    on 1 act.Leave ∷ on 0 (act.Hear 1) ∷ on 1 (act.Hear 3) ∷ on 1 act.Return ∷ on 1 act.Join ∷ on 0 (act.Hear 4) ∷ on 1 (act.Hear 2) ∷
+    on 1 (act.Hear 5) ∷ on 0 (act.Hear 1) ∷
     []) ≡ lines (
     codes "1 leave 1 : asked | 1 LeaveAsk to 0" ∷
     codes "2 hear 0 1 : numbered 2 | 2 Bcast to 1 | 3 Gone to 1" ∷
@@ -695,13 +494,7 @@ ReturnAfterLeave = text_of (founded (0 ∷ 1 ∷ []) 0 64 256) (
 
 abbrev pub ReturnAfterStop : Type 0
 ReturnAfterStop = text_of (founded (0 ∷ 1 ∷ []) 1 64 256) (
-    on 1 act.Stop ∷
-    on 1 act.Return ∷
-    on 1 act.Join ∷
-    on 0 (act.Hear 1) ∷
-    on 0 (act.Reset 1 1) ∷
-    on 0 (act.GiveUp 1) ∷
-    on 0 (act.Hear 1) ∷
+    on 1 act.Stop ∷ on 1 act.Return ∷ on 1 act.Join ∷ on 0 (act.Hear 1) ∷ on 0 (act.Reset 1 1) ∷ on 0 (act.GiveUp 1) ∷ on 0 (act.Hear 1) ∷
     on 0 act.Return ∷
     []) ≡ lines (
     codes "1 stop 1 : stopped" ∷
@@ -722,21 +515,8 @@ ReturnAfterStop = text_of (founded (0 ∷ 1 ∷ []) 1 64 256) (
 
 abbrev pub ReturnedLeaverStops : Type 0
 ReturnedLeaverStops = text_of (founded (0 ∷ 1 ∷ []) 0 64 256) (
-    on 1 act.Leave ∷
-    on 0 (act.Hear 1) ∷
-    on 1 (act.Hear 3) ∷
-    on 1 act.Return ∷
-    on 1 act.Join ∷
-    on 0 (act.Hear 4) ∷
-    on 1 (act.Hear 5) ∷
-    on 1 act.Stop ∷
-    on 0 (act.Reset 1 0) ∷
-    on 0 (act.GiveUp 1) ∷
-    on 0 (act.GiveUp 17) ∷
-    on 0 (act.GiveUp 33) ∷
-    on 1 act.Return ∷
-    on 1 act.Join ∷
-    on 0 (act.Hear 4) ∷
+    on 1 act.Leave ∷ on 0 (act.Hear 1) ∷ on 1 (act.Hear 3) ∷ on 1 act.Return ∷ on 1 act.Join ∷ on 0 (act.Hear 4) ∷ on 1 (act.Hear 5) ∷ on 1 act.Stop ∷
+    on 0 (act.Reset 1 0) ∷ on 0 (act.GiveUp 1) ∷ on 0 (act.GiveUp 17) ∷ on 0 (act.GiveUp 33) ∷ on 1 act.Return ∷ on 1 act.Join ∷ on 0 (act.Hear 4) ∷
     on 0 (act.Hear 8) ∷
     []) ≡ lines (
     codes "1 leave 1 : asked | 1 LeaveAsk to 0" ∷
@@ -768,8 +548,7 @@ ReturnedLeaverStops = text_of (founded (0 ∷ 1 ∷ []) 0 64 256) (
 
 abbrev pub RunningMember : Type 0
 RunningMember = text_of (founded (0 ∷ 1 ∷ 2 ∷ []) 0 64 256) (
-    on 1 (act.Reset 1 0) ∷
-    on 1 (act.GiveUp 0) ∷
+    on 1 (act.Reset 1 0) ∷ on 1 (act.GiveUp 0) ∷
     []) ≡ lines (
     codes "1 reset 1 1 : waiting 0,2 | 1 Invite to 0,2" ∷
     codes "2 giveup 1 0 : not-stopped" ∷
@@ -910,12 +689,7 @@ ShortBody = text_of (founded (0 ∷ 1 ∷ 2 ∷ []) 0 64 256) (
 
 abbrev pub SmallestPath : Type 0
 SmallestPath = text_of (founded (0 ∷ 1 ∷ []) 0 64 256) (
-    on 1 (act.Send (97 ∷ [])) ∷
-    on 0 (act.Hear 1) ∷
-    on 1 (act.Hear 2) ∷
-    on 1 act.Take ∷
-    on 1 act.Take ∷
-    on 1 (act.Done 1) ∷
+    on 1 (act.Send (97 ∷ [])) ∷ on 0 (act.Hear 1) ∷ on 1 (act.Hear 2) ∷ on 1 act.Take ∷ on 1 act.Take ∷ on 1 (act.Done 1) ∷
     []) ≡ lines (
     codes "1 send 1 61 : queued 1 | 1 Request to 0" ∷
     codes "2 hear 0 1 : numbered 2 | 2 Bcast to 1" ∷
@@ -933,11 +707,7 @@ SmallestPath = text_of (founded (0 ∷ 1 ∷ []) 0 64 256) (
 
 abbrev pub SpreadLost : Type 0
 SpreadLost = text_of (founded (0 ∷ 1 ∷ 2 ∷ []) 0 64 0) (
-    on 1 (act.Send (97 ∷ [])) ∷
-    on 0 (act.Hear 1) ∷
-    on 2 (act.Hear 2) ∷
-    on 0 (act.Hear 3) ∷
-    on 2 (act.Hear 4) ∷
+    on 1 (act.Send (97 ∷ [])) ∷ on 0 (act.Hear 1) ∷ on 2 (act.Hear 2) ∷ on 0 (act.Hear 3) ∷ on 2 (act.Hear 4) ∷
     []) ≡ lines (
     codes "1 send 1 61 : queued 1 | 1 Spread to 0,2" ∷
     codes "2 hear 0 1 : numbered 2 | 2 Order to 1,2" ∷
@@ -954,20 +724,9 @@ SpreadLost = text_of (founded (0 ∷ 1 ∷ 2 ∷ []) 0 64 0) (
 
 abbrev pub WindowOfOne : Type 0
 WindowOfOne = text_of (founded (0 ∷ 1 ∷ []) 0 1 256) (
-    on 0 act.Take ∷
-    on 1 act.Take ∷
-    on 1 (act.Send (97 ∷ [])) ∷
-    on 0 (act.Hear 1) ∷
-    on 1 (act.Hear 2) ∷
-    on 1 (act.Send (98 ∷ [])) ∷
-    on 0 (act.Hear 3) ∷
-    on 1 (act.Hear 5) ∷
-    on 0 act.Take ∷
-    on 1 act.Take ∷
-    on 1 (act.Hear 4) ∷
-    on 0 (act.Hear 6) ∷
-    on 1 act.Tick ∷
-    on 0 (act.Hear 7) ∷
+    on 0 act.Take ∷ on 1 act.Take ∷ on 1 (act.Send (97 ∷ [])) ∷ on 0 (act.Hear 1) ∷ on 1 (act.Hear 2) ∷ on 1 (act.Send (98 ∷ [])) ∷ on 0 (act.Hear 3)
+    ∷
+    on 1 (act.Hear 5) ∷ on 0 act.Take ∷ on 1 act.Take ∷ on 1 (act.Hear 4) ∷ on 0 (act.Hear 6) ∷ on 1 act.Tick ∷ on 0 (act.Hear 7) ∷
     []) ≡ lines (
     codes "1 take 0 : took 1 view 1.0 0,1" ∷
     codes "2 take 1 : took 1 view 1.0 0,1" ∷

@@ -6,15 +6,8 @@ use Rattle.am_rows.specs.Scripts.{founded, on, lines}
 
 abbrev pub CoordinatorStopSurvived : Type 0
 CoordinatorStopSurvived = text_of (founded (0 ∷ 1 ∷ 2 ∷ []) 2 64 256) (
-    on 0 act.Stop ∷
-    on 1 (act.Reset 1 2) ∷
-    on 1 (act.GiveUp 0) ∷
-    on 2 (act.Hear 1) ∷
-    on 1 (act.Hear 2) ∷
-    on 1 act.Stop ∷
-    on 2 (act.Reset 1 2) ∷
-    on 2 (act.GiveUp 0) ∷
-    on 2 (act.GiveUp 1) ∷
+    on 0 act.Stop ∷ on 1 (act.Reset 1 2) ∷ on 1 (act.GiveUp 0) ∷ on 2 (act.Hear 1) ∷ on 1 (act.Hear 2) ∷ on 1 act.Stop ∷ on 2 (act.Reset 1 2) ∷
+    on 2 (act.GiveUp 0) ∷ on 2 (act.GiveUp 1) ∷
     []) ≡ lines (
     codes "1 stop 0 : stopped" ∷
     codes "2 reset 1 1 : waiting 0,2 | 1 Invite to 0,2" ∷
@@ -35,15 +28,8 @@ CoordinatorStopSurvived = text_of (founded (0 ∷ 1 ∷ 2 ∷ []) 2 64 256) (
 
 abbrev pub CoordinatorStopsToo : Type 0
 CoordinatorStopsToo = text_of (founded (0 ∷ 1 ∷ 2 ∷ []) 1 64 256) (
-    on 0 act.Stop ∷
-    on 1 (act.Reset 1 1) ∷
-    on 1 (act.GiveUp 0) ∷
-    on 2 (act.Hear 1) ∷
-    on 1 (act.Hear 2) ∷
-    on 1 act.Stop ∷
-    on 2 (act.Reset 1 1) ∷
-    on 2 (act.GiveUp 0) ∷
-    on 2 (act.GiveUp 1) ∷
+    on 0 act.Stop ∷ on 1 (act.Reset 1 1) ∷ on 1 (act.GiveUp 0) ∷ on 2 (act.Hear 1) ∷ on 1 (act.Hear 2) ∷ on 1 act.Stop ∷ on 2 (act.Reset 1 1) ∷
+    on 2 (act.GiveUp 0) ∷ on 2 (act.GiveUp 1) ∷
     []) ≡ lines (
     codes "1 stop 0 : stopped" ∷
     codes "2 reset 1 1 : waiting 0,2 | 1 Invite to 0,2" ∷
@@ -64,78 +50,18 @@ CoordinatorStopsToo = text_of (founded (0 ∷ 1 ∷ 2 ∷ []) 1 64 256) (
 
 abbrev pub LeaverStaysBehind : Type 0
 LeaverStaysBehind = text_of (founded (0 ∷ 1 ∷ 2 ∷ 3 ∷ 4 ∷ 5 ∷ 6 ∷ 7 ∷ []) 3 64 256) (
-    on 6 act.Leave ∷
-    on 0 (act.Hear 1) ∷
-    on 2 (act.Hear 2) ∷
-    on 3 (act.Hear 2) ∷
-    on 4 (act.Hear 2) ∷
-    on 5 (act.Hear 2) ∷
-    on 6 (act.Hear 2) ∷
-    on 3 act.Leave ∷
-    on 0 (act.Hear 5) ∷
-    on 4 act.Leave ∷
-    on 0 (act.Hear 7) ∷
-    on 5 act.Leave ∷
-    on 0 (act.Hear 9) ∷
-    on 1 (act.Reset 1 3) ∷
-    on 6 (act.Hear 11) ∷
-    on 0 (act.Hear 11) ∷
-    on 2 (act.Hear 11) ∷
-    on 7 (act.Hear 11) ∷
-    on 1 (act.Hear 13) ∷
-    on 1 (act.Hear 14) ∷
-    on 1 (act.Hear 15) ∷
-    on 0 (act.Hear 16) ∷
-    on 1 (act.Hear 17) ∷
-    on 1 (act.Hear 18) ∷
-    on 1 (act.Hear 19) ∷
-    on 1 (act.Hear 20) ∷
-    on 6 act.Tick ∷
-    on 1 (act.Hear 22) ∷
-    on 6 (act.Hear 23) ∷
-    on 6 (act.Hear 24) ∷
-    on 6 (act.Hear 25) ∷
-    on 6 (act.Hear 26) ∷
-    on 0 act.Stop ∷
-    on 1 act.Stop ∷
-    on 2 (act.Reset 1 3) ∷
-    on 3 (act.Hear 28) ∷
-    on 2 (act.Hear 29) ∷
-    on 4 (act.Hear 28) ∷
-    on 2 (act.Hear 30) ∷
-    on 5 (act.Hear 28) ∷
-    on 2 (act.Hear 31) ∷
-    on 7 (act.Hear 28) ∷
-    on 2 (act.Hear 32) ∷
-    on 2 (act.GiveUp 0) ∷
-    on 2 (act.GiveUp 1) ∷
-    on 3 (act.Hear 33) ∷
-    on 2 (act.Hear 34) ∷
-    on 4 (act.Hear 33) ∷
-    on 2 (act.Hear 35) ∷
-    on 5 (act.Hear 33) ∷
-    on 2 (act.Hear 36) ∷
-    on 3 (act.Hear 37) ∷
-    on 3 act.Take ∷
-    on 3 act.Take ∷
-    on 3 act.Take ∷
-    on 2 act.Stop ∷
-    on 7 (act.Reset 1 3) ∷
-    on 6 (act.Hear 38) ∷
-    on 7 (act.Hear 39) ∷
-    on 7 (act.GiveUp 0) ∷
-    on 7 (act.GiveUp 1) ∷
-    on 7 (act.GiveUp 2) ∷
-    on 6 (act.Hear 40) ∷
-    on 7 (act.Hear 41) ∷
-    on 7 (act.Hear 42) ∷
-    on 7 (act.Hear 43) ∷
-    on 7 (act.Hear 44) ∷
-    on 7 (act.Hear 45) ∷
-    on 7 act.Take ∷
-    on 7 act.Take ∷
-    on 7 act.Take ∷
-    on 7 act.Take ∷
+    on 6 act.Leave ∷ on 0 (act.Hear 1) ∷ on 2 (act.Hear 2) ∷ on 3 (act.Hear 2) ∷ on 4 (act.Hear 2) ∷ on 5 (act.Hear 2) ∷ on 6 (act.Hear 2) ∷
+    on 3 act.Leave ∷ on 0 (act.Hear 5) ∷ on 4 act.Leave ∷ on 0 (act.Hear 7) ∷ on 5 act.Leave ∷ on 0 (act.Hear 9) ∷ on 1 (act.Reset 1 3) ∷
+    on 6 (act.Hear 11) ∷ on 0 (act.Hear 11) ∷ on 2 (act.Hear 11) ∷ on 7 (act.Hear 11) ∷ on 1 (act.Hear 13) ∷ on 1 (act.Hear 14) ∷ on 1 (act.Hear 15) ∷
+    on 0 (act.Hear 16) ∷ on 1 (act.Hear 17) ∷ on 1 (act.Hear 18) ∷ on 1 (act.Hear 19) ∷ on 1 (act.Hear 20) ∷ on 6 act.Tick ∷ on 1 (act.Hear 22) ∷
+    on 6 (act.Hear 23) ∷ on 6 (act.Hear 24) ∷ on 6 (act.Hear 25) ∷ on 6 (act.Hear 26) ∷ on 0 act.Stop ∷ on 1 act.Stop ∷ on 2 (act.Reset 1 3) ∷
+    on 3 (act.Hear 28) ∷ on 2 (act.Hear 29) ∷ on 4 (act.Hear 28) ∷ on 2 (act.Hear 30) ∷ on 5 (act.Hear 28) ∷ on 2 (act.Hear 31) ∷ on 7 (act.Hear 28) ∷
+    on 2 (act.Hear 32) ∷ on 2 (act.GiveUp 0) ∷ on 2 (act.GiveUp 1) ∷ on 3 (act.Hear 33) ∷ on 2 (act.Hear 34) ∷ on 4 (act.Hear 33) ∷ on 2 (act.Hear 35)
+    ∷
+    on 5 (act.Hear 33) ∷ on 2 (act.Hear 36) ∷ on 3 (act.Hear 37) ∷ on 3 act.Take ∷ on 3 act.Take ∷ on 3 act.Take ∷ on 2 act.Stop ∷
+    on 7 (act.Reset 1 3) ∷ on 6 (act.Hear 38) ∷ on 7 (act.Hear 39) ∷ on 7 (act.GiveUp 0) ∷ on 7 (act.GiveUp 1) ∷ on 7 (act.GiveUp 2) ∷
+    on 6 (act.Hear 40) ∷ on 7 (act.Hear 41) ∷ on 7 (act.Hear 42) ∷ on 7 (act.Hear 43) ∷ on 7 (act.Hear 44) ∷ on 7 (act.Hear 45) ∷ on 7 act.Take ∷
+    on 7 act.Take ∷ on 7 act.Take ∷ on 7 act.Take ∷
     []) ≡ lines (
     codes "1 leave 6 : asked | 1 LeaveAsk to 0,1,2,3,4,5,7" ∷
     codes "2 hear 0 1 : numbered 2 | 2 Bcast to 1,2,3,4,5,6,7" ∷
@@ -224,16 +150,8 @@ LeaverStaysBehind = text_of (founded (0 ∷ 1 ∷ 2 ∷ 3 ∷ 4 ∷ 5 ∷ 6 ∷ 
 
 abbrev pub RaisedResilience : Type 0
 RaisedResilience = text_of (founded (0 ∷ 1 ∷ 2 ∷ []) 0 64 256) (
-    on 0 (act.Reset 1 1) ∷
-    on 1 (act.Hear 1) ∷
-    on 2 (act.Hear 1) ∷
-    on 0 (act.Hear 2) ∷
-    on 0 (act.Hear 3) ∷
-    on 0 act.Take ∷
-    on 0 act.Take ∷
-    on 1 (act.Hear 4) ∷
-    on 0 (act.Hear 5) ∷
-    on 0 act.Take ∷
+    on 0 (act.Reset 1 1) ∷ on 1 (act.Hear 1) ∷ on 2 (act.Hear 1) ∷ on 0 (act.Hear 2) ∷ on 0 (act.Hear 3) ∷ on 0 act.Take ∷ on 0 act.Take ∷
+    on 1 (act.Hear 4) ∷ on 0 (act.Hear 5) ∷ on 0 act.Take ∷
     []) ≡ lines (
     codes "1 reset 0 1 r1 : waiting 1,2 | 1 Invite to 1,2" ∷
     codes "2 hear 1 1 : voted | 2 Vote to 0" ∷
@@ -256,25 +174,9 @@ RaisedResilience = text_of (founded (0 ∷ 1 ∷ 2 ∷ []) 0 64 256) (
 
 abbrev pub RaisedResilienceStays : Type 0
 RaisedResilienceStays = text_of (founded (0 ∷ 1 ∷ 2 ∷ []) 0 64 256) (
-    on 0 (act.Reset 1 1) ∷
-    on 1 (act.Hear 1) ∷
-    on 2 (act.Hear 1) ∷
-    on 0 (act.Hear 2) ∷
-    on 0 (act.Hear 3) ∷
-    on 0 act.Take ∷
-    on 0 act.Take ∷
-    on 1 (act.Hear 4) ∷
-    on 0 (act.Hear 5) ∷
-    on 0 act.Take ∷
-    on 2 (act.Hear 4) ∷
-    on 0 (act.Reset 1 0) ∷
-    on 1 (act.Hear 8) ∷
-    on 2 (act.Hear 8) ∷
-    on 0 (act.Hear 9) ∷
-    on 0 (act.Hear 10) ∷
-    on 1 (act.Hear 11) ∷
-    on 0 (act.Hear 12) ∷
-    on 0 act.Take ∷
+    on 0 (act.Reset 1 1) ∷ on 1 (act.Hear 1) ∷ on 2 (act.Hear 1) ∷ on 0 (act.Hear 2) ∷ on 0 (act.Hear 3) ∷ on 0 act.Take ∷ on 0 act.Take ∷
+    on 1 (act.Hear 4) ∷ on 0 (act.Hear 5) ∷ on 0 act.Take ∷ on 2 (act.Hear 4) ∷ on 0 (act.Reset 1 0) ∷ on 1 (act.Hear 8) ∷ on 2 (act.Hear 8) ∷
+    on 0 (act.Hear 9) ∷ on 0 (act.Hear 10) ∷ on 1 (act.Hear 11) ∷ on 0 (act.Hear 12) ∷ on 0 act.Take ∷
     []) ≡ lines (
     codes "1 reset 0 1 r1 : waiting 1,2 | 1 Invite to 1,2" ∷
     codes "2 hear 1 1 : voted | 2 Vote to 0" ∷
@@ -308,15 +210,8 @@ RaisedResilienceStays = text_of (founded (0 ∷ 1 ∷ 2 ∷ []) 0 64 256) (
 
 abbrev pub SequencerLeaves : Type 0
 SequencerLeaves = text_of (founded (0 ∷ 1 ∷ []) 0 64 256) (
-    on 0 act.Leave ∷
-    on 1 (act.Hear 1) ∷
-    on 0 (act.Hear 2) ∷
-    on 1 (act.Hear 3) ∷
-    on 0 (act.Hear 5) ∷
-    on 0 act.Tick ∷
-    on 1 (act.Hear 7) ∷
-    on 0 (act.Hear 9) ∷
-    on 1 act.Leave ∷
+    on 0 act.Leave ∷ on 1 (act.Hear 1) ∷ on 0 (act.Hear 2) ∷ on 1 (act.Hear 3) ∷ on 0 (act.Hear 5) ∷ on 0 act.Tick ∷ on 1 (act.Hear 7) ∷
+    on 0 (act.Hear 9) ∷ on 1 act.Leave ∷
     []) ≡ lines (
     codes "1 leave 0 : asked | 1 HandOver to 1" ∷
     codes "2 hear 1 1 : waiting 0 | 2 Invite to 0" ∷
@@ -338,26 +233,9 @@ SequencerLeaves = text_of (founded (0 ∷ 1 ∷ []) 0 64 256) (
 
 abbrev pub SequencerStops : Type 0
 SequencerStops = text_of (founded (0 ∷ 1 ∷ 2 ∷ []) 1 64 256) (
-    on 0 (act.Send (97 ∷ [])) ∷
-    on 0 act.Take ∷
-    on 0 act.Take ∷
-    on 1 (act.Hear 1) ∷
-    on 0 (act.Hear 2) ∷
-    on 0 act.Take ∷
-    on 0 act.Stop ∷
-    on 1 (act.Reset 1 1) ∷
-    on 2 (act.Hear 4) ∷
-    on 1 (act.Hear 5) ∷
-    on 1 (act.GiveUp 0) ∷
-    on 2 (act.Hear 6) ∷
-    on 1 (act.Hear 7) ∷
-    on 2 (act.Hear 8) ∷
-    on 2 (act.Hear 9) ∷
-    on 1 (act.Hear 10) ∷
-    on 2 (act.Hear 11) ∷
-    on 2 act.Take ∷
-    on 2 act.Take ∷
-    on 2 act.Take ∷
+    on 0 (act.Send (97 ∷ [])) ∷ on 0 act.Take ∷ on 0 act.Take ∷ on 1 (act.Hear 1) ∷ on 0 (act.Hear 2) ∷ on 0 act.Take ∷ on 0 act.Stop ∷
+    on 1 (act.Reset 1 1) ∷ on 2 (act.Hear 4) ∷ on 1 (act.Hear 5) ∷ on 1 (act.GiveUp 0) ∷ on 2 (act.Hear 6) ∷ on 1 (act.Hear 7) ∷ on 2 (act.Hear 8) ∷
+    on 2 (act.Hear 9) ∷ on 1 (act.Hear 10) ∷ on 2 (act.Hear 11) ∷ on 2 act.Take ∷ on 2 act.Take ∷ on 2 act.Take ∷
     []) ≡ lines (
     codes "1 send 0 61 : queued 1 | 1 Bcast to 1,2" ∷
     codes "2 take 0 : took 1 view 1.0 0,1,2" ∷
@@ -393,13 +271,7 @@ SequencerStops = text_of (founded (0 ∷ 1 ∷ 2 ∷ []) 1 64 256) (
 
 abbrev pub Tentative : Type 0
 Tentative = text_of (founded (0 ∷ 1 ∷ 2 ∷ []) 1 64 256) (
-    on 0 (act.Send (97 ∷ [])) ∷
-    on 0 act.Take ∷
-    on 0 act.Take ∷
-    on 1 (act.Hear 1) ∷
-    on 0 (act.Hear 2) ∷
-    on 0 act.Take ∷
-    on 1 (act.Hear 3) ∷
+    on 0 (act.Send (97 ∷ [])) ∷ on 0 act.Take ∷ on 0 act.Take ∷ on 1 (act.Hear 1) ∷ on 0 (act.Hear 2) ∷ on 0 act.Take ∷ on 1 (act.Hear 3) ∷
     []) ≡ lines (
     codes "1 send 0 61 : queued 1 | 1 Bcast to 1,2" ∷
     codes "2 take 0 : took 1 view 1.0 0,1,2" ∷
@@ -419,12 +291,7 @@ Tentative = text_of (founded (0 ∷ 1 ∷ 2 ∷ []) 1 64 256) (
 
 abbrev pub TooFew : Type 0
 TooFew = text_of (founded (0 ∷ 1 ∷ 2 ∷ []) 0 64 256) (
-    on 0 act.Stop ∷
-    on 1 (act.Reset 3 0) ∷
-    on 2 (act.Hear 1) ∷
-    on 1 (act.Hear 2) ∷
-    on 1 (act.GiveUp 0) ∷
-    on 1 (act.Reset 2 0) ∷
+    on 0 act.Stop ∷ on 1 (act.Reset 3 0) ∷ on 2 (act.Hear 1) ∷ on 1 (act.Hear 2) ∷ on 1 (act.GiveUp 0) ∷ on 1 (act.Reset 2 0) ∷
     []) ≡ lines (
     codes "1 stop 0 : stopped" ∷
     codes "2 reset 1 3 : waiting 0,2 | 1 Invite to 0,2" ∷
@@ -441,13 +308,7 @@ TooFew = text_of (founded (0 ∷ 1 ∷ 2 ∷ []) 0 64 256) (
 
 abbrev pub TwoCoordinators : Type 0
 TwoCoordinators = text_of (founded (0 ∷ 1 ∷ 2 ∷ []) 0 64 256) (
-    on 1 (act.Reset 1 0) ∷
-    on 2 (act.Reset 1 0) ∷
-    on 1 (act.Hear 2) ∷
-    on 1 (act.Ask 2) ∷
-    on 2 (act.Hear 1) ∷
-    on 0 (act.Hear 2) ∷
-    on 2 (act.Hear 3) ∷
+    on 1 (act.Reset 1 0) ∷ on 2 (act.Reset 1 0) ∷ on 1 (act.Hear 2) ∷ on 1 (act.Ask 2) ∷ on 2 (act.Hear 1) ∷ on 0 (act.Hear 2) ∷ on 2 (act.Hear 3) ∷
     on 2 (act.Hear 5) ∷
     []) ≡ lines (
     codes "1 reset 1 1 : waiting 0,2 | 1 Invite to 0,2" ∷
