@@ -4,19 +4,14 @@ use Rattle.am_base.specs.Names.{life_of}
 use Rattle.am_base.specs.Stamps.{stamp_eq}
 use Rattle.am_base.specs.Lists.{at_place}
 use Rattle.am_core.proofs.Folds.{split}
-use Rattle.am_bodies.specs.declared.KeptBody.{KeptBody}
 use Rattle.am_sender.specs.declared.OwnSend.{OwnSend}
 use Rattle.am_sender.specs.Sends as own
 use Rattle.am_model.specs.declared.status.Status.{Status}
 use Rattle.am_model.specs.declared.status.Status.TheVariants.{Stranger, Asking, Member, Departed}
 use Rattle.am_model.specs.Group.{has_log}
-use Rattle.am_model.specs.Node.{Node, told, view, waiting, is_member}
+use Rattle.am_model.specs.Node.{Node, told, view, is_member}
 use Rattle.am_handlers.specs.Keeps.{NodeKeeps, IsDue}
-use Rattle.am_handlers.proofs.Keeping.{keeps_steady, MaySend}
-
-pub keeps_bodies : (m : Node) (bodies : List KeptBody) → NodeKeeps m → NodeKeeps (record m { bodies = bodies })
-keeps_bodies m bodies keeps = keeps_steady m (record m { bodies = bodies })
-    (record { who = refl; promise = refl; told = refl; top = refl; status = refl; ballot = refl; leaving = refl; sends = refl }) keeps keeps.own
+use Rattle.am_handlers.proofs.Keeping.{keeps_steady, own_for, member_log, MaySend}
 
 pub keeps_taken : (m : Node) (number : ℕ) → m.core.taken ≤ number → NodeKeeps m → NodeKeeps (record m { core = record (m.core) { taken = number } })
 keeps_taken m number more keeps = keeps_steady m (record m { core = record (m.core) { taken = number } })
@@ -39,51 +34,20 @@ keeps_status m s outside log keeps = record {
   leads = λ is. absurd (no_member s (stamp_eq m.core.promise (view m)) ((view m).by == m.core.who) outside is);
   promised = keeps.promised;
   blank = λ none. keeps.blank (log none);
-  ballot = λ b is.
-      let o = keeps.ballot b is in
-      record {
-        stamp = o.stamp;
-        by = o.by;
-        ahead = o.ahead;
-        logged = λ open_. log_stays s (has_log m.status) log (o.logged open_);
-        itself = o.itself;
-        unvoted =
-            o.unvoted;
-        resilience = o.resilience;
-      };
+  ballot = λ b is. own_for m (record m { status = s }) b refl refl refl (log_stays s (has_log m.status) log) (keeps.ballot b is);
   settled = keeps.settled;
   due = keeps.due;
   unsent = λ none. keeps.unsent (log none);
 }
 
-pub keeps_leaving : (m : Node) → waiting m ≡ None → NodeKeeps m → NodeKeeps (record m { leaving = true })
-keeps_leaving m none keeps = record {
-  own = keeps.own;
-  leads = keeps.leads;
-  promised = keeps.promised;
-  blank = keeps.blank;
-  ballot = λ b is.
-      let o = keeps.ballot b is in
-      record { stamp = o.stamp; by = o.by; ahead = o.ahead; logged = o.logged; itself = o.itself; unvoted = o.unvoted; resilience = o.resilience };
-  settled = λ leaves. none;
-  due = keeps.due;
-  unsent = keeps.unsent;
-}
-
 -- ---- sends
-
-member_log : (s : Status) → is_member s ≡ true → has_log s ≡ false → ⊥
-member_log Stranger is none = cc
-member_log Asking is none = cc
-member_log Member is none = cc
-member_log Departed is none = cc
 
 pub may_submit : (m : Node) (sends : own.Sends) → NodeKeeps m → is_member m.status ≡ true → m.leaving ≡ false
     → own.next_request sends ≡ own.next_request m.sends → MaySend m sends
 may_submit m sends keeps member stays next = record {
   settled = λ leaves. absurd (let e = sym stays ∙ leaves in cc);
   due = subst (λ n. IsDue (at_place (told m) m.core.who) (life_of m.core.who) n) (sym next) keeps.due;
-  unsent = λ none. absurd (member_log m.status member none);
+  unsent = λ none. absurd (let e = sym (member_log m.status member) ∙ none in cc);
 }
 
 none_left : (p : OwnSend → Bool) (q : List OwnSend) → find own.is_unsettled q ≡ None → find own.is_unsettled (filter p q) ≡ None

@@ -1,5 +1,5 @@
 -- What a node emits, by what its tests say.
-use Rattle.std.proofs.Common.{◌≡◌, ℕ, ◌+◌, ◌<◌, List, [], length, Bool, true, false, not, ◌&&◌, ◌==◌, nat_lt, nat_le, Option, Some, None, option_map, refl, sym}
+use Rattle.std.proofs.Common.{◌≡◌, ℕ, ◌+◌, ◌<◌, List, [], length, true, false, ◌&&◌, ◌==◌, nat_lt, nat_le, Option, Some, None, option_map, refl, sym}
 use Rattle.std.proofs.Common.{◌∙◌, ap, arith, slice_index}
 use Rattle.std.proofs.lemmas.Bool.Decides.{nat_tests}
 use Rattle.std.proofs.Math.ListN.{get_or-map}
@@ -23,14 +23,6 @@ use Rattle.am_handlers.proofs.Keeping.{keeps_pushed, leading_log}
 use Rattle.am_acting.specs.declared.note.Note.{Note}
 use Rattle.am_acting.specs.declared.note.Note.TheVariants as note
 use Rattle.am_acting.specs.Forms.{noting, own_send}
-
-pub not_true : (b : Bool) → not b ≡ true → b ≡ false
-not_true true h = absurd (cc)
-not_true false h = refl
-
-pub not_false : (b : Bool) → not b ≡ false → b ≡ true
-not_false true h = refl
-not_false false h = absurd (cc)
 
 -- ---- a member hands its send in
 

@@ -1,5 +1,5 @@
 -- The last member departs.
-use Rattle.std.proofs.Common.{◌≡◌, inr, ℕ, zero, suc, ◌+◌, ◌-◌, ◌<◌, List, [], ◌∷◌, ◌++◌, length, Bool, true, false, ◌&&◌, ◌||◌, ◌==◌, nat_lt, nat_le}
+use Rattle.std.proofs.Common.{◌≡◌, ◌≢◌, inr, ℕ, zero, suc, ◌+◌, ◌-◌, ◌<◌, ◌≤◌, List, [], ◌∷◌, ◌++◌, length, Bool, true, false, ◌&&◌, ◌||◌, ◌==◌, nat_lt, nat_le}
 use Rattle.std.proofs.Common.{if◌then◌else◌, Some, None, find, length-append, refl, sym, ◌∙◌, ap, arith, slice_index}
 use Rattle.std.specs.Prelude.{slice_get, count_by}
 use Rattle.std.proofs.lemmas.Bool.Decides.{nat_tests}
@@ -25,7 +25,8 @@ use Rattle.am_sender.specs.declared.OwnSend.{OwnSend}
 use Rattle.am_sender.specs.Sends as own
 use Rattle.am_model.specs.declared.status.Status.{Status}
 use Rattle.am_model.specs.declared.status.Status.TheVariants as status
-use Rattle.am_model.specs.Node.{Node, top, told, view, members, others, only_name, lowest_or_first, waiting, unsettled, has_room, is_sequencer, pushed}
+use Rattle.am_model.specs.Node.{Node, top, told, view, members, others, only_name, lowest_or_first, waiting, unsettled, has_room, is_member, is_sequencer}
+use Rattle.am_model.specs.Node.{pushed}
 use Rattle.am_model.specs.Emit.{Plan, quiet, finish, with_accept}
 use Rattle.am_model.specs.Refresh.{refresh, lead, settle, settled, refresh_at_end, led_of, with_led}
 use Rattle.am_model.specs.Calls.{go, is_unfinished, leave_now, leave_row, leave_by}
@@ -175,6 +176,13 @@ departs_done before m new answer box empty end = λ first acc. record {
     told first = rw (and_none (is_sequencer (refresh_at_end (pushed m (Leave m.core.who))))
         (nat_lt first.core.acc (refresh_at_end (pushed m (Leave m.core.who))).core.acc)) refl
 
+-- whether there is somebody else
+pub some_others : (m : Node) {set : List ℕ} {count : ℕ} → count ≡ size set → set ≡ others m → 0 < count → 0 < size (others m)
+some_others m {set} {count} count_is set_is some = let is : count ≡ size (others m) = count_is ∙ ap (λ names. size names) set_is in omega arith
+
+pub no_others : (m : Node) {set : List ℕ} {count : ℕ} → count ≡ size set → set ≡ others m → count ≤ 0 → size (others m) ≡ 0
+no_others m {set} {count} count_is set_is none = let is : count ≡ size (others m) = count_is ∙ ap (λ names. size names) set_is in omega arith
+
 pub leave_leaving : (m : Node) → m.leaving ≡ true → leave_now m ≡ quiet m said.Leaving
 leave_leaving m is = rw is refl
 
@@ -190,6 +198,22 @@ leave_goes m is idle = rw (is, idle) refl
 pub leave_is : (m : Node) (s : Status) → m.status ≡ s → leave_row m ≡ leave_by m s
 unfolding leave_row
 leave_is m s is = ap (leave_by m) is
+
+pub leave_member : (m : Node) → is_member m.status ≡ true → leave_row m ≡ leave_now m
+leave_member m member = leave_is m m.status refl ∙ by_status m.status member
+  where
+    by_status : (s : Status) → is_member s ≡ true → leave_by m s ≡ leave_now m
+    by_status status.Member is = refl
+    by_status _ is = absurd (cc)
+
+pub leave_outside : (m : Node) → is_member m.status ≡ false → m.status ≢ status.Departed → leave_row m ≡ quiet m said.NotMember
+leave_outside m outside stays = leave_is m m.status refl ∙ by_status m.status outside stays
+  where
+    by_status : (s : Status) → is_member s ≡ false → s ≢ status.Departed → leave_by m s ≡ quiet m said.NotMember
+    by_status status.Stranger is other = refl
+    by_status status.Asking is other = refl
+    by_status status.Member is other = absurd (cc)
+    by_status status.Departed is other = absurd (other refl)
 
 -- where all are settled none waits
 pub none_waits : (q : List OwnSend) → count_by own.is_unsettled q ≡ 0 → find own.is_unsettled q ≡ None

@@ -1,5 +1,5 @@
 -- Rows of calls, by what their tests say.
-use Rattle.std.proofs.Common.{◌≡◌, ℕ, ◌+◌, ◌<◌, ◌≤◌, List, length, Bool, true, false, ◌||◌, ◌==◌, nat_lt, nat_le, if◌then◌else◌, Option, Some, None, is_some}
+use Rattle.std.proofs.Common.{◌≡◌, ℕ, ◌+◌, ◌<◌, ◌≤◌, List, length, true, false, ◌||◌, ◌==◌, nat_lt, nat_le, Option, Some, None, is_some}
 use Rattle.std.proofs.Common.{refl, sym, ◌∙◌, ap, arith}
 use Rattle.std.specs.List.{list_any}
 use Rattle.std.proofs.lemmas.Bool.Decides.{nat_tests}
@@ -14,7 +14,7 @@ use Rattle.am_model.specs.declared.status.Status.{Status}
 use Rattle.am_model.specs.declared.status.Status.TheVariants as status
 use Rattle.am_model.specs.Node.{Node, is_member, waiting}
 use Rattle.am_model.specs.Emit.{quiet}
-use Rattle.am_model.specs.Calls.{send_row, done_row, take_row, given, join_row, join_by, state_row, state_by, queue, queued, emit}
+use Rattle.am_model.specs.Calls.{send_row, done_row, take_row, given, join_row, join_by, queue, queued, emit}
 use Rattle.am_model.specs.Receiving.{spread_row, hold_row, held_up}
 use Rattle.am_model.specs.Sequencing.{row_at}
 use Rattle.am_model.specs.Joining.{gone_row}
@@ -29,14 +29,6 @@ not_few n never = split (nat_lt n 4) (λ t. let few : n < 4 = grind (arith, nat_
 pub join_is : (m : Node) (s : Status) → m.status ≡ s → join_row m ≡ join_by m s
 unfolding join_row
 join_is m s is = ap (join_by m) is
-
-pub state_is : (m : Node) (s : Status) → m.status ≡ s → state_row m ≡ state_by m s
-unfolding state_row
-state_is m s is = ap (state_by m) is
-
-pub state_member : (m : Node) (leaving : Bool) → m.status ≡ status.Member → m.leaving ≡ leaving
-    → state_row m ≡ (if leaving then quiet m said.Leaving else quiet m (said.Joined m.core.start))
-state_member m leaving is leaves = state_is m status.Member is ∙ ap (λ b. if b then quiet m said.Leaving else quiet m (said.Joined m.core.start)) leaves
 
 -- ---- hearing
 

@@ -1,5 +1,6 @@
 -- The rows of the tick, by what their tests say.
-use Rattle.std.proofs.Common.{◌≡◌, ℕ, ◌+◌, ◌<◌, List, [], Bool, true, false, not, ◌&&◌, ◌==◌, nat_lt, if◌then◌else◌, Option, Some, None, refl, sym, ◌∙◌, ap}
+use Rattle.std.proofs.Common.{◌≡◌, ◌≢◌, ℕ, ◌+◌, ◌<◌, List, [], Bool, true, false, not, ◌&&◌, ◌==◌, nat_lt, if◌then◌else◌, Option, Some, None, refl, sym}
+use Rattle.std.proofs.Common.{◌∙◌, ap}
 use Rattle.std.proofs.Common.{arith}
 use Rattle.std.proofs.lemmas.Bool.Decides.{nat_tests}
 use Rattle.am_base.specs.declared.entry.Entry.TheVariants.{Data, Leave}
@@ -10,6 +11,7 @@ use Rattle.am_core.proofs.Folds.{split}
 use Rattle.am_packet.specs.Boxes.{Letter, with_letter}
 use Rattle.am_sender.specs.Sends as own
 use Rattle.am_model.specs.declared.status.Status.{Status}
+use Rattle.am_model.specs.declared.status.Status.TheVariants as status
 use Rattle.am_model.specs.Node.{Node, Ballot, top, view, others, only_name, lowest_or_first, acts, own_row, has_room, is_sequencer, waiting, pushed}
 use Rattle.am_model.specs.Emit.{Plan, quiet, finish, with_accept, accept_of}
 use Rattle.am_model.specs.Refresh.{refresh_at_end}
@@ -216,3 +218,13 @@ acting_member m is leads = λ k. if not (is k) then tick_promised m else if lead
 pub tick_is : (m : Node) (s : Status) → m.status ≡ s → tick_row m ≡ tick_by m s
 unfolding tick_row
 tick_is m s is = ap (tick_by m) is
+
+-- who neither asks nor is a member stays idle
+pub tick_idle : (m : Node) → m.status ≢ status.Asking → m.status ≢ status.Member → tick_row m ≡ quiet m said.Idle
+tick_idle m no_asking no_member = tick_is m m.status refl ∙ by_status m.status no_asking no_member
+  where
+    by_status : (s : Status) → s ≢ status.Asking → s ≢ status.Member → tick_by m s ≡ quiet m said.Idle
+    by_status status.Stranger a b = refl
+    by_status status.Asking a b = absurd (a refl)
+    by_status status.Member a b = absurd (b refl)
+    by_status status.Departed a b = refl

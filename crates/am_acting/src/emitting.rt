@@ -1,10 +1,10 @@
-ghost use Rattle.std.specs.Prelude.{◌≡◌, ◌<◌, ◌≤◌, ◌+◌, ◌&&◌, nat_lt, nat_le, [], length, true, Some, IsTrue, IfSome, is_some, option_map};
+ghost use Rattle.std.specs.Prelude.{◌≡◌, ◌<◌, ◌≤◌, ◌+◌, ◌&&◌, nat_lt, nat_le, [], length, true, Some, IfSome, is_some, option_map};
 ghost use Rattle.am_base.specs.Most.{most_number};
 ghost use Rattle.am_base.specs.declared.entry.Entry.TheVariants.{Data};
 ghost use Rattle.am_base.specs.Limits.{IsNumber};
 ghost use Rattle.am_base.specs.Lists.{top_of};
 ghost use Rattle.am_sender.specs.Sends.{waiting_send};
-ghost use Rattle.am_model.specs.Node.{top, view, others, acts, own_row, waiting, has_room, pushed, is_sequencer};
+ghost use Rattle.am_model.specs.Node.{top, view, others, acts, own_row, waiting, pushed, is_sequencer};
 ghost use Rattle.am_model.specs.Calls.{hand_in, emit};
 ghost use Rattle.am_handlers.specs.Parts.{node_of};
 ghost use Rattle.am_acting.specs.declared.note.Note.TheVariants as note;
@@ -20,6 +20,7 @@ use am_base::name::Name;
 use am_base::names::Names;
 use am_base::outcome::Outcome;
 use am_core::log::Log;
+use am_handlers::asking::{has_room, next_number};
 use am_handlers::finishing::finish_quietly;
 use am_handlers::packets::only;
 use am_handlers::parts::Parts;
@@ -61,29 +62,11 @@ pub fn would_emit(parts: &Parts, req: u32) -> bool
     parts.acts() && parts.core.log.row(parts.core.who).last < req
 }
 
-/// Whether another entry may be numbered.
-pub fn has_room(parts: &Parts) -> bool
-    ensures value { result ≡ has_room (node_of parts.now) }
-    ensures room { IsTrue result → length parts.now.core.log.entries < parts.now.core.rules.window
-        + 15 }
-{
-    parts.core.log.top() + 1 - parts.core.log.base() <= u32::from(parts.core.rules.window())
-}
-
 /// The node's name.
 pub fn who(parts: &Parts) -> Name
     ensures { result ≡ parts.now.core.who }
 {
     parts.core.who
-}
-
-/// The number that the next entry gets.
-pub fn next_number(parts: &Parts) -> u32
-    requires { top_of parts.now.core.log < most_number }
-    ensures value { result ≡ top (node_of parts.now) + 1 }
-    ensures within { IsNumber result }
-{
-    parts.core.log.top() + 1
 }
 
 /// Whether a body goes by the sequencer.

@@ -1,6 +1,8 @@
-ghost use Rattle.std.specs.Prelude.{◌≡◌, ◌==◌, ℕ, ◌<◌, if◌then◌else◌, []};
+ghost use Rattle.std.specs.Prelude.{◌≡◌, ◌==◌, ℕ, ◌<◌, if◌then◌else◌, [], IfSome, IfNone};
 ghost use Rattle.am_base.specs.Names.{place_of, by_place};
 ghost use Rattle.am_model.specs.Calls.{everywhere_else, ask_to_join, join_row, state_row};
+ghost use Rattle.am_model.specs.declared.status.Status.TheVariants as status;
+ghost use Rattle.am_model.specs.Emit.{quiet};
 ghost use Rattle.am_model.specs.Ends.{Does};
 ghost use Rattle.am_handlers.specs.Parts.{node_of};
 ghost use Rattle.am_handlers.specs.Finishing.{Done};
@@ -52,6 +54,23 @@ pub fn ask_to_join(parts: &mut Parts, before: u32, answer: Outcome, out: &mut Ou
     finish_noting(parts, before, false, answer, to, &Note::JoinAsk, out)
 }
 
+/// What a node is told that would join; None where it can ask.
+#[tactic(auto, unfolding(am_model::specs::Calls::join_row))]
+fn join_answer(parts: &Parts) -> Option<Outcome>
+    ensures told { IfSome result (λ answer. join_row (node_of parts.now)
+        ≡ quiet (node_of parts.now) answer) }
+    ensures asks { IfNone result (parts.now.status ≡ status.Stranger) }
+{
+    match status(parts) {
+        Status::Stranger => None,
+        Status::Asking => Some(Outcome::Asked),
+        Status::Member => Some(Outcome::Joined {
+            number: start(parts),
+        }),
+        Status::Departed => Some(Outcome::NotMember),
+    }
+}
+
 /// The application would join (docs/PROTOCOL.md, "Calls"). A Stranger asks: Asked. Asked again; Joined with its number;
 /// NotMember once it has departed.
 pub fn on_join(parts: &mut Parts, out: &mut OutBox) -> Outcome
@@ -59,17 +78,32 @@ pub fn on_join(parts: &mut Parts, out: &mut OutBox) -> Outcome
     ensures { Does join_row (node_of parts.old) result out.new (node_of parts.new) }
 {
     let before = parts.accepted();
-    match status(parts) {
-        Status::Stranger => {
+    match join_answer(parts) {
+        Some(answer) => finish_quietly(parts, before, answer, out),
+        None => {
             set_status(parts, Status::Asking);
             ask_to_join(parts, before, Outcome::Asked, out)
         }
-        Status::Asking => finish_quietly(parts, before, Outcome::Asked, out),
+    }
+}
+
+/// How the node stands to its group.
+#[tactic(auto, unfolding(am_model::specs::Calls::state_row))]
+fn standing(parts: &Parts) -> Outcome
+    ensures { state_row (node_of parts.now) ≡ quiet (node_of parts.now) result }
+{
+    match status(parts) {
+        Status::Stranger => Outcome::Stranger,
+        Status::Asking => Outcome::Asked,
         Status::Member => {
-            let number = start(parts);
-            finish_quietly(parts, before, Outcome::Joined { number }, out)
+            if is_leaving(parts) {
+                return Outcome::Leaving;
+            }
+            Outcome::Joined {
+                number: start(parts),
+            }
         }
-        Status::Departed => finish_quietly(parts, before, Outcome::NotMember, out),
+        Status::Departed => Outcome::Departed,
     }
 }
 
@@ -79,16 +113,6 @@ pub fn on_state(parts: &mut Parts, out: &mut OutBox) -> Outcome
     ensures { Does state_row (node_of parts.old) result out.new (node_of parts.new) }
 {
     let before = parts.accepted();
-    let number = start(parts);
-    match status(parts) {
-        Status::Stranger => finish_quietly(parts, before, Outcome::Stranger, out),
-        Status::Asking => finish_quietly(parts, before, Outcome::Asked, out),
-        Status::Member => {
-            if is_leaving(parts) {
-                return finish_quietly(parts, before, Outcome::Leaving, out);
-            }
-            finish_quietly(parts, before, Outcome::Joined { number }, out)
-        }
-        Status::Departed => finish_quietly(parts, before, Outcome::Departed, out),
-    }
+    let answer = standing(parts);
+    finish_quietly(parts, before, answer, out)
 }

@@ -1,7 +1,6 @@
 ghost use Rattle.std.specs.Prelude.{◌≡◌, ◌<◌, ◌≤◌, ◌+◌, ◌||◌, nat_lt, [], true, false, length, None};
 ghost use Rattle.am_base.specs.Most.{most_number};
 ghost use Rattle.am_base.specs.declared.entry.Entry.TheVariants.{Leave};
-ghost use Rattle.am_base.specs.declared.outcome.Outcome.TheVariants as said;
 ghost use Rattle.am_base.specs.Names.{size};
 ghost use Rattle.am_base.specs.Lists.{top_of};
 ghost use Rattle.am_fronts.specs.Refresh.{MayLead};
@@ -14,8 +13,8 @@ ghost use Rattle.am_model.specs.Ends.{IsEndOf, Does};
 ghost use Rattle.am_handlers.specs.Parts.{node_of};
 ghost use Rattle.am_handlers.specs.Finishing.{Done};
 
-use crate::changing::{begin_leaving, is_leaving, set_status, status};
-use crate::emitting::{has_room, others, who};
+use crate::changing::{begin_leaving, is_leaving, is_member, set_status, status};
+use crate::emitting::{others, who};
 use crate::finishing::finish_noting;
 use crate::note::Note;
 use am_base::entry::Entry;
@@ -23,6 +22,7 @@ use am_base::name::Name;
 use am_base::names::Names;
 use am_base::outcome::Outcome;
 use am_core::log::Log;
+use am_handlers::asking::{has_room, held};
 use am_handlers::finishing::finish_quietly;
 use am_handlers::packets::only;
 use am_handlers::parts::Parts;
@@ -62,16 +62,6 @@ pub fn lowest_or_first(names: Names) -> Name
     match names.lowest() {
         Some(name) => name,
         None => Name::of_byte(0),
-    }
-}
-
-/// The answer where there is no room.
-pub fn held(parts: &Parts) -> Outcome
-    ensures { result ≡ said.Held (node_of parts.now).core.base (top (node_of parts.now)) }
-{
-    Outcome::Held {
-        base: parts.core.log.base(),
-        top: parts.core.log.top(),
     }
 }
 
@@ -147,6 +137,17 @@ fn leave_now(parts: &mut Parts, before: u32, out: &mut OutBox) -> Outcome
     go_on_leaving(parts, before, Outcome::Asked, out)
 }
 
+/// What a node is told that would leave and is no member.
+fn outside(parts: &Parts) -> Outcome
+    requires { is_member parts.now.status ≡ false }
+    ensures { leave_row (node_of parts.now) ≡ quiet (node_of parts.now) result }
+{
+    match status(parts) {
+        Status::Departed => Outcome::Departed,
+        _ => Outcome::NotMember,
+    }
+}
+
 /// The application would leave (docs/PROTOCOL.md, "Calls"). NotMember where the node never was one; Departed; Leaving
 /// already; Busy with the number of unsettled sends where there is one, or an unfinished ballot. Else it goes on leaving:
 /// Asked, Departed as the last member, or Held where that one has no room.
@@ -156,10 +157,9 @@ pub fn on_leave(parts: &mut Parts, out: &mut OutBox) -> Outcome
     ensures { Does leave_row (node_of parts.old) result out.new (node_of parts.new) }
 {
     let before = parts.accepted();
-    match status(parts) {
-        Status::Stranger => finish_quietly(parts, before, Outcome::NotMember, out),
-        Status::Asking => finish_quietly(parts, before, Outcome::NotMember, out),
-        Status::Member => leave_now(parts, before, out),
-        Status::Departed => finish_quietly(parts, before, Outcome::Departed, out),
+    if is_member(parts) {
+        return leave_now(parts, before, out);
     }
+    let answer = outside(parts);
+    finish_quietly(parts, before, answer, out)
 }

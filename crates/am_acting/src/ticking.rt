@@ -13,16 +13,17 @@ ghost use Rattle.am_acting.specs.Notes.{IsNoteWithin};
 ghost use Rattle.am_acting.specs.Forms.{noting, polled, handing, again_of, unfinished_of, by_again};
 
 use crate::changing::{is_leaving, status};
-use crate::emitting::{emit, has_room, leader, next_send, number_send, others, would_emit};
+use crate::emitting::{emit, leader, next_send, number_send, others, would_emit};
 use crate::finishing::{finish_noting, tell};
 use crate::joining::ask_to_join;
-use crate::leaving::{depart, go_on_leaving, held, lowest_or_first};
+use crate::leaving::{depart, go_on_leaving, lowest_or_first};
 use crate::note::Note;
 use crate::viewing::tell_view;
 use am_base::name::Name;
 use am_base::names::Names;
 use am_base::outcome::Outcome;
 use am_core::log::Log;
+use am_handlers::asking::{has_room, held};
 use am_handlers::finishing::finish_quietly;
 use am_handlers::packets::only;
 use am_handlers::parts::Parts;
@@ -297,9 +298,8 @@ pub fn on_tick(parts: &mut Parts, out: &mut OutBox) -> Outcome
 {
     let before = parts.accepted();
     match status(parts) {
-        Status::Stranger => finish_quietly(parts, before, Outcome::Idle, out),
         Status::Asking => ask_to_join(parts, before, Outcome::Ticked, out),
         Status::Member => tick_with(parts, before, out),
-        Status::Departed => finish_quietly(parts, before, Outcome::Idle, out),
+        _ => finish_quietly(parts, before, Outcome::Idle, out),
     }
 }

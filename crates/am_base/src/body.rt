@@ -1,8 +1,9 @@
-ghost use Rattle.std.specs.Prelude.{◌≡◌, ◌≤◌, ◌↔◌, ◌+◌, ◌++◌, [], length, IsSome, IfSome};
+ghost use Rattle.std.specs.Prelude.{◌≡◌, ◌≤◌, ◌↔◌, ◌+◌, ◌++◌, [], length, IsSome, IfSome, IfOk};
 ghost use Rattle.am_base.specs.Most.{most_body, most_packet};
 
 use crate::limits::{MOST_BODY, MOST_PACKET};
 use arrayvec::ArrayVec;
+use std::alloc::{AllocError, Global};
 use std::marker::Model;
 
 /// The body of a send: 0 to 1,024 bytes. Contracts see it as its bytes.
@@ -57,6 +58,45 @@ impl Body {
     }
 }
 
+/// A body that stands apart from what holds it: as many bytes as there are, at most 1,024. Contracts see it as its bytes.
+#[derive(Drop, Clone, Debug)]
+pub struct SentBody(Vec<u8>);
+
+impl Model for SentBody {
+    ghost use Rattle.std.specs.Prelude.{ℕ, List, ◌≤◌, length};
+    ghost use Rattle.am_base.specs.Most.{most_body};
+
+    ghost Value = { List ℕ };
+
+    ghost view = { λ b. b.0.items };
+
+    ghost invariant = { λ b. length b.0.items ≤ most_body };
+}
+
+impl SentBody {
+    /// The same body, apart. It is an error where there is no memory for it.
+    pub fn of(alloc: Global, body: &Body) -> Result<SentBody, AllocError>
+        ensures { IfOk result (λ b. b ≡ body.now) }
+    {
+        Ok(SentBody(Vec::from_slice(alloc, body.bytes())?))
+    }
+
+    /// Its bytes.
+    pub fn bytes(&self) -> &[u8]
+        ensures value { result.now ≡ self.now }
+        ensures fits { length result.now ≤ most_body }
+    {
+        self.0.as_slice()
+    }
+
+    /// The same body in a place of fixed size. It takes no memory.
+    pub fn body(&self) -> Body
+        ensures { result ≡ self.now }
+    {
+        Body::of(self.bytes()).unwrap()
+    }
+}
+
 /// The bytes of a packet: at most 1,152. Contracts see it as its bytes.
 #[derive(Drop, Debug)]
 pub struct PacketBytes(ArrayVec<u8, MOST_PACKET>);
@@ -81,18 +121,6 @@ impl Default for PacketBytes {
 }
 
 impl PacketBytes {
-    /// These bytes; None exactly where there are more than 1,152.
-    pub fn of(bytes: &[u8]) -> Option<PacketBytes>
-        ensures variant { IsSome result ↔ (length bytes.now ≤ most_packet) }
-        ensures value { IfSome result (λ b. b ≡ bytes.now) }
-    {
-        let mut packet = ArrayVec::new();
-        match packet.try_extend_from_slice(bytes) {
-            Ok(()) => Some(PacketBytes(packet)),
-            Err(_) => None,
-        }
-    }
-
     /// The bytes.
     pub fn bytes(&self) -> &[u8]
         ensures value { result.now ≡ self.now }
@@ -114,14 +142,5 @@ impl PacketBytes {
         ensures { self.new ≡ self.old ++ bytes.now }
     {
         let _ = self.0.try_extend_from_slice(bytes);
-    }
-
-    /// The same bytes. It takes no memory.
-    pub fn copied(&self) -> PacketBytes
-        ensures { result ≡ self.now }
-    {
-        let mut copy = PacketBytes::default();
-        copy.extend(self.bytes());
-        copy
     }
 }

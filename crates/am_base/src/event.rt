@@ -1,5 +1,6 @@
-use crate::body::{Body, PacketBytes};
+use crate::body::Body;
 use crate::boxed::Boxed;
+use crate::items::Items;
 use crate::name::Name;
 
 /// What a node is asked to do, or hears (docs/PROTOCOL.md, "Steps of a node").
@@ -26,5 +27,5 @@ pub enum NodeEvent {
     /// Time passed.
     Tick,
     /// These bytes came. What spells no packet is refused.
-    Hear(Boxed<PacketBytes>),
+    Hear(Items<u8>),
 }

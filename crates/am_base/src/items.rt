@@ -4,7 +4,7 @@ use std::alloc::{AllocError, Global};
 use std::marker::Model;
 
 /// Items in order. Contracts see it as their list.
-#[derive(Drop)]
+#[derive(Drop, Debug)]
 pub struct Items<T>(Vec<T>);
 
 impl<T> Model for Items<T> {

@@ -61,7 +61,7 @@ fn encode_many(first: &Packet, second: &Packet, count: u32) -> u64
 
 /// A letter for these names.
 #[tactic(auto, unfolding(am_codec::specs::Limits::IsWithin))]
-fn letter_to(to: Names) -> Letter {
+fn letter_to(alloc: Global, to: Names) -> Result<Letter, AllocError> {
     let invite = Packet::Invite {
         sender: Name::of_byte(0),
         stamp: Stamp {
@@ -69,7 +69,7 @@ fn letter_to(to: Names) -> Letter {
             by: Name::of_byte(0),
         },
     };
-    Letter::of(to, &invite)
+    Letter::of(alloc, to, &invite)
 }
 
 /// A journal of so many records with one letter each.
@@ -77,7 +77,7 @@ fn journal_of(alloc: Global, founding: &Founding, records: u32) -> Result<Journa
     let mut journal = Journal::new(alloc, founding);
     for _ in 0..records {
         let mut packets = Items::new(alloc);
-        packets.push(letter_to(founding.founders()))?;
+        packets.push(letter_to(alloc, founding.founders())?)?;
         journal.reserve()?;
         let item = Record {
             event: Event {

@@ -15,8 +15,8 @@ use Rattle.am_model.specs.Ballots.{Verdict, need_of, left_in, taken_by, trimmed_
 use Rattle.am_effects.specs.Causes.{Cause}
 use Rattle.am_effects.specs.Looks.{Looks, finds_itself_out, waits, fetches_from_best, finds_too_few, finds_no_room, decides, HasOpen, Balloting, with_more}
 use Rattle.am_effects.specs.Looks.{without_one, as_it_is}
-use Rattle.am_effects.specs.Changes.{MayStore, Change, refreshes, settles, takes_report, admits, numbers, keeps_body, notes, stores, begins_list, departs}
-use Rattle.am_effects.specs.Changes.{promises, opens, looks, fetches, stores_view, queues, collects, takes, asks_to_join, asks_to_leave, closes}
+use Rattle.am_effects.specs.Changes.{MayStore, Change, refreshes, settles, numbers, notes, stores, begins_list}
+use Rattle.am_effects.specs.Changes.{promises, opens, looks, fetches, stores_view, closes}
 use Rattle.am_bounded.proofs.Kept.{HasItself, Keeps, kept_next, kept_pushed, kept_trimmed, kept_promised, kept_refresh, kept_settle, kept_at_end}
 
 -- ---- a set with a name in it isn't empty
@@ -114,24 +114,16 @@ same_bounds rules m n a b c d e h = record {
 pub kept_change : (rules : Rules) {c : Cause} {o : Outcome} (m n : Node) → Change c o m n → Keeps rules m → Keeps rules n
 kept_change rules m n refreshes h = kept_refresh rules m h
 kept_change rules m n settles h = kept_settle rules m h
-kept_change rules m n (takes_report s v report by may) h = h
-kept_change rules m n (admits s v is leads fit) h = h
 kept_change rules m n (numbers e leads room why) h = kept_pushed rules m e room h
-kept_change rules m n (keeps_body s v report req body is heard) h = h
 kept_change rules m n (notes s v base acc by heard) h = kept_trimmed rules m _ h
 kept_change rules m n (stores s v base acc number e by heard plain may) h =
     same_bounds rules (pushed m e) n refl refl refl refl refl (kept_stored rules m base number e may h)
 kept_change rules m n (begins_list s v base join image is o may) h = record { founding = h.founding; few = omega arith; itself = h.itself }
-kept_change rules m n (departs s v number is heard leaves) h = h
 kept_change rules m n (promises v low why) h = kept_promised rules m v h
 kept_change rules m n (opens least resilience by may) h = record { founding = h.founding; few = h.few; itself = refl }
 kept_change rules m n (looks b verdict over why look is) h = kept_look rules m b verdict look (itself _ m b why h.itself) h
 kept_change rules m n (fetches s v base number e is heard promise below from may) h = kept_fetched rules m base number e may h
 kept_change rules m n (stores_view s v base number names resilience is heard own other promise below may) h =
     kept_fetched rules m base number (View v names resilience) may h
-kept_change rules m n (queues body is o member stays few) h = h
-kept_change rules m n (collects req is) h = h
-kept_change rules m n (takes e is o member some there) h = h
-kept_change rules m n (asks_to_join is was) h = h
-kept_change rules m n (asks_to_leave is was stays done) h = h
 kept_change rules m n (closes leads leaves alone room) h = kept_at_end rules (pushed m (Leave m.core.who)) (kept_pushed rules m (Leave m.core.who) room h)
+kept_change rules m n _ h = h

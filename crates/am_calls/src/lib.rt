@@ -13,5 +13,6 @@ pub mod outcomes;
 pub mod plans;
 pub mod race;
 pub mod ready;
+mod steps;
 #[cfg(test)]
 mod tests;

@@ -1,19 +1,17 @@
-ghost use Rattle.std.specs.Prelude.{◌≡◌, ℕ, ◌||◌, ◌+◌, ◌<◌, ◌≤◌, [], ◌∷◌, None, Some, length, max, IfOk, IfErr, IfSome, IfNone, OnOk, OnErr, Option, true, false};
+ghost use Rattle.std.specs.Prelude.{◌≡◌, ℕ, ◌<◌, ◌≤◌, [], ◌∷◌, None, Some, length, IfOk, IfErr, IfSome, IfNone, OnOk, OnErr, Option, true, false};
 ghost use Rattle.std.specs.Option.{option_copied};
 ghost use Rattle.am_base.specs.Most.{most_events};
-ghost use Rattle.am_base.specs.declared.outcome.Outcome.TheVariants as said;
 ghost use Rattle.am_model.specs.Claims.{heard_by};
 ghost use Rattle.am_model.specs.World.{first_node};
 ghost use Rattle.am_node.specs.Info.{info_of};
-ghost use Rattle.am_node.specs.Nodes.{HasNumbersLeft};
 ghost use Rattle.am_node.specs.Stands.{state_of};
 ghost use Rattle.am_group.specs.declared.event.Record.{Record};
 ghost use Rattle.am_wire.specs.declared.rule.Key.TheVariants.{Place, Caller as CallerKey};
 ghost use Rattle.am_wire.specs.declared.wire.WireRefusal.TheVariants as refusals;
 ghost use Rattle.am_wire.specs.Seats.{GoesOn};
 ghost use Rattle.am_wire.specs.Passes.{Sees, fresh};
-ghost use Rattle.am_wire.specs.Stops.{is_stop, has_stopped};
-ghost use Rattle.am_calls.specs.Boxes.{what_of, Steps, MayAct, IsShareOf, IsTurn, Acted, IsRefused, Looks, refused, Hears, GivesUp, node_by, IsLeastOf, InBoth, heard_in, lost_in, Picked, is_turn_act, Found, event_at, turn_by};
+ghost use Rattle.am_wire.specs.Stops.{has_stopped};
+ghost use Rattle.am_calls.specs.Boxes.{what_of, MayAct, IsShareOf, IsTurn, Acted, IsRefused, Looks, refused, Hears, GivesUp, node_by, heard_in, lost_in, Picked, is_turn_act, Found, event_at, turn_by};
 ghost use Rattle.am_calls.specs.Callings.{IsHand, luck_after};
 ghost use Rattle.am_calls.specs.Going.{end_act, end_part, luck_behind, is_asked, ToldBy, Asked, IsCame, EndTells, Began, HasSpent, HasEnded, HasLooked, WasRefused};
 ghost use Rattle.am_calls.specs.Plans.{is_call};
@@ -22,7 +20,7 @@ ghost use Rattle.am_calls.specs.Tags.{of_call, own_of, is_turn_part};
 ghost use Rattle.am_pump.specs.Choices.{act_of};
 ghost use Rattle.am_group.specs.declared.event.Act.TheVariants as acts;
 ghost use Rattle.am_calls.specs.Lawful.{IsSent, plan_by, terms_of};
-ghost use Rattle.am_calls.specs.Turns.{lost_by, unless_nought, or_nought, waits_in_vain, words_drawn, is_turn};
+ghost use Rattle.am_calls.specs.Turns.{lost_by, waits_in_vain, words_drawn, is_turn};
 
 use crate::answer::Answer;
 use crate::caller::{Hand, Tag};
@@ -30,17 +28,16 @@ use crate::gate::Gate;
 use crate::naming::{RaceLaw, Racing};
 use crate::outcomes::{is_take, request_in};
 use crate::ready::{Came, is_ready_after, may_take, round_in};
+use crate::steps::{
+    Room, copied, cursor_after, heard_by, last_after, least_of_both, lost_by, room_for, step,
+    stops_by,
+};
 use am_base::NoMemory;
 use am_base::boxed::Boxed;
-use am_base::entry::Entry;
-use am_base::event::NodeEvent;
-use am_base::items::Items;
 use am_base::name::Name;
-use am_base::names::Names;
 use am_base::outcome::Outcome;
-use am_group::event::{Act, By, Event, Part, Record};
-use am_letter::letter::Letter;
-use am_letter::out_box::OutBox;
+use am_group::event::{Act, By, Part, Record};
+use am_letter::letter::LetterCopy;
 use am_node::info::Info;
 use am_node::node::Node;
 use am_pump::chooser::{Choice, Chooser};
@@ -62,7 +59,7 @@ pub enum Looked {
 #[derive(Drop)]
 struct Turn {
     act: Act,
-    letter: Option<Letter>,
+    letter: Option<LetterCopy>,
     lost: u32,
 }
 
@@ -99,174 +96,6 @@ fn answer_of(refusal: WireRefusal) -> Answer
         WireRefusal::NoMemory => Answer::NoMemory,
         WireRefusal::Spent => Answer::Spent,
     }
-}
-
-/// What an act asks of a node that runs, with the letter that it hears; None where it is no step of one.
-fn asked(alloc: Global, act: &Act, letter: Option<&Letter>) -> Result<Option<NodeEvent>, NoMemory>
-    ensures { IfOk result (λ what. what ≡ what_of act.now (option_copied letter.entry)) }
-{
-    Ok(match act {
-        Act::Send(body) => Some(NodeEvent::Send(Boxed::of(alloc, body.get().copied())?)),
-        Act::Done(req) => Some(NodeEvent::Done(*req)),
-        Act::Take => Some(NodeEvent::Take),
-        Act::Join => Some(NodeEvent::Join),
-        Act::State => Some(NodeEvent::State),
-        Act::Leave => Some(NodeEvent::Leave),
-        Act::Reset { least, resilience } => Some(NodeEvent::Reset {
-            least: *least,
-            resilience: *resilience,
-        }),
-        Act::Ask(round) => Some(NodeEvent::Ask(*round)),
-        Act::GiveUp(name) => Some(NodeEvent::GiveUp(*name)),
-        Act::Tick => Some(NodeEvent::Tick),
-        Act::Hear(_) => match letter {
-            Some(letter) => Some(NodeEvent::Hear(Boxed::of(alloc, letter.bytes().copied())?)),
-            None => None,
-        },
-        Act::Stop | Act::Cut { .. } | Act::Return => None,
-    })
-}
-
-/// A node does what was asked, and its letters are put together.
-fn step(node: &mut Node, out: &mut OutBox, what: &Option<NodeEvent>, spare: Boxed<Entry>) -> Outcome
-    requires numbers { HasNumbersLeft (state_of node.old) }
-    requires empty { out.old ≡ [] }
-    ensures steps { Steps what.now (state_of node.old) result out.new (state_of node.new) }
-    ensures few { length out.new ≤ 9 }
-{
-    match what {
-        Some(what) => {
-            let outcome = node.step(what, spare, out);
-            let _accepted = node.accepted();
-            outcome
-        }
-        None => Outcome::Stopped,
-    }
-}
-
-/// The number of the letter that an act hears, or 0.
-fn heard_by(act: &Act) -> u32
-    ensures { result ≡ heard_by act.now }
-{
-    match act {
-        Act::Hear(number) => *number,
-        Act::Cut { packet, .. } => *packet,
-        _ => 0,
-    }
-}
-
-/// The number of the letter that a turn lost, or 0.
-fn lost_by(part: Part) -> u32
-    ensures { result ≡ lost_by part }
-{
-    match part {
-        Part::Turn(lost) => lost,
-        Part::Call | Part::Check => 0,
-    }
-}
-
-/// Whether a name has stopped, behind an act of its own.
-fn stops_by(stopped: bool, act: &Act) -> bool
-    ensures { result ≡ (stopped || is_stop act.now) }
-{
-    if let Act::Stop = act {
-        return true;
-    }
-    stopped
-}
-
-/// How far a place has come, behind a letter that was heard and one that was lost.
-fn cursor_after(cursor: u32, heard: u32, lost: u32) -> u32
-    ensures { result ≡ max (max cursor heard) lost }
-{
-    cursor.max(heard).max(lost)
-}
-
-/// The last letter that was heard, behind one more, or none where the number is 0.
-fn last_after(last: Option<u32>, heard: u32) -> Option<u32>
-    ensures { result ≡ unless_nought (max (or_nought last) heard) }
-{
-    let greatest = last.unwrap_or(0).max(heard);
-    if greatest == 0 { None } else { Some(greatest) }
-}
-
-/// The record of an act of which nothing has come yet.
-fn blank(alloc: Global, name: Name, act: &Act, by: By) -> Result<Record, NoMemory>
-    ensures { IfOk result (λ r. r ≡ record { event = record { node = name; act = act.now }; life = 1; by = by; outcome = said.Idle; packets = [] }) }
-{
-    Ok(Record {
-        event: Event {
-            node: name,
-            act: act.copied()?,
-        },
-        life: 1,
-        by,
-        outcome: Outcome::Idle,
-        packets: Items::new(alloc),
-    })
-}
-
-/// What an act takes memory for before it is done: its record, what it asks of the node, and room for an entry in the record
-/// and in the answer, and for letters.
-#[derive(Drop)]
-struct Room {
-    item: Record,
-    what: Option<NodeEvent>,
-    spare: Boxed<Entry>,
-    given: Boxed<Entry>,
-    out: OutBox,
-}
-
-fn room_for(
-    alloc: Global,
-    name: Name,
-    act: &Act,
-    letter: Option<&Letter>,
-    by: By,
-) -> Result<Room, NoMemory>
-    ensures item { IfOk result (λ r. r.item ≡ record { event = record { node = name; act = act.now }; life = 1; by = by; outcome = said.Idle; packets = [] }) }
-    ensures what { IfOk result (λ r. r.what ≡ what_of act.now (option_copied letter.entry)) }
-    ensures out { IfOk result (λ r. r.out ≡ []) }
-{
-    Ok(Room {
-        item: blank(alloc, name, act, by)?,
-        what: asked(alloc, act, letter)?,
-        spare: Boxed::of(alloc, Entry::default())?,
-        given: Boxed::of(alloc, Entry::default())?,
-        out: OutBox::new(alloc)?,
-    })
-}
-
-/// The same outcome, with room for its entry.
-fn copied(outcome: &Outcome, mut room: Boxed<Entry>) -> Outcome
-    ensures { result ≡ outcome.now }
-{
-    match outcome {
-        Outcome::Took { number, entry } => {
-            room.set(entry.get().copied());
-            Outcome::Took {
-                number: *number,
-                entry: room,
-            }
-        }
-        other => other.copied(),
-    }
-}
-
-/// The least name of both sets.
-fn least_of_both(waited: Names, stopped: Names) -> Option<Name>
-    ensures some { IfSome result (λ name. IsLeastOf waited stopped name) }
-    ensures none { IfNone result ((place : ℕ) → place < 16 → InBoth waited stopped place → ⊥) }
-    ensures places { length waited ≡ 16 }
-{
-    let _lives = waited.each_life();
-    for place in 0..16u8 {
-        let life = waited.life_at(place);
-        if 0 < life && stopped.life_at(place) == life {
-            return Some(Name::of(place, life).unwrap());
-        }
-    }
-    None
 }
 
 /// What a call does at its end, by what came of its own act.
@@ -383,7 +212,7 @@ impl<N: Racing> NodeBox<N> {
         wire: &Wire<RaceLaw>,
         share: &mut Share,
         act: Act,
-        letter: Option<&Letter>,
+        letter: Option<&LetterCopy>,
         by: By,
     ) -> Result<Came, WireRefusal>
         requires own { wire.now.id ≡ N.wire }
@@ -419,7 +248,7 @@ impl<N: Racing> NodeBox<N> {
         let outcome = step(&mut self.node, &mut out, &what, spare);
         let round = round_in(out.letters());
         item.outcome = copied(&outcome, given);
-        item.packets = out.into_letters();
+        item.packets = out.into_letters(alloc).0;
         match wire.commit(rt, &mut self.pass, share, item) {
             Ok(_number) => {
                 let heard = heard_by(&act);
@@ -451,7 +280,7 @@ impl<N: Racing> NodeBox<N> {
     }
 
     /// A letter that was sent to its node.
-    fn letter<R: Wait>(&mut self, rt: &R, wire: &Wire<RaceLaw>, number: u32) -> Letter
+    fn letter<R: Wait>(&mut self, rt: &R, wire: &Wire<RaceLaw>, number: u32) -> LetterCopy
         requires own { wire.now.id ≡ N.wire }
         requires open_ { self.old.closed ≡ None }
         requires sent { IsSent self.old.seen self.old.name number }

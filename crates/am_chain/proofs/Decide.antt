@@ -1,7 +1,6 @@
 -- A decision keeps what is kept.
 use Rattle.std.proofs.Common.{◌≡◌, ◌≢◌, ◌⊎◌, ⊎_elim, inl, inr, ℕ, ◌+◌, ◌<◌, ◌≤◌, min, Bool, true, false, List, [], ◌∷◌, ◌++◌, length, take, Some, refl, sym, ap}
 use Rattle.std.proofs.Common.{◌∙◌, subst, arith}
-use Rattle.std.proofs.lemmas.List.{take-append-le}
 use Rattle.am_base.specs.declared.entry.Entry.{Entry}
 use Rattle.am_base.specs.declared.entry.Entry.TheVariants.{View}
 use Rattle.am_base.specs.Names.{has}
@@ -16,7 +15,7 @@ use Rattle.am_chain_moves.specs.Runs.{IsLawful}
 use Rattle.am_chain_moves.specs.Kept.{LateOk, NodeOk, ServedOk, DepartedOk, ViewsOk, Kept}
 use Rattle.am_chain_moves.proofs.Puts.{by_cases, put_cases, put_same, put_other, put_at}
 use Rattle.am_chain_moves.proofs.Frames.{Later, later_all, shown_later, served_later, witness_later}
-use Rattle.am_chain_moves.proofs.Nodes.{view_current}
+use Rattle.am_chain_moves.proofs.Nodes.{fronts_longer, view_current}
 use Rattle.am_chain.proofs.Heart.{ballot_ok, list_chain, member_above, needed_promised, needed_low, departed_in, complete_in, group_in, too_few}
 
 two : (a b : ℕ) → (a ≤ b) ⊎ (b < a)
@@ -244,22 +243,13 @@ module _ (s : Group) (k : Kept s) (lawful : IsLawful s) (c : ℕ) (members : Lis
   own_ok =
       let ok = k.each c in
       let log = d.up.log in
-      let within = ok.fronts.within in
-      let long = length_push list (View (s.node c).promise members resilience) in
-      let same = take-append-le (s.node c).acc list (View (s.node c).promise members resilience ∷ []) within in
       let whole : Begins (opening choice) (chain_of views) = subst (Begins (opening choice)) (sym chain_is) (begins_refl (opening choice)) in
       let now : mem (chain_of views) c ≡ true = subst (λ y. mem y c ≡ true) (sym chain_is) own_now in
       record {
         small = ok.small;
         list = λ u. whole;
         blank = λ h. absurd (cc);
-        fronts = record {
-          told = ok.fronts.told;
-          acc = ok.fronts.acc;
-          within = omega arith;
-          delivered =
-              subst (λ x. Begins x s.group) (sym same) ok.fronts.delivered;
-        };
+        fronts = fronts_longer s.group (s.node c) node (View (s.node c).promise members resilience ∷ []) refl refl refl ok.fronts;
         leads = λ l. record { chain = sym chain_is; member = now };
         promised = λ t m. omega arith;
         stays = λ t l a h m. now;

@@ -4,7 +4,7 @@ use Rattle.std.proofs.Common.{take, Option, Some, None, slice_get, refl, sym, ap
 use Rattle.std.proofs.lemmas.Bool.Decides.{nat_tests}
 use Rattle.std.proofs.lemmas.Option.{slice_get_within}
 use Rattle.am_base.specs.declared.entry.Entry.{Entry}
-use Rattle.am_base.specs.declared.entry.Entry.TheVariants.{Data, Join, Leave, View}
+use Rattle.am_base.specs.declared.entry.Entry.TheVariants.{Leave, View}
 use Rattle.am_base.specs.Names.{has}
 use Rattle.am_chain_lists.specs.Whole.{Begins, IsGood, mem, view_of, key, resilience_of}
 use Rattle.am_chain_lists.proofs.Prefixes.{begins_refl, begins_nil, begins_more, begins_trans, begins_length, begins_both, begins_same, begins_push}
@@ -56,31 +56,6 @@ counted_go list n None good low high h = absurd (none_past list (n - 1) (omega a
     none_past [] k w h = let z : ⊥ = omega arith in z
     none_past (e ∷ l) zero w h = cc
     none_past (e ∷ l) (suc k) w h = none_past l k (omega arith) h
-counted_go list n (Some (Data from req body)) good low high h =
-    record {
-      at = take (n - 1) list;
-      above = begins_refl (take (n - 1) list);
-      below = before_entry list n (Data from req body) low h;
-      members =
-          λ x y. rw h at y;
-      back = λ x y. rw h y;
-    }
-counted_go list n (Some (Join name)) good low high h = record {
-  at = take (n - 1) list;
-  above = begins_refl (take (n - 1) list);
-  below =
-      before_entry list n (Join name) low h;
-  members = λ x y. rw h at y;
-  back = λ x y. rw h y;
-}
-counted_go list n (Some (Leave name)) good low high h = record {
-  at = take (n - 1) list;
-  above = begins_refl (take (n - 1) list);
-  below =
-      before_entry list n (Leave name) low h;
-  members = λ x y. rw h at y;
-  back = λ x y. rw h y;
-}
 counted_go list n (Some (View stamp members resilience)) good low high h =
     let step = take_step list n (View stamp members resilience) low h in
     let fine = subst IsGood step (good_begins (begins_take n list) good) in
@@ -92,6 +67,13 @@ counted_go list n (Some (View stamp members resilience)) good low high h =
           subst (λ l. mem l x ≡ true) (sym step) (viewed_mem (take (n - 1) list) stamp members resilience x fine z);
       back = λ x y. rw h (mem_viewed (take (n - 1) list) stamp members resilience x (subst (λ l. mem l x ≡ true) step y));
     }
+counted_go list n (Some e) good low high h = record {
+  at = take (n - 1) list;
+  above = begins_refl (take (n - 1) list);
+  below = before_entry list n e low h;
+  members = λ x y. rw h at y;
+  back = λ x y. rw h y;
+}
 
 pub counted_at : (list : List Entry) (n : ℕ) → IsGood list → 0 < n → n ≤ length list → CountedAt list n
 counted_at list n good low high = counted_go list n (slice_get list (n - 1)) good low high refl

@@ -20,6 +20,18 @@ pub record Later (a b : Node) : Type 0 where
 pub later_refl : (a : Node) → Later a a
 later_refl a = record { list = begins_refl a.list; log = λ h. h; start = λ h. refl; there = λ h. h; staying = λ h. h; promise = omega arith }
 
+-- with the same list, and the same but for its promise and its ballot
+pub later_promise : (a b : Node) → b.list ≡ a.list → b.has_log ≡ a.has_log → b.start ≡ a.start → b.leaving ≡ a.leaving → (IsThere b → IsThere a)
+    → key a.promise ≤ key b.promise → Later a b
+later_promise a b list log start leaving there up = record {
+  list = subst (Begins a.list) (sym list) (begins_refl a.list);
+  log = λ h. log ∙ h;
+  start = λ h. start;
+  there = there;
+  staying = λ h. sym leaving ∙ h;
+  promise = up;
+}
+
 pub later_all : (node : ℕ → Node) (i : ℕ) (n : Node) → Later (node i) n → (j : ℕ) → Later (node j) (put node i n j)
 later_all node i n h = put_at (λ j m. Later (node j) m) node i n h (λ j _. later_refl (node j))
 

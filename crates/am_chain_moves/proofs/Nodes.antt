@@ -1,6 +1,6 @@
 -- What each move of one node keeps of that node.
 use Rattle.std.proofs.Common.{◌≡◌, ◌≢◌, ◌⊎◌, ⊎_elim, ℕ, ◌+◌, ◌<◌, ◌≤◌, Bool, true, false, List, [], ◌∷◌, ◌++◌, length, take, Some, slice_get, refl, sym, ap}
-use Rattle.std.proofs.Common.{◌∙◌, subst, arith}
+use Rattle.std.proofs.Common.{◌∙◌, subst, arith, length-append}
 use Rattle.std.proofs.lemmas.List.{take-append-le}
 use Rattle.std.proofs.lemmas.Option.{slice_get_within}
 use Rattle.am_base.specs.declared.name.Stamp.{Stamp}
@@ -14,7 +14,18 @@ use Rattle.am_chain_lists.proofs.Members.{mem_between}
 use Rattle.am_chain_lists.proofs.Order.{view_up}
 use Rattle.am_chain_moves.specs.Group.{Node, opening, Views, Group, chain_of, current_of, IsThere, IsUp, IsOngoing}
 use Rattle.am_chain_moves.specs.Moves.{own_stamp, longer, MayWelcome}
-use Rattle.am_chain_moves.specs.Kept.{LateOk, BallotOk, NodeOk, ServedOk, ViewsOk}
+use Rattle.am_chain_moves.specs.Kept.{FrontsOk, LateOk, BallotOk, NodeOk, ServedOk, ViewsOk}
+
+-- a list that goes on
+pub fronts_longer : (group : List Entry) (m n : Node) (more : List Entry) → n.list ≡ m.list ++ more → n.told ≡ m.told → n.acc ≡ m.acc → FrontsOk group m
+    → FrontsOk group n
+fronts_longer group m n more list told acc h =
+    let within = h.within in
+    let low = h.told in
+    let above = h.acc in
+    let long = ap length list ∙ length-append m.list more in
+    let same : take n.acc n.list ≡ take m.acc m.list = ap (λ k. take k n.list) acc ∙ ap (take m.acc) list ∙ take-append-le m.acc m.list more within in
+    record { told = omega arith; acc = omega arith; within = omega arith; delivered = subst (λ l. Begins l group) (sym same) h.delivered }
 
 -- flags that only fall, or a ballot that ends
 pub flags_ok : (views : Views) (group : List Entry) (i : ℕ) (m : Node) (stopped departed leaving ballot : Bool)
@@ -156,20 +167,11 @@ longer_ok views group i m e u chain ongoing leads late ballot ok =
     let there : IsThere (longer m e) → IsThere m = λ t. record { goes = t.goes; stays = t.stays } in
     let up : IsUp (longer m e) → IsUp m = λ u. record { log = u.log; there = there u.there } in
     let log = u.log in
-    let within = ok.fronts.within in
-    let more = length_push m.list e in
-    let same = take-append-le m.acc m.list (e ∷ []) within in
     record {
       small = ok.small;
       list = λ u. chain;
       blank = λ h. absurd (cc);
-      fronts = record {
-        told = ok.fronts.told;
-        acc = ok.fronts.acc;
-        within = omega arith;
-        delivered =
-            subst (λ l. Begins l group) (sym same) ok.fronts.delivered;
-      };
+      fronts = fronts_longer group m (longer m e) (e ∷ []) refl refl refl ok.fronts;
       leads = λ l. absurd (leads l.acts l.by);
       promised = λ t. ok.promised (there t);
       stays = λ t. ok.stays (there t);

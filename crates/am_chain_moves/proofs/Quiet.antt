@@ -1,13 +1,12 @@
 -- Each move but a decision keeps what is kept, whoever stopped.
 use Rattle.std.proofs.Common.{◌≡◌, ◌≢◌, ◌⊎◌, ⊎_elim, inl, inr, ℕ, ◌<◌, ◌≤◌, Bool, true, false, List, [], ◌∷◌, ◌++◌, length, take, Some, slice_get, refl, sym}
 use Rattle.std.proofs.Common.{ap, ◌∙◌, subst, arith}
-use Rattle.std.proofs.lemmas.List.{take-append-le}
 use Rattle.am_base.specs.declared.name.Stamp.{Stamp}
 use Rattle.am_base.specs.declared.entry.Entry.{Entry}
 use Rattle.am_base.specs.declared.entry.Entry.TheVariants.{Data, Join, Leave, View}
 use Rattle.am_base.specs.Lists.{fits}
 use Rattle.am_chain_lists.specs.Whole.{Begins, NotView, told, mem, view_of, key}
-use Rattle.am_chain_lists.proofs.Prefixes.{begins_refl, begins_nil, begins_more, begins_trans, begins_length, begins_both, length_push, below_begins}
+use Rattle.am_chain_lists.proofs.Prefixes.{begins_refl, begins_nil, begins_more, begins_trans, begins_length, begins_both, below_begins}
 use Rattle.am_chain_lists.proofs.Rows.{Spares}
 use Rattle.am_chain_lists.proofs.Members.{mem_between, mem_push}
 use Rattle.am_chain_lists.proofs.Order.{key_by}
@@ -15,8 +14,9 @@ use Rattle.am_chain_moves.specs.Group.{put, Node, Group, chain_of, IsThere, IsUp
 use Rattle.am_chain_moves.specs.Moves.{longer, own_stamp, IsAbove, MayNumber, MayWelcome, MayDepart, with_node, with_line}
 use Rattle.am_chain_moves.specs.Kept.{ServedOk, DepartedOk, Kept}
 use Rattle.am_chain_moves.proofs.Puts.{put_cases, put_same, put_other}
-use Rattle.am_chain_moves.proofs.Frames.{Later, node_change}
-use Rattle.am_chain_moves.proofs.Nodes.{flags_ok, fronts_ok, raise_ok, begin_ok, own_above, store_ok, fetch_ok, fetch_chain, welcome_ok, welcome_now}
+use Rattle.am_chain_moves.proofs.Frames.{Later, later_promise, node_change}
+use Rattle.am_chain_moves.proofs.Nodes.{fronts_longer, flags_ok, fronts_ok, raise_ok, begin_ok, own_above, store_ok, fetch_ok, fetch_chain}
+use Rattle.am_chain_moves.proofs.Nodes.{welcome_ok, welcome_now}
 use Rattle.am_chain_moves.proofs.Fronts.{group_change, chain_change, grown, views_grow, chain_is, good_grown}
 
 later_longer : (m : Node) (e : Entry) → Later m (longer m e)
@@ -110,14 +110,7 @@ module _ (s : Group) (k : Kept s) where
   learns_keeps i told acc u low heard a w =
       let n = record (s.node i) { told = told; acc = acc } in
       node_change s k i n
-      (record {
-        list = begins_refl (s.node i).list;
-        log = λ h. h;
-        start = λ h. refl;
-        there = λ t. record { goes = t.goes; stays = t.stays };
-        staying = λ h. h;
-        promise = omega arith;
-      })
+      (later_promise (s.node i) n refl refl refl refl (λ t. record { goes = t.goes; stays = t.stays }) (omega arith))
       (fronts_ok s.views s.group i (s.node i) told acc k.views k.group u low a w heard (k.each i))
       (λ _ b. inl (u, b, refl))
       (inl (refl, λ _. u))
@@ -130,14 +123,7 @@ module _ (s : Group) (k : Kept s) where
       let n = record (s.node i) { promise = own_stamp i (s.node i); ballot = true } in
       let above = own_above i (s.node i) (k.each i).small in
       node_change s k i n
-      (record {
-        list = begins_refl (s.node i).list;
-        log = λ h. h;
-        start = λ h. refl;
-        there = λ t. record { goes = t.goes; stays = t.stays };
-        staying = λ h. h;
-        promise = omega arith;
-      })
+      (later_promise (s.node i) n refl refl refl refl (λ t. record { goes = t.goes; stays = t.stays }) (omega arith))
       (begin_ok s.views s.group i (s.node i) k.views small u staying member (k.each i))
       (λ _ _. inr (λ h l shown.
       let o = k.shown (key (own_stamp i (s.node i))) h l shown in
@@ -155,14 +141,7 @@ module _ (s : Group) (k : Kept s) where
       let n = record (s.node i) { promise = stamp; ballot = false } in
       let greater = a.greater in
       node_change s k i n
-      (record {
-        list = begins_refl (s.node i).list;
-        log = λ h. h;
-        start = λ h. refl;
-        there = λ t. record { goes = t.goes; stays = t.stays };
-        staying = λ h. h;
-        promise = omega arith;
-      })
+      (later_promise (s.node i) n refl refl refl refl (λ t. record { goes = t.goes; stays = t.stays }) (omega arith))
       (raise_ok s.views s.group i (s.node i) stamp a.greater a.small a.other (k.each i))
       (λ _ b. absurd (cc))
       (inl (refl, λ w. record { log = w.log; there = t }))
@@ -269,22 +248,13 @@ module _ (s : Group) (k : Kept s) where
       let mem_then : mem (m.list ++ e ∷ []) i ≡ true = mem_push m.list e i (good_grown s k i e l fit plain) (spares_own i e may) mem_now in
       let there : IsThere n → IsThere m = λ t. record { goes = t.goes; stays = t.stays } in
       let log = l.up.log in
-      let within = ok.fronts.within in
-      let long = length_push m.list e in
-      let same = take-append-le m.acc m.list (e ∷ []) within in
       let at_current : key m.promise ≡ key s.views.current = ap key (l.acts ∙ ap view_of lead.chain ∙ k.views.view) in
       chain_change s k i e l fit plain n refl log refl refl refl (λ h. h) (λ h. inl h) (λ j differ t stays. spares_staying i e may j stays)
       (record {
         small = ok.small;
         list = λ u. subst (Begins n.list) (sym chain) (begins_refl n.list);
         blank = λ h. absurd (cc);
-        fronts = record {
-          told = ok.fronts.told;
-          acc = ok.fronts.acc;
-          within = omega arith;
-          delivered =
-              subst (λ x. Begins x s.group) (sym same) ok.fronts.delivered;
-        };
+        fronts = fronts_longer s.group m n (e ∷ []) refl refl refl ok.fronts;
         leads = λ q. record { chain = sym chain; member = subst (λ x. mem x i ≡ true) (sym chain) mem_then };
         promised = λ t. ok.promised (there t);
         stays = λ t q a h x. subst (λ y. mem y i ≡ true) (sym chain) mem_then;
@@ -312,9 +282,6 @@ module _ (s : Group) (k : Kept s) where
       let more : Begins m.list (m.list ++ e ∷ []) = begins_more m.list (e ∷ []) in
       let not_there : IsThere n → ⊥ = λ t. let z = t.stays in cc in
       let log = l.up.log in
-      let within = ok.fronts.within in
-      let long = length_push m.list e in
-      let same = take-append-le m.acc m.list (e ∷ []) within in
       let closed : Kept (record s { node = put s.node i n; views = views }) = chain_change s k i e l fit tt n refl log refl refl refl (λ h. h)
       (λ h. inr (record {
         before = m.list;
@@ -327,13 +294,7 @@ module _ (s : Group) (k : Kept s) where
         small = ok.small;
         list = λ u. absurd (not_there u.there);
         blank = λ h. absurd (cc);
-        fronts = record {
-          told = ok.fronts.told;
-          acc = ok.fronts.acc;
-          within = omega arith;
-          delivered =
-              subst (λ x. Begins x s.group) (sym same) ok.fronts.delivered;
-        };
+        fronts = fronts_longer s.group m n (e ∷ []) refl refl refl ok.fronts;
         leads = λ q. absurd (not_there q.up.there);
         promised = λ t. absurd (not_there t);
         stays = λ t. absurd (not_there t);

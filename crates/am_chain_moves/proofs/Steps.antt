@@ -32,21 +32,7 @@ quiet_keeps (stops {s = s} i) q k = stops_keeps s k i
 
 quiet_current : {s t : Group} (move : Move s t) → IsNoDecision move → t.views.current ≡ s.views.current
 quiet_current (decides i members resilience a) q = absurd q
-quiet_current (numbers i e a b c) q = refl
-quiet_current (stores i e a b c d f) q = refl
-quiet_current (accepts i n a b) q = refl
-quiet_current (learns i told acc a b c d e f g) q = refl
-quiet_current (begins i a b c d) q = refl
-quiet_current (raises i stamp a b) q = refl
-quiet_current (shows i a b c d e) q = refl
-quiet_current (serves i list a b c) q = refl
-quiet_current (fetches i h list e a b c d f) q = refl
-quiet_current (gives_over i) q = refl
-quiet_current (welcomes j stamp base join a) q = refl
-quiet_current (asks i a b) q = refl
-quiet_current (departs i before a) q = refl
-quiet_current (closes i n a b c d) q = refl
-quiet_current (stops i) q = refl
+quiet_current _ q = refl
 
 pub quiet_runs_keep : QuietRunsKeep
 quiet_runs_keep founders first resilience s (quiet may) = record { kept = start_kept founders first resilience may; current = refl }

@@ -1,7 +1,8 @@
 -- A spelling is read as its packet.
-use Rattle.std.proofs.Common.{◌≡◌, ℕ, ◌+◌, ◌≤◌, ◌&&◌, true, List, length, drop, Some, Ok, refl, sym, ◌∙◌, arith}
+use Rattle.std.proofs.Common.{◌≡◌, ℕ, ◌+◌, ◌≤◌, ◌&&◌, true, List, [], ◌++◌, length, drop, Some, Ok, refl, sym, ◌∙◌, arith}
 use Rattle.std.specs.Prelude.{nat_le}
 use Rattle.std.proofs.lemmas.Bool.{le-leb, le-ltb, eq-eqb, and_from}
+use Rattle.byteorder.specs.Endian.{big_bytes}
 use Rattle.byteorder.specs.Numbers.{big_number-reads_back}
 use Rattle.am_base.specs.declared.entry.Entry.{Entry}
 use Rattle.am_base.specs.declared.entry.Entry.TheVariants.{Data, Join, Leave, View}
@@ -14,7 +15,7 @@ use Rattle.am_codec.specs.Kinds.{kind_at, is_total}
 use Rattle.am_base.specs.Limits.{IsNumber}
 use Rattle.am_codec.specs.Limits.{IsWithin, HasParts, HasEntryParts, IsPacket}
 use Rattle.am_codec.specs.Spelling.{spelling, fields_of, sender_of, stamp_of, entry_bytes}
-use Rattle.am_codec.specs.Reading.{packet_at, fields_at, of_kind_at, reading, total_in}
+use Rattle.am_codec.specs.Reading.{number_at, packet_at, fields_at, of_kind_at, reading, total_in}
 use Rattle.am_codec.proofs.Pieces.{length-rows_bytes}
 use Rattle.am_codec.proofs.Fields.{later, peek, number_again, report_again, stamp_again, set_again, resilience_again, flag_again}
 use Rattle.am_codec.proofs.Parts.{image_again, vote_again, entry_again}
@@ -42,44 +43,14 @@ kind_for (packets.HandOver sender stamp) = kinds.HandOver
 pub kind_back : (packet : Packet) → kind_at (kind_of packet) ≡ Some (kind_for packet)
 unfolding kind_at
 kind_back (packets.Request sender stamp report req body) = refl
-kind_back (packets.Spread sender stamp report req body) = refl
-kind_back (packets.Bcast sender stamp base acc number entry) = refl
-kind_back (packets.Order sender stamp base acc number from req) = refl
-kind_back (packets.Accept sender stamp base acc top poll) = refl
-kind_back (packets.Ack sender stamp report) = refl
-kind_back (packets.Nack sender stamp report) = refl
-kind_back (packets.Hold sender stamp base top req) = refl
-kind_back (packets.JoinAsk sender stamp) = refl
-kind_back (packets.Welcome sender stamp base join image) = refl
-kind_back (packets.LeaveAsk sender stamp report) = refl
-kind_back (packets.Gone sender stamp number) = refl
-kind_back (packets.Invite sender stamp) = refl
-kind_back (packets.Vote sender stamp vote) = refl
-kind_back (packets.Fetch sender stamp stored) = refl
-kind_back (packets.Piece sender stamp base number entry) = refl
-kind_back (packets.Result sender stamp base number members resilience) = refl
-kind_back (packets.HandOver sender stamp) = refl
+kind_back _ = refl
 
 round_within : (packet : Packet) → IsWithin packet → IsNumber (stamp_of packet).round
 unfolding IsWithin
-round_within (packets.Request sender stamp report req body) within = within.0
-round_within (packets.Spread sender stamp report req body) within = within.0
-round_within (packets.Bcast sender stamp base acc number entry) within = within.0
-round_within (packets.Order sender stamp base acc number from req) within = within.0
-round_within (packets.Accept sender stamp base acc top poll) within = within.0
-round_within (packets.Ack sender stamp report) within = within.0
-round_within (packets.Nack sender stamp report) within = within.0
-round_within (packets.Hold sender stamp base top req) within = within.0
 round_within (packets.JoinAsk sender stamp) within = within
-round_within (packets.Welcome sender stamp base join image) within = within.0
-round_within (packets.LeaveAsk sender stamp report) within = within.0
-round_within (packets.Gone sender stamp number) within = within.0
 round_within (packets.Invite sender stamp) within = within
-round_within (packets.Vote sender stamp vote) within = within.0
-round_within (packets.Fetch sender stamp stored) within = within.0
-round_within (packets.Piece sender stamp base number entry) within = within.0
-round_within (packets.Result sender stamp base number members resilience) within = within.0
 round_within (packets.HandOver sender stamp) within = within
+round_within _ within = within.0
 
 -- ---- how long fields are
 
@@ -109,97 +80,63 @@ total_fits (packets.Spread sender stamp report req body) parts =
 total_fits (packets.Bcast sender stamp base acc number entry) parts =
     within_total (12 + length (fields_of (packets.Bcast sender stamp base acc number entry))) 25 65535 (omega (arith, entry_some entry))
     (omega (arith, entry_short entry parts))
-total_fits (packets.Order sender stamp base acc number from req) parts = refl
-total_fits (packets.Accept sender stamp base acc top poll) parts = refl
-total_fits (packets.Ack sender stamp report) parts = refl
-total_fits (packets.Nack sender stamp report) parts = refl
-total_fits (packets.Hold sender stamp base top req) parts = refl
-total_fits (packets.JoinAsk sender stamp) parts = refl
 total_fits (packets.Welcome sender stamp base join image) parts =
     within_total (12 + length (fields_of (packets.Welcome sender stamp base join image))) 238 238 (omega (arith, length-rows_bytes image.rows, parts))
     (omega (arith, length-rows_bytes image.rows, parts))
-total_fits (packets.LeaveAsk sender stamp report) parts = refl
-total_fits (packets.Gone sender stamp number) parts = refl
-total_fits (packets.Invite sender stamp) parts = refl
-total_fits (packets.Vote sender stamp vote) parts = refl
-total_fits (packets.Fetch sender stamp stored) parts = refl
 total_fits (packets.Piece sender stamp base number entry) parts =
     within_total (12 + length (fields_of (packets.Piece sender stamp base number entry))) 21 65535 (omega (arith, entry_some entry))
     (omega (arith, entry_short entry parts))
-total_fits (packets.Result sender stamp base number members resilience) parts = refl
-total_fits (packets.HandOver sender stamp) parts = refl
+total_fits _ parts = refl
 
 pub fields_short : (packet : Packet) → HasParts packet → length (fields_of packet) ≤ 1100
 unfolding HasParts fields_of
 fields_short (packets.Request sender stamp report req body) parts = omega (arith, parts)
 fields_short (packets.Spread sender stamp report req body) parts = omega (arith, parts)
 fields_short (packets.Bcast sender stamp base acc number entry) parts = omega (arith, entry_short entry parts)
-fields_short (packets.Order sender stamp base acc number from req) parts = omega arith
-fields_short (packets.Accept sender stamp base acc top poll) parts = omega arith
-fields_short (packets.Ack sender stamp report) parts = omega arith
-fields_short (packets.Nack sender stamp report) parts = omega arith
-fields_short (packets.Hold sender stamp base top req) parts = omega arith
-fields_short (packets.JoinAsk sender stamp) parts = omega arith
 fields_short (packets.Welcome sender stamp base join image) parts = omega (arith, length-rows_bytes image.rows, parts)
-fields_short (packets.LeaveAsk sender stamp report) parts = omega arith
-fields_short (packets.Gone sender stamp number) parts = omega arith
-fields_short (packets.Invite sender stamp) parts = omega arith
-fields_short (packets.Vote sender stamp vote) parts = omega arith
-fields_short (packets.Fetch sender stamp stored) parts = omega arith
 fields_short (packets.Piece sender stamp base number entry) parts = omega (arith, entry_short entry parts)
-fields_short (packets.Result sender stamp base number members resilience) parts = omega arith
-fields_short (packets.HandOver sender stamp) parts = omega arith
+fields_short _ parts = omega arith
 
 -- ---- the fields of each kind
+
+-- three numbers that follow one another
+record Three (bytes : List ℕ) (a b c : ℕ) : Type 0 where
+  first : number_at bytes 12 ≡ Ok a
+  second : number_at bytes 16 ≡ Ok b
+  third : number_at bytes 20 ≡ Ok c
+
+three_again : (bytes rest : List ℕ) (a b c : ℕ) → drop 12 bytes ≡ big_bytes 4 a ++ big_bytes 4 b ++ big_bytes 4 c ++ rest → IsNumber a → IsNumber b
+    → IsNumber c → Three bytes a b c
+three_again bytes rest a b c h is-a is-b is-c = record {
+  first = number_again bytes _ 12 a h is-a;
+  second = number_again bytes _ 16 b (later bytes _ 12 4 h) is-b;
+  third = number_again bytes _ 20 c (later bytes _ 12 8 h) is-c;
+}
 
 packet_again : (packet : Packet) (bytes : List ℕ) → drop 12 bytes ≡ fields_of packet → length bytes ≡ 12 + length (fields_of packet) → IsWithin packet
     → HasParts packet
     → packet_at (kind_for packet) (sender_of packet) (stamp_of packet) bytes ≡ Ok packet
 unfolding packet_at fields_of IsWithin HasParts
 packet_again (packets.Request sender stamp report req body) bytes h long within parts =
-    rw (
-      report_again bytes _ 12 report h within.1,
-      number_again bytes _ 20 req (later bytes _ 12 8 h) within.2,
-      later bytes _ 12 12 h,
-    ) refl
+    rw (report_again bytes _ 12 report h within.1, number_again bytes _ 20 req (later bytes _ 12 8 h) within.2, later bytes _ 12 12 h) refl
 packet_again (packets.Spread sender stamp report req body) bytes h long within parts =
-    rw (
-      report_again bytes _ 12 report h within.1,
-      number_again bytes _ 20 req (later bytes _ 12 8 h) within.2,
-      later bytes _ 12 12 h,
-    ) refl
+    rw (report_again bytes _ 12 report h within.1, number_again bytes _ 20 req (later bytes _ 12 8 h) within.2, later bytes _ 12 12 h) refl
 packet_again (packets.Bcast sender stamp base acc number entry) bytes h long within parts =
-    rw (
-      number_again bytes _ 12 base h within.1,
-      number_again bytes _ 16 acc (later bytes _ 12 4 h) within.2,
-      number_again bytes _ 20 number (later bytes _ 12 8 h) within.3,
-      entry_again bytes 24 entry (later bytes _ 12 12 h) (omega (arith, long)) within.4 parts,
-    ) refl
+    let n = three_again bytes _ base acc number h within.1 within.2 within.3 in
+    rw (n.first, n.second, n.third, entry_again bytes 24 entry (later bytes _ 12 12 h) (omega (arith, long)) within.4 parts) refl
 packet_again (packets.Order sender stamp base acc number from req) bytes h long within parts =
-    rw (
-      number_again bytes _ 12 base h within.1,
-      number_again bytes _ 16 acc (later bytes _ 12 4 h) within.2,
-      number_again bytes _ 20 number (later bytes _ 12 8 h) within.3,
-      number_again bytes _ 25 req (later bytes _ 12 13 h) within.4,
-      peek bytes _ 12 12 h,
-    ) refl
+    let n = three_again bytes _ base acc number h within.1 within.2 within.3 in
+    rw (n.first, n.second, n.third, number_again bytes _ 25 req (later bytes _ 12 13 h) within.4, peek bytes _ 12 12 h) refl
 packet_again (packets.Accept sender stamp base acc top poll) bytes h long within parts =
-    rw (
-      number_again bytes _ 12 base h within.1,
-      number_again bytes _ 16 acc (later bytes _ 12 4 h) within.2,
-      number_again bytes _ 20 top (later bytes _ 12 8 h) within.3,
-      flag_again bytes 24 poll (peek bytes _ 12 12 h),
-    ) refl
+    let n = three_again bytes _ base acc top h within.1 within.2 within.3 in
+    rw (n.first, n.second, n.third, flag_again bytes 24 poll (peek bytes _ 12 12 h)) refl
 packet_again (packets.Ack sender stamp report) bytes h long within parts =
     rw (report_again bytes _ 12 report h within.1) refl
 packet_again (packets.Nack sender stamp report) bytes h long within parts =
     rw (report_again bytes _ 12 report h within.1) refl
 packet_again (packets.Hold sender stamp base top req) bytes h long within parts =
-    rw (
-      number_again bytes _ 12 base h within.1,
-      number_again bytes _ 16 top (later bytes _ 12 4 h) within.2,
-      number_again bytes _ 20 req (later bytes _ 12 8 h) within.3,
-    ) refl
+    let n = three_again bytes [] base top req h within.1 within.2 within.3 in
+    rw (n.first, n.second, n.third) refl
 packet_again (packets.JoinAsk sender stamp) bytes h long within parts = refl
 packet_again (packets.Welcome sender stamp base join image) bytes h long within parts =
     rw (

@@ -4,6 +4,7 @@ use Rattle.std.proofs.Common.{None, Ok, Err, refl, ◌∙◌}
 use Rattle.byteorder.specs.Endian.{big_number}
 use Rattle.am_base.specs.declared.name.Stamp.{Stamp}
 use Rattle.am_base.specs.declared.entry.Entry.TheVariants.{Data, View}
+use Rattle.am_packet.specs.declared.packet.Packet.{Packet}
 use Rattle.am_packet.specs.declared.packet.Packet.TheVariants as packets
 use Rattle.am_codec.specs.declared.refusal.PacketRefusal.TheVariants.{BadField}
 use Rattle.am_codec.specs.declared.kind.Kind.{Kind}
@@ -186,6 +187,21 @@ entry_fails bytes at =
     (resilience_fails bytes (at + 16))))))
     (at, refl, refl))))
 
+-- two numbers, and three, before the rest
+two_fail : (bytes : List ℕ) (rest : ℕ → ℕ → Read Packet) (fields : List Field) → ((a b : ℕ) → Fails (rest a b) fields)
+    → Fails (number_at bytes 12 >>= λ a. number_at bytes 16 >>= λ b. rest a b) (number_field bytes 12 ∷ number_field bytes 16 ∷ fields)
+two_fail bytes rest fields then_ =
+    in_turn (number_at bytes 12) (λ a. number_at bytes 16 >>= λ b. rest a b) (number_field bytes 12 ∷ []) (number_field bytes 16 ∷ fields)
+    (number_fails bytes 12) (λ a is-a.
+    in_turn (number_at bytes 16) (λ b. rest a b) (number_field bytes 16 ∷ []) fields (number_fails bytes 16) (λ b is-b. then_ a b))
+
+three_fail : (bytes : List ℕ) (rest : ℕ → ℕ → ℕ → Read Packet) (fields : List Field) → ((a b c : ℕ) → Fails (rest a b c) fields)
+    → Fails (number_at bytes 12 >>= λ a. number_at bytes 16 >>= λ b. number_at bytes 20 >>= λ c. rest a b c)
+    (number_field bytes 12 ∷ number_field bytes 16 ∷ number_field bytes 20 ∷ fields)
+three_fail bytes rest fields then_ =
+    two_fail bytes (λ a b. number_at bytes 20 >>= λ c. rest a b c) (number_field bytes 20 ∷ fields) (λ a b.
+    in_turn (number_at bytes 20) (λ c. rest a b c) (number_field bytes 20 ∷ []) fields (number_fails bytes 20) (λ c is-c. then_ a b c))
+
 kind_fails : (kind : Kind) (sender : ℕ) (stamp : Stamp) (bytes : List ℕ) → Fails (packet_at kind sender stamp bytes) (kind_fields kind bytes)
 unfolding packet_at kind_fields
 kind_fails kinds.Request sender stamp bytes =
@@ -197,47 +213,25 @@ kind_fails kinds.Spread sender stamp bytes =
     (report_fields bytes 12) _ (report_fails bytes 12) (λ report report-is.
     last (number_at bytes 20) (λ req. packets.Spread sender stamp report req (drop 24 bytes)) (number_field bytes 20 ∷ []) (number_fails bytes 20))
 kind_fails kinds.Bcast sender stamp bytes =
-    in_turn (number_at bytes 12) (λ base. number_at bytes 16 >>= λ acc. number_at bytes 20 >>= λ number. entry_at bytes 24 >>= λ entry. Ok
-    (packets.Bcast sender stamp base acc number entry)) (number_field bytes 12 ∷ []) _ (number_fails bytes 12) (λ base base-is.
-    in_turn (number_at bytes 16) (λ acc. number_at bytes 20 >>= λ number. entry_at bytes 24 >>= λ entry. Ok (packets.Bcast sender stamp base acc number entry))
-    (number_field bytes 16 ∷ []) _ (number_fails bytes 16) (λ acc acc-is.
-    in_turn (number_at bytes 20) (λ number. entry_at bytes 24 >>= λ entry. Ok (packets.Bcast sender stamp base acc number entry)) (number_field bytes 20 ∷ []) _
-    (number_fails bytes 20) (λ number number-is.
-    last (entry_at bytes 24) (λ entry. packets.Bcast sender stamp base acc number entry) (entry_fields bytes 24) (entry_fails bytes 24))))
+    three_fail bytes (λ base acc number. entry_at bytes 24 >>= λ entry. Ok (packets.Bcast sender stamp base acc number entry)) _ (λ base acc number.
+    last (entry_at bytes 24) (λ entry. packets.Bcast sender stamp base acc number entry) (entry_fields bytes 24) (entry_fails bytes 24))
 kind_fails kinds.Order sender stamp bytes =
-    in_turn (number_at bytes 12) (λ base. number_at bytes 16 >>= λ acc. number_at bytes 20 >>= λ number. number_at bytes 25 >>= λ req. Ok
-    (packets.Order sender stamp base acc number (slice_index bytes 24) req)) (number_field bytes 12 ∷ []) _ (number_fails bytes 12) (λ base base-is.
-    in_turn (number_at bytes 16) (λ acc. number_at bytes 20 >>= λ number. number_at bytes 25 >>= λ req. Ok
-    (packets.Order sender stamp base acc number (slice_index bytes 24) req)) (number_field bytes 16 ∷ []) _ (number_fails bytes 16) (λ acc acc-is.
-    in_turn (number_at bytes 20) (λ number. number_at bytes 25 >>= λ req. Ok (packets.Order sender stamp base acc number (slice_index bytes 24) req))
-    (number_field bytes 20 ∷ []) _ (number_fails bytes 20) (λ number number-is.
-    last (number_at bytes 25) (λ req. packets.Order sender stamp base acc number (slice_index bytes 24) req) (number_field bytes 25 ∷ [])
-    (number_fails bytes 25))))
+    three_fail bytes (λ base acc number. number_at bytes 25 >>= λ req. Ok (packets.Order sender stamp base acc number (slice_index bytes 24) req)) _
+    (λ base acc number. last (number_at bytes 25) (λ req. packets.Order sender stamp base acc number (slice_index bytes 24) req)
+    (number_field bytes 25 ∷ []) (number_fails bytes 25))
 kind_fails kinds.Accept sender stamp bytes =
-    in_turn (number_at bytes 12) (λ base. number_at bytes 16 >>= λ acc. number_at bytes 20 >>= λ top. flag_at bytes 24 >>= λ poll. Ok
-    (packets.Accept sender stamp base acc top poll)) (number_field bytes 12 ∷ []) _ (number_fails bytes 12) (λ base base-is.
-    in_turn (number_at bytes 16) (λ acc. number_at bytes 20 >>= λ top. flag_at bytes 24 >>= λ poll. Ok (packets.Accept sender stamp base acc top poll))
-    (number_field bytes 16 ∷ []) _ (number_fails bytes 16) (λ acc acc-is.
-    in_turn (number_at bytes 20) (λ top. flag_at bytes 24 >>= λ poll. Ok (packets.Accept sender stamp base acc top poll)) (number_field bytes 20 ∷ []) _
-    (number_fails bytes 20) (λ top top-is.
-    last (flag_at bytes 24) (λ poll. packets.Accept sender stamp base acc top poll) (flag_field bytes 24 ∷ []) (flag_fails bytes 24))))
+    three_fail bytes (λ base acc top. flag_at bytes 24 >>= λ poll. Ok (packets.Accept sender stamp base acc top poll)) _ (λ base acc top.
+    last (flag_at bytes 24) (λ poll. packets.Accept sender stamp base acc top poll) (flag_field bytes 24 ∷ []) (flag_fails bytes 24))
 kind_fails kinds.Ack sender stamp bytes =
     last (report_at bytes 12) (λ report. packets.Ack sender stamp report) (report_fields bytes 12) (report_fails bytes 12)
 kind_fails kinds.Nack sender stamp bytes =
     last (report_at bytes 12) (λ report. packets.Nack sender stamp report) (report_fields bytes 12) (report_fails bytes 12)
 kind_fails kinds.Hold sender stamp bytes =
-    in_turn (number_at bytes 12) (λ base. number_at bytes 16 >>= λ top. number_at bytes 20 >>= λ req. Ok (packets.Hold sender stamp base top req))
-    (number_field bytes 12 ∷ []) _ (number_fails bytes 12) (λ base base-is.
-    in_turn (number_at bytes 16) (λ top. number_at bytes 20 >>= λ req. Ok (packets.Hold sender stamp base top req)) (number_field bytes 16 ∷ []) _
-    (number_fails bytes 16) (λ top top-is.
-    last (number_at bytes 20) (λ req. packets.Hold sender stamp base top req) (number_field bytes 20 ∷ []) (number_fails bytes 20)))
+    three_fail bytes (λ base top req. Ok (packets.Hold sender stamp base top req)) [] (λ base top req. refl)
 kind_fails kinds.JoinAsk sender stamp bytes = refl
 kind_fails kinds.Welcome sender stamp bytes =
-    in_turn (number_at bytes 12) (λ base. number_at bytes 16 >>= λ join. image_at bytes 20 >>= λ image. Ok (packets.Welcome sender stamp base join image))
-    (number_field bytes 12 ∷ []) _ (number_fails bytes 12) (λ base base-is.
-    in_turn (number_at bytes 16) (λ join. image_at bytes 20 >>= λ image. Ok (packets.Welcome sender stamp base join image)) (number_field bytes 16 ∷ []) _
-    (number_fails bytes 16) (λ join join-is.
-    last (image_at bytes 20) (λ image. packets.Welcome sender stamp base join image) (image_fields bytes 20) (image_fails bytes 20)))
+    two_fail bytes (λ base join. image_at bytes 20 >>= λ image. Ok (packets.Welcome sender stamp base join image)) _ (λ base join.
+    last (image_at bytes 20) (λ image. packets.Welcome sender stamp base join image) (image_fields bytes 20) (image_fails bytes 20))
 kind_fails kinds.LeaveAsk sender stamp bytes =
     last (report_at bytes 12) (λ report. packets.LeaveAsk sender stamp report) (report_fields bytes 12) (report_fails bytes 12)
 kind_fails kinds.Gone sender stamp bytes =
@@ -248,20 +242,15 @@ kind_fails kinds.Vote sender stamp bytes =
 kind_fails kinds.Fetch sender stamp bytes =
     last (number_at bytes 12) (λ stored. packets.Fetch sender stamp stored) (number_field bytes 12 ∷ []) (number_fails bytes 12)
 kind_fails kinds.Piece sender stamp bytes =
-    in_turn (number_at bytes 12) (λ base. number_at bytes 16 >>= λ number. entry_at bytes 20 >>= λ entry. Ok (packets.Piece sender stamp base number entry))
-    (number_field bytes 12 ∷ []) _ (number_fails bytes 12) (λ base base-is.
-    in_turn (number_at bytes 16) (λ number. entry_at bytes 20 >>= λ entry. Ok (packets.Piece sender stamp base number entry)) (number_field bytes 16 ∷ []) _
-    (number_fails bytes 16) (λ number number-is.
-    last (entry_at bytes 20) (λ entry. packets.Piece sender stamp base number entry) (entry_fields bytes 20) (entry_fails bytes 20)))
+    two_fail bytes (λ base number. entry_at bytes 20 >>= λ entry. Ok (packets.Piece sender stamp base number entry)) _ (λ base number.
+    last (entry_at bytes 20) (λ entry. packets.Piece sender stamp base number entry) (entry_fields bytes 20) (entry_fails bytes 20))
 kind_fails kinds.Result sender stamp bytes =
-    in_turn (number_at bytes 12) (λ base. number_at bytes 16 >>= λ number. set_at bytes 20 >>= λ members. resilience_at bytes 30 >>= λ resilience. Ok
-    (packets.Result sender stamp base number members resilience)) (number_field bytes 12 ∷ []) _ (number_fails bytes 12) (λ base base-is.
-    in_turn (number_at bytes 16) (λ number. set_at bytes 20 >>= λ members. resilience_at bytes 30 >>= λ resilience. Ok
-    (packets.Result sender stamp base number members resilience)) (number_field bytes 16 ∷ []) _ (number_fails bytes 16) (λ number number-is.
+    two_fail bytes (λ base number. set_at bytes 20 >>= λ members. resilience_at bytes 30 >>= λ resilience. Ok
+    (packets.Result sender stamp base number members resilience)) _ (λ base number.
     in_turn (set_at bytes 20) (λ members. resilience_at bytes 30 >>= λ resilience. Ok (packets.Result sender stamp base number members resilience))
     (set_field bytes 20 ∷ []) _ (set_fails bytes 20) (λ members members-is.
     last (resilience_at bytes 30) (λ resilience. packets.Result sender stamp base number members resilience) (resilience_field bytes 30 ∷ [])
-    (resilience_fails bytes 30))))
+    (resilience_fails bytes 30)))
 kind_fails kinds.HandOver sender stamp bytes = refl
 
 pub packet_fails : (kind : Kind) (bytes : List ℕ) → Fails (fields_at kind bytes) (packet_fields kind bytes)

@@ -24,7 +24,7 @@ pub bind_ok : {A B : Type 0} (r : Read A) (f : A → Read B) (y : B) → (r >>= 
 bind_ok (Ok x) f y e = (x, refl, e)
 bind_ok (Err d) f y e = absurd cc
 
-abbrev done : {A : Type 0} → A → Read A
+abbrev pub done : {A : Type 0} → A → Read A
 done x = Ok x
 
 pub ok_is : {A : Type 0} (x y : A) → done x ≡ done y → x ≡ y

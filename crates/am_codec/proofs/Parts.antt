@@ -179,25 +179,26 @@ data_ends bytes at entry fits tag read =
     subst (λ (e : Entry). EndsWith bytes at e) (ok_is (Data (slice_index bytes (at + 1)) a.0 (drop (at + 6) bytes)) entry a.2)
     (record { here = t02.here; within = req.1; parts = omega (arith, length-drop (at + 6) bytes) })
 
+-- a tag and a name
+named_ends : (bytes : List ℕ) (at tag : ℕ) (make : ℕ → Entry) (entry : Entry)
+    → ((name : ℕ) → (entry_bytes (make name) ≡ tag ∷ name ∷ []) × IsEntry (make name) × HasEntryParts (make name))
+    → Takes bytes at (tag ∷ []) (at + 1)
+    → cond (eqb (length bytes) (at + 2)) (Ok (make (slice_index bytes (at + 1)))) (Err (BadField 10)) ≡ Ok entry → EndsWith bytes at entry
+named_ends bytes at tag make entry made taken read =
+    let name = slice_index bytes (at + 1) in
+    let g = passed _ (Ok (make name)) (BadField 10) entry read in
+    let long : length bytes ≡ at + 2 = eqb-true _ _ g.0 in
+    let t01 = and_then bytes at (at + 1) (at + 2) (tag ∷ []) (name ∷ []) taken (byte_takes bytes (at + 1) (at + 2) (omega arith) (omega arith)) in
+    subst (λ (e : Entry). EndsWith bytes at e) (ok_is (make name) entry g.1)
+    (record { here = to_end bytes at (at + 2) _ t01 (omega arith) ∙ sym (made name).0; within = (made name).1; parts = (made name).2 })
+
 join_ends : (bytes : List ℕ) (at : ℕ) (entry : Entry) → Takes bytes at (2 ∷ []) (at + 1) → join_at bytes at ≡ Ok entry → EndsWith bytes at entry
 unfolding join_at entry_bytes
-join_ends bytes at entry tag read =
-    let g = passed _ (Ok (Join (slice_index bytes (at + 1)))) (BadField 10) entry read in
-    let long : length bytes ≡ at + 2 = eqb-true _ _ g.0 in
-    let name = byte_takes bytes (at + 1) (at + 2) (omega arith) (omega arith) in
-    let t01 = and_then bytes at (at + 1) (at + 2) (2 ∷ []) (slice_index bytes (at + 1) ∷ []) tag name in
-    subst (λ (e : Entry). EndsWith bytes at e) (ok_is (Join (slice_index bytes (at + 1))) entry g.1)
-    (record { here = to_end bytes at (at + 2) _ t01 (omega arith); within = tt; parts = tt })
+join_ends bytes at entry tag read = named_ends bytes at 2 (λ name. Join name) entry (λ name. (refl, tt, tt)) tag read
 
 leave_ends : (bytes : List ℕ) (at : ℕ) (entry : Entry) → Takes bytes at (3 ∷ []) (at + 1) → leave_at bytes at ≡ Ok entry → EndsWith bytes at entry
 unfolding leave_at entry_bytes
-leave_ends bytes at entry tag read =
-    let g = passed _ (Ok (Leave (slice_index bytes (at + 1)))) (BadField 10) entry read in
-    let long : length bytes ≡ at + 2 = eqb-true _ _ g.0 in
-    let name = byte_takes bytes (at + 1) (at + 2) (omega arith) (omega arith) in
-    let t01 = and_then bytes at (at + 1) (at + 2) (3 ∷ []) (slice_index bytes (at + 1) ∷ []) tag name in
-    subst (λ (e : Entry). EndsWith bytes at e) (ok_is (Leave (slice_index bytes (at + 1))) entry g.1)
-    (record { here = to_end bytes at (at + 2) _ t01 (omega arith); within = tt; parts = tt })
+leave_ends bytes at entry tag read = named_ends bytes at 3 (λ name. Leave name) entry (λ name. (refl, tt, tt)) tag read
 
 view_ends : (bytes : List ℕ) (at : ℕ) (entry : Entry) → IsBytes bytes → Takes bytes at (4 ∷ []) (at + 1) → view_at bytes at ≡ Ok entry → EndsWith bytes at entry
 unfolding view_at view_fields_at entry_bytes

@@ -71,21 +71,8 @@ abbrev pub most_total : Kind → ℕ
 most_total kinds.Request = 1048
 most_total kinds.Spread = 1048
 most_total kinds.Bcast = 65535
-most_total kinds.Order = 29
-most_total kinds.Accept = 25
-most_total kinds.Ack = 20
-most_total kinds.Nack = 20
-most_total kinds.Hold = 24
-most_total kinds.JoinAsk = 12
-most_total kinds.Welcome = 238
-most_total kinds.LeaveAsk = 20
-most_total kinds.Gone = 16
-most_total kinds.Invite = 12
-most_total kinds.Vote = 35
-most_total kinds.Fetch = 16
 most_total kinds.Piece = 65535
-most_total kinds.Result = 31
-most_total kinds.HandOver = 12
+most_total kind = least_total kind
 
 abbrev pub is_total : Kind → ℕ → Bool
 is_total kind total = nat_le (least_total kind) total && nat_le total (most_total kind)

@@ -13,47 +13,36 @@ use Rattle.am_packet.specs.declared.packet.Packet.{Packet}
 use Rattle.am_packet.specs.declared.packet.Packet.TheVariants as packets
 use Rattle.am_packet.specs.Kinds.{kind_of}
 
--- who sent a packet
-abbrev pub sender_of : Packet → ℕ
-sender_of (packets.Request sender stamp report req body) = sender
-sender_of (packets.Spread sender stamp report req body) = sender
-sender_of (packets.Bcast sender stamp base acc number entry) = sender
-sender_of (packets.Order sender stamp base acc number from req) = sender
-sender_of (packets.Accept sender stamp base acc top poll) = sender
-sender_of (packets.Ack sender stamp report) = sender
-sender_of (packets.Nack sender stamp report) = sender
-sender_of (packets.Hold sender stamp base top req) = sender
-sender_of (packets.JoinAsk sender stamp) = sender
-sender_of (packets.Welcome sender stamp base join image) = sender
-sender_of (packets.LeaveAsk sender stamp report) = sender
-sender_of (packets.Gone sender stamp number) = sender
-sender_of (packets.Invite sender stamp) = sender
-sender_of (packets.Vote sender stamp vote) = sender
-sender_of (packets.Fetch sender stamp stored) = sender
-sender_of (packets.Piece sender stamp base number entry) = sender
-sender_of (packets.Result sender stamp base number members resilience) = sender
-sender_of (packets.HandOver sender stamp) = sender
+-- who sent a packet, and its stamp
+pub record Signature : Type 0 where
+  pub sender : ℕ
+  pub stamp : Stamp
 
--- and its stamp
+abbrev pub signature_of : Packet → Signature
+signature_of (packets.Request sender stamp report req body) = record { sender = sender; stamp = stamp }
+signature_of (packets.Spread sender stamp report req body) = record { sender = sender; stamp = stamp }
+signature_of (packets.Bcast sender stamp base acc number entry) = record { sender = sender; stamp = stamp }
+signature_of (packets.Order sender stamp base acc number from req) = record { sender = sender; stamp = stamp }
+signature_of (packets.Accept sender stamp base acc top poll) = record { sender = sender; stamp = stamp }
+signature_of (packets.Ack sender stamp report) = record { sender = sender; stamp = stamp }
+signature_of (packets.Nack sender stamp report) = record { sender = sender; stamp = stamp }
+signature_of (packets.Hold sender stamp base top req) = record { sender = sender; stamp = stamp }
+signature_of (packets.JoinAsk sender stamp) = record { sender = sender; stamp = stamp }
+signature_of (packets.Welcome sender stamp base join image) = record { sender = sender; stamp = stamp }
+signature_of (packets.LeaveAsk sender stamp report) = record { sender = sender; stamp = stamp }
+signature_of (packets.Gone sender stamp number) = record { sender = sender; stamp = stamp }
+signature_of (packets.Invite sender stamp) = record { sender = sender; stamp = stamp }
+signature_of (packets.Vote sender stamp vote) = record { sender = sender; stamp = stamp }
+signature_of (packets.Fetch sender stamp stored) = record { sender = sender; stamp = stamp }
+signature_of (packets.Piece sender stamp base number entry) = record { sender = sender; stamp = stamp }
+signature_of (packets.Result sender stamp base number members resilience) = record { sender = sender; stamp = stamp }
+signature_of (packets.HandOver sender stamp) = record { sender = sender; stamp = stamp }
+
+abbrev pub sender_of : Packet → ℕ
+sender_of packet = (signature_of packet).sender
+
 abbrev pub stamp_of : Packet → Stamp
-stamp_of (packets.Request sender stamp report req body) = stamp
-stamp_of (packets.Spread sender stamp report req body) = stamp
-stamp_of (packets.Bcast sender stamp base acc number entry) = stamp
-stamp_of (packets.Order sender stamp base acc number from req) = stamp
-stamp_of (packets.Accept sender stamp base acc top poll) = stamp
-stamp_of (packets.Ack sender stamp report) = stamp
-stamp_of (packets.Nack sender stamp report) = stamp
-stamp_of (packets.Hold sender stamp base top req) = stamp
-stamp_of (packets.JoinAsk sender stamp) = stamp
-stamp_of (packets.Welcome sender stamp base join image) = stamp
-stamp_of (packets.LeaveAsk sender stamp report) = stamp
-stamp_of (packets.Gone sender stamp number) = stamp
-stamp_of (packets.Invite sender stamp) = stamp
-stamp_of (packets.Vote sender stamp vote) = stamp
-stamp_of (packets.Fetch sender stamp stored) = stamp
-stamp_of (packets.Piece sender stamp base number entry) = stamp
-stamp_of (packets.Result sender stamp base number members resilience) = stamp
-stamp_of (packets.HandOver sender stamp) = stamp
+stamp_of packet = (signature_of packet).stamp
 
 abbrev pub stamp_bytes : Stamp → List ℕ
 stamp_bytes stamp = big_bytes 4 stamp.round ++ stamp.by ∷ []

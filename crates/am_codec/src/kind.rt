@@ -76,15 +76,7 @@ impl Kind {
         match self {
             Kind::Request | Kind::Spread => 1048,
             Kind::Bcast | Kind::Piece => 65535,
-            Kind::Hold => 24,
-            Kind::Accept => 25,
-            Kind::Order => 29,
-            Kind::Ack | Kind::Nack | Kind::LeaveAsk => 20,
-            Kind::JoinAsk | Kind::Invite | Kind::HandOver => 12,
-            Kind::Welcome => 238,
-            Kind::Gone | Kind::Fetch => 16,
-            Kind::Vote => 35,
-            Kind::Result => 31,
+            _ => self.least_total(),
         }
     }
 

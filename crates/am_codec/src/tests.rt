@@ -265,14 +265,13 @@ fn with_total(alloc: Global, bytes: &[u8], total: usize) -> Result<Vec<u8>, Fail
 
 #[test]
 fn a_wrong_field_is_refused_at_its_offset(rt: HostRuntime) -> Result<(), Fail> {
-    for fault in &FAULTS {
-        let bytes = with_byte(rt.alloc(), fault.bytes, fault.at, fault.byte)?;
+    for (packet, at, byte, refused_at) in FAULTS {
+        let bytes = with_byte(rt.alloc(), packet, at, byte)?;
         let refused = decode(&bytes).err();
         assert_eq!(rt;
             refused,
-            Some(PacketRefusal::BadField { at: fault.refused }),
-            "at {}",
-            fault.at
+            Some(PacketRefusal::BadField { at: refused_at }),
+            "at {at}"
         );
     }
     Ok(())

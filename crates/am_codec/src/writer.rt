@@ -383,53 +383,30 @@ fn put_fields(into: &mut PacketBytes, packet: &Packet)
     }
 }
 
-fn sender(packet: &Packet) -> Name
-    ensures { result ≡ sender_of packet.now }
+/// Who sent a packet, and its stamp.
+fn signature(packet: &Packet) -> (Name, Stamp)
+    ensures sender { result.0 ≡ sender_of packet.now }
+    ensures stamp { result.1 ≡ stamp_of packet.now }
 {
     match packet {
-        Packet::Request { sender, .. } => *sender,
-        Packet::Spread { sender, .. } => *sender,
-        Packet::Bcast { sender, .. } => *sender,
-        Packet::Order { sender, .. } => *sender,
-        Packet::Accept { sender, .. } => *sender,
-        Packet::Ack { sender, .. } => *sender,
-        Packet::Nack { sender, .. } => *sender,
-        Packet::Hold { sender, .. } => *sender,
-        Packet::JoinAsk { sender, .. } => *sender,
-        Packet::Welcome { sender, .. } => *sender,
-        Packet::LeaveAsk { sender, .. } => *sender,
-        Packet::Gone { sender, .. } => *sender,
-        Packet::Invite { sender, .. } => *sender,
-        Packet::Vote { sender, .. } => *sender,
-        Packet::Fetch { sender, .. } => *sender,
-        Packet::Piece { sender, .. } => *sender,
-        Packet::Result { sender, .. } => *sender,
-        Packet::HandOver { sender, .. } => *sender,
-    }
-}
-
-fn stamp(packet: &Packet) -> Stamp
-    ensures { result ≡ stamp_of packet.now }
-{
-    match packet {
-        Packet::Request { stamp, .. } => *stamp,
-        Packet::Spread { stamp, .. } => *stamp,
-        Packet::Bcast { stamp, .. } => *stamp,
-        Packet::Order { stamp, .. } => *stamp,
-        Packet::Accept { stamp, .. } => *stamp,
-        Packet::Ack { stamp, .. } => *stamp,
-        Packet::Nack { stamp, .. } => *stamp,
-        Packet::Hold { stamp, .. } => *stamp,
-        Packet::JoinAsk { stamp, .. } => *stamp,
-        Packet::Welcome { stamp, .. } => *stamp,
-        Packet::LeaveAsk { stamp, .. } => *stamp,
-        Packet::Gone { stamp, .. } => *stamp,
-        Packet::Invite { stamp, .. } => *stamp,
-        Packet::Vote { stamp, .. } => *stamp,
-        Packet::Fetch { stamp, .. } => *stamp,
-        Packet::Piece { stamp, .. } => *stamp,
-        Packet::Result { stamp, .. } => *stamp,
-        Packet::HandOver { stamp, .. } => *stamp,
+        Packet::Request { sender, stamp, .. } => (*sender, *stamp),
+        Packet::Spread { sender, stamp, .. } => (*sender, *stamp),
+        Packet::Bcast { sender, stamp, .. } => (*sender, *stamp),
+        Packet::Order { sender, stamp, .. } => (*sender, *stamp),
+        Packet::Accept { sender, stamp, .. } => (*sender, *stamp),
+        Packet::Ack { sender, stamp, .. } => (*sender, *stamp),
+        Packet::Nack { sender, stamp, .. } => (*sender, *stamp),
+        Packet::Hold { sender, stamp, .. } => (*sender, *stamp),
+        Packet::JoinAsk { sender, stamp, .. } => (*sender, *stamp),
+        Packet::Welcome { sender, stamp, .. } => (*sender, *stamp),
+        Packet::LeaveAsk { sender, stamp, .. } => (*sender, *stamp),
+        Packet::Gone { sender, stamp, .. } => (*sender, *stamp),
+        Packet::Invite { sender, stamp, .. } => (*sender, *stamp),
+        Packet::Vote { sender, stamp, .. } => (*sender, *stamp),
+        Packet::Fetch { sender, stamp, .. } => (*sender, *stamp),
+        Packet::Piece { sender, stamp, .. } => (*sender, *stamp),
+        Packet::Result { sender, stamp, .. } => (*sender, *stamp),
+        Packet::HandOver { sender, stamp, .. } => (*sender, *stamp),
     }
 }
 
@@ -450,7 +427,8 @@ pub fn encode(packet: &Packet, into: &mut PacketBytes)
     ensures packet { IsPacket packet.now }
 {
     let total = 12 + fields_len(packet) as u16;
+    let (sender, stamp) = signature(packet);
     into.clear();
-    put_header(into, packet.kind(), sender(packet), stamp(packet), total);
+    put_header(into, packet.kind(), sender, stamp, total);
     put_fields(into, packet);
 }

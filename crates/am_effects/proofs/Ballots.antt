@@ -56,27 +56,15 @@ looks_at m b =
 -- what is answered tells no more
 answers_look : (m : Node) (c : Cause) (n p : Node) (b : Ballot) (v : Verdict) → Looks p b v → Answers m c n v.outcome
 answers_look m c n p b v (finds_itself_out x) = tt
-answers_look m c n p b v (waits x y) = tt
-answers_look m c n p b v (fetches_from_best x y z) = tt
-answers_look m c n p b v (finds_too_few x y) = tt
-answers_look m c n p b v (finds_no_room x) = tt
-answers_look m c n p b v (decides x) = tt
+answers_look m c n p b v _ = tt
 
 promise_look : (p : Node) (b : Ballot) (v : Verdict) → Looks p b v → v.node.core.promise ≡ p.core.promise
 promise_look p b v (finds_itself_out x) = refl
-promise_look p b v (waits x y) = refl
-promise_look p b v (fetches_from_best x y z) = refl
-promise_look p b v (finds_too_few x y) = refl
-promise_look p b v (finds_no_room x) = refl
-promise_look p b v (decides x) = refl
+promise_look p b v _ = refl
 
 ballot_look : (p : Node) (b : Ballot) (v : Verdict) → Looks p b v → (new : Ballot) × (v.node.ballot ≡ Some new)
 ballot_look p b v (finds_itself_out x) = (_, refl)
-ballot_look p b v (waits x y) = (_, refl)
-ballot_look p b v (fetches_from_best x y z) = (_, refl)
-ballot_look p b v (finds_too_few x y) = (_, refl)
-ballot_look p b v (finds_no_room x) = (_, refl)
-ballot_look p b v (decides x) = (_, refl)
+ballot_look p b v _ = (_, refl)
 
 -- ---- what a verdict sends
 
@@ -95,11 +83,6 @@ viewed image number stamp names resilience = (refl, refl)
 
 says_result : (m : Node) (c : Cause) (n p : Node) (b : Ballot) (v : Verdict) (letters : List Letter) → Looks p b v → RestsWhole v.node n → AllSay m c n letters
     → AllSay m c n (with_result v.outcome n letters)
-says_result m c n p b v letters (finds_itself_out x) r h = h
-says_result m c n p b v letters (waits x y) r h = h
-says_result m c n p b v letters (fetches_from_best x y z) r h = h
-says_result m c n p b v letters (finds_too_few x y) r h = h
-says_result m c n p b v letters (finds_no_room x) r h = h
 says_result m c n p b v letters (decides x) r h =
     let names = left_in b (need_of p b) in
     let before = trimmed_for p b names in
@@ -115,20 +98,17 @@ says_result m c n p b v letters (decides x) r h =
     and_says m c n (without_name names n.core.who) (result_of n number names (told n).resilience) letters
     (result (without_name names n.core.who) number names high (ap viewed_by there)
     (decided (record b { answer = o; is_over = true }) number names r.rests.ballot refl stamp)) h
+says_result m c n p b v letters _ r h = h
 
 says_fetch : (m : Node) (c : Cause) (n p : Node) (b : Ballot) (v : Verdict) (letters : List Letter) → Looks p b v → RestsWhole v.node n → AllSay m c n letters
     → AllSay m c n (with_fetch v.outcome n letters)
-says_fetch m c n p b v letters (finds_itself_out x) r h = h
-says_fetch m c n p b v letters (waits x y) r h = h
-says_fetch m c n p b v letters (finds_too_few x y) r h = h
-says_fetch m c n p b v letters (finds_no_room x) r h = h
-says_fetch m c n p b v letters (decides x) r h = h
 says_fetch m c n p b v letters (fetches_from_best x y z) r h =
     let from = (best_of p b).by in
     let o = said.Fetching from (top p + 1) in
     and_says m c n (only_name from) (fetch_of n) letters
     (fetch (only_name from) (for_ballot (record b { answer = o; is_over = false }) (record { last = r.rests.ballot; open_ = refl }) from (top p + 1) refl refl))
     h
+says_fetch m c n p b v letters _ r h = h
 
 -- ---- a look at the end of a row
 

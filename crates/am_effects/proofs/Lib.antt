@@ -1,7 +1,6 @@
 pub mod Tests
 pub mod Statuses
 pub mod Items
-pub mod Founders
 pub mod Rests
 pub mod Plans
 pub mod Says

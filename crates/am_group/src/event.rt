@@ -2,8 +2,7 @@ ghost use Rattle.std.specs.Prelude.{◌≡◌, IfOk};
 ghost use Rattle.am_group.specs.declared.event.Act.TheVariants as act;
 
 use am_base::NoMemory;
-use am_base::body::Body;
-use am_base::boxed::Boxed;
+use am_base::body::{Body, SentBody};
 use am_base::items::Items;
 use am_base::name::Name;
 use am_base::outcome::Outcome;
@@ -14,7 +13,7 @@ use std::alloc::Global;
 #[derive(Drop, Clone, Debug)]
 pub enum Act {
     /// Sends a body to the group.
-    Send(Boxed<Body>),
+    Send(SentBody),
     /// Asks what came of a send.
     Done(u32),
     /// Takes the next accepted entry.
@@ -48,7 +47,7 @@ impl Act {
     pub fn send(alloc: Global, body: Body) -> Result<Act, NoMemory>
         ensures { IfOk result (λ a. a ≡ act.Send body) }
     {
-        Ok(Act::Send(Boxed::of(alloc, body)?))
+        Ok(Act::Send(SentBody::of(alloc, &body)?))
     }
 
     /// The same act.

@@ -3,6 +3,7 @@ use crate::delivered::deliveries;
 use crate::event::{Act, By, Event, Part, Record};
 use crate::group::Group;
 use crate::journal::Journal;
+use am_base::NoMemory;
 use am_base::body::Body;
 use am_base::boxed::Boxed;
 use am_base::entry::Entry;
@@ -21,7 +22,7 @@ fn founding_of(founders: u16) -> Result<Founding, Fail> {
 }
 
 #[tactic(auto, unfolding(am_codec::specs::Limits::IsWithin))]
-fn invite_to(to: Names) -> Letter {
+fn invite_to(alloc: Global, to: Names) -> Result<Letter, NoMemory> {
     let invite = Packet::Invite {
         sender: Name::of_byte(0),
         stamp: Stamp {
@@ -29,13 +30,13 @@ fn invite_to(to: Names) -> Letter {
             by: Name::of_byte(0),
         },
     };
-    Letter::of(to, &invite)
+    Letter::of(alloc, to, &invite)
 }
 
 fn record_of(alloc: Global, node: u8, outcome: Outcome, to: &[u16]) -> Result<Record, Fail> {
     let mut packets = Items::new(alloc);
     for mask in to {
-        packets.push(invite_to(Names::of_mask(*mask)))?;
+        packets.push(invite_to(alloc, Names::of_mask(*mask))?)?;
     }
     Ok(Record {
         event: Event {
@@ -87,7 +88,7 @@ fn letters_have_their_numbers(rt: HostRuntime) -> Result<(), Fail> {
 
 #[test]
 #[tactic(auto, unfolding(am_codec::specs::Limits::IsWithin))]
-fn a_letter_with_any_is_for_each_life(rt: HostRuntime) {
+fn a_letter_with_any_is_for_each_life(rt: HostRuntime) -> Result<(), Fail> {
     let ask = Packet::JoinAsk {
         sender: Name::of_byte(0),
         stamp: Stamp {
@@ -95,10 +96,11 @@ fn a_letter_with_any_is_for_each_life(rt: HostRuntime) {
             by: Name::of_byte(0),
         },
     };
-    let letter = Letter::of(Names::of_mask(2), &ask);
+    let letter = Letter::of(rt.alloc(), Names::of_mask(2), &ask)?;
     for (name, wanted) in [(1, true), (17, true), (241, true), (0, false), (2, false)] {
         assert_eq!(rt; is_for(&letter, Name::of_byte(name)), wanted, "of {name}");
     }
+    Ok(())
 }
 
 #[test]

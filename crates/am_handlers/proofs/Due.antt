@@ -1,6 +1,6 @@
 -- What is settled of a node's sends stands in its list, as that grows.
-use Rattle.std.proofs.Common.{◌≡◌, ◌⊎◌, ⊎_elim, inl, inr, ℕ, zero, suc, ◌+◌, ◌-◌, ◌<◌, ◌≤◌, List, [], ◌∷◌, length, Bool, true, false, ◌&&◌, ◌==◌, nat_lt}
-use Rattle.std.proofs.Common.{Option, Some, None, slice_get, refl, sym, ◌∙◌, ap, subst, arith}
+use Rattle.std.proofs.Common.{◌≡◌, ⊎_elim, ℕ, zero, suc, ◌+◌, ◌-◌, ◌<◌, ◌≤◌, List, [], ◌∷◌, length, true, ◌==◌, nat_lt}
+use Rattle.std.proofs.Common.{Some, slice_get, refl, sym, ◌∙◌, ap, subst, arith}
 use Rattle.std.proofs.lemmas.Bool.Decides.{nat_tests}
 use Rattle.am_base.specs.declared.image.Image.{Image}
 use Rattle.am_base.specs.declared.image.Row.{Row}
@@ -11,7 +11,7 @@ use Rattle.am_base.specs.Lists.{Log, entry_at, told_by, at_place, after, fits, f
 use Rattle.am_core.proofs.Folds.{split}
 use Rattle.am_chain_lists.proofs.Rows.{row_at, long_after}
 use Rattle.am_model.specs.Claims.{request_in}
-use Rattle.am_orders.proofs.Rows.{IsNext, GoesOn, entry_goes_on, own_request}
+use Rattle.am_orders.proofs.Rows.{IsNext, entry_goes_on, own_request}
 use Rattle.am_core.specs.Kept.{IsKept}
 use Rattle.am_model.specs.Refresh.{is_data_of}
 use Rattle.am_handlers.specs.Parts.{passes}

@@ -1,5 +1,5 @@
 -- The parts of a node keep what they keep.
-use Rattle.std.proofs.Common.{◌≡◌, ◌≢◌, ◌<◌, inl, ℕ, ◌+◌, [], ◌∷◌, length, ◌-◌, ◌≤◌, max, min, nat_lt, List, Bool, true, false, ◌&&◌, ◌==◌, Option, Some, None}
+use Rattle.std.proofs.Common.{◌≡◌, ◌≢◌, ◌<◌, inl, ℕ, ◌+◌, [], ◌∷◌, length, ◌-◌, ◌≤◌, nat_lt, List, Bool, true, false, ◌&&◌, ◌==◌, Option, Some, None}
 use Rattle.std.proofs.Common.{option_map, refl, sym, ◌∙◌, ap, subst, arith}
 use Rattle.am_base.specs.declared.image.Image.{Image}
 use Rattle.am_base.specs.declared.name.Stamp.{Stamp}
@@ -10,8 +10,8 @@ use Rattle.am_base.specs.declared.entry.Entry.TheVariants.{Data, Join, Leave, Vi
 use Rattle.std.proofs.lemmas.Bool.Decides.{nat_tests}
 use Rattle.am_base.specs.Names.{has, life_of}
 use Rattle.am_base.specs.Stamps.{stamp_eq, stamp_lt}
-use Rattle.am_base.specs.Lists.{Log, top_of, told_by, members_of, at_place, after, fits, fold}
-use Rattle.am_core.specs.Cores.{CoreState, Stands, IsInOrder, advance, accept, pass_over}
+use Rattle.am_base.specs.Lists.{members_of, at_place, after, fits, fold}
+use Rattle.am_core.specs.Cores.{CoreState, IsInOrder, advance, accept, pass_over}
 use Rattle.am_core.specs.Kept.{IsKept}
 use Rattle.am_core.proofs.Folds.{split}
 use Rattle.am_core.proofs.Ends.{end-top, end-told, told-push}
@@ -27,7 +27,7 @@ use Rattle.am_fronts.specs.Reports.{reported}
 use Rattle.am_model.specs.declared.status.Status.{Status}
 use Rattle.am_model.specs.declared.status.Status.TheVariants.{Stranger, Asking, Member, Departed}
 use Rattle.am_model.specs.Receiving.{is_view}
-use Rattle.am_model.specs.Node.{Node, top, told, view, members, acts, waiting, is_member, is_sequencer, pushed, with_report}
+use Rattle.am_model.specs.Node.{Node, Ballot, top, told, view, members, acts, waiting, is_member, is_sequencer, pushed, with_report}
 use Rattle.am_model.specs.Refresh.{refresh, lead, led_of, with_led, accepted_at, settled_at, settled, settle, refresh_at_end}
 use Rattle.am_model.specs.Ends.{IsEndOf}
 use Rattle.am_chain_lists.proofs.Rows.{long_after}
@@ -37,23 +37,44 @@ use Rattle.am_handlers.specs.Keeps.{NodeKeeps, IsOwnBallot, IsSteady, IsDue}
 pub steady_leads : (m n : Node) → IsSteady m n → is_sequencer n ≡ is_sequencer m
 steady_leads m n s = λ k. (is_member (s.status k) && stamp_eq (s.promise k) (s.told k).view) && ((s.told k).view.by == s.who k)
 
+-- a ballot stays the node's own where its promise, its name, its view and its list stay
+pub own_for : (m n : Node) (b : Ballot) → n.core.promise ≡ m.core.promise → n.core.who ≡ m.core.who → view n ≡ view m
+    → (has_log m.status ≡ true → has_log n.status ≡ true) → IsOwnBallot m b → IsOwnBallot n b
+own_for m n b promise who same log own = record {
+  stamp = λ open_. own.stamp open_ ∙ sym promise;
+  by = λ open_. own.by open_ ∙ sym who;
+  ahead = λ open_. ap (λ (v : Stamp). stamp_lt v b.stamp) same ∙ own.ahead open_;
+  logged = λ open_. log (own.logged open_);
+  itself = λ open_. ap b.given_up who ∙ own.itself open_;
+  unvoted = λ open_. ap b.votes who ∙ own.unvoted open_;
+  resilience = own.resilience;
+}
+
+pub own_steady : (m n : Node) (b : Ballot) → IsSteady m n → IsOwnBallot m b → IsOwnBallot n b
+own_steady m n b s own = own_for m n b s.promise s.who (ap (λ (i : Image). i.view) s.told) (λ logged. ap has_log s.status ∙ logged) own
+
+-- an ended ballot needs nothing else
+pub over_own : (n : Node) (b : Ballot) → b.is_over ≡ true → b.resilience ≤ 15 → IsOwnBallot n b
+over_own n b is few = record {
+  stamp = λ open_. absurd (never open_);
+  by = λ open_. absurd (never open_);
+  ahead = λ open_. absurd (never open_);
+  logged = λ open_. absurd (never open_);
+  itself = λ open_. absurd (never open_);
+  unvoted = λ open_. absurd (never open_);
+  resilience = few;
+}
+  where
+    never : b.is_over ≡ false → ⊥
+    never open_ = let both = sym is ∙ open_ in cc
+
 pub keeps_steady : (m n : Node) → IsSteady m n → NodeKeeps m → (n.reports n.core.who).taken ≤ n.core.taken → NodeKeeps n
 keeps_steady m n s keeps own = record {
   own = own;
   leads = λ is. (λ k. has (members_of (s.told k)) (s.who k)) ∙ keeps.leads (sym (steady_leads m n s) ∙ is);
   promised = (λ k. stamp_lt (s.promise k) (s.told k).view) ∙ keeps.promised;
   blank = λ none. let before = ap has_log (sym s.status) ∙ none in s.top ∙ keeps.blank before;
-  ballot = λ b is.
-      let own_ballot = keeps.ballot b (sym s.ballot ∙ is) in
-      record {
-        stamp = λ open_. own_ballot.stamp open_ ∙ sym s.promise;
-        by = λ open_. own_ballot.by open_ ∙ sym s.who;
-        ahead = λ open_. (λ k. stamp_lt (s.told k).view b.stamp) ∙ own_ballot.ahead open_;
-        logged = λ open_. ap has_log s.status ∙ own_ballot.logged open_;
-        itself = λ open_. ap b.given_up s.who ∙ own_ballot.itself open_;
-        unvoted = λ open_. ap b.votes s.who ∙ own_ballot.unvoted open_;
-        resilience = own_ballot.resilience;
-      };
+  ballot = λ b is. own_steady m n b s (keeps.ballot b (sym s.ballot ∙ is));
   settled = λ leaves. ap sending.waiting s.sends ∙ keeps.settled (sym s.leaving ∙ leaves);
   due = subst (λ (r : Row). IsDue r (life_of n.core.who) (next_request n.sends)) (sym (λ k. at_place (s.told k) (s.who k)))
       (subst (λ (w : ℕ). IsDue (at_place (told m) m.core.who) (life_of w) (next_request n.sends)) (sym s.who)
@@ -89,27 +110,10 @@ steady_led m new order by =
 -- a node that goes on with what it was told
 pub keeps_advance : (m : Node) (core : CoreState) → core ≡ advance m.core → NodeKeeps m → NodeKeeps (record m { core = core })
 unfolding accept pass_over
-keeps_advance m core is keeps = subst (λ (x : CoreState). NodeKeeps (record m { core = x })) (sym is) (record {
-  own = let own = keeps.own in split (nat_lt m.core.taken (m.core.start - 1))
-      (λ t. rw t (omega arith))
-      (λ f. rw f own);
-  leads = keeps.leads;
-  promised = keeps.promised;
-  blank = keeps.blank;
-  ballot = λ b there. let is_own = keeps.ballot b there in record {
-    stamp = is_own.stamp;
-    by = is_own.by;
-    ahead = is_own.ahead;
-    logged = is_own.logged;
-    itself =
-        is_own.itself;
-    unvoted = is_own.unvoted;
-    resilience = is_own.resilience;
-  };
-  settled = keeps.settled;
-  due = keeps.due;
-  unsent = keeps.unsent;
-})
+keeps_advance m core is keeps = subst (λ (x : CoreState). NodeKeeps (record m { core = x })) (sym is)
+    (keeps_steady m (record m { core = advance m.core })
+    (record { who = refl; promise = refl; told = refl; top = refl; status = refl; ballot = refl; leaving = refl; sends = refl }) keeps
+    (let own = keeps.own in split (nat_lt m.core.taken (m.core.start - 1)) (λ t. rw t (omega arith)) (λ f. rw f own)))
 
 -- other sends, and all else the same
 pub record MaySend (m : Node) (sends : Sends) : Type 0 where
@@ -117,26 +121,32 @@ pub record MaySend (m : Node) (sends : Sends) : Type 0 where
   pub due : IsDue (at_place (told m) m.core.who) (life_of m.core.who) (next_request sends)
   pub unsent : has_log m.status ≡ false → next_request sends ≤ 1
 
-pub keeps_sends : (m : Node) (sends : Sends) → MaySend m sends → NodeKeeps m → NodeKeeps (record m { sends = sends })
-keeps_sends m sends may keeps = record {
+may_stay : (m : Node) → NodeKeeps m → MaySend m m.sends
+may_stay m keeps = record { settled = keeps.settled; due = keeps.due; unsent = keeps.unsent }
+
+-- other sends, another ballot, or a wish to leave
+keeps_changed : (m : Node) (leaving : Bool) (sends : Sends) (ballot : Option Ballot) → MaySend (record m { leaving = leaving }) sends
+    → ((b : Ballot) → ballot ≡ Some b → IsOwnBallot m b) → NodeKeeps m → NodeKeeps (record m { leaving = leaving; sends = sends; ballot = ballot })
+keeps_changed m leaving sends ballot may owns keeps = record {
   own = keeps.own;
   leads = keeps.leads;
   promised = keeps.promised;
   blank = keeps.blank;
-  ballot = λ b there. let is_own = keeps.ballot b there in record {
-    stamp = is_own.stamp;
-    by = is_own.by;
-    ahead = is_own.ahead;
-    logged = is_own.logged;
-    itself =
-        is_own.itself;
-    unvoted = is_own.unvoted;
-    resilience = is_own.resilience;
-  };
+  ballot = λ b there. own_for m (record m { leaving = leaving; sends = sends; ballot = ballot }) b refl refl refl (λ logged. logged) (owns b there);
   settled = may.settled;
   due = may.due;
   unsent = may.unsent;
 }
+
+pub keeps_sends : (m : Node) (sends : Sends) → MaySend m sends → NodeKeeps m → NodeKeeps (record m { sends = sends })
+keeps_sends m sends may keeps = keeps_changed m m.leaving sends m.ballot may keeps.ballot keeps
+
+pub keeps_leaving : (m : Node) → waiting m ≡ None → NodeKeeps m → NodeKeeps (record m { leaving = true })
+keeps_leaving m none keeps =
+    keeps_changed m true m.sends m.ballot (record { settled = λ leaves. none; due = keeps.due; unsent = keeps.unsent }) keeps.ballot keeps
+
+pub keeps_ballot : (m : Node) (o : Option Ballot) → ((b : Ballot) → o ≡ Some b → IsOwnBallot m b) → NodeKeeps m → NodeKeeps (record m { ballot = o })
+keeps_ballot m o owns keeps = keeps_changed m m.leaving m.sends o (may_stay m keeps) owns keeps
 
 -- the waiting send is settled, which stands in the list
 pub may_settle : (m : Node) (sends : Sends) (req : ℕ) → NodeKeeps m → option_map (λ (send : OwnSend). send.req) (sending.waiting m.sends) ≡ Some req
@@ -199,17 +209,7 @@ keeps_pushed m e plain fit capacity kept has_one stays keeps = record {
   leads = λ is. stays (sym (leads_pushed m e plain) ∙ is);
   promised = ap (stamp_lt m.core.promise) (view_pushed m e plain) ∙ keeps.promised;
   blank = λ none. absurd (cc);
-  ballot = λ b there.
-      let own_ballot = keeps.ballot b there in
-      record {
-        stamp = own_ballot.stamp;
-        by = own_ballot.by;
-        ahead = λ open_. ap (λ v. stamp_lt v b.stamp) (view_pushed m e plain) ∙ own_ballot.ahead open_;
-        logged = own_ballot.logged;
-        itself = own_ballot.itself;
-        unvoted = own_ballot.unvoted;
-        resilience = own_ballot.resilience;
-      };
+  ballot = λ b there. own_for m (pushed m e) b refl refl (view_pushed m e plain) (λ logged. logged) (keeps.ballot b there);
   settled = keeps.settled;
   due = due_pushed m e capacity kept fit (next_request m.sends) keeps.due;
   unsent = λ none. absurd (cc);

@@ -6,7 +6,7 @@ use Rattle.am_core.specs.Cores.{IsInOrder}
 use Rattle.am_core.proofs.Ends.{end-top, end-told}
 use Rattle.am_packet.specs.declared.packet.Packet.{Packet}
 use Rattle.am_packet.specs.Boxes.{Letter, with_letter}
-use Rattle.am_model.specs.Node.{Node, top, told}
+use Rattle.am_model.specs.Node.{Node, top, told, only_name}
 use Rattle.am_model.specs.Emit.{Plan, finish}
 use Rattle.am_model.specs.Refresh.{refresh_at_end}
 use Rattle.am_model.specs.Ends.{with_log, IsEndOf, Tells, Changes, ComesTo, Does}
@@ -34,10 +34,22 @@ done before p mid new outcome sent letters stays is end says sends tells_accepte
           ∙ ap (λ b. with_told b p.polls p.numbers (p.letters n) n) (sym acc);
     }
 
+-- from the plan's own node
+pub done_here : (before : ℕ) (p : Plan) (new : Node) {outcome : Outcome} {sent letters : List Letter} → p.departs ≡ false
+    → p.node.core.base ≡ p.node.core.log.start → Changes refresh_at_end p.node new → Tells p.outcome new outcome → Tells p.letters new sent
+    → Tells (with_told before p.polls p.numbers sent) new letters → Done before p outcome letters new
+done_here before p new {outcome} {sent} {letters} stays kept end says sends told =
+    done before p p.node new outcome sent letters stays (end_self p.node kept) end says sends told
+
 -- a row is its plan, done
 pub does_plan : (row : Node → Plan) (p : Plan) (before : ℕ) (old new : Node) (outcome : Outcome) (letters : List Letter) → before ≡ old.core.acc → row old ≡ p
     → Done before p outcome letters new → Does row old outcome letters new
 does_plan row p before old new outcome letters acc is did = subst (λ (q : Plan). ComesTo (finish old q) outcome letters new) (sym is) (did old (sym acc))
+
+-- the same in a step before which so much was accepted
+pub does_now : (row : Node → Plan) (old : Node) {p : Plan} {new : Node} {before : ℕ} {answer : Outcome} {letters : List Letter}
+    → before ≡ old.core.acc → row old ≡ p → Done before p answer letters new → Does row old answer letters new
+does_now row old {p} {new} {before} {answer} {letters} acc plan goes = does_plan row p before old new answer letters acc plan goes
 
 -- what the end of a node does, the node does
 pub done_whole : (before : ℕ) (rest : Node → Plan) (x mid new : Node) (outcome : Outcome) (letters : List Letter) → IsEndOf x mid → IsInOrder mid.core
@@ -53,6 +65,25 @@ done_whole before rest x mid new outcome letters end order alike did = λ first 
 pub letter_tells : (to : List ℕ) (packet : Node → Packet) (m : Node) (x : Packet) → CoreTells packet m.core x
     → Tells (λ n. with_letter to (packet n) []) m (with_letter to x [])
 letter_tells to packet m x told = λ n is. ap (λ p. with_letter to p []) (core_tells packet m x told n is)
+
+-- a plan that sends nothing, from an empty box
+pub done_silent : (before : ℕ) (p : Plan) (new : Node) {outcome : Outcome} {box letters : List Letter} → p.departs ≡ false
+    → p.node.core.base ≡ p.node.core.log.start → Changes refresh_at_end p.node new → Tells p.outcome new outcome → Tells p.letters new [] → box ≡ []
+    → Tells (with_told before p.polls p.numbers box) new letters → Done before p outcome letters new
+done_silent before p new {outcome} {box} {letters} stays kept end says sends empty told =
+    done_here before p new stays kept end says sends (subst (λ (ls : List Letter). Tells (with_told before p.polls p.numbers ls) new letters) empty told)
+
+-- one that sends a letter to one name, from an empty box
+pub done_telling : (before : ℕ) (p : Plan) (to : ℕ) (packet : Node → Packet) (new : Node) {outcome : Outcome} {x : Packet} {set : List ℕ}
+    {box sent letters : List Letter} → p.departs ≡ false → p.node.core.base ≡ p.node.core.log.start → Changes refresh_at_end p.node new
+    → Tells p.outcome new outcome → ((n : Node) → p.letters n ≡ with_letter (only_name to) (packet n) []) → CoreTells packet new.core x
+    → set ≡ only_name to → box ≡ [] → sent ≡ with_letter set x box → Tells (with_told before p.polls p.numbers sent) new letters
+    → Done before p outcome letters new
+done_telling before p to packet new {outcome} {x} {set} {box} {sent} {letters} stays kept end says sends packet_is to_is empty put told =
+    let sent_is : sent ≡ with_letter (only_name to) x [] =
+    put ∙ ap (λ names. with_letter names x box) to_is ∙ ap (with_letter (only_name to) x) empty in
+    done_here before p new stays kept end says (λ n is. letter_tells (only_name to) packet new x packet_is n is ∙ sym (sends n))
+    (subst (λ (ls : List Letter). Tells (with_told before p.polls p.numbers ls) new letters) sent_is told)
 
 -- what a node tells, its end tells
 pub end_tells : {A : Type 0} (f : Node → A) (m : Node) (x : A) → m.core.base ≡ m.core.log.start → Tells f m x → x ≡ f m

@@ -53,6 +53,13 @@ entry_get log number low =
 abbrev pub NoneUpTo : CoreState → ℕ → ℕ → Type 0
 NoneUpTo c req high = (number : ℕ) → c.base ≤ number → number < high → passes (is_data_of c.who req) (entry_at c.log (number + 1)) ≡ false
 
+none_passes : (c : CoreState) (req high k : ℕ) → c.base ≡ c.log.start → NoneUpTo c req high → c.base + k < high
+    → passes (is_data_of c.who req) (slice_get c.log.entries k) ≡ false
+none_passes c req high k kept none below =
+    let back : c.base + k - c.log.start ≡ k = omega arith in
+    ap (λ j. passes (is_data_of c.who req) (slice_get c.log.entries j)) (sym back)
+    ∙ ap (passes (is_data_of c.who req)) (sym (entry_get c.log (c.base + k) (omega arith))) ∙ none (c.base + k) (omega arith) below
+
 -- what the whole list has accepted above the base is what the end has
 kept_entries : (m : Node) (req : ℕ) (all : Log) → Stands all m.core
     → accepted_number (with_log m all) req ≡ option_map (λ k. m.core.base + 1 + k)
@@ -79,8 +86,6 @@ pub number_found : (m : Node) (req before : ℕ) → IsInOrder m.core → m.core
     → Tells (λ n. accepted_number n req) m (Some (before + 1))
 number_found m req before order low high at none =
     let kept = order.kept in
-    let top = order.accepted in
-    let given = order.given in
     let p = is_data_of m.core.who req in
     let xs = m.core.log.entries in
     let n = m.core.acc - m.core.base in
@@ -91,11 +96,7 @@ number_found m req before order low high at none =
     let first : position p (take n xs) ≡ Some (before - m.core.base) = position_is p (take n xs) (before - m.core.base) e.0 (omega arith)
     (passes_take p n xs (before - m.core.base) (omega arith) (omega arith) ∙ here)
     (λ k h.
-    let there : passes p (slice_get xs k) ≡ false =
-    let back : m.core.base + k - m.core.log.start ≡ k = omega arith in
-    ap (λ j. passes p (slice_get xs j)) (sym back) ∙ ap (passes p) (sym (entry_get m.core.log (m.core.base + k) (omega arith)))
-    ∙ none (m.core.base + k) (omega arith) (omega arith) in
-    passes_take p n xs k (omega arith) (omega arith) ∙ there) in
+    passes_take p n xs k (omega arith) (omega arith) ∙ none_passes m.core req _ k kept none (omega arith)) in
     let sum : m.core.base + 1 + (before - m.core.base) ≡ before + 1 = omega arith in
     tells (λ n. accepted_number n req) m (Some (before + 1)) (λ all s. ap Some (sym sum) ∙ ap (option_map (λ k. m.core.base + 1 + k)) (sym first)
     ∙ sym (kept_entries m req all s))
@@ -103,19 +104,12 @@ number_found m req before order low high at none =
 pub number_none : (m : Node) (req : ℕ) → IsInOrder m.core → NoneUpTo m.core req m.core.acc → Tells (λ n. accepted_number n req) m None
 number_none m req order none =
     let kept = order.kept in
-    let top = order.accepted in
-    let given = order.given in
-    let low = order.let_go in
     let p = is_data_of m.core.who req in
     let xs = m.core.log.entries in
     let n = m.core.acc - m.core.base in
     let long = length-take n xs in
     let no : position p (take n xs) ≡ None = position_none p (take n xs) (λ k h.
-    let there : passes p (slice_get xs k) ≡ false =
-    let back : m.core.base + k - m.core.log.start ≡ k = omega arith in
-    ap (λ j. passes p (slice_get xs j)) (sym back) ∙ ap (passes p) (sym (entry_get m.core.log (m.core.base + k) (omega arith)))
-    ∙ none (m.core.base + k) (omega arith) (omega arith) in
-    passes_take p n xs k (omega arith) (omega arith) ∙ there) in
+    passes_take p n xs k (omega arith) (omega arith) ∙ none_passes m.core req _ k kept none (omega arith)) in
     tells (λ n. accepted_number n req) m None (λ all s. ap (option_map (λ k. m.core.base + 1 + k)) (sym no) ∙ sym (kept_entries m req all s))
 
 -- ---- the waiting send

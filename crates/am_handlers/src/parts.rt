@@ -179,6 +179,15 @@ impl Parts {
         self.sender.waiting().map(|send| send.0)
     }
 
+    /// Whether the last send of the node's own that its list tells of is an earlier one than this.
+    fn is_past_last(&self, req: u32) -> bool
+        ensures { result ≡ true → IsDue (at_place (told (node_of self.now)) self.now.core.who)
+            (life_of self.now.core.who) (req + 1) → ⊥ }
+    {
+        let row = self.core.log.at_place(self.core.who);
+        row.life == self.core.who.life() && 0 < row.joined && row.last < req
+    }
+
     /// The number at which a send of the node's own is accepted; None where it isn't, or is trimmed.
     fn accepted_number(&self, req: u32) -> Option<u32>
         ensures value { Tells (λ m. accepted_number m req) (node_of self.now) result }
@@ -188,6 +197,9 @@ impl Parts {
         ensures some { IfSome result (λ number. 0 < top (node_of self.now)) }
     {
         let accepted = self.accepted();
+        if self.is_past_last(req) {
+            return None;
+        }
         for before in self.core.log.base()..accepted {
             if self.stands_at(before + 1, req) {
                 return Some(before + 1);

@@ -21,7 +21,7 @@ use Rattle.am_model.specs.World.{Decided, World, start, first_node, founders_dec
 use Rattle.am_model.specs.Lawful.{Watch, watch_all, watched, watch_start, broken_at}
 use Rattle.am_model.specs.Claims.{BecameComplete}
 use Rattle.am_model.proofs.Greatest.{split}
-use Rattle.am_laws.proofs.Founders.{first_founder}
+use Rattle.am_model.proofs.Founders.{first_founder}
 use Rattle.am_stands.specs.Moving.{NamesNamed}
 use Rattle.am_stands.specs.Keeping.{GroupFor}
 use Rattle.am_stands.proofs.Begun.{start_keeps}

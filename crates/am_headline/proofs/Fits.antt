@@ -21,9 +21,9 @@ use Rattle.am_model.specs.Node.{Node, Ballot, top, told, has_room, pushed}
 use Rattle.am_model.specs.Ballots.{Verdict, need_of, left_in, trimmed_for}
 use Rattle.am_model.proofs.Greatest.{split}
 use Rattle.am_effects.specs.Causes.{Cause, hears}
-use Rattle.am_effects.specs.Looks.{Looks, finds_itself_out, waits, fetches_from_best, finds_too_few, finds_no_room, decides}
-use Rattle.am_effects.specs.Changes.{Carries, whole_entry, by_number, Change, refreshes, settles, takes_report, admits, numbers, keeps_body, notes, stores}
-use Rattle.am_effects.specs.Changes.{begins_list, departs, promises, opens, looks, fetches, stores_view, queues, collects, takes, asks_to_join, asks_to_leave}
+use Rattle.am_effects.specs.Looks.{Looks, decides}
+use Rattle.am_effects.specs.Changes.{Carries, whole_entry, by_number, Change, refreshes, settles, numbers, stores}
+use Rattle.am_effects.specs.Changes.{begins_list, looks, fetches, stores_view}
 use Rattle.am_effects.specs.Changes.{closes}
 use Rattle.am_effects.specs.Changes.{Changes, unchanged, changed}
 use Rattle.am_effects.proofs.Rests.{rests_refresh, rests_at_end, settle_is}
@@ -157,11 +157,6 @@ room_fits rules c x e same fronts room h =
 -- and a View that is decided
 look_fits : (rules : Rules) (c : Cause) (x : Node) (b : Ballot) (v : Verdict) → x.core.rules ≡ rules → Fronts x → Looks x b v → Fitting rules c x
     → Fitting rules c v.node
-look_fits rules c x b v same fronts (finds_itself_out out) h = same_fits rules c x v.node refl (omega arith) h
-look_fits rules c x b v same fronts (waits y z) h = same_fits rules c x v.node refl (omega arith) h
-look_fits rules c x b v same fronts (fetches_from_best y z u) h = same_fits rules c x v.node refl (omega arith) h
-look_fits rules c x b v same fronts (finds_too_few y z) h = same_fits rules c x v.node refl (omega arith) h
-look_fits rules c x b v same fronts (finds_no_room y) h = same_fits rules c x v.node refl (omega arith) h
 look_fits rules c x b v same fronts (decides may) h =
     let names = left_in b (need_of x b) in
     let before = trimmed_for x b names in
@@ -178,6 +173,7 @@ look_fits rules c x b v same fronts (decides may) h =
     let room = may.room in
     let low : top x + 1 - before.core.base ≤ x.core.rules.window + 16 - size names = grind (arith, nat_tests) in
     push_fits rules c x v.node e refl (omega arith) (inl (omega arith)) h
+look_fits rules c x b v same fronts _ h = same_fits rules c x v.node refl (omega arith) h
 
 -- what a packet carries has the number that it tells
 carried : (c : Cause) (m : Node) (s : ℕ) (v : Stamp) (base acc number : ℕ) (e : Entry) → Carries c m s v base acc number e → BringsEntry c number
@@ -194,31 +190,20 @@ fitting_change rules c o x y same fronts refreshes h = let r = rests_refresh x i
 fitting_change rules c o x y same fronts settles h =
     let base = ap (λ (z : Node). z.core.base) (settle_is x) in
     same_fits rules c x y (ap (λ (z : Node). z.core.log) (settle_is x)) (omega arith) h
-fitting_change rules c o x y same fronts (takes_report s v report by may) h = same_fits rules c x y refl (omega arith) h
-fitting_change rules c o x y same fronts (admits s v is leads fit) h = same_fits rules c x y refl (omega arith) h
 fitting_change rules c o x y same fronts (numbers e leads room why) h = room_fits rules c x e same fronts room h
-fitting_change rules c o x y same fronts (keeps_body s v report req body is heard) h = same_fits rules c x y refl (omega arith) h
-fitting_change rules c o x y same fronts (notes s v base acc by heard) h = same_fits rules c x y refl (omega arith) h
 fitting_change rules c o x y same fronts (stores s v base acc number e by heard plain may) h =
     push_fits rules c x y e refl (omega arith) (told_entry rules c x y number may.next (carried c x s v base acc number e by)) h
 fitting_change rules c o x y same fronts (begins_list s v base join image is says may) h = λ number above within. absurd (omega arith)
-fitting_change rules c o x y same fronts (departs s v number is heard leaves) h = same_fits rules c x y refl (omega arith) h
-fitting_change rules c o x y same fronts (promises v low why) h = same_fits rules c x y refl (omega arith) h
-fitting_change rules c o x y same fronts (opens least resilience by may) h = same_fits rules c x y refl (omega arith) h
 fitting_change rules c o x y same fronts (looks b verdict over why look is) h = look_fits rules c x b verdict same fronts look h
 fitting_change rules c o x y same fronts (fetches s v base number e is heard promise below from may) h =
     push_fits rules c x y e refl (omega arith) (told_entry rules c x y number may.next (by_piece s v base e is)) h
 fitting_change rules c o x y same fronts (stores_view s v base number names resilience is heard own other promise below may) h =
     push_fits rules c x y (View v names resilience) refl (omega arith) (told_entry rules c x y number may.next (by_result s v base names resilience is)) h
-fitting_change rules c o x y same fronts (queues body is says member stays few) h = same_fits rules c x y refl (omega arith) h
-fitting_change rules c o x y same fronts (collects req is) h = same_fits rules c x y refl (omega arith) h
-fitting_change rules c o x y same fronts (takes e is says member some there) h = same_fits rules c x y refl (omega arith) h
-fitting_change rules c o x y same fronts (asks_to_join is was) h = same_fits rules c x y refl (omega arith) h
-fitting_change rules c o x y same fronts (asks_to_leave is was stays done) h = same_fits rules c x y refl (omega arith) h
 fitting_change rules c o x y same fronts (closes leads leaves alone room) h =
     let p = pushed x (Leave x.core.who) in
     let r = rests_at_end p in
     same_fits rules c p y r.log r.rests.base (room_fits rules c x (Leave x.core.who) same fronts room h)
+fitting_change rules c o x y same fronts _ h = same_fits rules c x y refl (omega arith) h
 
 pub fitting_changes : (rules : Rules) (c : Cause) (o : Outcome) (x y : Node) → HeardNames c → HeardUsed c → Changes c o x y → Along rules x → Fitting rules c x
     → Fitting rules c y

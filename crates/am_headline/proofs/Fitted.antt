@@ -21,7 +21,6 @@ use Rattle.am_chain_lists.proofs.Order.{key_by, view_push, view_viewed}
 use Rattle.am_chain_lists.proofs.Members.{long_told}
 use Rattle.am_chain_lists.proofs.Prefixes.{begins_both, begins_length, begins_push, begins_trans}
 use Rattle.am_chain_moves.specs.Group.{Group, IsUp}
-use Rattle.am_chain_moves.specs.Kept.{Kept}
 use Rattle.am_model.specs.declared.status.Status.{Status}
 use Rattle.am_model.specs.declared.status.Status.TheVariants as status
 use Rattle.am_model.specs.Calls.{is_unfinished}
@@ -33,18 +32,16 @@ use Rattle.am_model.specs.Receiving.{is_view}
 use Rattle.am_model.specs.Claims.{heard_by, FitsView, ViewsFit}
 use Rattle.am_model.specs.Lawful.{lawful_front}
 use Rattle.am_model.specs.Hearing as rows
-use Rattle.am_model.specs.World.{World, start, is_stopped, has_departed, stepped, happens, run}
+use Rattle.am_model.specs.World.{World, start, has_departed, stepped, run}
 use Rattle.am_model.proofs.Greatest.{split, and_both}
 use Rattle.am_model.proofs.Runs.{front_is_lawful}
 use Rattle.am_effects.specs.Causes.{Cause, hears}
-use Rattle.am_effects.specs.Effects.{Effect}
-use Rattle.am_effects.specs.Letters.{Says, request, spread, bcast, order, accept, ack, nack, hold, join_ask, welcome, leave_ask, gone, invite, vote, fetch}
+use Rattle.am_effects.specs.Letters.{Says, bcast, order}
 use Rattle.am_effects.specs.Letters.{piece}
-use Rattle.am_effects.specs.Letters.{result, hand_over, LetterSays}
-use Rattle.am_effects.specs.Events.{actor, IsCause, WasSentTo}
+use Rattle.am_effects.specs.Letters.{result, LetterSays}
+use Rattle.am_effects.specs.Events.{IsCause, WasSentTo}
 use Rattle.am_effects.proofs.Items.{all_get}
 use Rattle.am_effects.proofs.Statuses.{logged}
-use Rattle.am_laws.proofs.Named.{few_names}
 use Rattle.am_laws.proofs.RunCounts.{numbers_hold}
 use Rattle.am_laws.proofs.Stamps.{same_stamp}
 use Rattle.am_laws.proofs.TakenRuns.{each_along, heard_used, run_owned}
@@ -53,20 +50,14 @@ use Rattle.am_watched.proofs.Lists.{lists_go_on}
 use Rattle.am_unballoted.proofs.Lists.{item_get, item_within}
 use Rattle.am_stands.specs.Letters as says
 use Rattle.am_stands.specs.Letters.{PacketSays, PieceSays, ResultSays}
-use Rattle.am_stands.specs.Standing.{NameStands}
-use Rattle.am_stands.specs.States.{LinesOpen}
-use Rattle.am_stands.specs.Growing.{Grows}
-use Rattle.am_stands.specs.Running.{Following}
 use Rattle.am_stands.proofs.Changes.{told_all, long_all}
-use Rattle.am_stands.proofs.Onward.{group_kept}
-use Rattle.am_stands.proofs.Opens.{runs_open}
 use Rattle.am_stands.proofs.Parts.{number_low}
 use Rattle.am_stands.proofs.Silent.{departed_silent}
 use Rattle.am_steps.proofs.Silent.{departed_quiet}
 use Rattle.am_steps.proofs.Statuses.{departed_is}
 use Rattle.am_steps.proofs.Steps.{steps_move}
-use Rattle.am_headline.proofs.Shapes.{Shaped}
-use Rattle.am_headline.proofs.Fold.{KeptBy, run_push}
+use Rattle.am_headline.proofs.OneStep.{OneStep, parts, plain}
+use Rattle.am_headline.proofs.Fold.{KeptBy}
 use Rattle.am_headline.proofs.Begun.{held}
 use Rattle.am_headline.proofs.Fits.{BringsEntry, by_bcast, by_order, by_piece, by_result, FitsAt, few_size, fitting_changes}
 use Rattle.am_headline.proofs.Rows as done
@@ -99,9 +90,6 @@ not_view (View stamp names resilience) h = absurd (cc)
 same_name : (a b : ℕ) → (a == b) ≡ true → a ≡ b
 same_name a b t = grind (arith, nat_tests)
 
-itself : (k : ℕ) → (k == k) ≡ true
-itself k = grind (arith, nat_tests)
-
 push_some : (a : List Entry) (e : Entry) → a ++ e ∷ [] ≡ [] → ⊥
 push_some [] e h = cc
 push_some (x ∷ a) e h = cc
@@ -118,57 +106,14 @@ two a b = grind arith
 
 -- ---- a step
 
-module _ (rules : Rules) (events : List Event) (e : Event) (c : Cause) (step : Step) (s t : Group) (may : MayFound rules)
-    (runs : is_stopped (run rules events) (actor (run rules events) e) ≡ false) (cause : IsCause (run rules events) (actor (run rules events) e) e.act c)
-    (effect : Effect ((run rules events).nodes (actor (run rules events) e)) c step)
-    (is : stepped (run rules events) e (actor (run rules events) e) step ≡ happens (run rules events) e)
-    (old : Following rules (run rules events) s) (grows : Grows s t) (shaped : Shaped t)
-    (new : Following rules (stepped (run rules events) e (actor (run rules events) e) step) t)
+module _ (rules : Rules) (events : List Event) (e : Event) (c : Cause) (step : Step) (s t : Group) (one : OneStep rules events e c step s t)
     (h : Fitted rules (run rules events) s) where
-  abbrev w : World
-  w = run rules events
-
-  abbrev i : ℕ
-  i = actor w e
-
-  abbrev m : Node
-  m = w.nodes i
-
-  abbrev n : Node
-  n = step.node
-
-  abbrev v : World
-  v = stepped w e i step
-
-  few : i < 256
-  few = few_names rules w e (run_owned rules events may).blanks.views.named
-
-  kept_s : Kept s
-  kept_s = group_kept rules.founders (lowest_or_first rules.founders) rules.resilience s old.group
-
-  kept_t : Kept t
-  kept_t = group_kept rules.founders (lowest_or_first rules.founders) rules.resilience t new.group
-
-  opens_t : LinesOpen t
-  opens_t = runs_open rules.founders (lowest_or_first rules.founders) rules.resilience t new.group.run
-
-  abbrev stands_m : NameStands w i m (s.node i)
-  stands_m = old.stands.each i few
-
-  node_v : v.nodes i ≡ n
-  unfolding stepped
-  node_v = let u : (i == i) ≡ true = itself i in rw u refl
-
-  stands_n : NameStands v i n (t.node i)
-  stands_n = subst (λ x. NameStands v i x (t.node i)) node_v (new.stands.each i few)
-
-  group_grows : Begins w.group v.group
-  group_grows = subst (λ g. Begins g v.group) old.stands.group (subst (Begins s.group) new.stands.group grows.group)
+  open parts rules events e step use {w, i, m, n, v}
+  open one use {may, runs, cause, effect, is, old, grows, shaped, new}
+  open plain one use {few, kept_s, kept_t, opens_t, runs_v, node_run, stands_m, stands_n, group_grows}
 
   order_n : n.core.log.start ≤ n.core.base
-  order_n =
-      let same : (run rules (events ++ e ∷ [])).nodes i ≡ n = ap (λ (x : World). x.nodes i) (run_push rules events e ∙ sym is) ∙ node_v in
-      subst (λ (x : Node). x.core.log.start ≤ x.core.base) same ((numbers_hold rules (events ++ e ∷ [])).each i).kept
+  order_n = subst (λ (x : Node). x.core.log.start ≤ x.core.base) node_run ((numbers_hold rules (events ++ e ∷ [])).each i).kept
 
   -- where the list is as it was
   fits_still : (number : ℕ) → n.core.log ≡ m.core.log → m.core.base ≤ n.core.base → n.core.base < number → number ≤ top n → FitsAt rules n number
@@ -400,10 +345,6 @@ module _ (rules : Rules) (events : List Event) (e : Event) (c : Cause) (step : S
       let start = order_n in
       node_fit rules v i number n (t.node i) stands_n (omega arith) within (node_now.each number above within)
 
-  runs_v : is_stopped v i ≡ false
-  unfolding stepped
-  runs_v = runs
-
   -- who has an entry is up, if it hasn't departed
   up_n : has_departed n.status ≡ false → (number : ℕ) → n.core.base < number → number ≤ top n → IsUp (t.node i)
   up_n stays number above within = record {
@@ -478,20 +419,7 @@ module _ (rules : Rules) (events : List Event) (e : Event) (c : Cause) (step : S
       let same : nodes.told x ≡ told (t.node i).list = ap (λ (q : CoreState). told_by q.log) (sym core_x) ∙ sym (told_all v i n (t.node i) stands_n) in
       sent_line stays number (let z = view_low same in omega arith)
       (item_within (t.views.line (key x.core.promise)) number _ says_.stands).1 says_.decided)
-  packet_sent stays to p (request _ req body a f z) h_ = tt
-  packet_sent stays to p (spread _ req body a f z) h_ = tt
-  packet_sent stays to p (accept _ poll l) h_ = tt
-  packet_sent stays to p (ack _ a) h_ = tt
-  packet_sent stays to p (nack _ a) h_ = tt
-  packet_sent stays to p (hold _ from u report req body by l) h_ = tt
-  packet_sent stays to p (join_ask _ a) h_ = tt
-  packet_sent stays to p (welcome name l may_) h_ = tt
-  packet_sent stays to p (leave_ask _ a l) h_ = tt
-  packet_sent stays to p (gone name l may_) h_ = tt
-  packet_sent stays to p (invite _ may_) h_ = tt
-  packet_sent stays to p (vote from u heard_) h_ = tt
-  packet_sent stays to p (fetch _ may_) h_ = tt
-  packet_sent stays to p (hand_over _ l leaves) h_ = tt
+  packet_sent stays to p _ h_ = tt
 
   -- who sends something is there
   sender_there : (k : ℕ) (l : Letter) → slice_get step.letters k ≡ Some l → has_departed n.status ≡ false
@@ -530,8 +458,7 @@ start_fits rules may name = split (has rules.founders name)
 
 fitted_keeps : (rules : Rules) → KeptBy (Fitted rules) rules
 fitted_keeps rules = record {
-  by_step = λ events e c step s t may runs cause effect is old path grows shaped new h.
-      fitted_step rules events e c step s t may runs cause effect is old grows shaped new h;
+  by_step = λ {events = events} {e = e} {c = c} {step = step} {s = s} {t = t} x h. fitted_step rules events e c step s t x h;
   by_quiet = λ w v s t q h. record {
     nodes = λ i. subst (λ (f : ℕ → Node). FitsView rules (f i)) (sym q.stays.nodes) (h.nodes i);
     letters = λ k l at. packet_on rules s t l.packet q.grows (h.letters k l (ap (λ (ls : List Letter). slice_get ls k) (sym q.stays.letters) ∙ at));

@@ -13,9 +13,7 @@ use Rattle.am_group.specs.declared.event.Record.{Record}
 use Rattle.am_base.specs.declared.outcome.Outcome.{Outcome}
 use Rattle.am_chain_lists.specs.Whole.{key}
 use Rattle.am_chain_moves.specs.Group.{Group, how_many}
-use Rattle.am_chain_moves.specs.Moves.{Move, numbers, stores, accepts, learns, begins, raises, shows, serves, fetches, decides, gives_over, welcomes, asks}
-use Rattle.am_chain_moves.specs.Moves.{departs}
-use Rattle.am_chain_moves.specs.Moves.{closes, stops}
+use Rattle.am_chain_moves.specs.Moves.{Move, numbers}
 use Rattle.am_chain_moves.specs.Runs.{Completes, counts_for}
 use Rattle.am_model.specs.Node.{Node, lowest_or_first}
 use Rattle.am_model.specs.Emit.{Step}
@@ -24,9 +22,8 @@ use Rattle.am_model.specs.World.{Decided, World, start, current, is_stopped, vie
 use Rattle.am_model.specs.Lawful.{is_complete, is_lawful, Watch, watch_start, watched, greatest_complete, broken_at}
 use Rattle.am_model.specs.Claims.{BecameComplete}
 use Rattle.am_model.proofs.Greatest.{split, and_both}
-use Rattle.am_model.proofs.Runs.{runs_go_on, watched_is_run}
+use Rattle.am_model.proofs.Runs.{watched_is_run}
 use Rattle.am_effects.specs.Causes.{Cause}
-use Rattle.am_effects.specs.Effects.{Effect}
 use Rattle.am_effects.specs.Events as event
 use Rattle.am_effects.specs.Events.{actor, IsCause, IsIdle, Happens, idles, returns, steps}
 use Rattle.am_effects.proofs.Events.{events_have_effects}
@@ -39,6 +36,7 @@ use Rattle.am_stands.specs.Steps.{EventStands, no_move, stop}
 use Rattle.am_stands.proofs.Events.{idle_stands, stop_stands, return_stands}
 use Rattle.am_stands.specs.Running.{Following, StepsMove}
 use Rattle.am_headline.proofs.Shapes.{Shaped, shaped_moves}
+use Rattle.am_headline.proofs.OneStep.{OneStep, run_push}
 use Rattle.am_headline.proofs.Marks.{Known, completes}
 use Rattle.am_headline.proofs.Lawful.{or_cases, lawful_group}
 use Rattle.am_headline.proofs.Ready.{marked, given, halted, MayMark, Ready, Stays, stays_same, grows_marked, grows_halted, shaped_marked, marked_follows}
@@ -142,21 +140,7 @@ mark rules old new s t ready same tied small stay best lawful = record {
 
 move_marks : {s t : Group} → Move s t → t.views.complete ≡ s.views.complete
 move_marks (numbers i e leads fit may) = refl
-move_marks (stores i e up decided other stays next) = refl
-move_marks (accepts i n leads may) = refl
-move_marks (learns i told acc up rises within before up_to given_ low) = refl
-move_marks (begins i few up stays member) = refl
-move_marks (raises i stamp there above) = refl
-move_marks (shows i there small other begun none_) = refl
-move_marks (serves i list up shown others) = refl
-move_marks (fetches i f list e up ballot served shown next) = refl
-move_marks (decides i members resilience may) = refl
-move_marks (gives_over i) = refl
-move_marks (welcomes j stamp base join may) = refl
-move_marks (asks i up none_) = refl
-move_marks (departs i before may) = refl
-move_marks (closes i n leads leaving alone may) = refl
-move_marks (stops i) = refl
+move_marks _ = refl
 
 pub moves_mark : {s t : Group} → Moves s t → t.views.complete ≡ s.views.complete
 moves_mark none = refl
@@ -174,13 +158,7 @@ pub record Quiet (w v : World) (s t : Group) : Type 0 where
 -- ---- what is so of a world and the group that follows it, besides: kept by steps, and by what changes no node
 
 pub record KeptBy (P : World → Group → Type 0) (rules : Rules) : Type 0 where
-  pub by_step : (events : List Event) (e : Event) (c : Cause) (step : Step) (s t : Group) → MayFound rules
-      → is_stopped (run rules events) (actor (run rules events) e) ≡ false
-      → IsCause (run rules events) (actor (run rules events) e) e.act c
-      → Effect ((run rules events).nodes (actor (run rules events) e)) c step
-      → stepped (run rules events) e (actor (run rules events) e) step ≡ happens (run rules events) e
-      → Following rules (run rules events) s → Moves s t → Grows s t → Shaped t
-      → Following rules (stepped (run rules events) e (actor (run rules events) e) step) t
+  pub by_step : {events : List Event} {e : Event} {c : Cause} {step : Step} {s t : Group} → OneStep rules events e c step s t
       → P (run rules events) s → P (stepped (run rules events) e (actor (run rules events) e) step) t
   pub by_quiet : (w v : World) (s t : Group) → Quiet w v s t → P w s → P v t
 
@@ -262,11 +240,6 @@ stays_return w e o place = record {
   stopped = λ j z. split (is_stopped w (current w place)) (λ t. rw t z) (λ f. rw f (with_more w.stopped (current w place ∷ []) j z));
 }
 
--- a run of one event more
-pub run_push : (rules : Rules) (events : List Event) (e : Event) → run rules (events ++ e ∷ []) ≡ happens (run rules events) e
-unfolding happen
-run_push rules events e = runs_go_on (start rules) events (e ∷ [])
-
 views_stay : (views : List Decided) (m n : Node) (k : ℕ) (d : Decided) → slice_get views k ≡ Some d → slice_get (views_after views m n) k ≡ Some d
 views_stay views m n k d at = split (worlds.decides m n) (λ t. rw t (get_front views (worlds.last_view n ∷ []) k d at)) (λ f. rw f at)
 
@@ -294,7 +267,18 @@ module _ (P : World → Group → Type 0) (rules : Rules) (keeps : KeptBy P rule
         same = moves_mark f.path;
         noted = λ k d at. views_stay w.views (w.nodes (actor w e)) step.node k d at;
         is = keeps.by_quiet v v f.to (given f.to) (record { stays = stays_same v; grows = grows_given f.to; current = refl; chosen = refl; idle = inl refl })
-            (keeps.by_step events e c step s f.to may runs cause effect is h.follows f.path f.grows shaped f.is h.is);
+            (keeps.by_step (record {
+              may = may;
+              runs = runs;
+              cause = cause;
+              effect = effect;
+              is = is;
+              old = h.follows;
+              path = f.path;
+              grows = f.grows;
+              shaped = shaped;
+              new = f.is;
+            }) h.is);
       }
 
   -- one event more

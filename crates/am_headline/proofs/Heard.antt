@@ -17,9 +17,8 @@ use Rattle.am_model.specs.Lengths.{packet_length}
 use Rattle.am_model.specs.Step.{hear, refused}
 use Rattle.am_model.specs.World.{World, is_stopped, has_departed, unchanged, stepped, heard, hear_cut, acts_as, happens}
 use Rattle.am_effects.specs.Causes.{Cause}
-use Rattle.am_effects.specs.Changes.{Change, refreshes, settles, takes_report, admits, numbers, keeps_body, notes, stores, begins_list, departs, promises}
-use Rattle.am_effects.specs.Changes.{opens}
-use Rattle.am_effects.specs.Changes.{looks, fetches, stores_view, queues, collects, takes, asks_to_join, asks_to_leave, closes}
+use Rattle.am_effects.specs.Changes.{Change, refreshes, settles, begins_list, departs}
+use Rattle.am_effects.specs.Changes.{looks, asks_to_join, closes}
 use Rattle.am_effects.specs.Courses.{IsPlain, Course, nothing_yet, used_report, and_then, Deeds, plainly, looked, Ending, at_end, let_go, closing}
 use Rattle.am_effects.specs.Events.{actor, WasSentTo}
 use Rattle.am_effects.proofs.Rests.{rests_at_end, rests_refresh, settle_is}
@@ -71,18 +70,7 @@ acts_node w e name (act.Hear number) p h runs =
 acts_node w e name (act.Cut number keep) p h runs =
     let is = heard_node w e name (hear_cut (w.nodes name) keep) (letter_at w.letters number) h.letter h.there h.addressed runs in
     subst (λ n. HeardAs (w.nodes name) n p) (sym (is ∙ ap (λ q. (hear_cut (w.nodes name) keep q).node) h.is)) (cut_node (w.nodes name) keep p)
-acts_node w e name (act.Send body) p h runs = absurd (let z = h.there in cc)
-acts_node w e name (act.Done req) p h runs = absurd (let z = h.there in cc)
-acts_node w e name act.Take p h runs = absurd (let z = h.there in cc)
-acts_node w e name act.Join p h runs = absurd (let z = h.there in cc)
-acts_node w e name act.State p h runs = absurd (let z = h.there in cc)
-acts_node w e name act.Leave p h runs = absurd (let z = h.there in cc)
-acts_node w e name (act.Reset least resilience) p h runs = absurd (let z = h.there in cc)
-acts_node w e name (act.Ask round) p h runs = absurd (let z = h.there in cc)
-acts_node w e name (act.GiveUp other) p h runs = absurd (let z = h.there in cc)
-acts_node w e name act.Stop p h runs = absurd (let z = h.there in cc)
-acts_node w e name act.Tick p h runs = absurd (let z = h.there in cc)
-acts_node w e name act.Return p h runs = absurd (let z = h.there in cc)
+acts_node w e name _ p h runs = absurd (let z = h.there in cc)
 
 pub heard_as : (w : World) (e : Event) (step : Step) (p : Packet) → WasSentTo w (actor w e) e.act p → is_stopped w (actor w e) ≡ false
     → stepped w e (actor w e) step ≡ happens w e → HeardAs (w.nodes (actor w e)) step.node p
@@ -96,25 +84,12 @@ heard_as w e step p h runs is =
 stays_plain : {c : Cause} {o : Outcome} (x y : Node) (z : Change c o x y) → IsPlain z → has_departed x.status ≡ false → has_departed y.status ≡ false
 stays_plain x y refreshes plain h = absurd plain
 stays_plain x y settles plain h = ap (λ (n : Node). has_departed n.status) (settle_is x) ∙ h
-stays_plain x y (takes_report s v report by may) plain h = h
-stays_plain x y (admits s v is leads fit) plain h = h
-stays_plain x y (numbers e leads room why) plain h = h
-stays_plain x y (keeps_body s v report req body is heard_) plain h = h
-stays_plain x y (notes s v base acc by heard_) plain h = h
-stays_plain x y (stores s v base acc number e by heard_ entry may) plain h = h
 stays_plain x y (begins_list s v base join image is says may) plain h = refl
 stays_plain x y (departs s v number is heard_ leaves) plain h = absurd plain
-stays_plain x y (promises v low why) plain h = h
-stays_plain x y (opens least resilience by may) plain h = h
 stays_plain x y (looks b verdict over why look is) plain h = absurd plain
-stays_plain x y (fetches s v base number e is heard_ promise below from may) plain h = h
-stays_plain x y (stores_view s v base number names resilience is heard_ own other promise below may) plain h = h
-stays_plain x y (queues body is says member stays few) plain h = h
-stays_plain x y (collects req is) plain h = h
-stays_plain x y (takes e is says member some there) plain h = h
 stays_plain x y (asks_to_join is was) plain h = refl
-stays_plain x y (asks_to_leave is was stays done) plain h = h
 stays_plain x y (closes leads leaves alone room) plain h = absurd plain
+stays_plain x y _ plain h = h
 
 stays_course : {c : Cause} {o : Outcome} (m x : Node) → Course c o m x → has_departed m.status ≡ false → has_departed x.status ≡ false
 stays_course m x nothing_yet h = h

@@ -153,8 +153,7 @@ module _ (rules : Rules) (may : MayFound rules) where
 
   keeps : KeptBy Kept_ rules
   keeps = record {
-    by_step = λ events e c step s t m runs cause effect is old path grows shaped new h. told_step rules events e c step s t m runs cause effect is old path
-        grows new h;
+    by_step = λ {events = events} {e = e} {c = c} {step = step} {s = s} {t = t} x h. told_step rules events e c step s t x h;
     by_quiet = by_idle;
   }
 

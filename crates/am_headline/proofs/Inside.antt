@@ -11,8 +11,9 @@ use Rattle.am_base.specs.declared.image.Image.{Image}
 use Rattle.am_base.specs.declared.name.Stamp.{Stamp}
 use Rattle.am_base.specs.declared.outcome.Outcome.{Outcome}
 use Rattle.am_base.specs.declared.outcome.Outcome.TheVariants as said
-use Rattle.am_core.specs.Cores.{accept, pass_over}
+use Rattle.am_core.specs.Cores.{CoreState, accept, pass_over}
 use Rattle.am_fronts.specs.Refresh.{own_report, tell, go_on, let_go}
+use Rattle.am_base.specs.Lists.{Log}
 use Rattle.am_packet.specs.declared.packet.Packet.TheVariants as packet
 use Rattle.am_sender.specs.declared.OwnSend.{OwnSend}
 use Rattle.am_sender.specs.Sends as own
@@ -31,21 +32,24 @@ use Rattle.am_effects.proofs.Items.{get_front}
 use Rattle.am_effects.proofs.Rests.{rests_refresh, refresh_is, settle_is}
 use Rattle.am_effects.proofs.Receiving.{asking}
 use Rattle.am_effects.proofs.Statuses.{logged, asking_log}
-use Rattle.am_unballoted.proofs.Chains.{front, Gave, nothing, took, began, at_least}
+use Rattle.am_unballoted.proofs.Chains.{front, Gave, nothing, took, began, at_least, gave_begun, still_log}
 use Rattle.am_unballoted.proofs.Changes.{found_at}
 use Rattle.am_headline.proofs.Ways as kinds
 use Rattle.am_headline.proofs.Ways.{Alike, Kind, closed, pushed_alike}
 
 -- ---- sends that are settled
 
--- it was settled in this step, by an entry of the node's own list that it accepted
-pub record Fresh (m x : Node) (req number : ℕ) : Type 0 where
+-- it was settled in this step, by an entry of the name's own list that it accepted
+pub record FreshIn (m : Node) (who : ℕ) (log : Log) (acc req number : ℕ) : Type 0 where
   pub body : List ℕ
   pub index : ℕ
-  pub there : slice_get x.core.log.entries index ≡ Some (Data x.core.who req body)
-  pub at : number ≡ x.core.log.start + index + 1
-  pub low : number ≤ x.core.acc
+  pub there : slice_get log.entries index ≡ Some (Data who req body)
+  pub at : number ≡ log.start + index + 1
+  pub low : number ≤ acc
   pub stays : has_departed m.status ≡ false
+
+abbrev pub Fresh : Node → Node → ℕ → ℕ → Type 0
+Fresh m x req number = FreshIn m x.core.who x.core.log x.core.acc req number
 
 -- or it stood in the group list before
 abbrev pub Settled : List Entry → ℕ → Node → Node → ℕ → Option ℕ → Type 0
@@ -57,11 +61,16 @@ SendIn group i m x s = Settled group i m x s.req s.number
 
 -- ---- within a step that began with node m
 
+-- how the fronts of a node stand to one another
+pub record InOrder (core : CoreState) : Type 0 where
+  pub kept : core.log.start ≤ core.base
+  pub taken : core.taken ≤ core.acc
+  pub passed : core.taken < core.start - 1 → core.acc ≤ core.taken
+
 pub record Inside (group : List Entry) (i : ℕ) (c : Cause) (o : Outcome) (m x : Node) : Type 0 where
   pub gave : Gave c o m x
-  pub kept : x.core.log.start ≤ x.core.base
-  pub taken : x.core.taken ≤ x.core.acc
-  pub passed : x.core.taken < x.core.start - 1 → x.core.acc ≤ x.core.taken
+  pub order : InOrder x.core
+  pub open order use *
   -- who had departed is given nothing
   pub departed : has_departed m.status ≡ true → (has_departed x.status ≡ true) × (front x ≡ front m)
   -- who leaves has no send that waits
@@ -135,16 +144,6 @@ gave_taken k m e low passed member some says (took j g was x y z w u v) =
     let number : m.core.taken + 1 ≡ j + 1 = ap number_of same in
     absurd (omega arith)
 gave_taken k m e low passed member some says (began s v base join image a b x y z w u) = let same = sym says ∙ b in absurd (cc)
-
-gave_begun : {c : Cause} {o : Outcome} (k m : Node) (s : ℕ) (v : Stamp) (base join : ℕ) (image : Image) → c ≡ hears (packet.Welcome s v base join image)
-    → o ≡ said.Welcomed join → MayBeWelcomed m s v base join image → Gave c o k m → Gave c o k (begun m v base join image)
-gave_begun k m s v base join image is says may (nothing x y z) =
-    let no = asking_log m.status (asking m s v base join image may) in
-    let above = may.above in
-    began s v base join image is says (sym z ∙ no) refl refl (omega arith) (omega arith)
-gave_begun k m s v base join image is says may (took j e was x y z w u l) = let no = asking_log m.status (asking m s v base join image may) in absurd (cc)
-gave_begun k m s v base join image is says may (began s1 v1 base1 join1 image1 was said_ x y z w u) =
-    let no = asking_log m.status (asking m s v base join image may) in absurd (cc)
 
 -- ---- statuses
 
@@ -240,9 +239,11 @@ module _ (group : List Entry) (i : ℕ) (c : Cause) (o : Outcome) (m : Node) whe
       let low = h.taken in
       record {
         gave = gave_still m x y front_ a.start log h.gave;
-        kept = omega arith;
-        taken = omega arith;
-        passed = λ below. (let st = ap (λ t. t - 1) a.start in let z = h.passed (omega arith) in omega arith);
+        order = record {
+          kept = omega arith;
+          taken = omega arith;
+          passed = λ below. (let st = ap (λ t. t - 1) a.start in let z = h.passed (omega arith) in omega arith);
+        };
         departed = λ t. (let d = h.departed t in (ap has_departed a.status ∙ d.0, front_ ∙ d.1));
         leaves = λ t. a.leaving ∙ h.leaves t;
         gone = λ t. a.leaving ∙ h.gone (ap has_departed (sym a.status) ∙ t);
@@ -265,9 +266,7 @@ module _ (group : List Entry) (i : ℕ) (c : Cause) (o : Outcome) (m : Node) whe
       let more : (rest : List Entry) × (y.core.log.entries ≡ x.core.log.entries ++ rest) = (r.rests.more, r.rests.entries) in
       record {
         gave = gave_still m x y f.front_ f.start log h.gave;
-        kept = omega arith;
-        taken = f.taken;
-        passed = f.passed;
+        order = record { kept = omega arith; taken = f.taken; passed = f.passed };
         departed = λ t. (let d = h.departed t in (ap has_departed r.rests.status ∙ d.0, f.front_ ∙ d.1));
         leaves = λ t. r.rests.leaving ∙ h.leaves t;
         gone = λ t. r.rests.leaving ∙ h.gone (ap has_departed (sym r.rests.status) ∙ t);
@@ -302,9 +301,7 @@ module _ (group : List Entry) (i : ℕ) (c : Cause) (o : Outcome) (m : Node) whe
       } in
       record {
         gave = gave_still m x y refl refl refl h.gave;
-        kept = h.kept;
-        taken = h.taken;
-        passed = h.passed;
+        order = h.order;
         departed = h.departed;
         leaves = h.leaves;
         gone = h.gone;
@@ -312,21 +309,10 @@ module _ (group : List Entry) (i : ℕ) (c : Cause) (o : Outcome) (m : Node) whe
         bare = h.bare;
         sends = All-map (SendIn group i m y) (own.settle_send req number) x.sends.queue
             (All-weaker (SendIn group i m x) (λ s. SendIn group i m y (own.settle_send req number s))
-            (λ s old. now_settled x y req number s fresh (settled_on group i m x y (λ r n g. same_fresh x y r n refl refl refl refl g) s.req s.number old))
+            (λ s old. now_settled x y req number s fresh old)
             x.sends.queue h.sends);
       }
     where
-      same_fresh : (x y : Node) (req number : ℕ) → y.core.who ≡ x.core.who → y.core.log.start ≡ x.core.log.start
-          → y.core.log.entries ≡ x.core.log.entries → y.core.acc ≡ x.core.acc → Fresh m x req number → Fresh m y req number
-      same_fresh x y req number who start entries acc g = record {
-        body = g.body;
-        index = g.index;
-        there = ap (λ l. slice_get l g.index) entries ∙ g.there ∙ ap (λ k. Some (Data k req g.body)) (sym who);
-        at = g.at ∙ ap (λ k. k + g.index + 1) (sym start);
-        low = let a = g.low in omega arith;
-        stays = g.stays;
-      }
-
       now_settled : (x y : Node) (req number : ℕ) (s : OwnSend) → Fresh m y req number → SendIn group i m y s
           → SendIn group i m y (own.settle_send req number s)
       now_settled x y req number s fresh old = split (s.req == req)
@@ -346,9 +332,7 @@ module _ (group : List Entry) (i : ℕ) (c : Cause) (o : Outcome) (m : Node) whe
       let bare = h.bare none in
       record {
         gave = gave_begun m x s v base join image is says may h.gave;
-        kept = omega arith;
-        taken = omega arith;
-        passed = λ below. omega arith;
+        order = record { kept = omega arith; taken = omega arith; passed = λ below. omega arith };
         departed = λ t. absurd (let d = (h.departed t).0 in let a = asking_stays x.status (asking x s v base join image may) in cc);
         leaves = h.leaves;
         gone = λ t. absurd (cc);
@@ -364,22 +348,13 @@ module _ (group : List Entry) (i : ℕ) (c : Cause) (o : Outcome) (m : Node) whe
       let y = record x { status = s } in
       record {
         gave = gave_still m x y refl refl log h.gave;
-        kept = h.kept;
-        taken = h.taken;
-        passed = h.passed;
+        order = h.order;
         departed = λ t. (stays t, (h.departed t).1);
         leaves = h.leaves;
         gone = leaves;
         silent = h.silent;
         bare = λ t. h.bare (sym log ∙ t);
-        sends = sends_on group i m x y x.sends.queue (λ req number g. record {
-          body = g.body;
-          index = g.index;
-          there = g.there;
-          at = g.at;
-          low = g.low;
-          stays = g.stays;
-        }) h.sends;
+        sends = h.sends;
       }
 
   -- only the sends change
@@ -389,23 +364,13 @@ module _ (group : List Entry) (i : ℕ) (c : Cause) (o : Outcome) (m : Node) whe
       let y = record x { sends = q } in
       record {
         gave = gave_still m x y refl refl refl h.gave;
-        kept = h.kept;
-        taken = h.taken;
-        passed = h.passed;
+        order = h.order;
         departed = h.departed;
         leaves = h.leaves;
         gone = h.gone;
         silent = silent;
         bare = h.bare;
-        sends = sends_on group i m x y q.queue (λ req number g. record {
-          body = g.body;
-          index = g.index;
-          there = g.there;
-          at = g.at;
-          low = g.low;
-          stays =
-              g.stays;
-        }) sends;
+        sends = sends;
       }
 
   inside_collected : (x : Node) (req : ℕ) → Inside group i c o m x → Inside group i c o m (record x { sends = own.collect req x.sends })
@@ -422,22 +387,13 @@ module _ (group : List Entry) (i : ℕ) (c : Cause) (o : Outcome) (m : Node) whe
       let less : x.core.taken < x.core.acc = grind (arith, nat_tests) in
       record {
         gave = gave_taken m x e h.taken h.passed member some says h.gave;
-        kept = h.kept;
-        taken = omega arith;
-        passed = λ below. (let z = h.passed (omega arith) in absurd (omega arith));
+        order = record { kept = h.kept; taken = omega arith; passed = λ below. (let z = h.passed (omega arith) in absurd (omega arith)) };
         departed = λ t. absurd (let d = (h.departed t).0 in let a = member_stays x.status member in cc);
         leaves = h.leaves;
         gone = h.gone;
         silent = h.silent;
         bare = h.bare;
-        sends = sends_on group i m x y x.sends.queue (λ req number g. record {
-          body = g.body;
-          index = g.index;
-          there = g.there;
-          at = g.at;
-          low = g.low;
-          stays = g.stays;
-        }) h.sends;
+        sends = h.sends;
       }
 
   inside_asked : (x : Node) → nat_lt 0 (unsettled x) ≡ false → Inside group i c o m x → Inside group i c o m (record x { leaving = true })
@@ -445,26 +401,14 @@ module _ (group : List Entry) (i : ℕ) (c : Cause) (o : Outcome) (m : Node) whe
       let y = record x { leaving = true } in
       record {
         gave = gave_still m x y refl refl refl h.gave;
-        kept = h.kept;
-        taken = h.taken;
-        passed = h.passed;
+        order = h.order;
         departed = h.departed;
         leaves = λ t. refl;
         gone = λ t. refl;
         silent = λ t. none_waits x.sends.queue none;
         bare = h.bare;
-        sends = sends_on group i m x y x.sends.queue (λ req number g. record {
-          body = g.body;
-          index = g.index;
-          there = g.there;
-          at = g.at;
-          low = g.low;
-          stays = g.stays;
-        }) h.sends;
+        sends = h.sends;
       }
-
-  still_log : (s : Status) → is_member s ≡ true → has_log status.Departed ≡ has_log s
-  still_log s t = sym (logged s t)
 
   pub inside_kind : (x y : Node) → Kind c o x y → (has_log x.status ≡ false → x.core.told ≡ 0) → Inside group i c o m x → Inside group i c o m y
   unfolding settle refresh_at_end

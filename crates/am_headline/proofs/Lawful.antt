@@ -16,17 +16,9 @@ use Rattle.am_model.specs.World.{Decided, World, has_departed}
 use Rattle.am_model.specs.Lawful.{counts, is_lost, is_lawful}
 use Rattle.am_model.proofs.Greatest.{split, and_both}
 use Rattle.am_stands.specs.Standing.{NotedStands, Stands}
+use Rattle.am_stands.proofs.Counting.{count_up_to}
 
 -- ---- names that are counted, and a list that has them
-
-no_more : (p q : ℕ → Bool) (n : ℕ) → ((j : ℕ) → j < n → p j ≡ true → q j ≡ true) → count p n ≤ count q n
-unfolding count
-no_more p q zero h = omega arith
-no_more p q (suc n) h =
-    let r = no_more p q n (λ j low. h j (omega arith)) in
-    split (p n)
-    (λ t. let u = h n (omega arith) t in rw (t, u) (omega arith))
-    (λ t. split (q n) (λ u. rw (t, u) (omega arith)) (λ u. rw (t, u) (omega arith)))
 
 -- one name more
 one_more : (p q : ℕ → Bool) (x n : ℕ) → ((j : ℕ) → j < n → p j ≡ true → j ≢ x → q j ≡ true) → count p n ≤ 1 + count q n
@@ -35,7 +27,7 @@ one_more p q x zero h = omega arith
 one_more p q x (suc n) h = split (n == x)
     (λ t.
     let same : n ≡ x = grind (arith, nat_tests) in
-    let r = no_more p q n (λ j low u. h j (omega arith) u (λ is. absurd (let z : ⊥ = omega arith in z))) in
+    let r = count_up_to p q n (λ j low u. h j (omega arith) u (λ is. absurd (let z : ⊥ = omega arith in z))) in
     split (p n)
     (λ u. split (q n) (λ v. rw (u, v) (omega arith)) (λ v. rw (u, v) (omega arith)))
     (λ u. split (q n) (λ v. rw (u, v) (omega arith)) (λ v. rw (u, v) (omega arith))))

@@ -1,5 +1,6 @@
 pub mod Lists
 pub mod Shapes
+pub mod OneStep
 pub mod Marks
 pub mod Lawful
 pub mod Ready

@@ -16,7 +16,7 @@ use Rattle.am_model.proofs.Runs.{one_record_each}
 use Rattle.am_effects.specs.Events as event
 use Rattle.am_effects.specs.Events.{actor, IsIdle, Happens, idles, returns, steps}
 use Rattle.am_effects.proofs.Items.{get_last}
-use Rattle.am_headline.proofs.Fold.{run_push}
+use Rattle.am_headline.proofs.OneStep.{run_push}
 use Rattle.am_headline.proofs.Told.{Told, Taking, taking}
 
 -- ---- an event of a run

@@ -10,16 +10,17 @@ use Rattle.am_chain_moves.specs.Group as groups
 use Rattle.am_chain_moves.specs.Group.{Group, Views, IsUp, put}
 use Rattle.am_chain_moves.specs.Moves.{Move, with_node, gives_over, stops}
 use Rattle.am_chain_moves.specs.Runs.{Completes, IsLawful, Run, more}
-use Rattle.am_chain_moves.proofs.Puts.{put_at, put_cases, put_other}
+use Rattle.am_chain_moves.proofs.Puts.{put_cases, put_other}
 use Rattle.am_model.specs.Node.{Node, lowest_or_first}
 use Rattle.am_model.specs.Calls.{is_unfinished}
 use Rattle.am_model.specs.World.{World, is_stopped, has_departed}
 use Rattle.am_stands.specs.Standing.{NameStands, FrontsStand, Stands}
 use Rattle.am_stands.specs.Letters.{LetterSays}
 use Rattle.am_stands.specs.States.{LinesOpen}
-use Rattle.am_stands.specs.Growing.{NameGrows, Grows}
+use Rattle.am_stands.specs.Growing.{Grows}
 use Rattle.am_stands.specs.Branches.{OnBranch, on_chain, left_out, BranchesOk, ChainNamed}
 use Rattle.am_stands.specs.Keeping.{NodeKeeps}
+use Rattle.am_stands.proofs.Growing.{same_name, grows_names, node_grows}
 use Rattle.am_stands.proofs.Letters.{letters_stay}
 use Rattle.am_stands.proofs.Onward.{group_kept, move_on, grows_same}
 use Rattle.am_stands.proofs.Opens.{moves_open, runs_open}
@@ -56,34 +57,10 @@ pub record Ready (rules : Rules) (v : World) (t : Group) : Type 0 where
   pub opens : LinesOpen t
   pub run : (complete : ℕ → Bool) → MayMark t complete → RunFor rules (marked t complete)
 
--- ---- one name's part changes
-
-same_name : (a : groups.Node) → NameGrows a a
-same_name a = record { list = begins_refl a.list; log = λ z. z; promise = omega arith; stopped = λ t. t; departed = λ t. t; leaving = λ t. t }
-
-node_grows : (s : Group) (i : ℕ) (b : groups.Node) → NameGrows (s.node i) b → Grows s (with_node s i b)
-node_grows s i b h = record {
-  each = λ j. put_at (λ k n. NameGrows (s.node k) n) s.node i b h (λ k other. same_name (s.node k)) j;
-  group = begins_refl s.group;
-  lines = λ x d. begins_refl (s.views.line x);
-  decided = λ x d. (d, refl);
-  new = λ x d. inl d;
-  shown = λ x j list is. is;
-  served = λ x j is. is;
-}
-
 -- ---- marks change nothing of this
 
 pub grows_marked : (s : Group) (complete : ℕ → Bool) → Grows s (marked s complete)
-grows_marked s complete = record {
-  each = λ i. record { list = begins_refl (s.node i).list; log = λ z. z; promise = omega arith; stopped = λ z. z; departed = λ z. z; leaving = λ z. z };
-  group = begins_refl s.group;
-  lines = λ x d. begins_refl (s.views.line x);
-  decided = λ x d. (d, refl);
-  new = λ x d. inl d;
-  shown = λ x i list is. is;
-  served = λ x i is. is;
-}
+grows_marked s complete = grows_names s (marked s complete) (λ i. same_name (s.node i)) refl refl refl refl refl refl
 
 pub shaped_marked : (s : Group) (complete : ℕ → Bool) → Shaped s → Shaped (marked s complete)
 shaped_marked s complete h = record {

@@ -132,21 +132,8 @@ sets_on s t (decides i members resilience may) ok h x d =
     by_number (inl a) c = subst (λ (b : Chosen). IsSet b.members) (sym a.1) ok.0
     by_number (inr a) (inl c) = absurd (a.0 c.0)
     by_number (inr a) (inr c) = subst (λ (b : Chosen). IsSet b.members) (sym a.1) (h.sets x (sym c.1 ∙ d))
-sets_on s t (numbers i e leads fit may) ok h x d = h.sets x d
-sets_on s t (stores i e there decided other stays next) ok h x d = h.sets x d
-sets_on s t (accepts i n leads may) ok h x d = h.sets x d
-sets_on s t (learns i told acc there rises within before up_to given low) ok h x d = h.sets x d
-sets_on s t (begins i few there stays member) ok h x d = h.sets x d
-sets_on s t (raises i stamp there above) ok h x d = h.sets x d
-sets_on s t (shows i there small other begun unshown) ok h x d = h.sets x d
-sets_on s t (serves i list there shown others) ok h x d = h.sets x d
-sets_on s t (fetches i f list e there ballot served shown next) ok h x d = h.sets x d
-sets_on s t (gives_over i) ok h x d = h.sets x d
-sets_on s t (welcomes j stamp base join may) ok h x d = h.sets x d
-sets_on s t (asks i there unballoted) ok h x d = h.sets x d
-sets_on s t (departs i before may) ok h x d = h.sets x d
-sets_on s t (closes i n leads leaving alone may) ok h x d = h.sets x d
 sets_on s t (stops i) ok h x d = absurd ok
+sets_on s t _ ok h x d = h.sets x d
 
 pub shaped_move : (founders : List ℕ) (first resilience : ℕ) (s t : Group) → GroupOk founders first resilience s → (move : Move s t) → MoveOk move → Shaped s
     → Shaped t
@@ -210,11 +197,18 @@ along_move r s t i grows k (same is) h number e low at = h number e low (ap (λ 
 along_move r s t i grows k (up there) h number e low at = along_chain r t i grows k ((k.each i).list there) number e low at
 along_move r s t i grows k (gone on) h number e low at = along_chain r t i grows k on number e low at
 
-pub along_moves : (founders : List ℕ) (first resilience : ℕ) (r s t : Group) (i : ℕ) → Begins r.group s.group → GroupOk founders first resilience s → Moves s t
-    → Along r s i → Along r t i
-along_moves founders first resilience r s t i grows g none h = h
-along_moves founders first resilience r s t i grows g (moves {t = u} move ok rest) h =
+-- what a name's list keeps from move to move, from a group on whose list grows
+pub list_moves : (P : Group → Type 0) (founders : List ℕ) (first resilience : ℕ) (r s t : Group) (i : ℕ)
+    → ((a b : Group) → Begins r.group b.group → Kept b → ListGoes a b i → P a → P b) → Begins r.group s.group → GroupOk founders first resilience s → Moves s t
+    → P s → P t
+list_moves P founders first resilience r s t i keeps grows g none h = h
+list_moves P founders first resilience r s t i keeps grows g (moves {t = u} move ok rest) h =
     let on = move_on founders first resilience s u g move ok in
     let more = begins_trans grows on.grows.group in
-    along_moves founders first resilience r u t i more on.group_ rest
-    (along_move r s u i more (group_kept founders first resilience u on.group_) (move_goes s u move (group_kept founders first resilience s g) i) h)
+    list_moves P founders first resilience r u t i keeps more on.group_ rest
+    (keeps s u more (group_kept founders first resilience u on.group_) (move_goes s u move (group_kept founders first resilience s g) i) h)
+
+pub along_moves : (founders : List ℕ) (first resilience : ℕ) (r s t : Group) (i : ℕ) → Begins r.group s.group → GroupOk founders first resilience s → Moves s t
+    → Along r s i → Along r t i
+along_moves founders first resilience r s t i grows g path h =
+    list_moves (λ q. Along r q i) founders first resilience r s t i (λ a b. along_move r a b i) grows g path h

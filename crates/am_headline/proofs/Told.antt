@@ -1,6 +1,6 @@
 -- What each run keeps of what its applications were given: gapless, from where a name began, and each send that was settled at its number.
 use Rattle.std.proofs.Common.{◌≡◌, ◌≢◌, ⊎_elim, inl, ℕ, zero, suc, ◌+◌, ◌-◌, ◌<◌, ◌≤◌, ◌==◌, nat_le, true, false, List, [], ◌∷◌, ◌++◌}
-use Rattle.std.proofs.Common.{length, Option, Some, None, slice_get, refl, sym, ap, ◌∙◌, subst, append-nil, length-append, arith}
+use Rattle.std.proofs.Common.{length, Option, Some, None, refl, sym, ap, ◌∙◌, subst, append-nil, length-append, arith}
 use Rattle.std.specs.Prelude.{All}
 use Rattle.std.specs.List.{flat_map}
 use Rattle.std.proofs.lemmas.Bool.Decides.{nat_tests}
@@ -19,17 +19,16 @@ use Rattle.am_group.specs.declared.event.Event.{Event}
 use Rattle.am_group.specs.declared.event.Record.{Record}
 use Rattle.am_group.specs.Deliveries.{name_of, taken_in, given_to, deliveries}
 use Rattle.am_group.specs.Journals.{item_at}
-use Rattle.am_chain_lists.specs.Whole.{Begins, IsGood}
+use Rattle.am_chain_lists.specs.Whole.{IsGood}
 use Rattle.am_chain_lists.proofs.Prefixes.{begins_refl, begins_trans}
 use Rattle.am_chain_lists.proofs.Members.{good_begins}
 use Rattle.am_chain_moves.specs.Group as groups
 use Rattle.am_chain_moves.specs.Group.{Group, IsUp}
-use Rattle.am_chain_moves.specs.Kept.{Kept}
 use Rattle.am_model.specs.Node.{Node, set_at, waiting, is_asking, founder, stranger, founders_view, lowest_or_first}
 use Rattle.am_model.specs.Emit.{Step}
 use Rattle.am_model.specs.Group.{sent_in, accepted_sends, has_log}
 use Rattle.am_model.specs.Lawful.{whole}
-use Rattle.am_model.specs.World.{World, record_of, is_stopped, has_departed, group_after, start, stepped, happens, run}
+use Rattle.am_model.specs.World.{World, record_of, has_departed, start, stepped, run}
 use Rattle.am_model.specs.Claims.{heard_by, welcomes}
 use Rattle.am_model.proofs.Greatest.{split}
 use Rattle.am_effects.specs.Causes.{Cause, hears}
@@ -37,7 +36,7 @@ use Rattle.am_effects.specs.Changes.{Changes, unchanged, changed}
 use Rattle.am_effects.specs.Effects.{Effect, Answers, HasTaken, AnswersAsk, WasSettled}
 use Rattle.am_effects.specs.Letters.{LetterSays}
 use Rattle.am_effects.specs.Events.{actor, IsCause, IsIdle, WasSentTo}
-use Rattle.am_effects.proofs.Items.{all_get, get_push}
+use Rattle.am_effects.proofs.Items.{all_get}
 use Rattle.am_laws.specs.Blank.{IsBlank}
 use Rattle.am_laws.proofs.Blank.{Blanked, change_blank, blank_holds}
 use Rattle.am_laws.proofs.RunCounts.{numbers_hold}
@@ -55,12 +54,9 @@ use Rattle.am_unballoted.proofs.Lists.{item_within}
 use Rattle.am_unballoted.proofs.Records.{idle_takes, idle_welcomes, idle_sends, deliveries_push, given_same, not_given, idle_gives, given_more, accepted_more}
 use Rattle.am_unballoted.proofs.Records.{accepted_and}
 use Rattle.am_unballoted.proofs.Records.{welcome_in, welcomes_push, idle_welcome, other_welcome, record_up}
-use Rattle.am_unballoted.proofs.Steps.{taken_or, nil_of}
+use Rattle.am_unballoted.proofs.Steps.{taken_or, nil_of, given_push}
 use Rattle.am_unballoted.proofs.Welcomes.{record_step, welcomed_step}
 use Rattle.am_unballoted.proofs.Worlds.{GivenOk, begins_at, RecordOk, StandsAt}
-use Rattle.am_stands.specs.Standing.{NameStands}
-use Rattle.am_stands.specs.Moving.{Moves}
-use Rattle.am_stands.specs.Growing.{Grows}
 use Rattle.am_stands.proofs.Onward.{group_kept}
 use Rattle.am_stands.specs.Running.{Following}
 use Rattle.am_headline.proofs.Lists.{item_begins}
@@ -68,7 +64,7 @@ use Rattle.am_headline.proofs.Shapes.{Along, along_up, along_moves}
 use Rattle.am_headline.proofs.Ways.{kind_of}
 use Rattle.am_headline.proofs.Inside.{Fresh, Settled, SendIn, Inside, inside_kind}
 use Rattle.am_headline.proofs.Joined.{Opens, AnyLetter, welcome_joins}
-use Rattle.am_headline.proofs.Fold.{run_push}
+use Rattle.am_headline.proofs.OneStep.{OneStep, itself, parts, plain}
 use Rattle.am_headline.proofs.Own.{whole_item, taken_in_group, step_in_group}
 
 -- ---- what is kept
@@ -170,9 +166,7 @@ inside_start : (rules : Rules) (group : List Entry) (i : ℕ) (c : Cause) (o : O
     → (has_log m.status ≡ false → m.core.acc ≡ 0) → NameTold rules group i m → Inside group i c o m m
 inside_start rules group i c o m kept taken bare h = record {
   gave = nothing refl refl refl;
-  kept = kept;
-  taken = taken;
-  passed = h.passed;
+  order = record { kept = kept; taken = taken; passed = h.passed };
   departed = λ t. (t, refl);
   leaves = λ t. t;
   gone = h.gone;
@@ -199,25 +193,6 @@ was_taken rules events may i c n o number e is h = ⊎_elim
     (subst (Answers ((run rules events).nodes i) c n) is h)
 
 -- ---- one name's node
-
-given_push : (list : List Entry) (acc : ℕ) (m n : Node) (given : List (ℕ × Entry)) (k : ℕ) (e : Entry) → GivenOk list acc m given → n.core.start ≡ m.core.start
-    → front m ≡ k → front n ≡ k + 1 → 0 < m.core.start → m.core.start - 1 ≤ k → At list acc (k + 1) e → GivenOk list acc n (given ++ (k + 1, e) ∷ [])
-given_push list acc m n given k e h start a b some low at =
-    let count = h.count in
-    let long = length-append given ((k + 1, e) ∷ []) in
-    record {
-      count = omega arith;
-      each = λ j number x is. ⊎_elim
-          (λ (y : slice_get given j ≡ Some (number, x)). (let z = h.each j number x y in
-          (z.0 ∙ ap (λ t. t + j) (sym start), subst (λ t. At list acc (t + j) x) (sym start) z.1)))
-          (λ (y : (j ≡ length given) × ((k + 1, e) ≡ (number, x))). (
-          let n_ : k + 1 ≡ number = ap (λ (p : ℕ × Entry). p.0) y.1 in
-          let e_ : e ≡ x = ap (λ (p : ℕ × Entry). p.1) y.1 in
-          let j_ = y.0 in
-          let sum : k + 1 ≡ n.core.start + j = omega arith in
-          (sym n_ ∙ sum, subst (λ t. At list acc t x) sum (subst (At list acc (k + 1)) e_ at))))
-          (get_push given (k + 1, e) j (number, x) is);
-    }
 
 by_name : (P : ℕ → Node → Type 0) (nodes : ℕ → Node) (i : ℕ) (n : Node) → P i n → ((j : ℕ) → i ≢ j → P j (nodes j)) → (j : ℕ) → P j (set_at nodes i n j)
 by_name P nodes i n k h j = split (j == i)
@@ -305,62 +280,18 @@ taking_in_group rules w s i (suc j) x old few y =
 same_number : (a b : ℕ) → (a == b) ≡ true → a ≡ b
 same_number a b t = grind (arith, nat_tests)
 
-itself : (k : ℕ) → (k == k) ≡ true
-itself k = grind (arith, nat_tests)
-
-module _ (rules : Rules) (events : List Event) (e : Event) (c : Cause) (step : Step) (s t : Group) (may : MayFound rules)
-    (runs : is_stopped (run rules events) (actor (run rules events) e) ≡ false) (cause : IsCause (run rules events) (actor (run rules events) e) e.act c)
-    (effect : Effect ((run rules events).nodes (actor (run rules events) e)) c step)
-    (is : stepped (run rules events) e (actor (run rules events) e) step ≡ happens (run rules events) e)
-    (old : Following rules (run rules events) s) (path : Moves s t) (grows : Grows s t)
-    (new : Following rules (stepped (run rules events) e (actor (run rules events) e) step) t)
+module _ (rules : Rules) (events : List Event) (e : Event) (c : Cause) (step : Step) (s t : Group) (one : OneStep rules events e c step s t)
     (h : Told rules (run rules events)) where
-  abbrev w : World
-  w = run rules events
-
-  abbrev i : ℕ
-  i = actor w e
-
-  abbrev m : Node
-  m = w.nodes i
-
-  abbrev n : Node
-  n = step.node
-
-  abbrev v : World
-  v = stepped w e i step
-
-  few : i < 256
-  few = few_names rules w e (run_owned rules events may).blanks.views.named
-
-  kept_s : Kept s
-  kept_s = group_kept rules.founders (lowest_or_first rules.founders) rules.resilience s old.group
-
-  -- the run of one event more
-  pushed_run : run rules (events ++ e ∷ []) ≡ v
-  pushed_run = run_push rules events e ∙ sym is
-
-  group_v : v.group ≡ group_after w.group n
-  unfolding stepped
-  group_v = refl
-
-  group_grows : Begins w.group v.group
-  group_grows = subst (λ g. Begins g v.group) old.stands.group (subst (Begins s.group) new.stands.group grows.group)
+  open parts rules events e step use {w, i, m, n, v}
+  open one use {may, runs, cause, effect, old, path}
+  open plain one use {few, kept_s, node_v, group_v, run_v, node_run, stands_n, group_grows}
 
   abbrev inside : Inside w.group i c step.outcome m n
   inside = inside_step rules events e c step may cause effect h
 
-  node_v : v.nodes i ≡ n
-  unfolding stepped
-  node_v = let t_ : (i == i) ≡ true = itself i in rw t_ refl
-
-  stands_n : NameStands v i n (t.node i)
-  stands_n = subst (λ x. NameStands v i x (t.node i)) node_v (new.stands.each i few)
-
   acc_v : n.core.acc ≤ length v.group
-  acc_v = subst (λ (x : World). n.core.acc ≤ length x.group) pushed_run
-      (subst (λ (x : Node). x.core.acc ≤ length (run rules (events ++ e ∷ [])).group) (ap (λ (x : World). x.nodes i) pushed_run ∙ node_v)
-      ((numbers_hold rules (events ++ e ∷ [])).each i).acc)
+  acc_v = subst (λ (x : World). n.core.acc ≤ length x.group) run_v
+      (subst (λ (x : Node). x.core.acc ≤ length (run rules (events ++ e ∷ [])).group) node_run ((numbers_hold rules (events ++ e ∷ [])).each i).acc)
 
   adds_start : n.core.log.start ≤ length w.group
   adds_start = (lists_go_on rules events e c step may runs cause effect).begins
@@ -452,8 +383,7 @@ module _ (rules : Rules) (events : List Event) (e : Event) (c : Cause) (step : S
 
       blank_now : has_log n.status ≡ false → IsBlank n
       blank_now none =
-          let same : (run rules (events ++ e ∷ [])).nodes i ≡ n = ap (λ (x : World). x.nodes i) pushed_run ∙ node_v in
-          subst IsBlank same (blank_holds rules (events ++ e ∷ []) i may few (ap (λ (x : Node). has_log x.status) same ∙ none))
+          subst IsBlank node_run (blank_holds rules (events ++ e ∷ []) i may few (ap (λ (x : Node). has_log x.status) node_run ∙ none))
 
   -- ---- what was given
 

@@ -113,20 +113,7 @@ packet_on rules s t (packet.Bcast i v base acc number e) g h = line_on rules s t
 packet_on rules s t (packet.Order i v base acc number from req) g h = line_on rules s t v base number g h
 packet_on rules s t (packet.Piece i v base number e) g h = piece_on rules s t i v base number e g h
 packet_on rules s t (packet.Result i v base number names resilience) g h = λ by. line_on rules s t v base number g (h by)
-packet_on rules s t (packet.Request i v report req body) g h = tt
-packet_on rules s t (packet.Spread i v report req body) g h = tt
-packet_on rules s t (packet.Accept i v base acc high poll) g h = tt
-packet_on rules s t (packet.Ack i v report) g h = tt
-packet_on rules s t (packet.Nack i v report) g h = tt
-packet_on rules s t (packet.Hold i v base high req) g h = tt
-packet_on rules s t (packet.JoinAsk i v) g h = tt
-packet_on rules s t (packet.Welcome i v base join image) g h = tt
-packet_on rules s t (packet.LeaveAsk i v report) g h = tt
-packet_on rules s t (packet.Gone i v number) g h = tt
-packet_on rules s t (packet.Invite i v) g h = tt
-packet_on rules s t (packet.Vote i v vote) g h = tt
-packet_on rules s t (packet.Fetch i v stored) g h = tt
-packet_on rules s t (packet.HandOver i v) g h = tt
+packet_on rules s t _ g h = tt
 
 -- ---- lists on lines
 

@@ -18,9 +18,9 @@ use Rattle.am_model.specs.Joining.{begun}
 use Rattle.am_model.specs.Refresh.{refresh, settle, refresh_at_end}
 use Rattle.am_model.proofs.Greatest.{and_both}
 use Rattle.am_effects.specs.Causes.{Cause, hears}
-use Rattle.am_effects.specs.Looks.{Looks, finds_itself_out, waits, fetches_from_best, finds_too_few, finds_no_room, decides}
-use Rattle.am_effects.specs.Changes.{MayBeWelcomed, Change, refreshes, settles, takes_report, admits, numbers, keeps_body, notes, stores, begins_list, departs}
-use Rattle.am_effects.specs.Changes.{promises, opens, looks, fetches, stores_view, queues, collects, takes, asks_to_join, asks_to_leave, closes}
+use Rattle.am_effects.specs.Looks.{Looks, decides}
+use Rattle.am_effects.specs.Changes.{MayBeWelcomed, Change, refreshes, settles, numbers, stores, begins_list, departs}
+use Rattle.am_effects.specs.Changes.{looks, fetches, stores_view, queues, collects, takes, asks_to_join, asks_to_leave, closes}
 
 -- nothing of that changes; the list may get more
 pub record Alike (m n : Node) : Type 0 where
@@ -85,12 +85,8 @@ pub pushed_alike : (m : Node) (e : Entry) → Alike m (pushed m e)
 pushed_alike m e = pushes m (pushed m e) (e ∷ []) refl (omega arith) refl refl refl refl refl refl refl refl
 
 pub look_alike : (m : Node) (b : Ballot) (v : Verdict) → Looks m b v → Alike m v.node
-look_alike m b v (finds_itself_out x) = same_log m v.node refl (omega arith) refl refl refl refl refl refl refl refl
-look_alike m b v (waits x y) = same_log m v.node refl (omega arith) refl refl refl refl refl refl refl refl
-look_alike m b v (fetches_from_best x y z) = same_log m v.node refl (omega arith) refl refl refl refl refl refl refl refl
-look_alike m b v (finds_too_few x y) = same_log m v.node refl (omega arith) refl refl refl refl refl refl refl refl
-look_alike m b v (finds_no_room x) = same_log m v.node refl (omega arith) refl refl refl refl refl refl refl refl
 look_alike m b v (decides may) = pushes m v.node (_ ∷ []) refl (omega arith) refl refl refl refl refl refl refl refl
+look_alike m b v _ = same_log m v.node refl (omega arith) refl refl refl refl refl refl refl refl
 
 -- whatever a ballot comes to
 alike_if : (m : Node) (b : Bool) (x y : Verdict) → Alike m x.node → Alike m y.node → Alike m (if b then x else y).node
@@ -134,16 +130,10 @@ leads_member m t = (and_both (is_member m.status) _ (and_both _ _ t).0).0
 pub kind_of : {c : Cause} {o : Outcome} (m n : Node) → Change c o m n → Kind c o m n
 kind_of m n refreshes = refreshed
 kind_of m n settles = settled
-kind_of m n (takes_report s v report by may) = alike (same_log m n refl (omega arith) refl refl refl refl refl refl refl refl)
-kind_of m n (admits s v is leads fit) = alike (same_log m n refl (omega arith) refl refl refl refl refl refl refl refl)
 kind_of m n (numbers e leads room why) = alike (pushes m n (e ∷ []) refl (omega arith) refl refl refl refl refl refl refl refl)
-kind_of m n (keeps_body s v report req body is heard) = alike (same_log m n refl (omega arith) refl refl refl refl refl refl refl refl)
-kind_of m n (notes s v base acc by heard) = alike (same_log m n refl (omega arith) refl refl refl refl refl refl refl refl)
 kind_of m n (stores s v base acc number e by heard plain may) = alike (pushes m n (e ∷ []) refl (omega arith) refl refl refl refl refl refl refl refl)
 kind_of m n (begins_list s v base join image is o may) = began s v base join image is o may
 kind_of m n (departs s v number is heard leaves) = left (and_both _ (is_member m.status) heard).1 leaves
-kind_of m n (promises v low why) = alike (same_log m n refl (omega arith) refl refl refl refl refl refl refl refl)
-kind_of m n (opens least resilience by may) = alike (same_log m n refl (omega arith) refl refl refl refl refl refl refl refl)
 kind_of m n (looks b verdict over why look is) = alike (look_alike m b verdict look)
 kind_of m n (fetches s v base number e is heard promise below from may) = alike (pushes m n (e ∷ []) refl (omega arith) refl refl refl refl refl refl refl refl)
 kind_of m n (stores_view s v base number names resilience is heard own_ other promise below may) =
@@ -154,3 +144,4 @@ kind_of m n (takes e is o member some there) = took e o member some
 kind_of m n (asks_to_join is was) = asked_in was
 kind_of m n (asks_to_leave is was stays done) = asked_out was done
 kind_of m n (closes leads leaves alone room) = gone (leads_member m leads) leaves
+kind_of m n _ = alike (same_log m n refl (omega arith) refl refl refl refl refl refl refl refl)

@@ -1,21 +1,19 @@
 -- The row of a request to leave, by what its tests say.
-use Rattle.std.proofs.Common.{◌≡◌, ℕ, ◌+◌, ◌<◌, ◌≤◌, List, [], Bool, true, false, not, ◌&&◌, ◌==◌, nat_lt, nat_le, if◌then◌else◌, refl, sym, ap, ◌∙◌, arith}
+use Rattle.std.proofs.Common.{◌≡◌, ℕ, ◌+◌, ◌<◌, ◌≤◌, List, [], Bool, true, false, ◌==◌, refl, sym, ap, subst, ◌∙◌, arith}
 use Rattle.std.proofs.lemmas.Bool.Decides.{nat_tests}
 use Rattle.am_base.specs.declared.image.Report.{Report}
 use Rattle.am_base.specs.declared.image.Row.{Row}
 use Rattle.am_base.specs.declared.image.Image.{Image}
 use Rattle.am_base.specs.declared.name.Stamp.{Stamp}
-use Rattle.am_base.specs.declared.outcome.Outcome.{Outcome}
 use Rattle.am_base.specs.declared.outcome.Outcome.TheVariants as said
 use Rattle.am_base.specs.declared.entry.Entry.TheVariants.{Leave}
 use Rattle.am_base.specs.Names.{without_name}
-use Rattle.am_base.specs.Lists.{Log, row_of}
+use Rattle.am_base.specs.Lists.{row_of}
 use Rattle.am_packet.specs.declared.packet.Packet.{Packet}
 use Rattle.am_packet.specs.Boxes.{Letter, with_letter}
-use Rattle.am_core.specs.Cores.{CoreState, Sends, since_accepted}
-use Rattle.am_core.proofs.Folds.{split}
+use Rattle.am_core.specs.Cores.{Sends, since_accepted}
 use Rattle.am_model.specs.Node.{Node, top, told, others, only_name, has_room}
-use Rattle.am_model.specs.Emit.{Plan, quiet, polling, bcast_of, gone_of}
+use Rattle.am_model.specs.Emit.{quiet, polling, bcast_of, gone_of}
 use Rattle.am_model.specs.Sequencing.{row_at, is_unknown, reported}
 use Rattle.am_model.specs.Joining.{may_go, let_go, counts_report, asks_to_leave, leave_ask_row}
 use Rattle.am_model.specs.Ends.{with_log, Tells}
@@ -37,6 +35,13 @@ goes_tells m name r all_of set result row concerned less is = tells (λ n. may_g
 
 pub row_tells : (m : Node) (name : ℕ) (r : Row) → r ≡ row_at m name → Tells (λ n. row_at n name) m r
 row_tells m name r is = tells (λ n. row_at n name) m r (λ all s. is ∙ ap (λ (i : Image). row_of i name) (sym (told_same m all s)))
+
+-- what was tested is told, and what was put goes into an empty box
+pub told_so : (m : Node) (name : ℕ) {goes answer : Bool} → goes ≡ answer → Tells (λ n. may_go n name) m goes → Tells (λ n. may_go n name) m answer
+told_so m name is told = subst (λ (b : Bool). Tells (λ n. may_go n name) m b) is told
+
+pub let_go_from : (m : Node) (name : ℕ) {box letters : List Letter} → box ≡ [] → Tells (and_let_go name box) m letters → Tells (and_let_go name []) m letters
+let_go_from m name {box} {letters} empty told = subst (λ (ls : List Letter). Tells (and_let_go name ls) m letters) empty told
 
 pub stays_here : (m : Node) (name : ℕ) (letters : List Letter) → Tells (λ n. may_go n name) m false → Tells (and_let_go name letters) m letters
 stays_here m name letters stays = λ n end. rw (sym (stays n end)) refl

@@ -30,38 +30,20 @@ comes_at most g v h = record { node = h }
 -- a ballot whose votes are known, and reports that begin anew
 with_ballot : (most : Bounds) (g : ℕ) (m : Node) (b : Ballot) → VotesKnown g (Some b) → Low most g m → Low most g (record m { ballot = Some b })
 with_ballot most g m b votes h = record {
-  entries = h.entries;
-  rounds = h.rounds;
-  sends = h.sends;
+  counts = h.counts;
+  order = h.order;
+  within = h.within;
   quits = h.quits;
-  given = h.given;
-  accepted = h.accepted;
-  kept = h.kept;
-  listed = h.listed;
-  began = h.began;
-  took = h.took;
-  trims = h.trims;
-  reported = h.reported;
-  votes = votes;
-  known = h.known;
+  tells = record { reported = h.reported; votes = votes; known = h.known };
 }
 
 with_restart : (most : Bounds) (g : ℕ) (m : Node) → Low most g m → Low most g (restarted m)
 with_restart most g m h = record {
-  entries = h.entries;
-  rounds = h.rounds;
-  sends = h.sends;
+  counts = h.counts;
+  order = h.order;
+  within = h.within;
   quits = h.quits;
-  given = h.given;
-  accepted = h.accepted;
-  kept = h.kept;
-  listed = h.listed;
-  began = h.began;
-  took = h.took;
-  trims = h.trims;
-  reported = λ name. restart_low g m.core.base name h.trims;
-  votes = h.votes;
-  known = h.known;
+  tells = record { reported = λ name. restart_low g m.core.base name h.trims; votes = h.votes; known = h.known };
 }
   where
     restart_low : (g base name : ℕ) → base ≤ g → (reports.restarted base name).taken ≤ g

@@ -14,11 +14,11 @@ use Rattle.am_model.specs.Group.{has_log}
 use Rattle.am_model.specs.World.{World, start, first_node, unchanged, stepped, run}
 use Rattle.am_model.proofs.Greatest.{split}
 use Rattle.am_effects.specs.Causes.{Cause}
-use Rattle.am_effects.specs.Changes.{Change, refreshes, settles, takes_report, admits, numbers, keeps_body, notes, stores, begins_list, departs, promises}
-use Rattle.am_effects.specs.Changes.{opens, looks, fetches, stores_view, queues, collects, takes, asks_to_join, asks_to_leave, closes, Changes}
+use Rattle.am_effects.specs.Changes.{Change, refreshes, settles, numbers, notes, stores, begins_list, departs}
+use Rattle.am_effects.specs.Changes.{looks, fetches, stores_view, asks_to_join, closes, Changes}
 use Rattle.am_effects.specs.Changes.{unchanged as no_change, changed}
 use Rattle.am_effects.specs.Events.{actor, idles, stops, returns, steps}
-use Rattle.am_effects.specs.Looks.{Looks, finds_itself_out, waits, fetches_from_best, finds_too_few, finds_no_room, decides}
+use Rattle.am_effects.specs.Looks.{Looks, finds_itself_out}
 use Rattle.am_effects.proofs.Rests.{rests_refresh, settle_is}
 use Rattle.am_effects.proofs.Runs.{EachKeeps, runs_keep}
 use Rattle.am_laws.specs.Blank.{BlankHolds}
@@ -57,11 +57,7 @@ blank_refresh m h = split (is_sequencer m)
 -- a look changes no status
 look_log : (m : Node) (b : Ballot) (v : Verdict) → Looks m b v → has_log v.node.status ≡ has_log m.status
 look_log m b v (finds_itself_out x) = refl
-look_log m b v (waits x y) = refl
-look_log m b v (fetches_from_best x y z) = refl
-look_log m b v (finds_too_few x y) = refl
-look_log m b v (finds_no_room x) = refl
-look_log m b v (decides may) = refl
+look_log m b v _ = refl
 
 -- who has a list isn't blank
 listed : (m n : Node) → has_log n.status ≡ has_log m.status → has_log m.status ≡ true → Blanked n
@@ -70,27 +66,19 @@ listed m n same t = λ f. absurd (cc)
 pub change_blank : {c : Cause} {o : Outcome} (m n : Node) → Change c o m n → Balloted m → Blanked m → Blanked n
 change_blank m n refreshes k h = blank_refresh m h
 change_blank m n settles k h = subst Blanked (sym (settle_is m)) h
-change_blank m n (takes_report s v report by may) k h = h
-change_blank m n (admits s v is leads fit) k h = h
 change_blank m n (numbers e leads room why) k h = listed m n refl (log_of_member m.status (leads_member m leads))
-change_blank m n (keeps_body s v report req body is by) k h = h
 change_blank m n (notes s v base acc by from) k h = listed m n refl (in_view_log m s v from)
 change_blank m n (stores s v base acc number e by from plain may) k h = listed m n refl (in_view_log m s v from)
 change_blank m n (begins_list s v base join image is o may) k h = λ f. absurd (cc)
 change_blank m n (departs s v number is by leaves) k h = λ f. absurd (cc)
-change_blank m n (promises v low why) k h = h
-change_blank m n (opens least resilience by may) k h = h
 change_blank m n (looks b verdict over why look is) k h =
     let l = looked_at m b why k in
     λ f. absurd (let d = look_log m b verdict look in let t = l.has_list in cc)
 change_blank m n (fetches s v base number e is by promise below from may) k h = listed m n refl (member_of m s by)
 change_blank m n (stores_view s v base number names resilience is by own other promise below may) k h = listed m n refl (member_of m s by)
-change_blank m n (queues body is o member stays few) k h = h
-change_blank m n (collects req is) k h = h
-change_blank m n (takes e is o member some there) k h = h
 change_blank m n (asks_to_join is was) k h = λ f. h (ap has_log was)
-change_blank m n (asks_to_leave is was stays done) k h = h
 change_blank m n (closes leads leaves alone room) k h = λ f. absurd (cc)
+change_blank m n _ k h = h
 
 changes_blank : {c : Cause} {o : Outcome} (m n : Node) → HeardNames c → Changes c o m n → HasNames m → Balloted m → Blanked m → Blanked n
 changes_blank m n heard no_change names k h = h

@@ -34,21 +34,11 @@ ends_queued most g m (Some s) o low h =
     low_sent : (most : Bounds) (g : ℕ) (m : Node) (e : Entry) → is_view e ≡ false → top m ≤ most.lists → Low (up most) g m → Low (up most) g (pushed m e)
     low_sent most g m e other low h = let p = low_pushed (up most) g m e other h in
         record {
-          entries = simp length-append (omega arith);
-          rounds = h.rounds;
-          sends = h.sends;
+          counts = record { entries = simp length-append (omega arith); rounds = h.rounds; sends = h.sends };
+          order = record { given = h.given; accepted = p.accepted; kept = h.kept };
+          within = h.within;
           quits = h.quits;
-          given = h.given;
-          accepted = p.accepted;
-          kept =
-              h.kept;
-          listed = h.listed;
-          began = h.began;
-          took = h.took;
-          trims = h.trims;
-          reported = h.reported;
-          votes = h.votes;
-          known = p.known;
+          tells = record { reported = h.reported; votes = h.votes; known = p.known };
         }
 
 ends_emit : (most : Bounds) (g : ℕ) (m : Node) (w : Option OwnSend) (o : Outcome) → Low most g m → Ends most g (emit m w o)
@@ -63,20 +53,11 @@ ends_queue most g m body stays h =
     let few = h.entries in
     let low = h.rounds in
     let now : Low (up most) g (queued m body) = record {
-      entries = omega arith;
-      rounds = omega arith;
-      sends = omega arith;
+      counts = record { entries = omega arith; rounds = omega arith; sends = omega arith };
+      order = h.order;
+      within = h.within;
       quits = λ t. absurd (cc);
-      given = h.given;
-      accepted = h.accepted;
-      kept = h.kept;
-      listed = h.listed;
-      began = h.began;
-      took = h.took;
-      trims = h.trims;
-      reported = h.reported;
-      votes = h.votes;
-      known = h.known;
+      tells = h.tells;
     } in
     let k = ends_queued most g (queued m body) (waiting (queued m body)) (said.Queued (m.sends.last + 1)) few now in
     search (ends_if, ends_next, k)
@@ -105,20 +86,11 @@ collect_waits last queue req h = split (own.is_settled req (record { last = last
 pub ends_done : (most : Bounds) (g : ℕ) (m : Node) (req : ℕ) → Low most g m → Ends most g (done_row m req)
 unfolding done_row
 ends_done most g m req h = ends_at most g _ (record {
-  entries = h.entries;
-  rounds = h.rounds;
-  sends = collect_last m.sends req most.requests h.sends;
+  counts = record { entries = h.entries; rounds = h.rounds; sends = collect_last m.sends req most.requests h.sends };
+  order = h.order;
+  within = h.within;
   quits = λ t. collect_waits m.sends.last m.sends.queue req (h.quits t);
-  given = h.given;
-  accepted = h.accepted;
-  kept = h.kept;
-  listed = h.listed;
-  began = h.began;
-  took = h.took;
-  trims = h.trims;
-  reported = h.reported;
-  votes = h.votes;
-  known = h.known;
+  tells = h.tells;
 })
 
 -- ---- what is accepted
@@ -130,20 +102,11 @@ ends_given most g m (Some e) more k h =
     let low = k.acc in
     let next : m.core.taken < m.core.acc = grind (arith, nat_tests) in
     ends_at most g _ (record {
-      entries = h.entries;
-      rounds = h.rounds;
-      sends = h.sends;
+      counts = h.counts;
+      order = record { given = omega arith; accepted = h.accepted; kept = h.kept };
+      within = record { listed = h.listed; began = h.began; took = omega arith; trims = h.trims };
       quits = h.quits;
-      given = omega arith;
-      accepted = h.accepted;
-      kept = h.kept;
-      listed = h.listed;
-      began = h.began;
-      took = omega arith;
-      trims = h.trims;
-      reported = h.reported;
-      votes = h.votes;
-      known = h.known;
+      tells = h.tells;
     })
 
 pub ends_take : (most : Bounds) (g : ℕ) (m : Node) → Behind g m → Low most g m → Ends most g (take_row m)
@@ -183,20 +146,11 @@ ends_go most g p h =
 
 low_leaving : (most : Bounds) (g : ℕ) (m : Node) → waiting m ≡ None → Low most g m → Low most g (record m { leaving = true })
 low_leaving most g m none h = record {
-  entries = h.entries;
-  rounds = h.rounds;
-  sends = h.sends;
+  counts = h.counts;
+  order = h.order;
+  within = h.within;
   quits = λ t. none;
-  given = h.given;
-  accepted = h.accepted;
-  kept = h.kept;
-  listed = h.listed;
-  began = h.began;
-  took = h.took;
-  trims = h.trims;
-  reported = h.reported;
-  votes = h.votes;
-  known = h.known;
+  tells = h.tells;
 }
 
 -- who begins to leave has nothing to send

@@ -36,24 +36,44 @@ VotesKnown g (Some b) = (name : ℕ) (vote : Vote) → b.votes name ≡ Some vot
 abbrev pub IsKnown : ℕ → ℕ → ℕ → Bool → Type 0
 IsKnown g told acc leads = ((told ≤ g) × (acc ≤ g)) ⊎ ((leads ≡ true) × (told ≤ max g acc))
 
--- By the parts of a node, where a list has at most b entries, and the group has accepted g.
-pub record IsLow (b : Bounds) (g : ℕ) (first high round last told acc taken base start : ℕ) (leaving : Bool) (next : Option OwnSend) (reports : ℕ
-    → Report) (ballot : Option Ballot) (leads : Bool) : Type 0 where
+-- what is counted from the beginning
+pub record CountsLow (b : Bounds) (high round last : ℕ) : Type 0 where
   pub entries : high ≤ b.lists
   pub rounds : round ≤ b.rounds
   pub sends : last ≤ b.requests
-  -- who leaves has nothing to send
-  pub quits : leaving ≡ true → next ≡ None
+
+-- how the fronts of a node stand to one another
+pub record InOrder (first high acc taken base : ℕ) : Type 0 where
   pub given : taken ≤ acc
   pub accepted : acc ≤ high
   pub kept : first ≤ base
+
+-- what the group has accepted
+pub record WithinGroup (g first taken base start : ℕ) : Type 0 where
   pub listed : first ≤ g
   pub began : start ≤ g
   pub took : taken ≤ g
   pub trims : base ≤ g
+
+-- what a node knows of others tells of nothing else
+pub record TellsLow (g told acc : ℕ) (reports : ℕ → Report) (ballot : Option Ballot) (leads : Bool) : Type 0 where
   pub reported : (name : ℕ) → (reports name).taken ≤ g
   pub votes : VotesKnown g ballot
   pub known : IsKnown g told acc leads
+
+-- By the parts of a node, where a list has at most b entries, and the group has accepted g.
+pub record IsLow (b : Bounds) (g : ℕ) (first high round last told acc taken base start : ℕ) (leaving : Bool) (next : Option OwnSend) (reports : ℕ
+    → Report) (ballot : Option Ballot) (leads : Bool) : Type 0 where
+  pub counts : CountsLow b high round last
+  pub open counts use *
+  pub order : InOrder first high acc taken base
+  pub open order use *
+  pub within : WithinGroup g first taken base start
+  pub open within use *
+  -- who leaves has nothing to send
+  pub quits : leaving ≡ true → next ≡ None
+  pub tells : TellsLow g told acc reports ballot leads
+  pub open tells use *
 
 abbrev pub leads : Node → Bool
 leads m = (view m).by == m.core.who
@@ -71,20 +91,11 @@ pub low_more : (b : Bounds) (g : ℕ) (m : Node) → Low b g m → Low (up b) g 
 low_more b g m h =
     let e = h.entries in let r = h.rounds in let s = h.sends in
     record {
-      entries = omega arith;
-      rounds = omega arith;
-      sends = omega arith;
+      counts = record { entries = omega arith; rounds = omega arith; sends = omega arith };
+      order = h.order;
+      within = h.within;
       quits = h.quits;
-      given = h.given;
-      accepted = h.accepted;
-      kept = h.kept;
-      listed = h.listed;
-      began = h.began;
-      took = h.took;
-      trims = h.trims;
-      reported = h.reported;
-      votes = h.votes;
-      known = h.known;
+      tells = h.tells;
     }
 
 -- ---- tests
@@ -105,20 +116,15 @@ low_pushed b g m e other h =
     let f = h.entries in let r = h.rounds in let s = h.sends in let a = h.accepted in
     let same : (view m).by ≡ (view (pushed m e)).by = ap (λ (s : Stamp). s.by) (sym (view_pushed m e other)) in
     record {
-      entries = simp length-append (omega arith);
-      rounds = omega arith;
-      sends = omega arith;
+      counts = record { entries = simp length-append (omega arith); rounds = omega arith; sends = omega arith };
+      order = record { given = h.given; accepted = simp length-append (omega arith); kept = h.kept };
+      within = h.within;
       quits = h.quits;
-      given = h.given;
-      accepted = simp length-append (omega arith);
-      kept = h.kept;
-      listed = h.listed;
-      began = h.began;
-      took = h.took;
-      trims = h.trims;
-      reported = h.reported;
-      votes = h.votes;
-      known = subst (λ (name : ℕ). IsKnown g m.core.told m.core.acc (name == m.core.who)) same h.known;
+      tells = record {
+        reported = h.reported;
+        votes = h.votes;
+        known = subst (λ (name : ℕ). IsKnown g m.core.told m.core.acc (name == m.core.who)) same h.known;
+      };
     }
 
 -- any entry, where nothing is accepted that the group hasn't
@@ -126,20 +132,11 @@ pub low_viewed : (b : Bounds) (g : ℕ) (m : Node) (e : Entry) → top m + 1 ≤
 low_viewed b g m e low k h =
     let a = h.accepted in
     record {
-      entries = simp length-append (omega arith);
-      rounds = h.rounds;
-      sends = h.sends;
+      counts = record { entries = simp length-append (omega arith); rounds = h.rounds; sends = h.sends };
+      order = record { given = h.given; accepted = simp length-append (omega arith); kept = h.kept };
+      within = h.within;
       quits = h.quits;
-      given = h.given;
-      accepted = simp length-append (omega arith);
-      kept = h.kept;
-      listed = h.listed;
-      began = h.began;
-      took = h.took;
-      trims = h.trims;
-      reported = h.reported;
-      votes = h.votes;
-      known = inl (k.told, k.acc);
+      tells = record { reported = h.reported; votes = h.votes; known = inl (k.told, k.acc) };
     }
 
 pub low_any : (b : Bounds) (g : ℕ) (m : Node) (e : Entry) → Behind g m → Low b g m → Low (up b) g (pushed m e)
@@ -155,20 +152,11 @@ low_within b g m number e above low k h =
 -- a base up to what is accepted
 pub low_trimmed : (b : Bounds) (g : ℕ) (m : Node) (base : ℕ) → base ≤ g → Low b g m → Low b g (trimmed m base)
 low_trimmed b g m base low h = let t = h.trims in let k = h.kept in record {
-  entries = h.entries;
-  rounds = h.rounds;
-  sends = h.sends;
+  counts = h.counts;
+  order = record { given = h.given; accepted = h.accepted; kept = omega arith };
+  within = record { listed = h.listed; began = h.began; took = h.took; trims = omega arith };
   quits = h.quits;
-  given = h.given;
-  accepted = h.accepted;
-  kept = omega arith;
-  listed = h.listed;
-  began = h.began;
-  took = h.took;
-  trims = omega arith;
-  reported = h.reported;
-  votes = h.votes;
-  known = h.known;
+  tells = h.tells;
 }
 
 -- ---- promises
@@ -179,20 +167,11 @@ votes_overtaken g by (Some b) h = split (not b.is_over && stamp_lt b.stamp by) (
 
 pub low_promised : (b : Bounds) (g : ℕ) (m : Node) (stamp : Stamp) → stamp.round ≤ b.rounds → Low b g m → Low b g (promised m stamp)
 low_promised b g m stamp low h = record {
-  entries = h.entries;
-  rounds = low;
-  sends = h.sends;
+  counts = record { entries = h.entries; rounds = low; sends = h.sends };
+  order = h.order;
+  within = h.within;
   quits = h.quits;
-  given = h.given;
-  accepted = h.accepted;
-  kept = h.kept;
-  listed = h.listed;
-  began = h.began;
-  took = h.took;
-  trims = h.trims;
-  reported = h.reported;
-  votes = votes_overtaken g stamp m.ballot h.votes;
-  known = h.known;
+  tells = record { reported = h.reported; votes = votes_overtaken g stamp m.ballot h.votes; known = h.known };
 }
 
 -- ---- sends
@@ -227,20 +206,11 @@ reported_more g reports who report low h name = split (name == who)
 
 pub low_report : (b : Bounds) (g : ℕ) (m : Node) (s : ℕ) (report : Report) → report.taken ≤ g → Low b g m → Low b g (with_report m s report)
 low_report b g m s report low h = record {
-  entries = h.entries;
-  rounds = h.rounds;
-  sends = h.sends;
+  counts = h.counts;
+  order = h.order;
+  within = h.within;
   quits = h.quits;
-  given = h.given;
-  accepted = h.accepted;
-  kept = h.kept;
-  listed = h.listed;
-  began = h.began;
-  took = h.took;
-  trims = h.trims;
-  reported = reported_more g m.reports s report low h.reported;
-  votes = h.votes;
-  known = h.known;
+  tells = record { reported = reported_more g m.reports s report low h.reported; votes = h.votes; known = h.known };
 }
 
 -- the least of numbers that are all so low
@@ -290,20 +260,20 @@ low_lead b g m own h =
     let taken_low : taken ≤ g = over_low g m.core.taken acc m.core.start h.took h.began in
     let second = reported_more g reports m.core.who (record { stored = top m; taken = taken }) taken_low first in
     record {
-      entries = h.entries;
-      rounds = h.rounds;
-      sends = h.sends;
+      counts = h.counts;
+      order = record {
+        given = over_acc m.core.taken acc m.core.start (omega arith);
+        accepted = omega arith;
+        kept = base_above m.core.log.start m.core.base _ h.kept;
+      };
+      within = record {
+        listed = h.listed;
+        began = h.began;
+        took = taken_low;
+        trims = base_low g m.core.base _ h.trims (λ y is. least_low g _ _ second y is);
+      };
       quits = h.quits;
-      given = over_acc m.core.taken acc m.core.start (omega arith);
-      accepted = omega arith;
-      kept = base_above m.core.log.start m.core.base _ h.kept;
-      listed = h.listed;
-      began = h.began;
-      took = taken_low;
-      trims = base_low g m.core.base _ h.trims (λ y is. least_low g _ _ second y is);
-      reported = second;
-      votes = h.votes;
-      known = inr (own, omega arith);
+      tells = record { reported = second; votes = h.votes; known = inr (own, omega arith) };
     }
 
 low_advance : (b : Bounds) (g : ℕ) (m : Node) → Low b g m → Low b g (advance m)
@@ -316,20 +286,11 @@ low_advance b g m h =
     (λ (k : (leads m ≡ true) × (m.core.told ≤ max g m.core.acc)). let t = k.1 in inr (k.0, omega arith))
     h.known in
     record {
-      entries = h.entries;
-      rounds = h.rounds;
-      sends = h.sends;
+      counts = h.counts;
+      order = record { given = over_acc m.core.taken acc m.core.start (omega arith); accepted = omega arith; kept = h.kept };
+      within = record { listed = h.listed; began = h.began; took = over_low g m.core.taken acc m.core.start h.took h.began; trims = h.trims };
       quits = h.quits;
-      given = over_acc m.core.taken acc m.core.start (omega arith);
-      accepted = omega arith;
-      kept = h.kept;
-      listed = h.listed;
-      began = h.began;
-      took = over_low g m.core.taken acc m.core.start h.took h.began;
-      trims = h.trims;
-      reported = h.reported;
-      votes = h.votes;
-      known = known;
+      tells = record { reported = h.reported; votes = h.votes; known = known };
     }
 
 -- who is the sequencer leads
@@ -346,20 +307,11 @@ low_refresh b g m h = split (is_sequencer m) (λ t. rw t (low_lead b g m (sequen
 low_settled_at : (b : Bounds) (g : ℕ) (m : Node) (s : OwnSend) (at : Option ℕ) → waiting m ≡ Some s → Low b g m → Low b g (settled_at m s.req at)
 low_settled_at b g m s None is h = h
 low_settled_at b g m s (Some k) is h = record {
-  entries = h.entries;
-  rounds = h.rounds;
-  sends = h.sends;
+  counts = h.counts;
+  order = h.order;
+  within = h.within;
   quits = λ t. absurd (let none = h.quits t in cc);
-  given = h.given;
-  accepted = h.accepted;
-  kept = h.kept;
-  listed = h.listed;
-  began = h.began;
-  took = h.took;
-  trims = h.trims;
-  reported = h.reported;
-  votes = h.votes;
-  known = h.known;
+  tells = h.tells;
 }
 
 low_settled : (b : Bounds) (g : ℕ) (m : Node) (w : Option OwnSend) → waiting m ≡ w → Low b g m → Low b g (settled m w)

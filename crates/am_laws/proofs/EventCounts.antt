@@ -78,23 +78,14 @@ unit = tt
 more_acts : (b : Bounds) (g name : ℕ) (w : World) (e : Event) (a : Act)
     → ((letter : Letter) → letter_at w.letters (heard_by a) ≡ Some letter → UpTo b g letter.packet) → Behind g (w.nodes name) → Low b g (w.nodes name)
     → OneMore b g name (acts_as w e name a)
-more_acts b g name w e (act.Send body) u k h = search (mores, more_event, unit)
-more_acts b g name w e (act.Done req) u k h = search (mores, more_event, unit)
-more_acts b g name w e act.Take u k h = search (mores, more_event, unit)
-more_acts b g name w e act.Join u k h = search (mores, more_event, unit)
-more_acts b g name w e act.State u k h = search (mores, more_event, unit)
-more_acts b g name w e act.Leave u k h = search (mores, more_event, unit)
-more_acts b g name w e (act.Reset least resilience) u k h = search (mores, more_event, unit)
-more_acts b g name w e (act.Ask round) u k h = search (mores, more_event, unit)
-more_acts b g name w e (act.GiveUp other) u k h = search (mores, more_event, unit)
 more_acts b g name w e act.Stop u k h = search mores
-more_acts b g name w e act.Tick u k h = search (mores, more_event, unit)
 more_acts b g name w e (act.Hear number) u k h =
     more_heard b g name w e (hear (w.nodes name)) (letter_at w.letters number) h (λ letter is. low_hear b g (w.nodes name) letter.packet (u letter is) k h)
 more_acts b g name w e (act.Cut number keep) u k h =
     more_heard b g name w e (hear_cut (w.nodes name) keep) (letter_at w.letters number) h
     (λ letter is. low_cut b g (w.nodes name) keep letter.packet (u letter is) k h)
 more_acts b g name w e act.Return u k h = search mores
+more_acts b g name w e _ u k h = search (mores, more_event, unit)
 
 -- whatever the bounds are that the node and the letter that it hears are within
 pub actor_low : (b : Bounds) (g : ℕ) (w : World) (e : Event) → ((letter : Letter) → letter_at w.letters (heard_by e.act) ≡ Some letter → UpTo b g letter.packet)

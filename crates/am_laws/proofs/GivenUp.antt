@@ -19,10 +19,9 @@ use Rattle.am_model.specs.Refresh.{refresh, refresh_at_end}
 use Rattle.am_model.specs.World.{World, start, current, is_stopped, unchanged, stepped, run}
 use Rattle.am_model.proofs.Greatest.{split}
 use Rattle.am_effects.specs.Causes.{Cause, calls}
-use Rattle.am_effects.specs.Looks.{HasOpen, Balloting, with_more, without_one, as_it_is, Looks, finds_itself_out, waits, fetches_from_best, finds_too_few}
-use Rattle.am_effects.specs.Looks.{finds_no_room, decides}
-use Rattle.am_effects.specs.Changes.{Change, refreshes, settles, takes_report, admits, numbers, keeps_body, notes, stores, begins_list, departs, promises}
-use Rattle.am_effects.specs.Changes.{opens, looks, fetches, stores_view, queues, collects, takes, asks_to_join, asks_to_leave, closes}
+use Rattle.am_effects.specs.Looks.{HasOpen, Balloting, with_more, without_one, as_it_is, Looks, finds_itself_out}
+use Rattle.am_effects.specs.Changes.{Change, refreshes, settles, promises}
+use Rattle.am_effects.specs.Changes.{opens, looks, closes}
 use Rattle.am_effects.specs.Events.{actor, IsCall, IsCause, Happens, idles, stops, returns, steps}
 use Rattle.am_effects.specs.Events as event
 use Rattle.am_effects.proofs.Rests.{rests_refresh, rests_at_end, settle_is}
@@ -54,11 +53,7 @@ looked_at S called m b (without_one old name is open_ other_) h = λ other up. s
 
 look_gives : (S : ℕ → Type 0) (m : Node) (b : Ballot) (v : Verdict) → Looks m b v → GivesUp S (Some b) → GivesUp S v.node.ballot
 look_gives S m b v (finds_itself_out x) h = h
-look_gives S m b v (waits x y) h = h
-look_gives S m b v (fetches_from_best x y z) h = h
-look_gives S m b v (finds_too_few x y) h = h
-look_gives S m b v (finds_no_room x) h = h
-look_gives S m b v (decides may) h = h
+look_gives S m b v _ h = h
 
 same_ballot : (S : ℕ → Type 0) (m n : Node) → n.ballot ≡ m.ballot → GivesUp S m.ballot → GivesUp S n.ballot
 same_ballot S m n is h = subst (GivesUp S) (sym is) h
@@ -69,26 +64,12 @@ NodeGives S m = GivesUp S m.ballot
 change_gives : (S : ℕ → Type 0) {c : Cause} {o : Outcome} → Calls S c → (m n : Node) → Change c o m n → NodeGives S m → NodeGives S n
 change_gives S called m n refreshes h = same_ballot S m (refresh m) (rests_refresh m).rests.ballot h
 change_gives S called m n settles h = subst (NodeGives S) (sym (settle_is m)) h
-change_gives S called m n (takes_report s v report by may) h = h
-change_gives S called m n (admits s v is leads fit) h = h
-change_gives S called m n (numbers e leads room why) h = h
-change_gives S called m n (keeps_body s v report req body is by) h = h
-change_gives S called m n (notes s v base acc by from) h = h
-change_gives S called m n (stores s v base acc number e by from plain may) h = h
-change_gives S called m n (begins_list s v base join image is o may) h = h
-change_gives S called m n (departs s v number is by leaves) h = h
 change_gives S called m n (promises v low why) h = still_overtaken S v m.ballot h
 change_gives S called m n (opens least resilience by may) h = λ other up. absurd (cc)
 change_gives S called m n (looks b verdict over why look is) h = look_gives S m b verdict look (looked_at S called m b why h)
-change_gives S called m n (fetches s v base number e is by promise below from may) h = h
-change_gives S called m n (stores_view s v base number names resilience is by own other promise below may) h = h
-change_gives S called m n (queues body is o member stays few) h = h
-change_gives S called m n (collects req is) h = h
-change_gives S called m n (takes e is o member some there) h = h
-change_gives S called m n (asks_to_join is was) h = h
-change_gives S called m n (asks_to_leave is was stays done) h = h
 change_gives S called m n (closes leads leaves alone room) h =
     same_ballot S m (refresh_at_end (pushed m (Leave m.core.who))) (rests_at_end (pushed m (Leave m.core.who))).rests.ballot h
+change_gives S called m n _ h = h
 
 -- ---- worlds
 
@@ -103,16 +84,8 @@ weaker S T None f h = tt
 weaker S T (Some b) f h = λ other up. f other (h other up)
 
 call_stopped : (w : World) (a : Act) (ev : NodeEvent) (other : ℕ) → ev ≡ does.GiveUp other → IsCall w a ev → is_stopped w other ≡ true
-call_stopped w a ev other is (event.send body) = absurd (cc)
-call_stopped w a ev other is (event.done req) = absurd (cc)
-call_stopped w a ev other is event.take = absurd (cc)
-call_stopped w a ev other is event.join = absurd (cc)
-call_stopped w a ev other is event.state = absurd (cc)
-call_stopped w a ev other is event.leave = absurd (cc)
-call_stopped w a ev other is (event.reset least resilience) = absurd (cc)
-call_stopped w a ev other is (event.ask round) = absurd (cc)
 call_stopped w a ev other is (event.give_up name stopped) = let same : name ≡ other = cc in subst (λ n. is_stopped w n ≡ true) same stopped
-call_stopped w a ev other is event.tick = absurd (cc)
+call_stopped w a ev other is _ = absurd (cc)
 
 cause_stopped : (w : World) (e : Event) (c : Cause) → IsCause w (actor w e) e.act c → Calls (λ other. is_stopped w other ≡ true) c
 cause_stopped w e c cause other is = call_stopped w e.act (does.GiveUp other) other refl (subst (IsCause w (actor w e) e.act) is cause)

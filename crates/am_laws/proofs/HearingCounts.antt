@@ -103,20 +103,11 @@ low_noted most g m base acc low h =
     h.known in
     let kept = h.kept in
     record {
-      entries = h.entries;
-      rounds = h.rounds;
-      sends = h.sends;
+      counts = h.counts;
+      order = record { given = h.given; accepted = h.accepted; kept = omega arith };
+      within = record { listed = h.listed; began = h.began; took = h.took; trims = omega arith };
       quits = h.quits;
-      given = h.given;
-      accepted = h.accepted;
-      kept = omega arith;
-      listed = h.listed;
-      began = h.began;
-      took = h.took;
-      trims = omega arith;
-      reported = h.reported;
-      votes = h.votes;
-      known = known;
+      tells = record { reported = h.reported; votes = h.votes; known = known };
     }
 
 ends_bcast : (most : Bounds) (g : ℕ) (m : Node) (s base acc number : ℕ) (e : Entry) → acc ≤ g → Low most g m → Ends most g (bcast_row m s base acc number e)
@@ -147,20 +138,11 @@ ends_hold most g m base high req h = ends_held_up most g m base high req (waitin
 -- a joiner's reports begin at the base
 low_admitted : (most : Bounds) (g : ℕ) (m : Node) (s : ℕ) → Low most g m → Low most g (admitted m s)
 low_admitted most g m s h = record {
-  entries = h.entries;
-  rounds = h.rounds;
-  sends = h.sends;
+  counts = h.counts;
+  order = h.order;
+  within = h.within;
   quits = h.quits;
-  given = h.given;
-  accepted = h.accepted;
-  kept = h.kept;
-  listed = h.listed;
-  began = h.began;
-  took = h.took;
-  trims = h.trims;
-  reported = λ name. split (name == s) (λ t. rw t h.trims) (λ f. rw f (h.reported name));
-  votes = h.votes;
-  known = h.known;
+  tells = record { reported = λ name. split (name == s) (λ t. rw t h.trims) (λ f. rw f (h.reported name)); votes = h.votes; known = h.known };
 }
 
 ends_asks_to_join : (most : Bounds) (g : ℕ) (m : Node) (s : ℕ) (q : Row) → Low most g m → Ends most g (asks_to_join m s q)
@@ -177,20 +159,11 @@ low_begun : (most : Bounds) (g : ℕ) (m : Node) (v : Stamp) (base join : ℕ) (
     → Low most g m → Low most g (begun m v base join image)
 low_begun most g m v base join image round low from start h =
     record {
-      entries = omega arith;
-      rounds = round;
-      sends = h.sends;
+      counts = record { entries = omega arith; rounds = round; sends = h.sends };
+      order = record { given = omega arith; accepted = omega arith; kept = omega arith };
+      within = record { listed = from; began = start; took = from; trims = from };
       quits = h.quits;
-      given = omega arith;
-      accepted = omega arith;
-      kept = omega arith;
-      listed = from;
-      began = start;
-      took = from;
-      trims = from;
-      reported = h.reported;
-      votes = h.votes;
-      known = inl (from, from);
+      tells = record { reported = h.reported; votes = h.votes; known = inl (from, from) };
     }
 
 ends_welcome : (most : Bounds) (g : ℕ) (m : Node) (s : ℕ) (v : Stamp) (base join : ℕ) (image : Image) → v.round ≤ most.rounds → base ≤ most.lists → base ≤ g

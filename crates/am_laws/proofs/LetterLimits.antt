@@ -16,8 +16,8 @@ use Rattle.am_model.specs.Node.{Node, top, told}
 use Rattle.am_model.specs.Ticks.{viewed_by}
 use Rattle.am_model.proofs.Greatest.{split}
 use Rattle.am_effects.specs.Causes.{Cause, hears}
-use Rattle.am_effects.specs.Letters.{HasSend, Says, request, spread, bcast, order, accept, ack, nack, hold, join_ask, welcome, leave_ask, gone, invite, vote}
-use Rattle.am_effects.specs.Letters.{fetch, piece, result, hand_over}
+use Rattle.am_effects.specs.Letters.{HasSend, Says, request, spread, bcast, order, hold, welcome, vote}
+use Rattle.am_effects.specs.Letters.{piece, result}
 use Rattle.am_effects.proofs.Items.{all_get}
 use Rattle.am_laws.specs.Packets.{Bounds, UpTo, stamp_of}
 use Rattle.am_laws.proofs.Images.{told_up}
@@ -53,23 +53,15 @@ says_within b m n c to p h up_ low heard (spread _ req body a f s) = let k = own
 says_within b m n c to p h up_ low heard (bcast _ number e l s) = all_get (EntryWithin b) n.core.log.entries s.index e h.entries s.there
 says_within b m n c to p h up_ low heard (order _ number from req v report body is l s) =
     (all_get (EntryWithin b) n.core.log.entries s.index (Data from req body) h.entries s.there).0
-says_within b m n c to p h up_ low heard (accept _ poll l) = tt
-says_within b m n c to p h up_ low heard (ack _ a) = tt
-says_within b m n c to p h up_ low heard (nack _ a) = tt
 says_within b m n c to p h up_ low heard (hold _ s v report req body by l) = req_brought b c s v report req body by heard
-says_within b m n c to p h up_ low heard (join_ask _ a) = tt
 says_within b m n c to p h up_ low heard (welcome s l may) = image_at_within b n.core.log n.core.base h.entries h.image
-says_within b m n c to p h up_ low heard (leave_ask _ a l) = tt
-says_within b m n c to p h up_ low heard (gone s l may) = tt
-says_within b m n c to p h up_ low heard (invite _ may) = tt
 says_within b m n c to p h up_ low heard (vote s v is) = let k = told_within b n.core.log h.entries h.image in (members_within b (told n) k, k.round)
-says_within b m n c to p h up_ low heard (fetch _ may) = tt
 says_within b m n c to p h up_ low heard (piece s v stored number e is may at) = all_get (EntryWithin b) n.core.log.entries at.index e h.entries at.there
 says_within b m n c to p h up_ low heard (result _ number names is viewed may) =
     let k = told_within b n.core.log h.entries h.image in
     let v = (told_up n.core.log up_).view in
     (omega arith, subst IsSet viewed (viewed_by_set b (entry_at n.core.log number) (λ e at. at_within b n.core.log number e h.entries at)), k.resilience)
-says_within b m n c to p h up_ low heard (hand_over _ l leaves) = tt
+says_within b m n c to p h up_ low heard _ = tt
 
 -- ---- packets
 

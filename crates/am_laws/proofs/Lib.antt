@@ -13,7 +13,6 @@ pub mod Named
 pub mod ViewNames
 pub mod ViewSteps
 pub mod ViewChanges
-pub mod Founders
 pub mod Views
 pub mod Fronts
 pub mod Blank

@@ -16,11 +16,11 @@ use Rattle.am_model.specs.Emit.{Step}
 use Rattle.am_model.specs.World.{World, start, first_node, unchanged, stepped, run}
 use Rattle.am_model.proofs.Greatest.{split}
 use Rattle.am_effects.specs.Causes.{Cause}
-use Rattle.am_effects.specs.Looks.{Looks, finds_itself_out, waits, fetches_from_best, finds_too_few, finds_no_room, decides}
-use Rattle.am_effects.specs.Letters.{Says, request, spread, bcast, order, accept, ack, nack, hold, join_ask, welcome, leave_ask, gone, invite, vote, fetch}
-use Rattle.am_effects.specs.Letters.{piece, result, hand_over, LetterSays}
-use Rattle.am_effects.specs.Changes.{Change, refreshes, settles, takes_report, admits, numbers, keeps_body, notes, stores, begins_list, departs, promises}
-use Rattle.am_effects.specs.Changes.{opens, looks, fetches, stores_view, queues, collects, takes, asks_to_join, asks_to_leave, closes}
+use Rattle.am_effects.specs.Looks.{Looks, finds_itself_out}
+use Rattle.am_effects.specs.Letters.{Says, request}
+use Rattle.am_effects.specs.Letters.{LetterSays}
+use Rattle.am_effects.specs.Changes.{Change, refreshes, settles}
+use Rattle.am_effects.specs.Changes.{looks, closes}
 use Rattle.am_effects.specs.Effects.{Effect}
 use Rattle.am_effects.specs.Events.{actor, idles, stops, returns, steps}
 use Rattle.am_effects.proofs.Items.{all_item}
@@ -36,55 +36,19 @@ IsNamed name m = m.core.who ≡ name
 
 look_named : (name : ℕ) (m : Node) (b : Ballot) (v : Verdict) → Looks m b v → IsNamed name m → IsNamed name v.node
 look_named name m b v (finds_itself_out x) h = h
-look_named name m b v (waits x y) h = h
-look_named name m b v (fetches_from_best x y z) h = h
-look_named name m b v (finds_too_few x y) h = h
-look_named name m b v (finds_no_room x) h = h
-look_named name m b v (decides may) h = h
+look_named name m b v _ h = h
 
 pub change_named : (name : ℕ) {c : Cause} {o : Outcome} (m n : Node) → Change c o m n → IsNamed name m → IsNamed name n
 change_named name m n refreshes h = (rests_refresh m).rests.who ∙ h
 change_named name m n settles h = ap (λ (x : Node). x.core.who) (settle_is m) ∙ h
-change_named name m n (takes_report s v report by may) h = h
-change_named name m n (admits s v is leads fit) h = h
-change_named name m n (numbers e leads room why) h = h
-change_named name m n (keeps_body s v report req body is by) h = h
-change_named name m n (notes s v base acc by from) h = h
-change_named name m n (stores s v base acc number e by from plain may) h = h
-change_named name m n (begins_list s v base join image is o may) h = h
-change_named name m n (departs s v number is by leaves) h = h
-change_named name m n (promises v low why) h = h
-change_named name m n (opens least resilience by may) h = h
 change_named name m n (looks b verdict over why look is) h = look_named name m b verdict look h
-change_named name m n (fetches s v base number e is by promise below from may) h = h
-change_named name m n (stores_view s v base number names resilience is by own other promise below may) h = h
-change_named name m n (queues body is o member stays few) h = h
-change_named name m n (collects req is) h = h
-change_named name m n (takes e is o member some there) h = h
-change_named name m n (asks_to_join is was) h = h
-change_named name m n (asks_to_leave is was stays done) h = h
 change_named name m n (closes leads leaves alone room) h = (rests_at_end (pushed m (Leave m.core.who))).rests.who ∙ h
+change_named name m n _ h = h
 
 -- and its letters have it
 says_named : (m n : Node) (c : Cause) (to : List ℕ) (p : Packet) → Says m c n to p → sender_of p ≡ n.core.who
 says_named m n c to p (request _ req body a f s) = refl
-says_named m n c to p (spread _ req body a f s) = refl
-says_named m n c to p (bcast _ number e l s) = refl
-says_named m n c to p (order _ number from_ req v report body is l s) = refl
-says_named m n c to p (accept _ poll l) = refl
-says_named m n c to p (ack _ a) = refl
-says_named m n c to p (nack _ a) = refl
-says_named m n c to p (hold _ s v report req body by l) = refl
-says_named m n c to p (join_ask _ a) = refl
-says_named m n c to p (welcome s l may) = refl
-says_named m n c to p (leave_ask _ a l) = refl
-says_named m n c to p (gone s l may) = refl
-says_named m n c to p (invite _ may) = refl
-says_named m n c to p (vote s v is) = refl
-says_named m n c to p (fetch _ may) = refl
-says_named m n c to p (piece s v stored number e is may at) = refl
-says_named m n c to p (result _ number names is viewed may) = refl
-says_named m n c to p (hand_over _ l leaves) = refl
+says_named m n c to p _ = refl
 
 -- ---- worlds
 

@@ -111,15 +111,7 @@ packet_more b (packet.Welcome s v base join image) h = image_more b image h
 packet_more b (packet.Vote s v vote) h = let r = h.1 in (h.0, omega arith)
 packet_more b (packet.Piece s v base number e) h = entry_more b e h
 packet_more b (packet.Result s v base number names resilience) h = let r = h.0 in (omega arith, h.1, h.2)
-packet_more b (packet.Accept s v base acc high poll) h = tt
-packet_more b (packet.Ack s v report) h = tt
-packet_more b (packet.Nack s v report) h = tt
-packet_more b (packet.JoinAsk s v) h = tt
-packet_more b (packet.LeaveAsk s v report) h = tt
-packet_more b (packet.Gone s v number) h = tt
-packet_more b (packet.Invite s v) h = tt
-packet_more b (packet.Fetch s v stored) h = tt
-packet_more b (packet.HandOver s v) h = tt
+packet_more b _ h = tt
 
 -- ---- entries
 
@@ -325,11 +317,7 @@ round_rises u v h = grind (arith, nat_tests)
 
 look_rises : (m : Node) (x : Ballot) (v : Verdict) → Looks m x v → Rises m v.node
 look_rises m x v (finds_itself_out y) = same_rises m _ refl refl
-look_rises m x v (waits y z) = same_rises m _ refl refl
-look_rises m x v (fetches_from_best y z w) = same_rises m _ refl refl
-look_rises m x v (finds_too_few y z) = same_rises m _ refl refl
-look_rises m x v (finds_no_room y) = same_rises m _ refl refl
-look_rises m x v (decides may) = same_rises m _ refl refl
+look_rises m x v _ = same_rises m _ refl refl
 
 last_collected : (req : ℕ) (sends : own.Sends) → (own.collect req sends).last ≡ sends.last
 last_collected req sends = split (own.is_settled req sends) (λ t. rw t refl) (λ f. rw f refl)
@@ -337,25 +325,14 @@ last_collected req sends = split (own.is_settled req sends) (λ t. rw t refl) (�
 pub change_rises : {c : Cause} {o : Outcome} (m n : Node) → Change c o m n → Rises m n
 change_rises m n refreshes = let r = (rests_refresh m).rests in same_rises m (refresh m) r.promise r.asked
 change_rises m n settles = same_rises m (settle m) (ap (λ (x : Node). x.core.promise) (settle_is m)) (ap (λ (x : Node). x.sends.last) (settle_is m))
-change_rises m n (takes_report s v report by may) = same_rises m n refl refl
-change_rises m n (admits s v is leads fit) = same_rises m n refl refl
-change_rises m n (numbers e leads room why) = same_rises m n refl refl
-change_rises m n (keeps_body s v report req body is by) = same_rises m n refl refl
-change_rises m n (notes s v base acc by from) = same_rises m n refl refl
-change_rises m n (stores s v base acc number e by from plain may) = same_rises m n refl refl
 change_rises m n (begins_list s v base join image is o may) = record { round = round_rises m.core.promise v may.promise; last = omega arith }
-change_rises m n (departs s v number is by leaves) = same_rises m n refl refl
 change_rises m n (promises v low why) = record { round = round_rises m.core.promise v low; last = omega arith }
 change_rises m n (opens least resilience by may) = record { round = omega arith; last = omega arith }
 change_rises m n (looks b verdict over why look is) = look_rises m b verdict look
-change_rises m n (fetches s v base number e is by promise below from may) = same_rises m n refl refl
-change_rises m n (stores_view s v base number names resilience is by own other promise below may) = same_rises m n refl refl
 change_rises m n (queues body is o member stays few) = record { round = omega arith; last = omega arith }
 change_rises m n (collects req is) = same_rises m n refl (last_collected req m.sends)
-change_rises m n (takes e is o member some there) = same_rises m n refl refl
-change_rises m n (asks_to_join is was) = same_rises m n refl refl
-change_rises m n (asks_to_leave is was stays done) = same_rises m n refl refl
 change_rises m n (closes leads leaves alone room) = let r = (rests_at_end (pushed m (Leave m.core.who))).rests in same_rises m n r.promise r.asked
+change_rises m n _ = same_rises m n refl refl
 
 rises_on : (m n k : Node) → Rises m n → Rises n k → Rises m k
 rises_on m n k h l = let a = h.round in let b = l.round in let c = h.last in let d = l.last in record { round = omega arith; last = omega arith }

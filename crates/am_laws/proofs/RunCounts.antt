@@ -19,8 +19,8 @@ use Rattle.am_model.specs.World.{World, start, first_node, grown, group_after, u
 use Rattle.am_model.specs.Claims.{heard_by}
 use Rattle.am_model.proofs.Greatest.{split}
 use Rattle.am_effects.specs.Causes.{Cause, hears}
-use Rattle.am_effects.specs.Letters.{MayWelcome, Says, request, spread, bcast, order, accept, ack, nack, hold, join_ask, welcome, leave_ask, gone, invite, vote}
-use Rattle.am_effects.specs.Letters.{fetch, piece, result, hand_over, LetterSays}
+use Rattle.am_effects.specs.Letters.{MayWelcome, Says, welcome}
+use Rattle.am_effects.specs.Letters.{LetterSays}
 use Rattle.am_effects.specs.Effects.{Effect}
 use Rattle.am_effects.specs.Events.{actor, WasSentTo, IsCause, Happens, idles, stops, returns, steps}
 use Rattle.am_effects.proofs.Items.{all_item}
@@ -47,20 +47,11 @@ low_wider b g k m low h =
     (λ (x : (leads m ≡ true) × (m.core.told ≤ max g m.core.acc)). let t = x.1 in inr (x.0, omega arith))
     h.known in
     record {
-      entries = h.entries;
-      rounds = h.rounds;
-      sends = h.sends;
+      counts = h.counts;
+      order = h.order;
+      within = record { listed = omega arith; began = omega arith; took = omega arith; trims = omega arith };
       quits = h.quits;
-      given = h.given;
-      accepted = h.accepted;
-      kept = h.kept;
-      listed = omega arith;
-      began = omega arith;
-      took = omega arith;
-      trims = omega arith;
-      reported = λ name. let r = h.reported name in omega arith;
-      votes = votes_wider g k m.ballot low h.votes;
-      known = known;
+      tells = record { reported = λ name. let r = h.reported name in omega arith; votes = votes_wider g k m.ballot low h.votes; known = known };
     }
 
 behind_wider : (g k : ℕ) (m : Node) → g ≤ k → Behind g m → Behind k m
@@ -147,23 +138,7 @@ low_same b w v nodes letters group h =
 
 welcomes_up : (m n : Node) (c : Cause) (to : List ℕ) (p : Packet) → n.core.log.start ≤ n.core.base → ListUp n → Says m c n to p → WelcomeUp p
 welcomes_up m n c to p from h (welcome s l may) = image_up n.core.log n.core.base from h
-welcomes_up m n c to p from h (request _ req body a f s) = tt
-welcomes_up m n c to p from h (spread _ req body a f s) = tt
-welcomes_up m n c to p from h (bcast _ number e l s) = tt
-welcomes_up m n c to p from h (order _ number from_ req v report body is l s) = tt
-welcomes_up m n c to p from h (accept _ poll l) = tt
-welcomes_up m n c to p from h (ack _ a) = tt
-welcomes_up m n c to p from h (nack _ a) = tt
-welcomes_up m n c to p from h (hold _ s v report req body by l) = tt
-welcomes_up m n c to p from h (join_ask _ a) = tt
-welcomes_up m n c to p from h (leave_ask _ a l) = tt
-welcomes_up m n c to p from h (gone s l may) = tt
-welcomes_up m n c to p from h (invite _ may) = tt
-welcomes_up m n c to p from h (vote s v is) = tt
-welcomes_up m n c to p from h (fetch _ may) = tt
-welcomes_up m n c to p from h (piece s v stored number e is may at) = tt
-welcomes_up m n c to p from h (result _ number names is viewed may) = tt
-welcomes_up m n c to p from h (hand_over _ l leaves) = tt
+welcomes_up m n c to p from h _ = tt
 
 -- ---- a step
 
@@ -275,38 +250,24 @@ low_happen b w (e ∷ es) h =
 
 low_founder : (rules : Rules) (name : ℕ) → Low (record { lists = 1; rounds = 1; requests = 0 }) 1 (founder rules name)
 low_founder rules name = record {
-  entries = omega arith;
-  rounds = omega arith;
-  sends = omega arith;
+  counts = record { entries = omega arith; rounds = omega arith; sends = omega arith };
+  order = record { given = omega arith; accepted = omega arith; kept = omega arith };
+  within = record { listed = omega arith; began = omega arith; took = omega arith; trims = omega arith };
   quits = λ t. absurd (cc);
-  given = omega arith;
-  accepted = omega arith;
-  kept = omega arith;
-  listed = omega arith;
-  began = omega arith;
-  took = omega arith;
-  trims = omega arith;
-  reported = λ other. split (has rules.founders other) (λ t. rw t (omega arith)) (λ f. rw f (omega arith));
-  votes = tt;
-  known = inl (omega arith, omega arith);
+  tells = record {
+    reported = λ other. split (has rules.founders other) (λ t. rw t (omega arith)) (λ f. rw f (omega arith));
+    votes = tt;
+    known = inl (omega arith, omega arith);
+  };
 }
 
 low_stranger : (rules : Rules) (name : ℕ) → Low (record { lists = 1; rounds = 1; requests = 0 }) 1 (stranger rules name)
 low_stranger rules name = record {
-  entries = omega arith;
-  rounds = omega arith;
-  sends = omega arith;
+  counts = record { entries = omega arith; rounds = omega arith; sends = omega arith };
+  order = record { given = omega arith; accepted = omega arith; kept = omega arith };
+  within = record { listed = omega arith; began = omega arith; took = omega arith; trims = omega arith };
   quits = λ t. absurd (cc);
-  given = omega arith;
-  accepted = omega arith;
-  kept = omega arith;
-  listed = omega arith;
-  began = omega arith;
-  took = omega arith;
-  trims = omega arith;
-  reported = λ other. omega arith;
-  votes = tt;
-  known = inl (omega arith, omega arith);
+  tells = record { reported = λ other. omega arith; votes = tt; known = inl (omega arith, omega arith) };
 }
 
 pub first_of : (P : Node → Type 0) (rules : Rules) (name : ℕ) → P (founder rules name) → P (stranger rules name) → P (first_node rules name)

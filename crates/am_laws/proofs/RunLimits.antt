@@ -145,18 +145,7 @@ acts_same w e name (act.Hear number) h = by_letter w e name _ _ (letter_at w.let
     (λ letter is. spelling_is_heard (w.nodes name) letter.packet (h number letter is))
 acts_same w e name (act.Cut number keep) h = by_letter w e name _ _ (letter_at w.letters number)
     (λ letter is. cut_is_heard (w.nodes name) letter.packet keep (h number letter is))
-acts_same w e name (act.Send body) h = refl
-acts_same w e name (act.Done req) h = refl
-acts_same w e name act.Take h = refl
-acts_same w e name act.Join h = refl
-acts_same w e name act.State h = refl
-acts_same w e name act.Leave h = refl
-acts_same w e name (act.Reset least resilience) h = refl
-acts_same w e name (act.Ask round) h = refl
-acts_same w e name (act.GiveUp other) h = refl
-acts_same w e name act.Stop h = refl
-acts_same w e name act.Tick h = refl
-acts_same w e name act.Return h = refl
+acts_same w e name _ h = refl
 
 limited_packets : (rules : Rules) (b : Bounds) (w : World) → AreNumbers b → Limited rules b w → HoldsPackets w
 limited_packets rules b w small h number letter at = is_packet b (length w.group) letter.packet small (record {

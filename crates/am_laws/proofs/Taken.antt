@@ -47,7 +47,7 @@ use Rattle.am_laws.proofs.ViewChanges.{Balloted, next_above}
 use Rattle.am_laws.proofs.Views.{same_is_equal}
 use Rattle.am_laws.proofs.Blank.{Blanked}
 use Rattle.am_laws.proofs.Trims.{Fronts, NoOwnVote, Owned, WelcomeUsed, told_used, pushed_fronts, trimmed_fronts, member_leads, refresh_fronts, closed_fronts}
-use Rattle.am_laws.proofs.Trims.{closed_leads}
+use Rattle.am_laws.proofs.Trims.{closed_leads, reporting}
 
 -- ---- what a sequencer numbers
 
@@ -180,20 +180,7 @@ restarted_own m base low = split (nat_lt m.core.who 256) (λ t. rw t low) (λ f.
 
 -- another answer, or an end
 answered_own : (m : Node) (ballot : Option Ballot) → NoOwnVote m.core.who ballot → Owned m → Owned (record m { ballot = ballot })
-answered_own m ballot none h = record {
-  fronts = record {
-    used = h.fronts.used;
-    joins = h.fronts.joins;
-    kept = h.fronts.kept;
-    base = h.fronts.base;
-    given = h.fronts.given;
-    accepted =
-        h.fronts.accepted;
-    reported = h.fronts.reported;
-  };
-  leads = h.leads;
-  vote = none;
-}
+answered_own m ballot none h = record { fronts = h.fronts; leads = h.leads; vote = none }
 
 look_own : (m : Node) (b : Ballot) (v : Verdict) → Looks m b v → b.votes m.core.who ≡ None → b.given_up m.core.who ≡ false → Owned m → Owned v.node
 look_own m b v (finds_itself_out x) none stays h = answered_own m _ none h
@@ -202,11 +189,7 @@ look_own m b v (fetches_from_best x y z) none stays h = answered_own m _ none h
 look_own m b v (finds_too_few x y) none stays h = answered_own m _ none h
 look_own m b v (finds_no_room learned) none stays h =
     let f = trimmed_fronts m _ (trims_own m b learned.needed stays) h.fronts in
-    record {
-      fronts = record { used = f.used; joins = f.joins; kept = f.kept; base = f.base; given = f.given; accepted = f.accepted; reported = f.reported };
-      leads = h.leads;
-      vote = none;
-    }
+    record { fronts = f; leads = h.leads; vote = none }
 look_own m b v (decides may) none stays h =
     let needed = may.learned.needed in
     let names = left_in b (need_of m b) in
@@ -220,16 +203,7 @@ look_own m b v (decides may) none stays h =
     let after_ = view_member (told m) (top m + 1) b.stamp names r m.core.who used.places (long_after (told m) (top m + 1) e used.places) member
     (in_view m b needed stays) in
     record {
-      fronts = record {
-        used = g.used;
-        joins = g.joins;
-        kept = g.kept;
-        base = g.base;
-        given = g.given;
-        accepted = g.accepted;
-        reported =
-            restarted_own m before.core.base f.base;
-      };
+      fronts = reporting _ (restarted_own m before.core.base f.base) g;
       leads = λ t. ap (λ (i : Image). has (members_of i) m.core.who) (told_pushed before e) ∙ after_;
       vote = none;
     }
@@ -355,64 +329,19 @@ change_owned c o m n heard own k blanked refreshes h =
     same_owned m (refresh m) r.rests.who r.log r.rests.promise r.rests.status
     (refresh_fronts m (λ t. member_leads m h.fronts (h.leads t)) h.fronts)
     (subst (NoOwnVote (refresh m).core.who) (sym r.rests.ballot) (subst (λ w. NoOwnVote w m.ballot) (sym r.rests.who) h.vote)) h
-change_owned c o m n heard own k blanked settles h = subst Owned (sym (settle_is m)) (record {
-  fronts = record {
-    used = h.fronts.used;
-    joins = h.fronts.joins;
-    kept = h.fronts.kept;
-    base = h.fronts.base;
-    given = h.fronts.given;
-    accepted =
-        h.fronts.accepted;
-    reported = h.fronts.reported;
-  };
-  leads = h.leads;
-  vote = h.vote;
-})
+change_owned c o m n heard own k blanked settles h = subst Owned (sym (settle_is m)) (record { fronts = h.fronts; leads = h.leads; vote = h.vote })
 change_owned c o m n heard own k blanked (takes_report s v report by may) h =
     let f = h.fronts in
     let other = may.other in
     let flipped : (m.core.who == s) ≡ false = grind (arith, nat_tests) in
-    record {
-      fronts = record {
-        used = f.used;
-        joins = f.joins;
-        kept = f.kept;
-        base = f.base;
-        given = f.given;
-        accepted = f.accepted;
-        reported =
-            rw flipped f.reported;
-      };
-      leads = h.leads;
-      vote = h.vote;
-    }
+    record { fronts = reporting _ (rw flipped f.reported) f; leads = h.leads; vote = h.vote }
 change_owned c o m n heard own k blanked (admits s v is leads fit) h =
     let f = h.fronts in
-    record {
-      fronts = record {
-        used = f.used;
-        joins = f.joins;
-        kept = f.kept;
-        base = f.base;
-        given = f.given;
-        accepted = f.accepted;
-        reported =
-            split (m.core.who == s) (λ t. rw t f.base) (λ u. rw u f.reported);
-      };
-      leads = h.leads;
-      vote = h.vote;
-    }
+    record { fronts = reporting _ (split (m.core.who == s) (λ t. rw t f.base) (λ u. rw u f.reported)) f; leads = h.leads; vote = h.vote }
 change_owned c o m n heard own k blanked (numbers e leads room why) h =
     let z = numbered c m e why h.fronts (h.leads leads) in
     record { fronts = pushed_fronts m e z.fit h.fronts; leads = λ t. z.member; vote = h.vote }
-change_owned c o m n heard own k blanked (keeps_body s v report req body is by) h =
-    let f = h.fronts in
-    record {
-      fronts = record { used = f.used; joins = f.joins; kept = f.kept; base = f.base; given = f.given; accepted = f.accepted; reported = f.reported };
-      leads = h.leads;
-      vote = h.vote;
-    }
+change_owned c o m n heard own k blanked (keeps_body s v report req body is by) h = record { fronts = h.fronts; leads = h.leads; vote = h.vote }
 change_owned c o m n heard own k blanked (notes s v base acc by from) h =
     let f = h.fronts in
     let kept = f.kept in
@@ -420,20 +349,12 @@ change_owned c o m n heard own k blanked (notes s v base acc by from) h =
     let within : (if nat_le base m.core.taken then base else m.core.base) ≤ m.core.taken =
     split (nat_le base m.core.taken) (λ t. rw t (grind (arith, nat_tests))) (λ u. rw u low) in
     let g = trimmed_fronts m _ within f in
-    record {
-      fronts = record { used = f.used; joins = f.joins; kept = g.kept; base = g.base; given = f.given; accepted = f.accepted; reported = f.reported };
-      leads = h.leads;
-      vote = h.vote;
-    }
+    record { fronts = g; leads = h.leads; vote = h.vote }
 change_owned c o m n heard own k blanked (stores s v base acc number e by from plain may) h =
     let other = heard_other m s v from in
     let g = pushed_fronts m e (any_fits (told m) e may.fits) h.fronts in
     let by_s : (view n).by ≡ s = ap (λ (x : Stamp). x.by) (view_pushed m e plain) ∙ other.0 in
-    record {
-      fronts = record { used = g.used; joins = g.joins; kept = g.kept; base = g.base; given = g.given; accepted = g.accepted; reported = g.reported };
-      leads = λ t. absurd (not_own n s by_s other.1 t);
-      vote = h.vote;
-    }
+    record { fronts = g; leads = λ t. absurd (not_own n s by_s other.1 t); vote = h.vote }
 change_owned c o m n heard own k blanked (begins_list s v base join image is says may) h =
     let none = asks_no_log m s may.asks may.no_member in
     let taken = none_taken m none blanked h.fronts in
@@ -451,24 +372,16 @@ change_owned c o m n heard own k blanked (begins_list s v base join image is say
       leads = λ t. absurd (let p = promise_is n t in not_own n s (ap (λ (x : Stamp). x.by) (sym p) ∙ stamp_by v s may.own) (other_asks m s may.asks) t);
       vote = h.vote;
     }
-change_owned c o m n heard own k blanked (departs s v number is by leaves) h =
-    let f = h.fronts in
-    record {
-      fronts = record { used = f.used; joins = f.joins; kept = f.kept; base = f.base; given = f.given; accepted = f.accepted; reported = f.reported };
-      leads = λ t. absurd (cc);
-      vote = h.vote;
-    }
+change_owned c o m n heard own k blanked (departs s v number is by leaves) h = record { fronts = h.fronts; leads = λ t. absurd (cc); vote = h.vote }
 change_owned c o m n heard own k blanked (promises v low why) h =
-    let f = h.fronts in
     record {
-      fronts = record { used = f.used; joins = f.joins; kept = f.kept; base = f.base; given = f.given; accepted = f.accepted; reported = f.reported };
+      fronts = h.fronts;
       leads = λ t. absurd (promised_follows c m v why low k t);
       vote = no_vote_overtaken m.core.who v m.ballot h.vote;
     }
 change_owned c o m n heard own k blanked (opens least resilience by may) h =
-    let f = h.fronts in
     record {
-      fronts = record { used = f.used; joins = f.joins; kept = f.kept; base = f.base; given = f.given; accepted = f.accepted; reported = f.reported };
+      fronts = h.fronts;
       leads = λ t. absurd (not_above_view n (at_most_below (view m) m.core.promise (next_stamp m) k.high (next_above m.core.promise m.core.who)) t);
       vote = refl;
     }
@@ -489,20 +402,8 @@ change_owned c o m n heard own k blanked (stores_view s v base number names resi
       leads = λ t. absurd (not_own n v.by (ap (λ (x : Stamp). x.by) (view_last (trimmed m base) v names resilience)) other t);
       vote = h.vote;
     }
-change_owned c o m n heard own k blanked (queues body is says member stays few) h =
-    let f = h.fronts in
-    record {
-      fronts = record { used = f.used; joins = f.joins; kept = f.kept; base = f.base; given = f.given; accepted = f.accepted; reported = f.reported };
-      leads = h.leads;
-      vote = h.vote;
-    }
-change_owned c o m n heard own k blanked (collects req is) h =
-    let f = h.fronts in
-    record {
-      fronts = record { used = f.used; joins = f.joins; kept = f.kept; base = f.base; given = f.given; accepted = f.accepted; reported = f.reported };
-      leads = h.leads;
-      vote = h.vote;
-    }
+change_owned c o m n heard own k blanked (queues body is says member stays few) h = record { fronts = h.fronts; leads = h.leads; vote = h.vote }
+change_owned c o m n heard own k blanked (collects req is) h = record { fronts = h.fronts; leads = h.leads; vote = h.vote }
 change_owned c o m n heard own k blanked (takes e is says member some there) h =
     let f = h.fronts in
     let low = f.base in
@@ -523,27 +424,15 @@ change_owned c o m n heard own k blanked (takes e is says member some there) h =
       leads = h.leads;
       vote = h.vote;
     }
-change_owned c o m n heard own k blanked (asks_to_join is was) h =
-    let f = h.fronts in
-    record {
-      fronts = record { used = f.used; joins = f.joins; kept = f.kept; base = f.base; given = f.given; accepted = f.accepted; reported = f.reported };
-      leads = λ t. absurd (cc);
-      vote = h.vote;
-    }
-change_owned c o m n heard own k blanked (asks_to_leave is was stays done) h =
-    let f = h.fronts in
-    record {
-      fronts = record { used = f.used; joins = f.joins; kept = f.kept; base = f.base; given = f.given; accepted = f.accepted; reported = f.reported };
-      leads = h.leads;
-      vote = h.vote;
-    }
+change_owned c o m n heard own k blanked (asks_to_join is was) h = record { fronts = h.fronts; leads = λ t. absurd (cc); vote = h.vote }
+change_owned c o m n heard own k blanked (asks_to_leave is was stays done) h = record { fronts = h.fronts; leads = h.leads; vote = h.vote }
 change_owned c o m n heard own k blanked (closes leads leaves alone room) h =
     let e = Leave m.core.who in
     let p = pushed m e in
     let r = rests_at_end p in
     let f = closed_fronts p (closed_leads m h.fronts (h.leads leads) alone) (pushed_fronts m e tt h.fronts) in
     record {
-      fronts = record { used = f.used; joins = f.joins; kept = f.kept; base = f.base; given = f.given; accepted = f.accepted; reported = f.reported };
+      fronts = f;
       leads = λ t. absurd (cc);
       vote = subst (NoOwnVote (refresh_at_end p).core.who) (sym r.rests.ballot) (subst (λ w. NoOwnVote w m.ballot) (sym r.rests.who) h.vote);
     }

@@ -17,11 +17,11 @@ use Rattle.am_model.specs.World.{World, start, unchanged, stepped, run}
 use Rattle.am_model.specs.Claims.{heard_by}
 use Rattle.am_model.proofs.Greatest.{split}
 use Rattle.am_effects.specs.Causes.{Cause}
-use Rattle.am_effects.specs.Letters.{Says, request, spread, bcast, order, accept, ack, nack, hold, join_ask, welcome, leave_ask, gone, invite, vote, fetch}
-use Rattle.am_effects.specs.Letters.{piece, result, hand_over, LetterSays}
+use Rattle.am_effects.specs.Letters.{Says, welcome}
+use Rattle.am_effects.specs.Letters.{LetterSays}
 use Rattle.am_effects.specs.Changes.{Changes, unchanged as no_change, changed}
 use Rattle.am_effects.specs.Effects.{Effect}
-use Rattle.am_effects.specs.Events.{actor, WasSentTo, IsCause, idles, stops, returns, steps}
+use Rattle.am_effects.specs.Events.{actor, WasSentTo, IsCause, steps, Happens}
 use Rattle.am_effects.proofs.Items.{all_item}
 use Rattle.am_effects.proofs.Runs.{EachKeeps, runs_keep}
 use Rattle.am_bounded.proofs.Kept.{Keeps}
@@ -61,23 +61,7 @@ along_changes rules m n heard used (changed {n = x} one more) h =
 
 welcomes_used : (m n : Node) (c : Cause) (to : List ℕ) (p : Packet) → Fronts n → Says m c n to p → WelcomeUsed p
 welcomes_used m n c to p h (welcome s l may) = used_fold n.core.log.image (n.core.log.start + 1) _ (omega arith) h.used
-welcomes_used m n c to p h (request _ req body a f s) = tt
-welcomes_used m n c to p h (spread _ req body a f s) = tt
-welcomes_used m n c to p h (bcast _ number e l s) = tt
-welcomes_used m n c to p h (order _ number from_ req v report body is l s) = tt
-welcomes_used m n c to p h (accept _ poll l) = tt
-welcomes_used m n c to p h (ack _ a) = tt
-welcomes_used m n c to p h (nack _ a) = tt
-welcomes_used m n c to p h (hold _ s v report req body by l) = tt
-welcomes_used m n c to p h (join_ask _ a) = tt
-welcomes_used m n c to p h (leave_ask _ a l) = tt
-welcomes_used m n c to p h (gone s l may) = tt
-welcomes_used m n c to p h (invite _ may) = tt
-welcomes_used m n c to p h (vote s v is) = tt
-welcomes_used m n c to p h (fetch _ may) = tt
-welcomes_used m n c to p h (piece s v stored number e is may at) = tt
-welcomes_used m n c to p h (result _ number names is viewed may) = tt
-welcomes_used m n c to p h (hand_over _ l leaves) = tt
+welcomes_used m n c to p h _ = tt
 
 -- ---- worlds
 
@@ -111,8 +95,7 @@ owned_step rules w e c s cause effect blanks h =
     let a = along_changes rules m n (heard_names rules w e c h.blanks.views cause) (heard_used rules w e c h cause) effect.changes
     (each_along rules w name few h) in
     let sender = effect.sender in
-    let fronts : Fronts sender = (let k = subst Fronts effect.is a.owned.fronts in
-    record { used = k.used; joins = k.joins; kept = k.kept; base = k.base; given = k.given; accepted = k.accepted; reported = k.reported }) in
+    let fronts : Fronts sender = subst Fronts effect.is a.owned.fronts in
     record {
       blanks = blanks;
       kept = λ other. split (other == name) (λ t. rw t a.kept) (λ f. rw f (h.kept other));
@@ -124,12 +107,13 @@ owned_step rules w e c s cause effect blanks h =
 owned_same : (rules : Rules) (w v : World) → v.nodes ≡ w.nodes → v.letters ≡ w.letters → AllBlank rules v → AllOwned rules w → AllOwned rules v
 owned_same rules w v nodes letters blanks h = record { blanks = blanks; kept = rw nodes h.kept; each = rw nodes h.each; letters = rw letters h.letters }
 
-pub each_owned : (rules : Rules) → EachKeeps (AllOwned rules)
+owned_after : (rules : Rules) (w : World) (e : Event) (v : World) → Happens w e v → AllBlank rules v → AllOwned rules w → AllOwned rules v
 unfolding unchanged
-each_owned rules w e v (idles o idle) h = owned_same rules w v refl refl (each_blank rules w e v (idles o idle) h.blanks) h
-each_owned rules w e v (stops runs) h = owned_same rules w v refl refl (each_blank rules w e v (stops runs) h.blanks) h
-each_owned rules w e v (returns place is left more) h = owned_same rules w v refl refl (each_blank rules w e v (returns place is left more) h.blanks) h
-each_owned rules w e v (steps c s runs cause effect) h = owned_step rules w e c s cause effect (each_blank rules w e v (steps c s runs cause effect) h.blanks) h
+owned_after rules w e v (steps c s runs cause effect) blanks h = owned_step rules w e c s cause effect blanks h
+owned_after rules w e v _ blanks h = owned_same rules w v refl refl blanks h
+
+pub each_owned : (rules : Rules) → EachKeeps (AllOwned rules)
+each_owned rules w e v happens h = owned_after rules w e v happens (each_blank rules w e v happens h.blanks) h
 
 -- ---- the start
 

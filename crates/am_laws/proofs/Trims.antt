@@ -28,15 +28,23 @@ use Rattle.am_laws.proofs.LeaderRows.{JoinFits, JoinsFit, joins_push, is_in, lea
 
 -- ---- what a node has
 
--- by the numbers and the list of a node
-pub record Fronts (m : Node) : Type 0 where
-  pub used : IsUsed m.core.log.image
-  pub joins : JoinsFit m.core.log.image (m.core.log.start + 1) m.core.log.entries
-  pub kept : m.core.log.start ≤ m.core.base
-  pub base : m.core.base ≤ m.core.taken
-  pub given : m.core.taken ≤ m.core.acc
-  pub accepted : m.core.acc ≤ top m
-  pub reported : (m.reports m.core.who).taken ≤ m.core.taken
+-- By the list and the numbers of a node: what its name's own report says it has taken, too.
+pub record FrontsOf (log : Log) (low taken acc told : ℕ) : Type 0 where
+  pub used : IsUsed log.image
+  pub joins : JoinsFit log.image (log.start + 1) log.entries
+  pub kept : log.start ≤ low
+  pub base : low ≤ taken
+  pub given : taken ≤ acc
+  pub accepted : acc ≤ top_of log
+  pub reported : told ≤ taken
+
+abbrev pub Fronts : Node → Type 0
+Fronts m = FrontsOf m.core.log m.core.base m.core.taken m.core.acc (m.reports m.core.who).taken
+
+-- with another report of its own
+pub reporting : {log : Log} {low taken acc before : ℕ} (told : ℕ) → told ≤ taken → FrontsOf log low taken acc before → FrontsOf log low taken acc told
+reporting told within h =
+    record { used = h.used; joins = h.joins; kept = h.kept; base = h.base; given = h.given; accepted = h.accepted; reported = within }
 
 -- nobody has its own vote
 abbrev pub NoOwnVote : ℕ → Option Ballot → Type 0
@@ -155,16 +163,7 @@ unfolding refresh
 refresh_fronts m leads h = split (is_sequencer m) (λ t. rw t (lead_fronts m (leads t) h)) (λ f. rw f (advance_fronts m h))
 
 settle_fronts : (m : Node) → Fronts m → Fronts (settle m)
-settle_fronts m h = subst Fronts (sym (settle_is m)) (record {
-  used = h.used;
-  joins = h.joins;
-  kept = h.kept;
-  base = h.base;
-  given = h.given;
-  accepted =
-      h.accepted;
-  reported = h.reported;
-})
+settle_fronts m h = subst Fronts (sym (settle_is m)) h
 
 pub closed_fronts : (m : Node) → MayLead m → Fronts m → Fronts (refresh_at_end m)
 unfolding refresh_at_end

@@ -24,8 +24,8 @@ use Rattle.am_effects.specs.Causes.{Cause}
 use Rattle.am_effects.specs.Looks.{HasOpen, Balloting, with_more, without_one, as_it_is, Looks, finds_itself_out, waits, fetches_from_best, finds_too_few}
 use Rattle.am_effects.specs.Looks.{finds_no_room, decides}
 use Rattle.am_effects.specs.Changes.{Numbers, asked_send, own_send, asked_join, asked_leave, Fetches, without_ballot, for_ballot, MayBeWelcomed, Change}
-use Rattle.am_effects.specs.Changes.{refreshes, settles, takes_report, admits, numbers, keeps_body, notes, stores, begins_list, departs, promises, opens, looks}
-use Rattle.am_effects.specs.Changes.{fetches, stores_view, queues, collects, takes, asks_to_join, asks_to_leave, closes, Changes, unchanged, changed}
+use Rattle.am_effects.specs.Changes.{refreshes, settles, numbers, stores, begins_list, departs, promises, opens, looks}
+use Rattle.am_effects.specs.Changes.{fetches, stores_view, asks_to_join, closes, Changes, unchanged, changed}
 use Rattle.am_effects.proofs.Tests.{or_first, or_second}
 use Rattle.am_effects.proofs.Says.{view_pushed}
 use Rattle.am_effects.proofs.Rests.{rests_refresh, rests_at_end, settle_is}
@@ -86,7 +86,7 @@ does_plain m n e plain who stays promise log ballot h =
       };
     }
 
-numbers_plain : (c : Cause) (m : Node) (e : Entry) → Numbers c m e → is_view e ≡ false
+pub numbers_plain : (c : Cause) (m : Node) (e : Entry) → Numbers c m e → is_view e ≡ false
 numbers_plain c m e (asked_send s v report req body by known stays next) = refl
 numbers_plain c m e (own_send s is last) = refl
 numbers_plain c m e (asked_join s v is other fit) = refl
@@ -294,12 +294,8 @@ pub change_does : {c : Cause} {o : Outcome} → HeardNames c → (m n : Node) �
 unfolding fold
 change_does heard m n refreshes k h = let r = rests_refresh m in does_same m (refresh m) r.rests.who r.rests.status r.rests.promise r.log r.rests.ballot h
 change_does heard m n settles k h = subst (Does m) (sym (settle_is m)) (does_same m _ refl refl refl refl refl h)
-change_does heard m n (takes_report s v report by may) k h = does_same m n refl refl refl refl refl h
-change_does heard m n (admits s v is leads fit) k h = does_same m n refl refl refl refl refl h
 change_does heard m n (numbers e leads room why) k h = does_plain m n e (numbers_plain _ m e why) refl
     (log_of_member m.status (leads_member m leads)) refl refl refl h
-change_does heard m n (keeps_body s v report req body is by) k h = does_same m n refl refl refl refl refl h
-change_does heard m n (notes s v base acc by from) k h = does_same m n refl refl refl refl refl h
 change_does heard m n (stores s v base acc number e by from plain may) k h = does_plain m n e plain refl (in_view_log m s v from) refl refl refl h
 change_does heard m n (begins_list s v base join image is o may) k h =
     let without = welcomed_none m s v base join image may in
@@ -343,19 +339,16 @@ change_does heard m n (fetches s v base number e is by promise below from may) k
     does_fetch m s v base e (sym (same_stamp v m.core.promise promise)) (heard.pieces (packet.Piece s v base number e) is) k (member_of m s by) from may.fits h
 change_does heard m n (stores_view s v base number names resilience is by own other promise below may) k h =
     does_result m v base names resilience promise other may.fits h
-change_does heard m n (queues body is o member stays few) k h = does_same m n refl refl refl refl refl h
-change_does heard m n (collects req is) k h = does_same m n refl refl refl refl refl h
-change_does heard m n (takes e is o member some there) k h = does_same m n refl refl refl refl refl h
 change_does heard m n (asks_to_join is was) k h = record {
   goes = λ t. absurd (let f = ap has_log was in cc);
   log_ = λ t. absurd (let f = ap has_log was in cc);
   balloted = record { high = h.high; none = λ f. h.none (ap has_log was); opened = h.opened };
 }
-change_does heard m n (asks_to_leave is was stays done) k h = does_same m n refl refl refl refl refl h
 change_does heard m n (closes leads leaves alone room) k h =
     let p = pushed m (Leave m.core.who) in
     let r = rests_at_end p in
     does_plain m n (Leave m.core.who) refl r.rests.who refl r.rests.promise r.log r.rests.ballot h
+change_does heard m n _ k h = does_same m n refl refl refl refl refl h
 
 -- ---- a step
 

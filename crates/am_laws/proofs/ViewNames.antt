@@ -16,13 +16,13 @@ use Rattle.am_model.specs.Receiving.{is_view}
 use Rattle.am_model.specs.Refresh.{refresh, refresh_at_end}
 use Rattle.am_model.proofs.Greatest.{split}
 use Rattle.am_effects.specs.Causes.{Cause, hears}
-use Rattle.am_effects.specs.Looks.{HasOpen, Balloting, with_more, without_one, as_it_is, Looks, finds_itself_out, waits, fetches_from_best, finds_too_few}
-use Rattle.am_effects.specs.Looks.{finds_no_room, decides}
-use Rattle.am_effects.specs.Letters.{Says, request, spread, bcast, order, accept, ack, nack, hold, join_ask, welcome, leave_ask, gone, invite, vote, fetch}
-use Rattle.am_effects.specs.Letters.{piece, result, hand_over}
+use Rattle.am_effects.specs.Looks.{HasOpen, Balloting, with_more, without_one, as_it_is, Looks}
+use Rattle.am_effects.specs.Looks.{decides}
+use Rattle.am_effects.specs.Letters.{Says}
+use Rattle.am_effects.specs.Letters.{piece}
 use Rattle.am_effects.specs.Changes.{Promises, invited, overtaken as overtaken_by, told_result, Numbers, asked_send, own_send, asked_join, asked_leave, Change}
-use Rattle.am_effects.specs.Changes.{refreshes, settles, takes_report, admits, numbers, keeps_body, notes, stores, begins_list, departs, promises, opens, looks}
-use Rattle.am_effects.specs.Changes.{fetches, stores_view, queues, collects, takes, asks_to_join, asks_to_leave, closes}
+use Rattle.am_effects.specs.Changes.{refreshes, settles, numbers, stores, begins_list, promises, opens, looks}
+use Rattle.am_effects.specs.Changes.{fetches, stores_view, closes}
 use Rattle.am_effects.proofs.Items.{all_get}
 use Rattle.am_effects.proofs.Rests.{rests_refresh, rests_at_end, settle_is}
 use Rattle.am_laws.specs.Packets.{sender_of, stamp_of}
@@ -86,12 +86,8 @@ looked_named m b (without_one old name is open_ other) h = open_named m old open
 looked_named m b (as_it_is old open_ on) h = open_named m old open_ h
 
 look_names : (m : Node) (b : Ballot) (v : Verdict) → Looks m b v → b.stamp.by < 256 → HasNames m → HasNames v.node
-look_names m b v (finds_itself_out x) k h = record { who_ = h.who_; promise_ = h.promise_; entries_ = h.entries_; ballot_ = k }
-look_names m b v (waits x y) k h = record { who_ = h.who_; promise_ = h.promise_; entries_ = h.entries_; ballot_ = k }
-look_names m b v (fetches_from_best x y z) k h = record { who_ = h.who_; promise_ = h.promise_; entries_ = h.entries_; ballot_ = k }
-look_names m b v (finds_too_few x y) k h = record { who_ = h.who_; promise_ = h.promise_; entries_ = h.entries_; ballot_ = k }
-look_names m b v (finds_no_room x) k h = record { who_ = h.who_; promise_ = h.promise_; entries_ = h.entries_; ballot_ = k }
 look_names m b v (decides may) k h = record { who_ = h.who_; promise_ = h.promise_; entries_ = one_more m _ k h.entries_; ballot_ = k }
+look_names m b v _ k h = record { who_ = h.who_; promise_ = h.promise_; entries_ = h.entries_; ballot_ = k }
 
 -- with the same name, list and ballot
 same_names : (m n : Node) → n.core.who ≡ m.core.who → n.core.promise ≡ m.core.promise → n.core.log ≡ m.core.log → n.ballot ≡ m.ballot → HasNames m → HasNames n
@@ -110,16 +106,11 @@ promised_named c m v (told_result s _ base number names resilience is by own oth
 pub change_names : {c : Cause} {o : Outcome} → HeardNames c → (m n : Node) → Change c o m n → HasNames m → HasNames n
 change_names heard m n refreshes h = let r = rests_refresh m in same_names m (refresh m) r.rests.who r.rests.promise r.log r.rests.ballot h
 change_names heard m n settles h = subst HasNames (sym (settle_is m)) h
-change_names heard m n (takes_report s v report by may) h = h
-change_names heard m n (admits s v is leads fit) h = h
 change_names heard m n (numbers e leads room why) h = names_pushed m e (numbers_no_view _ m e why) h
-change_names heard m n (keeps_body s v report req body is by) h = h
-change_names heard m n (notes s v base acc by from) h = h
 change_names heard m n (stores s v base acc number e by from plain may) h =
     record { who_ = h.who_; promise_ = h.promise_; entries_ = one_more m e (no_view e plain) h.entries_; ballot_ = h.ballot_ }
 change_names heard m n (begins_list s v base join image is o may) h =
     record { who_ = h.who_; promise_ = heard.stamps (packet.Welcome s v base join image) is; entries_ = All-nil ViewNamed; ballot_ = h.ballot_ }
-change_names heard m n (departs s v number is by leaves) h = h
 change_names heard m n (promises v low why) h = record {
   who_ = h.who_;
   promise_ = promised_named _ m v why heard;
@@ -136,34 +127,14 @@ change_names heard m n (stores_view s v base number names resilience is by own o
     let same : v.by ≡ s = grind (arith, nat_tests) in
     let low : v.by < 256 = omega arith in
     record { who_ = h.who_; promise_ = h.promise_; entries_ = one_more m (View v names resilience) low h.entries_; ballot_ = h.ballot_ }
-change_names heard m n (queues body is o member stays few) h = h
-change_names heard m n (collects req is) h = h
-change_names heard m n (takes e is o member some there) h = h
-change_names heard m n (asks_to_join is was) h = h
-change_names heard m n (asks_to_leave is was stays done) h = h
 change_names heard m n (closes leads leaves alone room) h =
     let p = pushed m (Leave m.core.who) in
     let r = rests_at_end p in
     let k = same_names p (refresh_at_end p) r.rests.who r.rests.promise r.log r.rests.ballot (names_pushed m (Leave m.core.who) tt h) in
     record { who_ = k.who_; promise_ = k.promise_; entries_ = k.entries_; ballot_ = k.ballot_ }
+change_names heard m n _ h = h
 
 -- the entries that are served
 pub pieces_named : (m n : Node) (c : Cause) (to : List ℕ) (p : Packet) → HasNames n → Says m c n to p → PieceNamed p
 pieces_named m n c to p h (piece s v stored number e is may at) = all_get ViewNamed n.core.log.entries at.index e h.entries_ at.there
-pieces_named m n c to p h (request _ req body a f s) = tt
-pieces_named m n c to p h (spread _ req body a f s) = tt
-pieces_named m n c to p h (bcast _ number e l s) = tt
-pieces_named m n c to p h (order _ number from_ req v report body is l s) = tt
-pieces_named m n c to p h (accept _ poll l) = tt
-pieces_named m n c to p h (ack _ a) = tt
-pieces_named m n c to p h (nack _ a) = tt
-pieces_named m n c to p h (hold _ s v report req body by l) = tt
-pieces_named m n c to p h (join_ask _ a) = tt
-pieces_named m n c to p h (welcome s l may) = tt
-pieces_named m n c to p h (leave_ask _ a l) = tt
-pieces_named m n c to p h (gone s l may) = tt
-pieces_named m n c to p h (invite _ may) = tt
-pieces_named m n c to p h (vote s v is) = tt
-pieces_named m n c to p h (fetch _ may) = tt
-pieces_named m n c to p h (result _ number names is viewed may) = tt
-pieces_named m n c to p h (hand_over _ l leaves) = tt
+pieces_named m n c to p h _ = tt

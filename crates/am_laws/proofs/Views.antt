@@ -20,10 +20,10 @@ use Rattle.am_model.specs.World.{Decided, World, start, first_node, founders_dec
 use Rattle.am_model.specs.Claims.{heard_by}
 use Rattle.am_model.proofs.Greatest.{split}
 use Rattle.am_effects.specs.Causes.{Cause}
-use Rattle.am_effects.specs.Letters.{Says, request, spread, bcast, order, accept, ack, nack, hold, join_ask, welcome, leave_ask, gone, invite, vote, fetch}
-use Rattle.am_effects.specs.Letters.{piece, result, hand_over, LetterSays}
+use Rattle.am_effects.specs.Letters.{Says, request}
+use Rattle.am_effects.specs.Letters.{LetterSays}
 use Rattle.am_effects.specs.Effects.{Effect}
-use Rattle.am_effects.specs.Events.{actor, WasSentTo, IsCause, idles, stops, returns, steps}
+use Rattle.am_effects.specs.Events.{actor, WasSentTo, IsCause, steps, Happens}
 use Rattle.am_effects.proofs.Items.{all_get, all_item}
 use Rattle.am_effects.proofs.Runs.{EachKeeps, runs_keep}
 use Rattle.am_laws.specs.Packets.{sender_of, stamp_of}
@@ -33,7 +33,7 @@ use Rattle.am_laws.proofs.Stamps.{at_most, not_above, not_above_itself}
 use Rattle.am_laws.proofs.ViewNames.{ViewNamed, HasNames, HeardNames, PieceNamed, pieces_named}
 use Rattle.am_laws.proofs.ViewSteps.{Goes, Stood, SameView}
 use Rattle.am_laws.proofs.ViewChanges.{Balloted, Does, log_of_member, changes_do}
-use Rattle.am_laws.proofs.Founders.{first_founder}
+use Rattle.am_model.proofs.Founders.{first_founder}
 
 -- ---- what is so of a world
 
@@ -207,23 +207,7 @@ sender_names n sender is h = let k : HasNames (record sender { status = n.status
 
 pub says_stamp : (m n : Node) (c : Cause) (to : List ℕ) (p : Packet) → Says m c n to p → stamp_of p ≡ n.core.promise
 says_stamp m n c to p (request _ req body a f s) = refl
-says_stamp m n c to p (spread _ req body a f s) = refl
-says_stamp m n c to p (bcast _ number e l s) = refl
-says_stamp m n c to p (order _ number from_ req v report body is l s) = refl
-says_stamp m n c to p (accept _ poll l) = refl
-says_stamp m n c to p (ack _ a) = refl
-says_stamp m n c to p (nack _ a) = refl
-says_stamp m n c to p (hold _ s v report req body by l) = refl
-says_stamp m n c to p (join_ask _ a) = refl
-says_stamp m n c to p (welcome s l may) = refl
-says_stamp m n c to p (leave_ask _ a l) = refl
-says_stamp m n c to p (gone s l may) = refl
-says_stamp m n c to p (invite _ may) = refl
-says_stamp m n c to p (vote s v is) = refl
-says_stamp m n c to p (fetch _ may) = refl
-says_stamp m n c to p (piece s v stored number e is may at) = refl
-says_stamp m n c to p (result _ number names is viewed may) = refl
-says_stamp m n c to p (hand_over _ l leaves) = refl
+says_stamp m n c to p _ = refl
 
 views_step : (rules : Rules) (w : World) (e : Event) (c : Cause) (s : Step) → IsCause w (actor w e) e.act c → Effect (w.nodes (actor w e)) c s
     → AllNamed rules (stepped w e (actor w e) s) → AllViews rules w → AllViews rules (stepped w e (actor w e) s)
@@ -264,12 +248,13 @@ views_same rules w v nodes letters views named h = record {
   once = rw views h.once;
 }
 
-pub each_views : (rules : Rules) → EachKeeps (AllViews rules)
+views_after_event : (rules : Rules) (w : World) (e : Event) (v : World) → Happens w e v → AllNamed rules v → AllViews rules w → AllViews rules v
 unfolding unchanged
-each_views rules w e v (idles o idle) h = views_same rules w v refl refl refl (each_named rules w e v (idles o idle) h.named) h
-each_views rules w e v (stops runs) h = views_same rules w v refl refl refl (each_named rules w e v (stops runs) h.named) h
-each_views rules w e v (returns place is left more) h = views_same rules w v refl refl refl (each_named rules w e v (returns place is left more) h.named) h
-each_views rules w e v (steps c s runs cause effect) h = views_step rules w e c s cause effect (each_named rules w e v (steps c s runs cause effect) h.named) h
+views_after_event rules w e v (steps c s runs cause effect) named h = views_step rules w e c s cause effect named h
+views_after_event rules w e v _ named h = views_same rules w v refl refl refl named h
+
+pub each_views : (rules : Rules) → EachKeeps (AllViews rules)
+each_views rules w e v happens h = views_after_event rules w e v happens (each_named rules w e v happens h.named) h
 
 -- ---- the start
 

@@ -1,10 +1,10 @@
 -- What a spelling is read as.
-use Rattle.std.proofs.Common.{◌≡◌, ℕ, ◌<◌, List, ap, refl, sym, subst, ◌∙◌, length, slice_index, arith}
+use Rattle.std.proofs.Common.{◌≡◌, ℕ, ◌<◌, ◌≤◌, List, ap, refl, sym, subst, ◌∙◌, length, slice_index, arith}
 use Rattle.am_packet.specs.declared.packet.Packet.{Packet}
 use Rattle.am_packet.specs.Kinds.{kind_of}
 use Rattle.am_codec.specs.Limits.{IsPacket}
 use Rattle.am_codec.specs.Spelling.{spelling}
-use Rattle.am_codec.proofs.Again.{spelling_again, length-spelling}
+use Rattle.am_codec.proofs.Again.{fields_short, spelling_again, length-spelling}
 use Rattle.am_letter.specs.Letters.{packet_in, read_packet, IsSpelled}
 
 pub read_spelled : (packet : Packet) → IsPacket packet → packet_in (spelling packet) ≡ packet
@@ -22,3 +22,10 @@ pub kind_within : (bytes : List ℕ) → IsSpelled bytes → 3 < length bytes
 kind_within bytes is = let long = length-spelling (packet_in bytes) in subst (λ l. 3 < length l) (sym is.spelled) (omega arith)
 
 pub ruleset header = (kind_read, kind_within)
+
+pub short : (bytes : List ℕ) → IsSpelled bytes → length bytes ≤ 1152
+short bytes is =
+    let packet = packet_in bytes in
+    let long = length-spelling packet in
+    let few = fields_short packet is.packet.parts in
+    subst (λ l. length l ≤ 1152) (sym is.spelled) (omega (arith, long, few))

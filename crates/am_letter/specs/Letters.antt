@@ -1,5 +1,5 @@
 -- The packet in a letter's bytes.
-use Rattle.std.specs.Prelude.{◌≡◌, ℕ, List, Ok, Err}
+use Rattle.std.specs.Prelude.{◌≡◌, ℕ, List, Ok, Err, Option, Some, None}
 use Rattle.am_packet.specs.declared.packet.Packet.{Packet}
 use Rattle.am_packet.specs.declared.packet.Packet.TheVariants.{Invite}
 use Rattle.am_codec.specs.Limits.{IsPacket}
@@ -19,3 +19,8 @@ packet_in bytes = read_packet (reading bytes)
 pub record IsSpelled (bytes : List ℕ) : Type 0 where
   pub packet : IsPacket (packet_in bytes)
   pub spelled : bytes ≡ spelling (packet_in bytes)
+
+-- the bytes within a letter, or those apart from it
+abbrev pub bytes_in : List ℕ → Option (List ℕ) → List ℕ
+bytes_in within None = within
+bytes_in within (Some apart) = apart

@@ -1,13 +1,19 @@
-ghost use Rattle.std.specs.Prelude.{◌≡◌};
+ghost use Rattle.std.specs.Prelude.{◌≡◌, ◌≤◌, ◌<◌, ◌+◌, length, vec_len, option_map, IfOk};
+ghost use Rattle.am_base.specs.Most.{most_packet};
 ghost use Rattle.am_packet.specs.Boxes.{letter_to};
 ghost use Rattle.am_packet.specs.Kinds.{kind_of};
 ghost use Rattle.am_codec.specs.Limits.{IsWithin, IsPacket};
 ghost use Rattle.am_codec.specs.Spelling.{spelling};
+ghost use Rattle.am_letter.specs.Letters.{packet_in, bytes_in, IsSpelled};
 
+use crate::room::Room;
+use am_base::NoMemory;
 use am_base::body::PacketBytes;
 use am_base::names::Names;
 use am_codec::{decode, encode};
 use am_packet::packet::Packet;
+use arrayvec::ArrayVec;
+use std::alloc::Global;
 use std::marker::Model;
 
 /// The kind of a request to join, which goes to every life of its places.
@@ -16,40 +22,99 @@ const JOIN_ASK: u8 = 9;
 /// Where a packet's bytes have its kind.
 const KIND_AT: usize = 3;
 
+/// Up to so many bytes a letter has in itself; more stand apart.
+const MOST_WITHIN: usize = 64;
+
 /// The bytes of a packet with its addressees: the names in a set, or every life of their places. Contracts see it as the
 /// packet that its bytes spell, with these addressees (docs/PROTOCOL.md, "Letters").
 #[derive(Drop, Debug)]
 pub struct Letter {
     to: Names,
     any: bool,
-    bytes: PacketBytes,
+    within: ArrayVec<u8, MOST_WITHIN>,
+    apart: Option<Vec<u8>>,
 }
 
 impl Model for Letter {
     ghost use Rattle.am_packet.specs.Boxes as boxes;
-    ghost use Rattle.am_letter.specs.Letters.{packet_in, IsSpelled};
+    ghost use Rattle.std.specs.Prelude.{option_map};
+    ghost use Rattle.am_letter.specs.Letters.{packet_in, bytes_in, IsSpelled};
 
     ghost Value = { boxes.Letter };
 
-    ghost view = { λ l. record { to = l.to; any = l.any; packet = packet_in l.bytes } };
+    ghost view = { λ l. record { to = l.to; any = l.any; packet = packet_in (bytes_in l.within.items (option_map (λ v. v.items) l.apart)) } };
 
-    ghost invariant = { λ l. IsSpelled l.bytes };
+    ghost invariant = { λ l. IsSpelled (bytes_in l.within.items (option_map (λ v. v.items) l.apart)) };
+}
+
+/// The bytes that stand within a letter, or apart from it.
+fn bytes_in<'a>(within: &'a [u8], apart: &'a Option<Vec<u8>>) -> &'a [u8]
+    ensures { result.now ≡ bytes_in within.now (option_map (λ v. v.items) apart.now) }
+{
+    match apart {
+        Some(bytes) => bytes.as_slice(),
+        None => within,
+    }
+}
+
+/// Bytes where there is room for those of any packet; what they don't take of it is let go.
+fn apart(bytes: &[u8], room: Room) -> Vec<u8>
+    requires { length bytes.now ≤ most_packet }
+    ensures { result.items ≡ bytes.now }
+{
+    let mut apart = room.into_bytes();
+    apart.clear();
+    let _ = apart.extend_from_slice(bytes);
+    apart.shrink_to_fit();
+    apart
 }
 
 impl Letter {
     /// A packet for the names of a set, or, where it is a request to join, for every life of their places.
-    #[tactic(auto, using(crate::proofs::Read::read_spelled))]
-    pub fn of(to: Names, packet: &Packet) -> Letter
+    pub fn of(alloc: Global, to: Names, packet: &Packet) -> Result<Letter, NoMemory>
         requires { IsWithin packet.now }
-        ensures { result ≡ letter_to to packet.now }
+        ensures { IfOk result (λ l. l ≡ letter_to to packet.now) }
     {
-        let mut bytes = PacketBytes::default();
-        encode(packet, &mut bytes);
+        let mut rooms = Vec::new(alloc);
+        rooms.push(Room::new(alloc)?)?;
+        Ok(Letter::over(to, packet, &mut rooms))
+    }
+
+    /// The same letter. Where its bytes are many they stand in one of these rooms, which is theirs then. It takes no memory.
+    #[tactic(auto, using(crate::proofs::Read::read_spelled))]
+    pub(crate) fn over(to: Names, packet: &Packet, rooms: &mut Vec<Room>) -> Letter
+        requires within { IsWithin packet.now }
+        requires room { 0 < vec_len rooms.old }
+        ensures value { result ≡ letter_to to packet.now }
+        ensures left { vec_len rooms.old ≤ vec_len rooms.new + 1 }
+    {
+        let mut written = PacketBytes::default();
+        encode(packet, &mut written);
+        let any = packet.kind() == JOIN_ASK;
+        let mut within = ArrayVec::new();
+        if within.try_extend_from_slice(written.bytes()).is_ok() {
+            return Letter {
+                to,
+                any,
+                within,
+                apart: None,
+            };
+        }
+        let room = rooms.pop().unwrap();
         Letter {
             to,
-            any: packet.kind() == JOIN_ASK,
-            bytes,
+            any,
+            within,
+            apart: Some(apart(written.bytes(), room)),
         }
+    }
+
+    fn spelling(&self) -> &[u8]
+        ensures value { result.now ≡ spelling self.now.packet }
+        ensures spelled { IsSpelled result.now }
+        ensures packet { packet_in result.now ≡ self.now.packet }
+    {
+        bytes_in(self.within.as_slice(), &self.apart)
     }
 
     /// The names that it is for, or some life of each place that it is for.
@@ -66,12 +131,14 @@ impl Letter {
         self.any
     }
 
-    /// Its packet's bytes.
-    pub fn bytes(&self) -> &PacketBytes
+    /// Its packet's bytes, 1,152 at most.
+    #[tactic(auto, using(crate::proofs::Read::short))]
+    pub fn bytes(&self) -> &[u8]
         ensures value { result.now ≡ spelling self.now.packet }
         ensures packet { IsPacket self.now.packet }
+        ensures fits { length result.now ≤ most_packet }
     {
-        &self.bytes
+        self.spelling()
     }
 
     /// The number of its packet's kind, 1 to 18.
@@ -79,27 +146,58 @@ impl Letter {
     pub fn kind(&self) -> u8
         ensures { result ≡ kind_of self.now.packet }
     {
-        self.bytes.bytes()[KIND_AT]
+        self.spelling()[KIND_AT]
     }
 
     /// The packet that its bytes spell.
     pub fn packet(&self) -> Packet
         ensures { result ≡ self.now.packet }
     {
-        match decode(self.bytes.bytes()) {
+        match decode(self.spelling()) {
             Ok(packet) => packet,
             Err(_) => unreachable!(),
         }
     }
 
-    /// The same letter. It takes no memory.
-    pub fn copied(&self) -> Letter
+    /// The same letter in a place of fixed size. It takes no memory.
+    pub fn copied(&self) -> LetterCopy
         ensures { result ≡ self.now }
     {
-        Letter {
+        let mut bytes = PacketBytes::default();
+        bytes.extend(self.bytes());
+        LetterCopy {
             to: self.to,
             any: self.any,
-            bytes: self.bytes.copied(),
+            bytes,
         }
+    }
+}
+
+/// A letter in a place of fixed size, for which no memory is taken. Contracts see it as the letter.
+#[derive(Drop, Debug)]
+pub struct LetterCopy {
+    to: Names,
+    any: bool,
+    bytes: PacketBytes,
+}
+
+impl Model for LetterCopy {
+    ghost use Rattle.am_packet.specs.Boxes as boxes;
+    ghost use Rattle.am_letter.specs.Letters.{packet_in, IsSpelled};
+
+    ghost Value = { boxes.Letter };
+
+    ghost view = { λ l. record { to = l.to; any = l.any; packet = packet_in l.bytes } };
+
+    ghost invariant = { λ l. IsSpelled l.bytes };
+}
+
+impl LetterCopy {
+    /// Its packet's bytes, 1,152 at most.
+    pub fn bytes(&self) -> &[u8]
+        ensures value { result.now ≡ spelling self.now.packet }
+        ensures packet { IsPacket self.now.packet }
+    {
+        self.bytes.bytes()
     }
 }

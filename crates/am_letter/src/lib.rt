@@ -3,5 +3,6 @@
 
 pub mod letter;
 pub mod out_box;
+mod room;
 #[cfg(test)]
 mod tests;

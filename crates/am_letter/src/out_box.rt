@@ -1,8 +1,9 @@
-ghost use Rattle.std.specs.Prelude.{◌≡◌, ◌<◌, ◌≤◌, [], length, IfOk};
+ghost use Rattle.std.specs.Prelude.{◌≡◌, ◌<◌, ◌≤◌, [], length, vec_len, IfOk, OnOk};
 ghost use Rattle.am_packet.specs.Boxes.{with_letter, place_for};
 ghost use Rattle.am_codec.specs.Limits.{IsWithin};
 
 use crate::letter::Letter;
+use crate::room::Room;
 use am_base::NoMemory;
 use am_base::items::Items;
 use am_base::names::Names;
@@ -13,21 +14,50 @@ use std::marker::Model;
 /// The most letters of one step.
 const MOST_LETTERS: usize = 24;
 
+/// Rooms for the letters of a step to come: as many as an earlier one left.
+#[derive(Drop)]
+pub struct Rooms {
+    letters: Vec<Letter>,
+    rooms: Vec<Room>,
+}
+
+impl Rooms {
+    /// No rooms.
+    pub fn new(alloc: Global) -> Rooms {
+        Rooms {
+            letters: Vec::new(alloc),
+            rooms: Vec::new(alloc),
+        }
+    }
+}
+
+/// Makes as many rooms as a step may have letters.
+fn fill(alloc: Global, rooms: &mut Vec<Room>) -> Result<(), NoMemory>
+    ensures { OnOk result (24 ≤ vec_len rooms.new) }
+{
+    for _count in rooms.len()..MOST_LETTERS {
+        let room = Room::new(alloc)?;
+        rooms.push(room)?;
+    }
+    Ok(())
+}
+
 /// The letters of one step, at most 24. It has room for all of them from the beginning. Contracts see it as their list.
 #[derive(Drop)]
 pub struct OutBox {
     letters: Vec<Letter>,
+    rooms: Vec<Room>,
 }
 
 impl Model for OutBox {
-    ghost use Rattle.std.specs.Prelude.{◌≤◌, List, length, vec_capacity};
+    ghost use Rattle.std.specs.Prelude.{◌≤◌, ◌+◌, List, length, vec_len, vec_capacity};
     ghost use Rattle.am_packet.specs.Boxes as boxes;
 
     ghost Value = { List boxes.Letter };
 
     ghost view = { λ b. b.letters.items };
 
-    ghost invariant = { λ b. (length b.letters.items ≤ 24) × (24 ≤ vec_capacity b.letters) };
+    ghost invariant = { λ b. (length b.letters.items ≤ 24) × (24 ≤ vec_capacity b.letters) × (24 ≤ length b.letters.items + vec_len b.rooms) };
 }
 
 impl OutBox {
@@ -35,9 +65,21 @@ impl OutBox {
     pub fn new(alloc: Global) -> Result<OutBox, NoMemory>
         ensures { IfOk result (λ b. b ≡ []) }
     {
-        Ok(OutBox {
-            letters: Vec::with_capacity(alloc, MOST_LETTERS)?,
-        })
+        OutBox::over(alloc, Rooms::new(alloc))
+    }
+
+    /// An empty box over rooms that are there. It is an error where there is no memory for those that 24 letters still want.
+    pub fn over(alloc: Global, rooms: Rooms) -> Result<OutBox, NoMemory>
+        ensures { IfOk result (λ b. b ≡ []) }
+    {
+        let Rooms {
+            mut letters,
+            mut rooms,
+        } = rooms;
+        letters.clear();
+        letters.reserve(MOST_LETTERS)?;
+        fill(alloc, &mut rooms)?;
+        Ok(OutBox { letters, rooms })
     }
 
     /// The letters in their order.
@@ -48,20 +90,20 @@ impl OutBox {
         self.letters.as_slice()
     }
 
-    /// The letters in their order, and the box is let go, with the room that they don't take.
-    pub fn into_letters(self) -> Items<Letter>
-        ensures { result ≡ self }
+    /// The letters in their order, and the rooms that they don't take.
+    pub fn into_letters(self, alloc: Global) -> (Items<Letter>, Rooms)
+        ensures { result.0 ≡ self }
     {
-        let mut letters = self.letters;
+        let OutBox { mut letters, rooms } = self;
+        if letters.is_empty() {
+            return (Items::new(alloc), Rooms { letters, rooms });
+        }
         letters.shrink_to_fit();
-        Items::of(letters)
-    }
-
-    /// Takes all letters out.
-    pub fn clear(&mut self)
-        ensures { self.new ≡ [] }
-    {
-        self.letters.clear();
+        let left = Rooms {
+            letters: Vec::new(alloc),
+            rooms,
+        };
+        (Items::of(letters), left)
     }
 
     fn place_for(&self, kind: u8) -> usize
@@ -85,7 +127,8 @@ impl OutBox {
             return;
         }
         let at = self.place_for(packet.kind());
-        match self.letters.insert(at, Letter::of(to, packet)) {
+        let letter = Letter::over(to, packet, &mut self.rooms);
+        match self.letters.insert(at, letter) {
             Ok(()) => {}
             Err(_) => unreachable!(),
         }

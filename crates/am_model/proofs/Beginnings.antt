@@ -1,11 +1,9 @@
 -- What a run has so far stays: its records, its letters and its group list only get more.
-use Rattle.std.proofs.Common.{◌≡◌, ℕ, ◌-◌, Bool, true, false, not, ◌==◌, ◌||◌, if◌then◌else◌, List, [], ◌∷◌, ◌++◌, length, take, drop, Option, Some, None, refl}
+use Rattle.std.proofs.Common.{◌≡◌, ℕ, Bool, true, false, ◌==◌, if◌then◌else◌, List, [], ◌∷◌, ◌++◌, take, drop, Option, Some, None, refl}
 use Rattle.std.proofs.Common.{sym, ap, ◌∙◌, append_assoc}
 use Rattle.std.proofs.lemmas.List.{append-nil, take-append-drop}
 use Rattle.am_base.specs.declared.entry.Entry.{Entry}
 use Rattle.am_base.specs.declared.outcome.Outcome.{Outcome}
-use Rattle.am_base.specs.declared.outcome.Outcome.TheVariants as said
-use Rattle.am_base.specs.declared.event.NodeEvent.{NodeEvent}
 use Rattle.am_base.specs.Names.{place_of}
 use Rattle.am_base.specs.Founding.{Rules}
 use Rattle.am_packet.specs.declared.packet.Packet.{Packet}
@@ -13,11 +11,10 @@ use Rattle.am_packet.specs.Boxes.{Letter}
 use Rattle.am_group.specs.declared.event.Act.{Act}
 use Rattle.am_group.specs.declared.event.Act.TheVariants as act
 use Rattle.am_group.specs.declared.event.Event.{Event}
-use Rattle.am_group.specs.declared.event.Record.{Record}
 use Rattle.am_group.specs.Journals.{letter_at}
 use Rattle.am_model.specs.Node.{Node, view}
 use Rattle.am_model.specs.Emit.{Step}
-use Rattle.am_model.specs.World.{World, start, current, grown, group_after, unchanged, stepped, heard, hear_cut, lives_on, acts_as, happens, happen, run}
+use Rattle.am_model.specs.World.{World, start, current, group_after, unchanged, stepped, heard, hear_cut, lives_on, acts_as, happens, happen, run}
 use Rattle.am_model.specs.Claims.{Begins}
 use Rattle.am_model.proofs.Greatest.{split}
 use Rattle.am_model.proofs.Runs.{runs_go_on}
@@ -64,20 +61,9 @@ begins_heard w e name hearing None = search begins
 begins_heard w e name hearing (Some l) = search begins
 
 begins_acts : (w : World) (e : Event) (name : ℕ) (a : Act) → Begins w (acts_as w e name a)
-begins_acts w e name (act.Send body) = search begins
-begins_acts w e name (act.Done req) = search begins
-begins_acts w e name act.Take = search begins
-begins_acts w e name act.Join = search begins
-begins_acts w e name act.State = search begins
-begins_acts w e name act.Leave = search begins
-begins_acts w e name (act.Reset least resilience) = search begins
-begins_acts w e name (act.Ask round) = search begins
-begins_acts w e name (act.GiveUp other) = search begins
-begins_acts w e name act.Stop = search begins
-begins_acts w e name act.Tick = search begins
 begins_acts w e name (act.Hear number) = begins_heard w e name _ (letter_at w.letters number)
 begins_acts w e name (act.Cut number keep) = begins_heard w e name (hear_cut (w.nodes name) keep) (letter_at w.letters number)
-begins_acts w e name act.Return = search begins
+begins_acts w e name _ = search begins
 
 pub happens_begins : (w : World) (e : Event) → Begins w (happens w e)
 unfolding happens

@@ -1,5 +1,5 @@
 -- Bytes that are heard.
-use Rattle.std.proofs.Common.{◌≡◌, ℕ, ◌+◌, ◌*◌, ◌<◌, ◌≤◌, true, false, nat_lt, nat_le, List, length, take, Ok, Err, if◌then◌else◌, refl, sym, ap, ◌∙◌, arith}
+use Rattle.std.proofs.Common.{◌≡◌, ℕ, ◌+◌, ◌<◌, ◌≤◌, nat_lt, nat_le, List, length, take, Ok, Err, refl, ap, ◌∙◌, arith}
 use Rattle.std.proofs.lemmas.Bool.Decides.{nat_tests}
 use Rattle.std.proofs.lemmas.List.{take_all}
 use Rattle.am_base.specs.declared.entry.Entry.{Entry}
@@ -15,9 +15,8 @@ use Rattle.am_codec.proofs.Pieces.{length-rows_bytes}
 use Rattle.am_codec.proofs.Again.{length-spelling, spelling_again}
 use Rattle.am_codec.proofs.Whole.{part_refused}
 use Rattle.am_model.specs.Node.{Node}
-use Rattle.am_model.specs.Emit.{Step, finish}
+use Rattle.am_model.specs.Emit.{finish}
 use Rattle.am_model.specs.Step.{read_row, row, step, hear, refused}
-use Rattle.am_model.specs.World.{hear_cut}
 use Rattle.am_model.specs.Lengths.{entry_length, packet_length}
 use Rattle.am_model.specs.Laws.{SpellingIsHeard, CutIsHeard}
 use Rattle.am_model.proofs.Greatest.{split}
@@ -43,21 +42,9 @@ unfolding HasParts fields_of
 length-fields (packets.Request s v report req body) parts = omega arith
 length-fields (packets.Spread s v report req body) parts = omega arith
 length-fields (packets.Bcast s v base acc number e) parts = omega (arith, length-entry e)
-length-fields (packets.Order s v base acc number from req) parts = refl
-length-fields (packets.Accept s v base acc high poll) parts = refl
-length-fields (packets.Ack s v report) parts = refl
-length-fields (packets.Nack s v report) parts = refl
-length-fields (packets.Hold s v base high req) parts = refl
-length-fields (packets.JoinAsk s v) parts = refl
 length-fields (packets.Welcome s v base join image) parts = omega (arith, length-rows_bytes image.rows, parts)
-length-fields (packets.LeaveAsk s v report) parts = refl
-length-fields (packets.Gone s v number) parts = refl
-length-fields (packets.Invite s v) parts = refl
-length-fields (packets.Vote s v vote) parts = refl
-length-fields (packets.Fetch s v stored) parts = refl
 length-fields (packets.Piece s v base number e) parts = omega (arith, length-entry e)
-length-fields (packets.Result s v base number names resilience) parts = refl
-length-fields (packets.HandOver s v) parts = refl
+length-fields _ parts = refl
 
 pub long : (packet : Packet) → IsPacket packet → length (spelling packet) ≡ packet_length packet
 long packet is = length-spelling packet ∙ length-fields packet is.parts

@@ -96,9 +96,7 @@ few_take m = search (few, few_given)
 
 pub few_join_by : (m : Node) (s : Status) → Few 8 (join_by m s)
 few_join_by m status.Stranger = search few
-few_join_by m status.Asking = search few
-few_join_by m status.Member = search few
-few_join_by m status.Departed = search few
+few_join_by m _ = search few
 
 pub few_join : (m : Node) → Few 8 (join_row m)
 unfolding join_row
@@ -106,9 +104,7 @@ few_join m = few_join_by m m.status
 
 pub few_state_by : (m : Node) (s : Status) → Few 8 (state_by m s)
 few_state_by m status.Stranger = search few
-few_state_by m status.Asking = search few
-few_state_by m status.Member = search few
-few_state_by m status.Departed = search few
+few_state_by m _ = search few
 
 pub few_state : (m : Node) → Few 8 (state_row m)
 unfolding state_row

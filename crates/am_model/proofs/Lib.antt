@@ -8,5 +8,6 @@ pub mod BestVotes
 pub mod Rows
 pub mod Runs
 pub mod Beginnings
+pub mod Founders
 pub mod Held
 pub mod Bytes

@@ -62,20 +62,9 @@ adds_heard w e name hearing None = search adds
 adds_heard w e name hearing (Some l) = search adds
 
 adds_acts : (w : World) (e : Event) (name : ℕ) (a : Act) → Adds w (acts_as w e name a)
-adds_acts w e name (act.Send body) = search adds
-adds_acts w e name (act.Done req) = search adds
-adds_acts w e name act.Take = search adds
-adds_acts w e name act.Join = search adds
-adds_acts w e name act.State = search adds
-adds_acts w e name act.Leave = search adds
-adds_acts w e name (act.Reset least resilience) = search adds
-adds_acts w e name (act.Ask round) = search adds
-adds_acts w e name (act.GiveUp other) = search adds
-adds_acts w e name act.Stop = search adds
-adds_acts w e name act.Tick = search adds
 adds_acts w e name (act.Hear number) = adds_heard w e name _ (letter_at w.letters number)
 adds_acts w e name (act.Cut number keep) = adds_heard w e name (hear_cut (w.nodes name) keep) (letter_at w.letters number)
-adds_acts w e name act.Return = search adds
+adds_acts w e name _ = search adds
 
 pub happens_adds : (w : World) (e : Event) → length (happens w e).records ≡ length w.records + 1
 unfolding happens

@@ -1,10 +1,10 @@
 -- What is kept of a node: the end of its list, from the base on. The code keeps that, and a step reads nothing below it.
-use Rattle.std.specs.Prelude.{◌≡◌, ℕ, ◌≤◌, List}
+use Rattle.std.specs.Prelude.{◌≡◌, List}
 use Rattle.am_base.specs.declared.outcome.Outcome.{Outcome}
-use Rattle.am_base.specs.Lists.{Log, top_of}
+use Rattle.am_base.specs.Lists.{Log}
 use Rattle.am_base.specs.declared.event.NodeEvent.{NodeEvent}
 use Rattle.am_packet.specs.Boxes.{Letter}
-use Rattle.am_core.specs.Cores.{CoreState, Stands, IsInOrder, whole}
+use Rattle.am_core.specs.Cores.{Stands, IsInOrder, whole}
 use Rattle.am_model.specs.Node.{Node}
 use Rattle.am_model.specs.Emit.{Plan, Step, finish}
 use Rattle.am_model.specs.Step.{step}

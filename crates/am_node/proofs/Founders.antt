@@ -1,6 +1,6 @@
 -- How a node begins.
-use Rattle.std.proofs.Common.{◌≡◌, ℕ, zero, suc, ◌+◌, ◌<◌, ◌≤◌, ◌==◌, ◌&&◌, List, [], ◌∷◌, length, map, get_or, slice_index, unwrap_or, Option, Some, None}
-use Rattle.std.proofs.Common.{Bool, true, false, nat_lt, nat_le, refl, sym, ◌∙◌, ap, subst, arith, if◌then◌else◌}
+use Rattle.std.proofs.Common.{◌≡◌, ℕ, ◌+◌, ◌≤◌, ◌==◌, ◌&&◌, List, length, map, slice_index}
+use Rattle.std.proofs.Common.{true, false, nat_lt, nat_le, refl, sym, ◌∙◌, ap, subst, arith, if◌then◌else◌}
 use Rattle.std.specs.Prelude.{EachIndex, slice_index_or, replicate}
 use Rattle.std.proofs.lemmas.Bool.Decides.{nat_tests}
 use Rattle.std.proofs.lemmas.List.{get_or-replicate, get_or_past, length-map}
@@ -8,18 +8,17 @@ use Rattle.std.proofs.Math.ListN.{get_or-map}
 use Rattle.am_base.specs.declared.image.Report.{Report}
 use Rattle.am_base.specs.declared.image.Row.{Row}
 use Rattle.am_base.specs.Founding.{Rules, MayFound}
-use Rattle.am_base.specs.Names.{place_of, life_of, name_at, has, size, names_from, first_of, by_place}
-use Rattle.am_base.specs.Stamps.{stamp_eq}
-use Rattle.am_base.specs.Lists.{top_of, told_by, blank, blank_row, member_life, members_of, viewed, fold, after, fits}
+use Rattle.am_base.specs.Names.{place_of, has, by_place}
+use Rattle.am_base.specs.Lists.{top_of, told_by, blank, blank_row, member_life, viewed, fold, after, fits}
 use Rattle.am_base.proofs.Places.{by_place_all, get_or-by_place, length-by_place}
 use Rattle.am_core.specs.Cores.{CoreState}
 use Rattle.am_core.proofs.Folds.{split}
 use Rattle.am_fronts.specs.Reports.{no_report, no_reports, reported}
-use Rattle.am_fronts.specs.Refresh.{MayLead}
-use Rattle.am_model.specs.Node.{Node, Ballot, members, stranger, founder, founders_view, founding_stamp, lowest_or_first, is_member, is_sequencer}
+use Rattle.am_model.specs.Node.{Node, members, stranger, founder, founders_view}
+use Rattle.am_model.proofs.Founders.{first_founder}
 use Rattle.am_handlers.specs.Keeps.{NodeKeeps}
 use Rattle.am_handlers.proofs.Due.{due_first}
-use Rattle.am_handlers.proofs.Keeping.{keeps_steady, may_lead}
+use Rattle.am_handlers.proofs.Keeping.{keeps_steady}
 
 -- a node that nothing has happened to
 pub stranger_keeps : (rules : Rules) (who : ℕ) → NodeKeeps (stranger rules who)
@@ -37,38 +36,11 @@ stranger_keeps rules who = record {
 
 -- ---- founders
 
--- the first name of a set that isn't empty, whose places count from one on
-lowest_is : (p : ℕ) (set : List ℕ) → 0 < size set → (k : ℕ) × (k < length set) × (0 < get_or set k 0)
-    × (first_of (names_from p set) ≡ Some (name_at (p + k) (get_or set k 0)))
-lowest_is p [] some = absurd (omega arith)
-lowest_is p (zero ∷ lives) some =
-    let h = lowest_is (p + 1) lives some in
-    let z : (p + 1) + h.0 ≡ p + suc h.0 = omega arith in
-    (suc h.0, omega arith, h.2, h.3 ∙ ap (λ n. Some (name_at n (get_or lives h.0 0))) z)
-lowest_is p (suc before ∷ lives) some = let z : p ≡ p + 0 = omega arith in (0, omega arith, omega arith, ap (λ n. Some (name_at n (suc before))) z)
-
--- the lowest founder is one
-pub lowest_founds : (rules : Rules) → MayFound rules → has rules.founders (lowest_or_first rules.founders) ≡ true
-lowest_founds rules may =
-    let h = lowest_is 0 rules.founders may.somebody in
-    let within = h.1 in
-    let above = h.2 in
-    let most : get_or rules.founders h.0 0 ≤ 1 = may.first_lives h.0 h.1 in
-    let one : get_or rules.founders h.0 0 ≡ 1 = omega arith in
-    let places = may.names.places in
-    let name : name_at (0 + h.0) 1 ≡ h.0 = omega arith in
-    let is : lowest_or_first rules.founders ≡ h.0 = ap (λ o. unwrap_or o 0) (h.3 ∙ ap (λ l. Some (name_at (0 + h.0) l)) one) ∙ name in
-    let place : place_of h.0 ≡ h.0 = omega arith in
-    let life : life_of h.0 ≡ 1 = omega arith in
-    let there : (get_or rules.founders (place_of h.0) 0 == life_of h.0) ≡ true = let e = ap (λ k. get_or rules.founders k 0) place ∙ one ∙ sym life in
-    grind (arith, nat_tests) in
-    subst (λ n. has rules.founders n ≡ true) (sym is) there
-
 -- the founders' View fits where nothing stands
 pub founders_fit : (rules : Rules) → MayFound rules → fits blank (founders_view rules) ≡ true
 unfolding fits
 founders_fit rules may =
-    let there = lowest_founds rules may in
+    let there = (first_founder rules may).founds in
     let low : nat_le 0 rules.resilience ≡ true = grind (arith, nat_tests) in
     rw (there, low) refl
 

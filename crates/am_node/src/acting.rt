@@ -1,9 +1,9 @@
-ghost use Rattle.std.specs.Prelude.{◌≡◌, ◌≤◌, [], length};
-ghost use Rattle.am_model.specs.Calls.{send_row};
+ghost use Rattle.std.specs.Prelude.{◌≡◌, ◌≤◌, [], length, IsSome};
+ghost use Rattle.am_model.specs.Calls.{send_row, take_row};
 ghost use Rattle.am_model.specs.Step.{row};
 ghost use Rattle.am_model.specs.Ends.{Does};
 ghost use Rattle.am_handlers.specs.Parts.{node_of};
-ghost use Rattle.am_node.specs.Nodes.{HasNumbersLeft};
+ghost use Rattle.am_node.specs.Nodes.{HasNumbersLeft, HasPlace};
 
 use crate::hearing::on_bytes;
 use am_acting::joining::{on_join, on_state};
@@ -31,16 +31,34 @@ fn sends(parts: &mut Parts, body: &Body, out: &mut OutBox) -> Outcome
     on_send(parts, body.copied(), out)
 }
 
+/// The application takes the next entry, which goes where the spare one was.
+fn takes(parts: &mut Parts, spare: Option<Boxed<Entry>>, out: &mut OutBox) -> Outcome
+    requires place { IsSome spare }
+    requires empty { out.old ≡ [] }
+    ensures { Does take_row (node_of parts.old) result out.new (node_of parts.new) }
+{
+    match spare {
+        Some(place) => on_take(parts, place, out),
+        None => unreachable!(),
+    }
+}
+
 /// What a node does where its application calls, where time passes, and where bytes come (docs/PROTOCOL.md, "Steps of a node").
-fn by_event(parts: &mut Parts, event: &NodeEvent, spare: Boxed<Entry>, out: &mut OutBox) -> Outcome
+fn by_event(
+    parts: &mut Parts,
+    event: &NodeEvent,
+    spare: Option<Boxed<Entry>>,
+    out: &mut OutBox,
+) -> Outcome
     requires numbers { HasNumbersLeft (node_of parts.old) }
+    requires place { HasPlace event.now spare }
     requires empty { out.old ≡ [] }
     ensures { Does (λ m. row m event.now) (node_of parts.old) result out.new (node_of parts.new) }
 {
     match event {
         NodeEvent::Send(body) => sends(parts, body.get(), out),
         NodeEvent::Done(req) => on_done(parts, *req, out),
-        NodeEvent::Take => on_take(parts, spare, out),
+        NodeEvent::Take => takes(parts, spare, out),
         NodeEvent::Join => on_join(parts, out),
         NodeEvent::State => on_state(parts, out),
         NodeEvent::Leave => on_leave(parts, out),
@@ -48,7 +66,7 @@ fn by_event(parts: &mut Parts, event: &NodeEvent, spare: Boxed<Entry>, out: &mut
         NodeEvent::Ask(round) => on_ask(parts, *round, out),
         NodeEvent::GiveUp(name) => on_give_up(parts, *name, out),
         NodeEvent::Tick => on_tick(parts, out),
-        NodeEvent::Hear(bytes) => on_bytes(parts, bytes.get().bytes(), out),
+        NodeEvent::Hear(bytes) => on_bytes(parts, bytes.as_slice(), out),
     }
 }
 
@@ -56,10 +74,11 @@ fn by_event(parts: &mut Parts, event: &NodeEvent, spare: Boxed<Entry>, out: &mut
 pub fn on_event(
     parts: &mut Parts,
     event: &NodeEvent,
-    spare: Boxed<Entry>,
+    spare: Option<Boxed<Entry>>,
     out: &mut OutBox,
 ) -> Outcome
     requires numbers { HasNumbersLeft (node_of parts.old) }
+    requires place { HasPlace event.now spare }
     requires empty { out.old ≡ [] }
     ensures does { Does (λ m. row m event.now) (node_of parts.old) result out.new
         (node_of parts.new) }

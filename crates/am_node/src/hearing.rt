@@ -179,8 +179,8 @@ pub fn on_bytes(parts: &mut Parts, bytes: &[u8], out: &mut OutBox) -> Outcome
     ensures { Does (λ m. read_row m (reading bytes.now)) (node_of parts.old) result out.new
         (node_of parts.new) }
 {
-    match decode(bytes) {
-        Ok(packet) => on_packet(parts, &packet, out),
+    match &decode(bytes) {
+        Ok(packet) => on_packet(parts, packet, out),
         Err(refusal) => {
             let before = parts.accepted();
             let cause = refusal.cause();

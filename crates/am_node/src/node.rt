@@ -35,14 +35,21 @@ impl Node {
     ghost use Rattle.am_model.specs.Ends.{Tells, Does};
     ghost use Rattle.am_sender.specs.Sends.{is_settled};
     ghost use Rattle.am_node.specs.Info.{info_of, ballot_end, waited_for};
-    ghost use Rattle.am_node.specs.Nodes.{HasNumbersLeft};
+    ghost use Rattle.am_node.specs.Nodes.{HasNumbersLeft, HasPlace};
     ghost use Rattle.am_node.specs.Stands.{state_of};
 
     /// Does one step: answer, letters and next state are those of the table of steps (docs/PROTOCOL.md, "Steps of a
     /// node"), for any event and any bytes. Bytes that spell no packet are refused by their cause. It takes no memory: an
-    /// entry that is taken goes where the spare one was. The out box must be empty, and no number of the node at its end.
-    pub fn step(&mut self, event: &NodeEvent, spare: Boxed<Entry>, out: &mut OutBox) -> Outcome
+    /// entry that is taken goes where the spare one was, which only a Take wants. The out box must be empty, and no number of
+    /// the node at its end.
+    pub fn step(
+        &mut self,
+        event: &NodeEvent,
+        spare: Option<Boxed<Entry>>,
+        out: &mut OutBox,
+    ) -> Outcome
         requires numbers { HasNumbersLeft (state_of self.old) }
+        requires place { HasPlace event.now spare }
         requires empty { out.old ≡ [] }
         ensures does { Does (λ m. row m event.now) (state_of self.old) result out.new
             (state_of self.new) }

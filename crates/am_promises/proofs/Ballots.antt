@@ -19,8 +19,8 @@ use Rattle.am_model.proofs.Greatest.{split, and_both}
 use Rattle.am_effects.specs.Causes.{Cause, calls, hears, refuses}
 use Rattle.am_effects.specs.Looks.{Looks, finds_itself_out, waits, fetches_from_best, finds_too_few, finds_no_room, decides, HasOpen, Balloting, with_more}
 use Rattle.am_effects.specs.Looks.{without_one, as_it_is}
-use Rattle.am_effects.specs.Changes.{Change, refreshes, settles, takes_report, admits, numbers, keeps_body, notes, stores, begins_list, departs, promises}
-use Rattle.am_effects.specs.Changes.{opens, looks, fetches, stores_view, queues, collects, takes, asks_to_join, asks_to_leave, closes}
+use Rattle.am_effects.specs.Changes.{Change, refreshes, settles, begins_list, departs, promises}
+use Rattle.am_effects.specs.Changes.{opens, looks, asks_to_join, closes}
 use Rattle.am_effects.specs.Events as event
 use Rattle.am_effects.specs.Events.{actor, IsCall, IsCause, idles, stops, returns, steps}
 use Rattle.am_effects.proofs.Statuses.{logged, asking_log}
@@ -115,12 +115,6 @@ overtaken_none v b e = ap (overtaken v) e
 ballot_change : (w : World) (i : ℕ) (c : Cause) (o : Outcome) (m n : Node) → MayGive w c → Change c o m n → NodeOk w i m → NodeOk w i n
 ballot_change w i c o m n g refreshes h = let r = (rests_refresh m).rests in same_ballot w i m n r.who r.promise r.ballot (ap has_log r.status) h
 ballot_change w i c o m n g settles h = subst (NodeOk w i) (sym (settle_is m)) (same_ballot w i m _ refl refl refl refl h)
-ballot_change w i c o m n g (takes_report s v report by may) h = same_ballot w i m n refl refl refl refl h
-ballot_change w i c o m n g (admits s v is leads fit) h = same_ballot w i m n refl refl refl refl h
-ballot_change w i c o m n g (numbers e leads room why) h = same_ballot w i m n refl refl refl refl h
-ballot_change w i c o m n g (keeps_body s v report req body is heard) h = same_ballot w i m n refl refl refl refl h
-ballot_change w i c o m n g (notes s v base a by heard) h = same_ballot w i m n refl refl refl refl h
-ballot_change w i c o m n g (stores s v base a number e by heard plain may) h = same_ballot w i m n refl refl refl refl h
 ballot_change w i c o m n g (begins_list s v base join image is says may) h =
     let none = h.blank (asking_log m.status (asking m s v base join image may)) in
     record { who = h.who; last = subst (LastOk w i v) (sym none) tt; blank = λ f. absurd (cc) }
@@ -139,16 +133,11 @@ ballot_change w i c o m n g (opens least resilience by may) h = record {
 }
 ballot_change w i c o m n g (looks b verdict over why look is) h =
     verdict_ok w i m b verdict look over (balloting_log w i c m b why h) (looked_ok w i c m b why g h) h.who
-ballot_change w i c o m n g (fetches s v base number e is heard promise below from may) h = same_ballot w i m n refl refl refl refl h
-ballot_change w i c o m n g (stores_view s v base number names resilience is heard own other promise below may) h = same_ballot w i m n refl refl refl refl h
-ballot_change w i c o m n g (queues body is says member stays few) h = same_ballot w i m n refl refl refl refl h
-ballot_change w i c o m n g (collects req is) h = same_ballot w i m n refl refl refl refl h
-ballot_change w i c o m n g (takes e is says member some there) h = same_ballot w i m n refl refl refl refl h
 ballot_change w i c o m n g (asks_to_join is was) h = same_ballot w i m n refl refl refl (sym (ap has_log was)) h
-ballot_change w i c o m n g (asks_to_leave is was stays done) h = same_ballot w i m n refl refl refl refl h
 ballot_change w i c o m n g (closes leads leaves last room) h =
     let r = rests_closed m in
     same_ballot w i m n r.who r.promise r.ballot (sym (logged m.status (and_both (is_member m.status) _ (and_both _ _ leads).0).0)) h
+ballot_change w i c o m n g _ h = same_ballot w i m n refl refl refl refl h
 
 -- ---- runs
 
@@ -167,16 +156,8 @@ still_stopped : (stopped : List ℕ) (more name : ℕ) → list_any (λ x. x == 
 still_stopped stopped more name t = list_any-append (λ x. x == name) stopped (more ∷ []) ∙ ap (λ b. b || list_any (λ x. x == name) (more ∷ [])) t
 
 may_give : (w : World) (a : Act) (ev : NodeEvent) → IsCall w a ev → MayGive w (calls ev)
-may_give w a ev (event.send body) = tt
-may_give w a ev (event.done req) = tt
-may_give w a ev event.take = tt
-may_give w a ev event.join = tt
-may_give w a ev event.state = tt
-may_give w a ev event.leave = tt
-may_give w a ev (event.reset least resilience) = tt
-may_give w a ev (event.ask round) = tt
 may_give w a ev (event.give_up other stopped) = stopped
-may_give w a ev event.tick = tt
+may_give w a ev _ = tt
 
 cause_gives : (w : World) (i : ℕ) (a : Act) (c : Cause) → IsCause w i a c → MayGive w c
 cause_gives w i a (calls ev) is = may_give w a ev is

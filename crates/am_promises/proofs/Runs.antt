@@ -19,7 +19,7 @@ use Rattle.am_effects.specs.Letters.{LetterSays}
 use Rattle.am_effects.specs.Events.{actor, IsCause, idles, stops, returns, steps}
 use Rattle.am_effects.proofs.Items.{all_get, all_item}
 use Rattle.am_effects.proofs.Runs.{along, EachKeeps, runs_keep}
-use Rattle.am_effects.proofs.Founders.{lowest_founds}
+use Rattle.am_model.proofs.Founders.{first_founder}
 use Rattle.am_promises.specs.Claim.{AtMost, IsBegun, StampOk, PromisesAreBegun}
 use Rattle.am_promises.proofs.Stamps.{most_same, most_through}
 use Rattle.am_promises.proofs.Changes.{CauseBegun, Promised, promise_change, said_by}
@@ -96,7 +96,7 @@ each_keeps w e v (steps c s runs cause effect) h =
 
 pub start_begun : (rules : Rules) → MayFound rules → AllBegun (start rules)
 start_begun rules may =
-    let there : has rules.founders (founding_stamp rules).by ≡ true = lowest_founds rules may in
+    let there : has rules.founders (founding_stamp rules).by ≡ true = (first_founder rules may).founds in
     let first : AtMost (founding_stamp rules) ((start rules).nodes (founding_stamp rules).by).core.promise = rw there (most_same (founding_stamp rules)) in
     record {
       who = λ i. split (has rules.founders i) (λ t. rw t refl) (λ f. rw f refl);

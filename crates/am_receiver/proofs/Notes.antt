@@ -1,8 +1,14 @@
 -- What a member notes of the sequencer's fronts, and what stays.
-use Rattle.std.proofs.Common.{◌≡◌, ℕ, refl}
-use Rattle.am_core.specs.Cores.{CoreState, Keeps}
+use Rattle.std.proofs.Common.{◌≡◌, ℕ, List, Option, refl}
+use Rattle.am_base.specs.declared.entry.Entry.{Entry}
+use Rattle.am_base.specs.declared.outcome.Outcome.{Outcome}
+use Rattle.am_packet.specs.Boxes.{Letter}
+use Rattle.am_ends.proofs.Hearing.{alike_received}
+use Rattle.am_handlers.specs.Finishing.{Done}
+use Rattle.am_handlers.proofs.Plans.{done_whole}
+use Rattle.am_core.specs.Cores.{CoreState, Keeps, IsInOrder}
 use Rattle.am_model.specs.Node.{Node}
-use Rattle.am_model.specs.Receiving.{noted}
+use Rattle.am_model.specs.Receiving.{noted, received}
 use Rattle.am_model.specs.Ends.{IsEndOf}
 use Rattle.am_handlers.specs.Keeps.{NodeKeeps, IsSteady}
 use Rattle.am_handlers.proofs.Doing.{core_changes}
@@ -22,3 +28,11 @@ end_noted_steady m n base acc end = steady_then m (noted m base acc) n (noted_st
 
 pub end_noted_keeps : (m n : Node) (base acc : ℕ) → IsEndOf (noted m base acc) n → NodeKeeps m → NodeKeeps n
 end_noted_keeps m n base acc end keeps = end_keeps (noted m base acc) n end (keeps_steady m (noted m base acc) (noted_steady m base acc) keeps keeps.own)
+
+-- what is done of an entry with the noted fronts, the whole node does
+pub noted_done : (before : ℕ) (m mid new : Node) (base acc from number : ℕ) (found : Option Entry) (missing answer : Outcome) (letters : List Letter)
+    → IsEndOf (noted m base acc) mid → IsInOrder mid.core → Done before (received mid from base number found missing) answer letters new
+    → Done before (received (noted m base acc) from base number found missing) answer letters new
+noted_done before m mid new base acc from number found missing answer letters end order did =
+    done_whole before (λ n. received n from base number found missing) (noted m base acc) mid new answer letters end order
+    (λ all keeps. alike_received all mid from base number found missing keeps) did

@@ -37,6 +37,8 @@ fn note_fronts<L: Log>(core: &mut Core<L>, base: u32, acc: u32)
 fn note(parts: &mut Parts, base: u32, acc: u32)
     ensures end { IsEndOf (noted (node_of parts.old) base acc) (node_of parts.new) }
     ensures steady { IsSteady (node_of parts.old) (node_of parts.new) }
+    ensures status { parts.new.status ≡ parts.old.status }
+    ensures leads { is_sequencer (node_of parts.new) ≡ is_sequencer (node_of parts.old) }
     ensures order { IsInOrder parts.new.core }
 {
     let _before = parts.accepted();
@@ -239,17 +241,14 @@ pub fn on_order(
     let missing = Outcome::NoBody { from, req };
     let found = ordered(parts, from, req);
     note(parts, base, acc);
-    match found {
-        Some(entry) => received(
-            parts,
-            before,
-            sequencer,
-            base,
-            number,
-            Some(&entry),
-            missing,
-            out,
-        ),
-        None => received(parts, before, sequencer, base, number, None, missing, out),
-    }
+    received(
+        parts,
+        before,
+        sequencer,
+        base,
+        number,
+        found.as_ref(),
+        missing,
+        out,
+    )
 }

@@ -66,23 +66,27 @@ one_letter m p o to packet f some =
 
 -- ---- reports
 
-pub raise_up : (kept : ℕ → Report) (who : ℕ) (r : Report) (name : ℕ) → (kept name).stored ≤ (reports.reported kept who r name).stored
-raise_up kept who r name = split (name == who)
-    (λ t. let e : name ≡ who = grind (arith, nat_tests) in rw (t, e) (omega arith))
-    (λ f. rw f (omega arith))
+pub record NoLess (old new : Report) : Type 0 where
+  pub stored : old.stored ≤ new.stored
+  pub taken : old.taken ≤ new.taken
 
-lead_reports : (m : Node) (name : ℕ) → (m.reports name).stored ≤ ((lead m).reports name).stored
+pub raise_up : (kept : ℕ → Report) (who : ℕ) (r : Report) (name : ℕ) → NoLess (kept name) (reports.reported kept who r name)
+raise_up kept who r name = split (name == who)
+    (λ t. let e : name ≡ who = grind (arith, nat_tests) in rw (t, e) (record { stored = omega arith; taken = omega arith }))
+    (λ f. rw f (record { stored = omega arith; taken = omega arith }))
+
+pub lead_reports : (m : Node) (name : ℕ) → NoLess (m.reports name) ((lead m).reports name)
 unfolding lead own_report tell go_on let_go accept pass_over
 lead_reports m name =
     let first = reports.reported m.reports m.core.who (report_of m) in
     let a = raise_up m.reports m.core.who (report_of m) name in
     let b = raise_up first m.core.who (record { stored = top m; taken = (lead m).core.taken }) name in
-    omega arith
+    record { stored = omega arith; taken = omega arith }
 
 -- no report is lowered
 pub refreshed_stay : (m : Node) (name : ℕ) → (m.reports name).stored ≤ ((refresh m).reports name).stored
 unfolding refresh
-refreshed_stay m name = split (is_sequencer m) (λ t. rw t (lead_reports m name)) (λ f. rw f (omega arith))
+refreshed_stay m name = split (is_sequencer m) (λ t. rw t (lead_reports m name).stored) (λ f. rw f (omega arith))
 
 pub reports_stay : (m : Node) (name : ℕ) → (m.reports name).stored ≤ ((refresh_at_end m).reports name).stored
 reports_stay m name = subst (λ (f : ℕ → Report). (m.reports name).stored ≤ (f name).stored) (sym (end_reports m)) (refreshed_stay m name)
@@ -101,7 +105,7 @@ unfolding own_reports
 has_stored m high number name stored within h = ⊎_elim
     (λ (own : name ≡ m.core.who). let t : (name == m.core.who) ≡ true = grind (arith, nat_tests) in rw t
     (let z : number ≤ max (m.reports name).stored (top m) = omega arith in grind (arith, nat_tests)))
-    (λ (told_ : high ≤ (m.reports name).stored). let up = raise_up m.reports m.core.who (report_of m) name in grind (arith, nat_tests))
+    (λ (told_ : high ≤ (m.reports name).stored). let up = (raise_up m.reports m.core.who (report_of m) name).stored in grind (arith, nat_tests))
     h
 
 all_hold : (m : Node) (high number : ℕ) → HasReports m high → m.core.acc < number → number ≤ high → (told m).view_number ≤ number

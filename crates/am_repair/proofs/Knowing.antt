@@ -14,9 +14,8 @@ use Rattle.am_base.specs.Lists.{at_place, members_of, with_row, after}
 use Rattle.am_packet.specs.declared.packet.Packet.TheVariants as packet
 use Rattle.am_chain_lists.proofs.Rows.{row_at, In, row_set, long_after}
 use Rattle.am_core.specs.Cores.{accept, pass_over}
-use Rattle.am_fronts.specs.Reports as reports
 use Rattle.am_fronts.specs.Refresh.{own_report, tell, go_on, let_go}
-use Rattle.am_model.specs.Node.{Node, Ballot, top, told, view, members, is_member, is_asking, is_sequencer, pushed, trimmed, with_report, report_of}
+use Rattle.am_model.specs.Node.{Node, Ballot, top, told, view, members, is_member, is_asking, is_sequencer, pushed, trimmed, with_report}
 use Rattle.am_model.specs.Refresh.{lead, refresh, settle, refresh_at_end}
 use Rattle.am_model.specs.Ballots.{Verdict, promised, next_stamp}
 use Rattle.am_model.specs.Joining.{admitted}
@@ -24,10 +23,10 @@ use Rattle.am_model.specs.Hearing.{hears_member, hears_asking}
 use Rattle.am_model.specs.Receiving.{is_view}
 use Rattle.am_model.proofs.Greatest.{split, and_both}
 use Rattle.am_effects.specs.Causes.{Cause, hears}
-use Rattle.am_effects.specs.Looks.{HasOpen, Looks, finds_itself_out, waits, fetches_from_best, finds_too_few, finds_no_room, decides}
+use Rattle.am_effects.specs.Looks.{HasOpen, Looks, decides}
 use Rattle.am_effects.specs.Changes.{Promises, invited, overtaken, told_result, Numbers, asked_send, own_send, asked_join, asked_leave, Fetches, without_ballot}
-use Rattle.am_effects.specs.Changes.{for_ballot, Change, refreshes, settles, takes_report, admits, numbers, keeps_body, notes, stores, begins_list, departs}
-use Rattle.am_effects.specs.Changes.{promises, opens, looks, fetches, stores_view, queues, collects, takes, asks_to_join, asks_to_leave, closes}
+use Rattle.am_effects.specs.Changes.{for_ballot, Change, refreshes, settles, takes_report, admits, numbers, notes, stores, begins_list, departs}
+use Rattle.am_effects.specs.Changes.{promises, opens, looks, fetches, stores_view, asks_to_join, closes}
 use Rattle.am_effects.proofs.Tests.{not_true}
 use Rattle.am_effects.proofs.Rests.{settle_is}
 use Rattle.am_effects.proofs.Says.{told_pushed, view_pushed, leads_pushed}
@@ -38,7 +37,7 @@ use Rattle.am_laws.proofs.ViewSteps.{view_last}
 use Rattle.am_laws.proofs.ViewChanges.{Balloted, next_above}
 use Rattle.am_laws.proofs.Trims.{Fronts, told_used}
 use Rattle.am_repair.specs.Known.{TrimsKnown}
-use Rattle.am_repair.proofs.Ends.{follows}
+use Rattle.am_repair.proofs.Ends.{follows, raise_up, lead_reports}
 use Rattle.am_repair.proofs.Nodes.{acting, leading, no_open, not_open, alike_refresh, leads_alike}
 use Rattle.am_repair.proofs.Leading.{least_low, base_low, looked_open}
 
@@ -95,25 +94,12 @@ member_back m e i f back there =
 
 -- ---- a refresh
 
-raise_taken : (kept : ℕ → Report) (who : ℕ) (r : Report) (name : ℕ) → (kept name).taken ≤ (reports.reported kept who r name).taken
-raise_taken kept who r name = split (name == who)
-    (λ t. let e : name ≡ who = grind (arith, nat_tests) in rw (t, e) (omega arith))
-    (λ f. rw f (omega arith))
-
-lead_raises : (m : Node) (name : ℕ) → (m.reports name).taken ≤ ((lead m).reports name).taken
-unfolding lead own_report tell go_on let_go accept pass_over
-lead_raises m name =
-    let first = reports.reported m.reports m.core.who (report_of m) in
-    let a = raise_taken m.reports m.core.who (report_of m) name in
-    let b = raise_taken first m.core.who (record { stored = top m; taken = (lead m).core.taken }) name in
-    omega arith
-
 lead_trims : (m : Node) (i : ℕ) → Fronts m → has (members m) i ≡ true → m.core.base ≤ (m.reports i).taken → (lead m).core.base ≤ ((lead m).reports i).taken
 unfolding lead own_report tell go_on let_go accept pass_over
 lead_trims m i f there low =
     let c = (lead m).core in
     let kept = f.kept in let base = f.base in let given = f.given in let accepted = f.accepted in
-    let up = lead_raises m i in
+    let up = (lead_reports m i).taken in
     base_low ((lead m).reports i).taken m.core.base _ (omega arith) (λ to is. least_low m (lead m).reports (record c { base = m.core.base }) i to f refl
     (omega arith) (omega arith) there is)
 
@@ -133,7 +119,7 @@ known_end m f h = known_settle (refresh m) (known_refresh m f h)
 -- ---- reports, and entries that the sequencer numbers
 
 known_report : (m : Node) (s : ℕ) (report : Report) → TrimsKnown m → TrimsKnown (with_report m s report)
-known_report m s report h t i few there = let a = h t i few there in let b = raise_taken m.reports s report i in omega arith
+known_report m s report h t i few there = let a = h t i few there in let b = (raise_up m.reports s report i).taken in omega arith
 
 -- no more members than before
 known_pushed : (m : Node) (e : Entry) → is_sequencer (pushed m e) ≡ is_sequencer m
@@ -203,12 +189,8 @@ open_leads : (m : Node) (b : Ballot) → HasOpen m b → Balloted m → is_seque
 open_leads m b o k t = not_open m b o (no_open m k (leading m t).0)
 
 known_look : (m : Node) (b : Ballot) (v : Verdict) → Looks m b v → (is_sequencer m ≡ true → ⊥) → TrimsKnown v.node
-known_look m b v (finds_itself_out x) none = λ t i few there. absurd (none t)
-known_look m b v (waits x y) none = λ t i few there. absurd (none t)
-known_look m b v (fetches_from_best x y z) none = λ t i few there. absurd (none t)
-known_look m b v (finds_too_few x y) none = λ t i few there. absurd (none t)
-known_look m b v (finds_no_room learned) none = λ t i few there. absurd (none t)
 known_look m b v (decides may) none = λ t i few there. (let low : nat_lt i 256 ≡ true = grind (arith, nat_tests) in rw low (omega arith))
+known_look m b v _ none = λ t i few there. absurd (none t)
 
 -- what is fetched is no View of its own
 fetch_leads : (m : Node) (s : ℕ) (v : Stamp) (base : ℕ) (e : Entry) → Fetches m s v e → (s == m.core.who) ≡ false → stamp_eq v m.core.promise ≡ true
@@ -255,7 +237,6 @@ known_change c o m n none k f settles h = known_settle m h
 known_change c o m n none k f (takes_report s v report brings may) h = known_report m s report h
 known_change c o m n none k f (admits s v is leads fit) h = absurd (none s v is)
 known_change c o m n none k f (numbers e leads room why) h = known_numbered c m e none why f h
-known_change c o m n none k f (keeps_body s v report req body is heard) h = h
 known_change c o m n none k f (notes s v base acc brings heard) h = λ t i few there. absurd (let g = follows m s v heard in cc)
 known_change c o m n none k f (stores s v base acc number e carries heard plain may) h = λ t i few there. absurd
     (let g = follows m s v heard in let same = leads_pushed m e plain in cc)
@@ -274,9 +255,6 @@ known_change c o m n none k f (fetches s v base number e is heard promise below 
     (fetch_leads m s v base e why (other_member m s heard) promise below t)
 known_change c o m n none k f (stores_view s v base number names resilience is heard own other promise below may) h = λ t i few there. absurd (
     other_view n v.by (ap (λ (x : Stamp). x.by) (view_last (trimmed m base) v names resilience)) other t)
-known_change c o m n none k f (queues body is says member stays few_) h = h
-known_change c o m n none k f (collects req is) h = h
-known_change c o m n none k f (takes e is says member some there_) h = h
 known_change c o m n none k f (asks_to_join is was) h = λ t i few there. absurd (cc)
-known_change c o m n none k f (asks_to_leave is was stays done) h = h
 known_change c o m n none k f (closes leads leaves alone room) h = λ t i few there. absurd (cc)
+known_change c o m n none k f _ h = h

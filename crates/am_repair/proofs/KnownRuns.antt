@@ -35,7 +35,7 @@ use Rattle.am_laws.proofs.Named.{few_names}
 use Rattle.am_laws.proofs.Views.{heard_names}
 use Rattle.am_laws.proofs.ViewNames.{HeardNames}
 use Rattle.am_laws.proofs.Taken.{HeardUsed}
-use Rattle.am_laws.proofs.Trims.{Fronts, pushed_fronts}
+use Rattle.am_laws.proofs.Trims.{Fronts, reporting, pushed_fronts}
 use Rattle.am_laws.proofs.TakenRuns.{Along, along_changes, AllOwned, heard_used, each_along, each_owned, owned_start}
 use Rattle.am_repair.specs.Known.{TrimsKnown, SequencersTrimKnown}
 use Rattle.am_repair.proofs.Knowing.{NoJoin, known_change, known_end, known_joined}
@@ -52,15 +52,8 @@ known_changes rules m n none names used (changed {n = x} one more) a h =
 -- ---- a request to join
 
 joined_fronts : (m : Node) (s : ℕ) → Fronts m → fits (told m) (Join s) ≡ true → Fronts (pushed (admitted m s) (Join s))
-joined_fronts m s f fit = pushed_fronts (admitted m s) (Join s) fit (record {
-  used = f.used;
-  joins = f.joins;
-  kept = f.kept;
-  base = f.base;
-  given = f.given;
-  accepted = f.accepted;
-  reported = split (m.core.who == s) (λ t. rw t f.base) (λ g. rw g f.reported);
-})
+joined_fronts m s f fit =
+    pushed_fronts (admitted m s) (Join s) fit (reporting _ (split (m.core.who == s) (λ t. rw t f.base) (λ g. rw g f.reported)) f)
 
 -- a plan whose node keeps it
 record PlanKnown (p : Plan) : Type 0 where
@@ -98,24 +91,8 @@ refused_known m cause f h = known_end m f h
 
 -- a request to join, among packets
 ask_of : (p : Packet) → (kind_of p == 9) ≡ true → (s : ℕ) × (v : Stamp) × (p ≡ packet.JoinAsk s v)
-ask_of (packet.Request s v report req body) t = absurd (cc)
-ask_of (packet.Spread s v report req body) t = absurd (cc)
-ask_of (packet.Bcast s v base acc number e) t = absurd (cc)
-ask_of (packet.Order s v base acc number from req) t = absurd (cc)
-ask_of (packet.Accept s v base acc high poll) t = absurd (cc)
-ask_of (packet.Ack s v report) t = absurd (cc)
-ask_of (packet.Nack s v report) t = absurd (cc)
-ask_of (packet.Hold s v base high req) t = absurd (cc)
 ask_of (packet.JoinAsk s v) t = (s, v, refl)
-ask_of (packet.Welcome s v base join image) t = absurd (cc)
-ask_of (packet.LeaveAsk s v report) t = absurd (cc)
-ask_of (packet.Gone s v number) t = absurd (cc)
-ask_of (packet.Invite s v) t = absurd (cc)
-ask_of (packet.Vote s v vote) t = absurd (cc)
-ask_of (packet.Fetch s v stored) t = absurd (cc)
-ask_of (packet.Piece s v base number e) t = absurd (cc)
-ask_of (packet.Result s v base number names resilience) t = absurd (cc)
-ask_of (packet.HandOver s v) t = absurd (cc)
+ask_of _ t = absurd (cc)
 
 asks_known : (m : Node) (p : Packet) → (kind_of p == 9) ≡ true → Fronts m → TrimsKnown m → TrimsKnown (hear m p).node
 asks_known m p t f h = let k = ask_of p t in subst (λ x. TrimsKnown (hear m x).node) (sym k.2) (join_ends m k.0 k.1 f h)

@@ -300,7 +300,7 @@ lead_change r taken w q c o m n by calm tells f refreshes h = goes_as r _ q m n 
 lead_change r taken w q c o m n by calm tells f settles h = goes_as r _ q m n (alike_settle m) (λ name there. settled_stay m name)
     (trusts_settle r _ m h.trusts) h
 lead_change r taken w q c o m n by calm tells f (takes_report s v report brings may) h =
-    goes_as r _ q m n (alike_here m n refl refl refl refl refl refl (omega arith) (omega arith)) (λ name there. raise_up m.reports s report name)
+    goes_as r _ q m n (alike_here m n refl refl refl refl refl refl (omega arith) (omega arith)) (λ name there. (raise_up m.reports s report name).stored)
     (trusts_report r _ m s report (tells s v report brings) h.trusts) h
 lead_change r taken w q c o m n by calm tells f (admits s v is leads fit) h = goes_as r _ q m n
     (alike_here m n refl refl refl refl refl refl (omega arith) (omega arith)) (admitted_stay r m s h.leads f fit) (trusts_admitted r _ m s h.trusts) h

@@ -26,7 +26,7 @@ use Rattle.am_model.specs.World.{World, happens, happen}
 use Rattle.am_effects.specs.Causes.{Cause, calls, hears, refuses, BringsReport, with_send, by_request, by_spread, by_ack, by_nack, by_leave_ask}
 use Rattle.am_effects.specs.Events.{IsCause}
 use Rattle.am_effects.proofs.Items.{get_take, get_front}
-use Rattle.am_laws.proofs.Trims.{Fronts, told_used}
+use Rattle.am_laws.proofs.Trims.{Fronts, reporting, told_used}
 use Rattle.am_repair.specs.Rows.{bcasts, Serves, ComesNext}
 use Rattle.am_repair.specs.Rows as rows
 use Rattle.am_repair.specs.Calm.{Repair, Leads, IsCalm}
@@ -83,15 +83,7 @@ report_trims rules r taken q i report l who f t there other low =
     let p = with_report q i report in
     let own : (q.core.who == i) ≡ false = grind (arith, nat_tests) in
     let lp = leads_as r q p (alike_here q p refl refl refl refl refl refl (omega arith) (omega arith)) l in
-    let fp : Fronts p = record {
-      used = f.used;
-      joins = f.joins;
-      kept = f.kept;
-      base = f.base;
-      given = f.given;
-      accepted = f.accepted;
-      reported = rw own f.reported;
-    } in
+    let fp : Fronts p = reporting _ (rw own f.reported) f in
     (trusts_refresh r taken p who lp fp (trusts_report r taken q i report (λ here. low) t)).base i there other
 
 -- ---- entries on their way

@@ -17,12 +17,11 @@ use Rattle.am_model.specs.Refresh.{refresh_at_end, lead, refresh}
 use Rattle.std.proofs.lemmas.Bool.Decides.{nat_tests}
 use Rattle.am_model.specs.declared.status.Status.TheVariants.{Member}
 use Rattle.std.proofs.Common.{◌≡◌, ℕ, ◌≤◌, ◌==◌, ◌||◌, not, max, nat_lt, nat_le, true, false, if◌then◌else◌, List, refl, sym, ap, ◌∙◌, subst, arith}
-use Rattle.am_effects.specs.Changes.{Change, refreshes, settles, takes_report, admits, numbers, keeps_body, notes, stores, begins_list, departs, promises}
-use Rattle.am_effects.specs.Changes.{opens, looks, fetches, stores_view, queues, collects, takes, asks_to_join, asks_to_leave, closes, MayBeWelcomed}
-use Rattle.am_effects.specs.Letters.{Says, request, spread, bcast, order, accept, ack, nack, hold, join_ask, welcome, leave_ask, gone, invite, vote, fetch}
-use Rattle.am_effects.specs.Letters.{piece, result, hand_over}
+use Rattle.am_effects.specs.Changes.{Change, refreshes, settles, takes_report, admits, notes, begins_list}
+use Rattle.am_effects.specs.Changes.{looks, fetches, stores_view, takes, closes, MayBeWelcomed}
+use Rattle.am_effects.specs.Letters.{Says, request, spread, ack, nack, leave_ask}
 use Rattle.am_effects.specs.Looks.{Looks, finds_itself_out, waits, fetches_from_best, finds_too_few, finds_no_room, decides}
-use Rattle.am_effects.specs.Causes.{Cause, hears, by_request, by_spread, BringsReport, with_send, by_ack, by_nack, by_leave_ask}
+use Rattle.am_effects.specs.Causes.{Cause, hears, by_request, BringsReport, with_send}
 use Rattle.am_model.specs.declared.status.Status.{Status}
 use Rattle.am_model.specs.declared.status.Status.TheVariants as status
 use Rattle.am_packet.specs.declared.packet.Packet.{Packet}
@@ -47,10 +46,7 @@ CauseTaken nodes _ = Unit {0}
 pub told_so : (nodes : ℕ → Node) (c : Cause) (s : ℕ) (v : Stamp) (report : Report) → BringsReport c s v report → CauseTaken nodes c
     → report.taken ≤ (nodes s).core.taken
 told_so nodes c s v report (with_send s_ v_ report_ req body (by_request s1 v1 report1 req1 body1)) h = h
-told_so nodes c s v report (with_send s_ v_ report_ req body (by_spread s1 v1 report1 req1 body1)) h = h
-told_so nodes c s v report (by_ack s_ v_ report_) h = h
-told_so nodes c s v report (by_nack s_ v_ report_) h = h
-told_so nodes c s v report (by_leave_ask s_ v_ report_) h = h
+told_so nodes c s v report _ h = h
 
 -- of another name
 abbrev pub Truly : (ℕ → Node) → Node → Type 0
@@ -131,77 +127,44 @@ truly_change nodes c o m n w k refreshes h = (let r = (rests_refresh m).rests in
 truly_change nodes c o m n w k settles h = subst (Truly nodes) (sym (settle_is m)) h
 truly_change nodes c o m n w k (takes_report s v report brings may) h = truly_report nodes m s report (told_so nodes c s v report brings w) h
 truly_change nodes c o m n w k (admits s v is leads fit) h = truly_admitted nodes m s h
-truly_change nodes c o m n w k (numbers e leads room why) h = h
-truly_change nodes c o m n w k (keeps_body s v report req body is heard) h = h
 truly_change nodes c o m n w k (notes s v base acc brings heard) h =
     truly_more nodes m n refl (noted_up m.core.base base m.core.taken) (λ name other. refl) h
-truly_change nodes c o m n w k (stores s v base acc number e carries heard plain may) h = h
 truly_change nodes c o m n w k (begins_list s v base join image is says may) h =
     (let none = (k (welcomed_none m s v base join image may)).base_ in truly_more nodes m n refl (omega arith) (λ name other. refl) h)
-truly_change nodes c o m n w k (departs s v number is heard leaves) h = h
-truly_change nodes c o m n w k (promises v low why) h = h
-truly_change nodes c o m n w k (opens least resilience begins may) h = h
 truly_change nodes c o m n w k (looks b verdict over why look is) h = truly_look nodes m b verdict look h
 truly_change nodes c o m n w k (fetches s v base number e is heard promise below why may) h =
     truly_more nodes m n refl (omega arith) (λ name other. refl) h
 truly_change nodes c o m n w k (stores_view s v base number names resilience is heard own other promise below may) h =
     truly_more nodes m n refl (omega arith) (λ name other. refl) h
-truly_change nodes c o m n w k (queues body is says member stays few_) h = h
-truly_change nodes c o m n w k (collects req is) h = h
-truly_change nodes c o m n w k (takes e is says member some there_) h = h
-truly_change nodes c o m n w k (asks_to_join is was) h = h
-truly_change nodes c o m n w k (asks_to_leave is was stays done) h = h
 truly_change nodes c o m n w k (closes leads leaves alone room) h =
     (let r = (rests_at_end (pushed m (Leave m.core.who))).rests in truly_more nodes m n r.who r.base (end_same (pushed m (Leave m.core.who))) h)
+truly_change nodes c o m n w k _ h = h
 
 pub rises_change : (c : Cause) (o : Outcome) (m n : Node) → Blanked m → Fronts m → Change c o m n → Rises m n
 rises_change c o m n k f refreshes = (let r = (rests_refresh m).rests in record { base = r.base; taken = r.taken })
 rises_change c o m n k f settles = subst (Rises m) (sym (settle_is m)) (record { base = omega arith; taken = omega arith })
-rises_change c o m n k f (takes_report s v report brings may) = rises_same m n refl refl
-rises_change c o m n k f (admits s v is leads fit) = rises_same m n refl refl
-rises_change c o m n k f (numbers e leads room why) = rises_same m n refl refl
-rises_change c o m n k f (keeps_body s v report req body is heard) = rises_same m n refl refl
 rises_change c o m n k f (notes s v base acc brings heard) = record { base = noted_up m.core.base base m.core.taken; taken = omega arith }
-rises_change c o m n k f (stores s v base acc number e carries heard plain may) = rises_same m n refl refl
 rises_change c o m n k f (begins_list s v base join image is says may) =
     (let none = k (welcomed_none m s v base join image may) in
     let a = none.base_ in
     let b = ap top_of none.blank_ in
     let given = f.given in let accepted = f.accepted in
     record { base = omega arith; taken = omega arith })
-rises_change c o m n k f (departs s v number is heard leaves) = rises_same m n refl refl
-rises_change c o m n k f (promises v low why) = rises_same m n refl refl
-rises_change c o m n k f (opens least resilience begins may) = rises_same m n refl refl
 rises_change c o m n k f (looks b verdict over why look is) = rises_look m b verdict look
 rises_change c o m n k f (fetches s v base number e is heard promise below why may) = record { base = omega arith; taken = omega arith }
 rises_change c o m n k f (stores_view s v base number names resilience is heard own other promise below may) =
     record { base = omega arith; taken = omega arith }
-rises_change c o m n k f (queues body is says member stays few_) = rises_same m n refl refl
-rises_change c o m n k f (collects req is) = rises_same m n refl refl
 rises_change c o m n k f (takes e is says member some there_) = record { base = omega arith; taken = omega arith }
-rises_change c o m n k f (asks_to_join is was) = rises_same m n refl refl
-rises_change c o m n k f (asks_to_leave is was stays done) = rises_same m n refl refl
 rises_change c o m n k f (closes leads leaves alone room) =
     (let r = (rests_at_end (pushed m (Leave m.core.who))).rests in record { base = r.base; taken = r.taken })
+rises_change c o m n k f _ = rises_same m n refl refl
 
 -- what a letter of a step reports
 pub says_taken : (nodes : ℕ → Node) (m n : Node) (c : Cause) (to : List ℕ) (p : Packet) → n.core.taken ≤ (nodes n.core.who).core.taken
     → Says m c n to p → ReportTaken nodes p
 says_taken nodes m n c to p low (request _ req body a f s) = low
 says_taken nodes m n c to p low (spread _ req body a f s) = low
-says_taken nodes m n c to p low (bcast _ number e l s) = tt
-says_taken nodes m n c to p low (order _ number from_ req v report body is l s) = tt
-says_taken nodes m n c to p low (accept _ poll l) = tt
 says_taken nodes m n c to p low (ack _ a) = low
 says_taken nodes m n c to p low (nack _ a) = low
-says_taken nodes m n c to p low (hold _ s v report req body by l) = tt
-says_taken nodes m n c to p low (join_ask _ a) = tt
-says_taken nodes m n c to p low (welcome s l may) = tt
 says_taken nodes m n c to p low (leave_ask _ a l) = low
-says_taken nodes m n c to p low (gone s l may) = tt
-says_taken nodes m n c to p low (invite _ may) = tt
-says_taken nodes m n c to p low (vote s v is) = tt
-says_taken nodes m n c to p low (fetch _ may) = tt
-says_taken nodes m n c to p low (piece s v stored number e is may at) = tt
-says_taken nodes m n c to p low (result _ number names is viewed may) = tt
-says_taken nodes m n c to p low (hand_over _ l leaves) = tt
+says_taken nodes m n c to p low _ = tt

@@ -23,7 +23,7 @@ use Rattle.am_effects.specs.Causes.{Cause, calls, hears, refuses}
 use Rattle.am_effects.specs.Letters.{LetterSays}
 use Rattle.am_effects.specs.Changes.{Changes, unchanged as no_change, changed}
 use Rattle.am_effects.specs.Effects.{Effect}
-use Rattle.am_effects.specs.Events.{actor, WasSentTo, IsCause, idles, stops, returns, steps}
+use Rattle.am_effects.specs.Events.{actor, WasSentTo, IsCause, steps, Happens}
 use Rattle.am_effects.proofs.Items.{all_item}
 use Rattle.am_effects.proofs.Runs.{EachKeeps, runs_keep}
 use Rattle.am_laws.proofs.TakenRuns.{Along, along_changes, AllOwned, heard_used, each_along, each_owned, owned_start}
@@ -67,22 +67,10 @@ pub record AllTold (rules : Rules) (w : World) : Type 0 where
 more_taken : (old new : ℕ → Node) → ((name : ℕ) → (old name).core.taken ≤ (new name).core.taken) → (p : Packet) → ReportTaken old p → ReportTaken new p
 more_taken old new up (packet.Request s v report req body) h = let a = up s in omega arith
 more_taken old new up (packet.Spread s v report req body) h = let a = up s in omega arith
-more_taken old new up (packet.Bcast s v base acc number e) h = tt
-more_taken old new up (packet.Order s v base acc number from req) h = tt
-more_taken old new up (packet.Accept s v base acc high poll) h = tt
 more_taken old new up (packet.Ack s v report) h = let a = up s in omega arith
 more_taken old new up (packet.Nack s v report) h = let a = up s in omega arith
-more_taken old new up (packet.Hold s v base high req) h = tt
-more_taken old new up (packet.JoinAsk s v) h = tt
-more_taken old new up (packet.Welcome s v base join image) h = tt
 more_taken old new up (packet.LeaveAsk s v report) h = let a = up s in omega arith
-more_taken old new up (packet.Gone s v number) h = tt
-more_taken old new up (packet.Invite s v) h = tt
-more_taken old new up (packet.Vote s v vote) h = tt
-more_taken old new up (packet.Fetch s v stored) h = tt
-more_taken old new up (packet.Piece s v base number e) h = tt
-more_taken old new up (packet.Result s v base number names resilience) h = tt
-more_taken old new up (packet.HandOver s v) h = tt
+more_taken old new up _ h = tt
 
 more_truly : (old new : ℕ → Node) → ((name : ℕ) → (old name).core.taken ≤ (new name).core.taken) → (m : Node) → Truly old m → Truly new m
 more_truly old new up m h name other = let a = h name other in let b = up name in omega arith
@@ -133,13 +121,13 @@ told_same rules w v nodes letters laws h = record {
   letters = rw (nodes, letters) h.letters;
 }
 
-each_told : (rules : Rules) → EachKeeps (AllTold rules)
+told_after : (rules : Rules) (w : World) (e : Event) (v : World) → Happens w e v → AllOwned rules v → AllTold rules w → AllTold rules v
 unfolding unchanged
-each_told rules w e v (idles o idle) h = told_same rules w v refl refl (each_owned rules w e v (idles o idle) h.laws) h
-each_told rules w e v (stops runs) h = told_same rules w v refl refl (each_owned rules w e v (stops runs) h.laws) h
-each_told rules w e v (returns place is left more) h = told_same rules w v refl refl (each_owned rules w e v (returns place is left more) h.laws) h
-each_told rules w e v (steps c s runs cause effect) h =
-    told_step rules w e c s cause effect (each_owned rules w e v (steps c s runs cause effect) h.laws) h
+told_after rules w e v (steps c s runs cause effect) laws h = told_step rules w e c s cause effect laws h
+told_after rules w e v _ laws h = told_same rules w v refl refl laws h
+
+each_told : (rules : Rules) → EachKeeps (AllTold rules)
+each_told rules w e v happens h = told_after rules w e v happens (each_owned rules w e v happens h.laws) h
 
 told_start : (rules : Rules) → MayFound rules → AllTold rules (start rules)
 told_start rules may = record {

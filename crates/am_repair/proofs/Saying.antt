@@ -45,20 +45,15 @@ calm_stays r w v (packet.Request s v_ report req body) g h = report_stays r w v 
 calm_stays r w v (packet.Spread s v_ report req body) g h = report_stays r w v s report g h
 calm_stays r w v (packet.Bcast s v_ base acc number e) g h = stands_stays r w v number e g h
 calm_stays r w v (packet.Order s v_ base acc number from req) g h = (h.0, stands_stays r w v number (Data from req h.0) g h.1)
-calm_stays r w v (packet.Accept s v_ base acc high poll) g h = tt
 calm_stays r w v (packet.Ack s v_ report) g h = report_stays r w v s report g h
 calm_stays r w v (packet.Nack s v_ report) g h = report_stays r w v s report g h
-calm_stays r w v (packet.Hold s v_ base high req) g h = tt
-calm_stays r w v (packet.JoinAsk s v_) g h = tt
 calm_stays r w v (packet.Welcome s v_ base join image) g h = h
 calm_stays r w v (packet.LeaveAsk s v_ report) g h = h
-calm_stays r w v (packet.Gone s v_ number) g h = tt
 calm_stays r w v (packet.Invite s v_) g h = h
 calm_stays r w v (packet.Vote s v_ vote_) g h = h
-calm_stays r w v (packet.Fetch s v_ stored) g h = tt
-calm_stays r w v (packet.Piece s v_ base number e) g h = tt
 calm_stays r w v (packet.Result s v_ base number names resilience) g h = h
 calm_stays r w v (packet.HandOver s v_) g h = h
+calm_stays r w v _ g h = tt
 
 -- ---- what is sent is so
 
@@ -109,17 +104,12 @@ says_calm r w v m n c to p calm h (request _ req body a f s) = report_sent r v m
 says_calm r w v m n c to p calm h (spread _ req body a f s) = report_sent r v m n h
 says_calm r w v m n c to p calm h (bcast _ number e l s) = numbered_stands r v m n number e h l s
 says_calm r w v m n c to p calm h (order _ number from req v_ report body is l s) = (body, numbered_stands r v m n number (Data from req body) h l s)
-says_calm r w v m n c to p calm h (accept _ poll l) = tt
 says_calm r w v m n c to p calm h (ack _ a) = report_sent r v m n h
 says_calm r w v m n c to p calm h (nack _ a) = report_sent r v m n h
-says_calm r w v m n c to p calm h (hold _ s v_ report req body by l) = tt
-says_calm r w v m n c to p calm h (join_ask _ a) = tt
 says_calm r w v m n c to p calm h (welcome s l may) = h.promise l
 says_calm r w v m n c to p calm h (leave_ask _ a leaves) = absurd (let s = h.stays in cc)
-says_calm r w v m n c to p calm h (gone s l may) = tt
 says_calm r w v m n c to p calm h (invite _ may) = absurd (not_invited r v m n h may)
 says_calm r w v m n c to p calm h (vote s v_ is) = absurd (subst (CalmCause r w) is calm)
-says_calm r w v m n c to p calm h (fetch _ may) = tt
-says_calm r w v m n c to p calm h (piece s v_ stored number e is may at) = tt
 says_calm r w v m n c to p calm h (result _ number names is viewed may) = told_view r v m n h may
 says_calm r w v m n c to p calm h (hand_over _ l leaves) = absurd (let s = h.stays in cc)
+says_calm r w v m n c to p calm h _ = tt

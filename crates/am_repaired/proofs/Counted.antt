@@ -1,6 +1,6 @@
 -- Whose storage counts behind the last View, where a run may be repaired: each of them is a member still.
-use Rattle.std.proofs.Common.{◌≡◌, ◌≢◌, ℕ, zero, suc, ◌+◌, ◌-◌, ◌<◌, ◌≤◌, ◌==◌, true, false}
-use Rattle.std.proofs.Common.{List, [], ◌∷◌, ◌++◌, length, take, Option, Some, None, slice_get, slice_index, All, refl, sym, ap, ◌∙◌, subst, arith}
+use Rattle.std.proofs.Common.{◌≡◌, ◌≢◌, ℕ, zero, suc, ◌+◌, ◌<◌, ◌≤◌, ◌==◌, true, false}
+use Rattle.std.proofs.Common.{List, [], ◌∷◌, ◌++◌, length, slice_index, All, sym, ap, ◌∙◌, subst, arith}
 use Rattle.std.proofs.lemmas.Bool.Decides.{nat_tests}
 use Rattle.std.proofs.lemmas.List.Elements.{All-nil, All-cons}
 use Rattle.am_base.specs.declared.entry.Entry.{Entry}
@@ -9,16 +9,15 @@ use Rattle.am_base.specs.declared.image.Image.{Image}
 use Rattle.am_base.specs.Founding.{Rules, MayFound}
 use Rattle.am_base.specs.Names.{IsSet, has, place_of, life_of, name_at, names_from, names_of}
 use Rattle.am_base.specs.Lists.{fold, blank, members_of}
-use Rattle.am_base.specs.Fronts.{counted_of, counted_at}
+use Rattle.am_base.specs.Fronts.{counted_at}
 use Rattle.am_group.specs.declared.event.Event.{Event}
 use Rattle.am_fronts.proofs.Views.{view_grows}
 use Rattle.am_chain_lists.specs.Whole.{Begins, IsGood, told, mem, view_of, key}
-use Rattle.am_chain_lists.proofs.Prefixes.{begins_take, begins_trans, begins_length, length_take, length_push}
-use Rattle.am_chain_lists.proofs.Members.{good_begins, told_push, mem_push, viewed_mem, ends_of}
+use Rattle.am_chain_lists.proofs.Prefixes.{begins_trans, begins_length, length_push}
+use Rattle.am_chain_lists.proofs.Members.{good_begins, told_push, mem_push, ends_of}
 use Rattle.am_chain_moves.specs.Group.{Group, Leads, counted, opening, chain_of, current_of}
 use Rattle.am_chain_moves.specs.Kept.{Kept}
 use Rattle.am_model.specs.Node.{Node, top, told as told_at, members, lowest_or_first}
-use Rattle.am_model.specs.Receiving.{is_view}
 use Rattle.am_model.specs.Claims.{MayRepair}
 use Rattle.am_model.specs.World.{World, current, run}
 use Rattle.am_model.proofs.Folds.{fold_append}
@@ -26,7 +25,7 @@ use Rattle.am_model.proofs.Greatest.{split}
 use Rattle.am_laws.proofs.Named.{names_hold}
 use Rattle.am_laws.proofs.RunCounts.{numbers_hold}
 use Rattle.am_laws.proofs.TakenRuns.{taken_holds}
-use Rattle.am_laws.proofs.ViewSteps.{after_same, after_view}
+use Rattle.am_laws.proofs.ViewSteps.{after_view}
 use Rattle.am_stands.specs.Standing.{NameStands}
 use Rattle.am_stands.specs.Moving.{NamesNamed}
 use Rattle.am_stands.specs.Running.{Following}
@@ -34,7 +33,7 @@ use Rattle.am_stands.proofs.Changes.{told_all, long_all}
 use Rattle.am_stands.proofs.ChainNames.{counts_names}
 use Rattle.am_stands.proofs.Counting.{name_small}
 use Rattle.am_stands.proofs.Onward.{group_kept}
-use Rattle.am_stands.proofs.Parts.{counted_whole, next_part, part_number, number_low}
+use Rattle.am_stands.proofs.Parts.{stood, counted_whole}
 use Rattle.am_steps.proofs.Steps.{steps_move}
 use Rattle.am_headline.proofs.Begun.{held}
 use Rattle.am_repaired.proofs.Left.{AllLeft, GoneBy, accepted, last, once, runs_left}
@@ -42,75 +41,6 @@ use Rattle.am_repaired.proofs.OneList.{lawful_events, small_name, leading}
 use Rattle.am_repaired.proofs.Upheld.{Upheld, upheld_start, upheld_keeps}
 
 -- ---- who counts for a number
-
--- a beginning of the list that reaches at least to before the number, and has the last View, where the name is a member
-record Stood (list : List Entry) (n name : ℕ) : Type 0 where
-  upto : List Entry
-  begins_ : Begins upto list
-  near : n ≤ length upto + 1
-  from : (told list).view_number ≤ length upto
-  member : mem upto name ≡ true
-
-plain_number : (a : List Entry) (e : Entry) → is_view e ≡ false → (told (a ++ e ∷ [])).view_number ≡ (told a).view_number
-plain_number a e f = ap (λ (g : Image). g.view_number) (told_push a e) ∙ (after_same (told a) (1 + length a) e f).number
-
-plain_counts : (e : Entry) (before : List ℕ) → is_view e ≡ false → counted_of (Some e) before ≡ before
-plain_counts (Data from req body) before f = refl
-plain_counts (Join name) before f = refl
-plain_counts (Leave name) before f = refl
-plain_counts (View stamp names resilience) before f = absurd (cc)
-
-no_none : (list : List Entry) (n : ℕ) → n < length list → slice_get list n ≡ None → ⊥
-no_none [] n low is = omega arith
-no_none (e ∷ list) zero low is = cc
-no_none (e ∷ list) (suc n) low is = no_none list n (omega arith) is
-
-stood_view : (list : List Entry) (n name : ℕ) (e : Entry) → IsGood list → n < length list → (told list).view_number ≤ n + 1
-    → is_view e ≡ true → slice_get list n ≡ Some e → has (counted_of (Some e) (members_of (told (take n list)))) name ≡ true → Stood list (n + 1) name
-stood_view list n name (Data from req body) good low high t is h = absurd (cc)
-stood_view list n name (Join joiner) good low high t is h = absurd (cc)
-stood_view list n name (Leave leaver) good low high t is h = absurd (cc)
-stood_view list n name (View stamp names resilience) good low high t is h =
-    let part = next_part list n (View stamp names resilience) low is in
-    let long : length (take (n + 1) list) ≡ n + 1 = length_take (n + 1) list (omega arith) in
-    let good_part : IsGood (take n list ++ View stamp names resilience ∷ []) = subst IsGood part (good_begins (begins_take (n + 1) list) good) in
-    record {
-      upto = take (n + 1) list;
-      begins_ = begins_take (n + 1) list;
-      near = omega arith;
-      from = omega arith;
-      member = subst (λ l. mem l name ≡ true) (sym part) (viewed_mem (take n list) stamp names resilience name good_part h);
-    }
-
-stood_plain : (list : List Entry) (n name : ℕ) (e : Entry) → n < length list → (told list).view_number ≤ n + 1
-    → is_view e ≡ false → slice_get list n ≡ Some e → has (counted_of (Some e) (members_of (told (take n list)))) name ≡ true → Stood list (n + 1) name
-unfolding mem
-stood_plain list n name e low high f is h =
-    let part = next_part list n e low is in
-    let long : length (take n list) ≡ n = length_take n list (omega arith) in
-    let same = part_number list (n + 1) (omega arith) high in
-    let before = ap (λ l. (told l).view_number) part ∙ plain_number (take n list) e f in
-    let short = number_low (take n list) in
-    record {
-      upto = take n list;
-      begins_ = begins_take n list;
-      near = omega arith;
-      from = omega arith;
-      member = ap (λ set. has set name) (sym (plain_counts e (members_of (told (take n list))) f)) ∙ h;
-    }
-
-stood_in : (list : List Entry) (n name : ℕ) (o : Option Entry) → IsGood list → n < length list → (told list).view_number ≤ n + 1
-    → slice_get list n ≡ o → has (counted_of o (members_of (told (take n list)))) name ≡ true → Stood list (n + 1) name
-stood_in list n name None good low high is h = absurd (no_none list n low is)
-stood_in list n name (Some e) good low high is h = split (is_view e)
-    (λ t. stood_view list n name e good low high t is h)
-    (λ f. stood_plain list n name e low high f is h)
-
-stood : (list : List Entry) (n name : ℕ) → IsGood list → 0 < n → n ≤ length list → (told list).view_number ≤ n → has (counted list n) name ≡ true
-    → Stood list n name
-stood list n name good low high view_ h =
-    let one : n - 1 + 1 ≡ n = omega arith in
-    subst (λ k. Stood list k name) one (stood_in list (n - 1) name (slice_get list (n - 1)) good (omega arith) (omega arith) refl h)
 
 -- ---- how a membership ends behind the last View
 

@@ -11,7 +11,7 @@ use Rattle.am_chain_lists.specs.Whole.{key}
 use Rattle.am_chain_moves.specs.Group.{Group}
 use Rattle.am_model.specs.Node.{Node, view, acts, is_sequencer}
 use Rattle.am_model.specs.Emit.{Step}
-use Rattle.am_model.specs.World.{World, stepped, run}
+use Rattle.am_model.specs.World.{World, run}
 use Rattle.am_model.proofs.Greatest.{split, and_both}
 use Rattle.am_effects.specs.Causes.{Cause}
 use Rattle.am_effects.specs.Events.{actor}
@@ -19,35 +19,17 @@ use Rattle.am_effects.proofs.Items.{all_get}
 use Rattle.am_laws.proofs.Views.{IsNoted}
 use Rattle.am_stands.specs.Letters.{PacketSays}
 use Rattle.am_stands.proofs.Entries.{key_stamp}
-use Rattle.am_headline.proofs.Fold.{run_push}
+use Rattle.am_headline.proofs.OneStep.{parts, plain}
 use Rattle.am_repair.proofs.ReportedRuns.{known_is_taken}
 use Rattle.am_repaired.proofs.Mailed.{says_low}
-use Rattle.am_repaired.proofs.Trims.{LetterLow, Knows, took, Settles, OneStep, Sent, before, now, equal, few, laws_w, laws_v, node_v, others_v, who_n}
+use Rattle.am_repaired.proofs.Trims.{LetterLow, Knows, took, Settles, TrimStep, Sent, before, now, equal, laws_w, laws_v, who_n}
 use Rattle.am_repaired.proofs.Trims.{letter_v, piece_decided}
 
-module _ (rules : Rules) (events : List Event) (e : Event) (c : Cause) (step : Step) (s t : Group) (x : OneStep rules events e c step s t)
+module _ (rules : Rules) (events : List Event) (e : Event) (c : Cause) (step : Step) (s t : Group) (x : TrimStep rules events e c step s t)
     (leads : is_sequencer step.node ≡ true)
     (above : stamp_lt (view ((run rules events).nodes (actor (run rules events) e))) (view step.node) ≡ true) where
-  abbrev w : World
-  w = run rules events
-
-  abbrev i : ℕ
-  i = actor w e
-
-  abbrev m : Node
-  m = w.nodes i
-
-  abbrev n : Node
-  n = step.node
-
-  abbrev v : World
-  v = stepped w e i step
-
-  small_i : i < 256
-  small_i = few rules events e c step s t x
-
-  at_i : v.nodes i ≡ n
-  at_i = node_v rules events e c step s t x
+  open parts rules events e step use {w, i, m, n, v}
+  open plain x.goes use {few as small_i, node_v as at_i, others_v, run_v}
 
   own : (view n).by ≡ i
   own =
@@ -76,21 +58,7 @@ module _ (rules : Rules) (events : List Event) (e : Event) (c : Cause) (step : S
       (ap (λ (z : Stamp). s.views.decided (key z)) (sym same) ∙ (says.1 (ap (λ (z : Stamp). z.by) same ∙ own ∙ sym mine)).decided))
   old_low k l low at to (packet.Welcome from u base join image) is says = λ mine same. absurd (is_new
       (ap (λ (z : Stamp). s.views.decided (key z)) (sym same) ∙ x.trims.welcomes k l from u base join image at (sym is)))
-  old_low k l low at to (packet.Request from u report req body) is says = tt
-  old_low k l low at to (packet.Spread from u report req body) is says = tt
-  old_low k l low at to (packet.Bcast from u base acc number y) is says = tt
-  old_low k l low at to (packet.Order from u base acc number who req) is says = tt
-  old_low k l low at to (packet.Accept from u base acc high poll) is says = tt
-  old_low k l low at to (packet.Ack from u report) is says = tt
-  old_low k l low at to (packet.Nack from u report) is says = tt
-  old_low k l low at to (packet.Hold from u base high req) is says = tt
-  old_low k l low at to (packet.JoinAsk from u) is says = tt
-  old_low k l low at to (packet.LeaveAsk from u report) is says = tt
-  old_low k l low at to (packet.Gone from u number) is says = tt
-  old_low k l low at to (packet.Invite from u) is says = tt
-  old_low k l low at to (packet.Vote from u vote) is says = tt
-  old_low k l low at to (packet.Fetch from u stored) is says = tt
-  old_low k l low at to (packet.HandOver from u) is says = tt
+  old_low k l low at to _ is says = tt
 
   letter_low : (l : Letter) → Sent w m n c l → LetterLow i (view n) n.core.base l.packet
   letter_low l (before k at) = old_low k l n.core.base at l.to l.packet refl (x.old.letters k l at)
@@ -99,8 +67,7 @@ module _ (rules : Rules) (events : List Event) (e : Event) (c : Cause) (step : S
   -- what is known was taken, or is no more than the base
   known : (j : ℕ) → j < 256 → (n.reports j).taken ≤ max n.core.base (v.nodes j).core.taken
   known j few_j =
-      let is : run rules (events ++ e ∷ []) ≡ v = run_push rules events e ∙ sym x.is in
-      let all = subst (λ (u : World). ((u.nodes i).reports j).taken ≤ max (u.nodes i).core.base (u.nodes j).core.taken) is
+      let all = subst (λ (u : World). ((u.nodes i).reports j).taken ≤ max (u.nodes i).core.base (u.nodes j).core.taken) run_v
       (known_is_taken rules (events ++ e ∷ []) i j x.may small_i few_j) in
       subst (λ (y : Node). (y.reports j).taken ≤ max y.core.base (v.nodes j).core.taken) at_i all
 
@@ -112,7 +79,7 @@ module _ (rules : Rules) (events : List Event) (e : Event) (c : Cause) (step : S
       let z = ap (λ (y : Node). y.core.base) is in
       omega arith)
       (λ f.
-      let is = others_v rules events e c step s t x j f in
+      let is = others_v j f in
       let d = x.trims.decided j few_j (ap acts (sym is) ∙ act) in
       absurd (is_new (ap (λ (z : Stamp). s.views.decided (key z)) (sym same) ∙ ap (λ (y : Node). s.views.decided (key (view y))) is ∙ d)))
 

@@ -58,6 +58,20 @@ pub record Welcomed (w : World) (j base : ℕ) : Type 0 where
   pub image : Image
   pub is : letter.packet ≡ packet.Welcome from stamp base join image
 
+-- the same letter, in another world
+pub welcomed_in : (w v : World) (j base : ℕ) (h : Welcomed w j base) (k : ℕ) → slice_get v.letters k ≡ Some h.letter → Welcomed v j base
+welcomed_in w v j base h k there = record {
+  number = k;
+  letter = h.letter;
+  there = there;
+  addressed = h.addressed;
+  from = h.from;
+  stamp = h.stamp;
+  join = h.join;
+  image = h.image;
+  is = h.is;
+}
+
 unlogged_here : (t : Status) → has_log t ≡ false → has_departed t ≡ false
 unlogged_here status.Stranger f = refl
 unlogged_here status.Asking f = refl

@@ -13,48 +13,28 @@ use Rattle.am_chain_moves.specs.Group.{Group}
 use Rattle.am_model.specs.Node.{Node, view, acts, is_sequencer, founding_stamp}
 use Rattle.am_model.specs.Group.{has_log}
 use Rattle.am_model.specs.Emit.{Step}
-use Rattle.am_model.specs.World.{World, start, founders_decided, first_node, is_stopped, stepped, run}
+use Rattle.am_model.specs.World.{World, start, founders_decided, first_node, is_stopped}
 use Rattle.am_model.proofs.Greatest.{split}
 use Rattle.am_effects.specs.Causes.{Cause}
-use Rattle.am_effects.specs.Events.{actor}
 use Rattle.am_stands.specs.Running.{Following}
 use Rattle.am_headline.proofs.Fold.{KeptBy, Quiet}
+use Rattle.am_headline.proofs.OneStep.{parts, plain}
 use Rattle.am_repair.proofs.Nodes.{acting, leading}
 use Rattle.am_repaired.proofs.Came.{Came, before, own, told_so}
 use Rattle.am_repaired.proofs.Decided.{decided_settles}
+use Rattle.am_repaired.proofs.Fresh.{welcomed_in}
 use Rattle.am_repaired.proofs.Leading.{leading_settles}
 use Rattle.am_repaired.proofs.Mailed.{says_welcome}
 use Rattle.am_repaired.proofs.One.{runs_leading}
 use Rattle.am_repaired.proofs.Others.{others_settle}
-use Rattle.am_repaired.proofs.Trims.{LetterLow, Knows, took, joins, halts, Settles, Trims, OneStep, Sent, equal}
+use Rattle.am_repaired.proofs.Trims.{LetterLow, Knows, took, joins, halts, Settles, Trims, TrimStep, Sent, equal}
 use Rattle.am_repaired.proofs.Trims as trims
 
 -- ---- a step
 
-module _ (rules : Rules) (events : List Event) (e : Event) (c : Cause) (step : Step) (s t : Group) (x : OneStep rules events e c step s t) where
-  abbrev w : World
-  w = run rules events
-
-  abbrev i : ℕ
-  i = actor w e
-
-  abbrev m : Node
-  m = w.nodes i
-
-  abbrev n : Node
-  n = step.node
-
-  abbrev v : World
-  v = stepped w e i step
-
-  few_i : i < 256
-  few_i = trims.few rules events e c step s t x
-
-  here : v.nodes i ≡ n
-  here = trims.node_v rules events e c step s t x
-
-  there : (j : ℕ) → (j == i) ≡ false → v.nodes j ≡ w.nodes j
-  there j f = trims.others_v rules events e c step s t x j f
+module _ (rules : Rules) (events : List Event) (e : Event) (c : Cause) (step : Step) (s t : Group) (x : TrimStep rules events e c step s t) where
+  open parts rules events e step use {w, i, m, n, v}
+  open plain x.goes use {few as few_i, kept_t, node_v as here, others_v as there}
 
   came_n : acts n ≡ true → Came c m n
   came_n = trims.came_n rules events e c step s t x
@@ -65,7 +45,7 @@ module _ (rules : Rules) (events : List Event) (e : Event) (c : Cause) (step : S
       let leads_v = ap is_sequencer here ∙ leads in
       let runs_v = trims.stopped_v rules events e c step s t x i ∙ x.runs in
       ap (λ (y : Node). t.views.decided (key y.core.promise)) (sym here)
-      ∙ (runs_leading rules v t i x.new (trims.kept_t rules events e c step s t x) few_i (trims.who_v rules events e c step s t x i) leads_v runs_v).decided
+      ∙ (runs_leading rules v t i x.new kept_t few_i (trims.who_v rules events e c step s t x i) leads_v runs_v).decided
 
   decided_n : acts n ≡ true → t.views.decided (key (view n)) ≡ true
   decided_n act = by_kind (came_n act)
@@ -137,17 +117,7 @@ quiet_knows w v low q j nodes letters stop (joins none under welcomes) =
     let known = ap (λ f. ((f q).reports j).taken) nodes in
     joins (ap (λ f. has_log (f j).status) nodes ∙ none) (let b = ap (λ f. (f q).core.base) nodes in omega arith)
     (λ base h.
-    let z = welcomes base (record {
-      number = h.number;
-      letter = h.letter;
-      there = ap (λ (l : List Letter). slice_get l h.number) (sym letters) ∙ h.there;
-      addressed = h.addressed;
-      from = h.from;
-      stamp = h.stamp;
-      join = h.join;
-      image = h.image;
-      is = h.is;
-    }) in
+    let z = welcomes base (welcomed_in v w j base h h.number (ap (λ (l : List Letter). slice_get l h.number) (sym letters) ∙ h.there)) in
     omega arith)
 quiet_knows w v low q j nodes letters stop (halts stopped) = halts (stop j stopped)
 
@@ -211,16 +181,7 @@ trims_start rules t f = record {
 
 pub trims_keeps : (rules : Rules) → KeptBy Trims rules
 trims_keeps rules = record {
-  by_step = λ events e c step s t may runs cause effect is old path grows shaped new h. trims_step rules events e c step s t (record {
-    may = may;
-    runs = runs;
-    cause = cause;
-    effect = effect;
-    is = is;
-    old = old;
-    grows = grows;
-    new = new;
-    trims = h;
-  });
+  by_step = λ {events = events} {e = e} {c = c} {step = step} {s = s} {t = t} x h.
+      trims_step rules events e c step s t (record { goes = x; trims = h });
   by_quiet = λ w v s t q h. trims_quiet w v s t q h;
 }

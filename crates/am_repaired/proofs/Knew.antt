@@ -11,10 +11,9 @@ use Rattle.am_model.specs.Ballots.{Verdict, trimmed_for, left_in, need_of}
 use Rattle.am_model.specs.Refresh.{refresh}
 use Rattle.am_model.proofs.Greatest.{split}
 use Rattle.am_effects.specs.Causes.{Cause}
-use Rattle.am_effects.specs.Looks.{Looks, finds_itself_out, waits, fetches_from_best, finds_too_few, finds_no_room, decides}
-use Rattle.am_effects.specs.Changes.{Change, refreshes, settles, takes_report, admits, numbers, keeps_body, notes, stores, begins_list, departs, promises}
-use Rattle.am_effects.specs.Changes.{opens}
-use Rattle.am_effects.specs.Changes.{looks, fetches, stores_view, queues, collects, takes, asks_to_join, asks_to_leave, closes}
+use Rattle.am_effects.specs.Looks.{Looks, decides}
+use Rattle.am_effects.specs.Changes.{Change, refreshes, settles, takes_report, admits}
+use Rattle.am_effects.specs.Changes.{looks, stores_view, closes}
 use Rattle.am_effects.specs.Changes.{Changes, unchanged, changed}
 use Rattle.am_effects.proofs.Rests.{settle_is, rests_refresh, rests_at_end}
 use Rattle.am_laws.proofs.Stamps.{not_above_itself, at_most, at_most_below, below}
@@ -43,15 +42,11 @@ same : (nodes : ℕ → Node) (x y : Node) → y.core.who ≡ x.core.who → ((j
 same nodes x y who is = knew who (λ j other. let b = ap (λ (r : Report). r.taken) (is j other) in omega arith)
 
 know_look : (nodes : ℕ → Node) (x : Node) (b : Ballot) (v : Verdict) → Looks x b v → stamp_lt (view x) b.stamp ≡ true → Know nodes x v.node
-know_look nodes x b v (finds_itself_out w) above = same nodes x v.node refl (λ j other. refl)
-know_look nodes x b v (waits w u) above = same nodes x v.node refl (λ j other. refl)
-know_look nodes x b v (fetches_from_best w u z) above = same nodes x v.node refl (λ j other. refl)
-know_look nodes x b v (finds_too_few w u) above = same nodes x v.node refl (λ j other. refl)
-know_look nodes x b v (finds_no_room w) above = same nodes x v.node refl (λ j other. refl)
 know_look nodes x b v (decides may) above =
     let is : view v.node ≡ b.stamp = view_last (trimmed_for x b (left_in b (need_of x b))) b.stamp (left_in b (need_of x b))
     (max b.resilience (told x).resilience) in
     anew (ap (stamp_lt (view x)) is ∙ above)
+know_look nodes x b v _ above = same nodes x v.node refl (λ j other. refl)
 
 know_change : (nodes : ℕ → Node) (c : Cause) (o : Outcome) (x y : Node) → NoJoin c → CauseTaken nodes c → Balloted x → Change c o x y → Know nodes x y
 know_change nodes c o x y none w k refreshes = same nodes x y (refresh_who x) (refresh_same x)
@@ -61,24 +56,11 @@ know_change nodes c o x y none w k (takes_report s v report brings may) =
     (λ t. let e : j ≡ s = grind (arith, nat_tests) in rw (t, e) (omega arith))
     (λ f. rw f (omega arith)))
 know_change nodes c o x y none w k (admits s v is leads fit) = absurd (none s v is)
-know_change nodes c o x y none w k (numbers e leads room why) = same nodes x y refl (λ j other. refl)
-know_change nodes c o x y none w k (keeps_body s v report req body is heard) = same nodes x y refl (λ j other. refl)
-know_change nodes c o x y none w k (notes s v base acc brings heard) = same nodes x y refl (λ j other. refl)
-know_change nodes c o x y none w k (stores s v base acc number e carries heard plain may) = same nodes x y refl (λ j other. refl)
-know_change nodes c o x y none w k (begins_list s v base join image is says may) = same nodes x y refl (λ j other. refl)
-know_change nodes c o x y none w k (departs s v number is heard leaves) = same nodes x y refl (λ j other. refl)
-know_change nodes c o x y none w k (promises v low why) = same nodes x y refl (λ j other. refl)
-know_change nodes c o x y none w k (opens least resilience begins may) = same nodes x y refl (λ j other. refl)
 know_change nodes c o x y none w k (looks b verdict over why look is) = know_look nodes x b verdict look (looked_at x b why k).open_.above
-know_change nodes c o x y none w k (fetches s v base number e is heard promise below_ why may) = same nodes x y refl (λ j other. refl)
 know_change nodes c o x y none w k (stores_view s v base number names resilience is heard own other promise below_ may) = same nodes x y refl (λ j other_. refl)
-know_change nodes c o x y none w k (queues body is says member stays few) = same nodes x y refl (λ j other. refl)
-know_change nodes c o x y none w k (collects req is) = same nodes x y refl (λ j other. refl)
-know_change nodes c o x y none w k (takes e is says member some there) = same nodes x y refl (λ j other. refl)
-know_change nodes c o x y none w k (asks_to_join is was) = same nodes x y refl (λ j other. refl)
-know_change nodes c o x y none w k (asks_to_leave is was stays done) = same nodes x y refl (λ j other. refl)
 know_change nodes c o x y none w k (closes leads leaves alone room) =
     same nodes x y (rests_at_end (pushed x (Leave x.core.who))).rests.who (end_same (pushed x (Leave x.core.who)))
+know_change nodes c o x y none w k _ = same nodes x y refl (λ j other. refl)
 
 then_know : (nodes : ℕ → Node) (m x y : Node) → stamp_lt (view x) (view m) ≡ false → stamp_lt (view y) (view x) ≡ false → Know nodes m x → Know nodes x y
     → Know nodes m y

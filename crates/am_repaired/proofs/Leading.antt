@@ -12,22 +12,23 @@ use Rattle.am_chain_moves.specs.Group.{Group}
 use Rattle.am_model.specs.Node.{Node, told, view, acts, is_sequencer}
 use Rattle.am_model.specs.Group.{has_log}
 use Rattle.am_model.specs.Emit.{Step}
-use Rattle.am_model.specs.World.{World, is_stopped, stepped, run}
+use Rattle.am_model.specs.World.{World, is_stopped, run}
 use Rattle.am_model.proofs.Greatest.{split}
 use Rattle.am_effects.specs.Causes.{Cause, calls, hears, refuses}
 use Rattle.am_effects.specs.Events.{actor, WasSentTo, IsCause}
 use Rattle.am_effects.proofs.Items.{all_get}
 use Rattle.am_laws.proofs.Stamps.{not_above_itself}
 use Rattle.am_steps.proofs.Any.{GoesSo, run_goes}
+use Rattle.am_headline.proofs.OneStep.{parts, plain}
 use Rattle.am_repair.proofs.Knowing.{NoJoin}
 use Rattle.am_repair.proofs.Reported.{Rises}
 use Rattle.am_repair.proofs.ReportedRuns.{run_told, cause_taken}
 use Rattle.am_repaired.proofs.Asked.{Asked, as_before, admitted_, asked_event}
 use Rattle.am_repaired.proofs.Began.{rises_along}
-use Rattle.am_repaired.proofs.Fresh.{Welcomed, no_list, no_welcome}
+use Rattle.am_repaired.proofs.Fresh.{Welcomed, no_list, no_welcome, welcomed_in}
 use Rattle.am_repaired.proofs.Knew.{Know, knew, anew, know}
 use Rattle.am_repaired.proofs.Mailed.{says_low, says_welcome}
-use Rattle.am_repaired.proofs.Trims.{LetterLow, Knows, took, joins, halts, Settles, OneStep, Sent, before, now, equal}
+use Rattle.am_repaired.proofs.Trims.{LetterLow, Knows, took, joins, halts, Settles, TrimStep, Sent, before, now, equal}
 use Rattle.am_repaired.proofs.Trims as trims
 
 -- ---- a request to join, or none
@@ -45,26 +46,11 @@ join_or_none (hears _) = inr (λ s v is. absurd (cc))
 
 -- ---- the step
 
-module _ (rules : Rules) (events : List Event) (e : Event) (c : Cause) (step : Step) (s t : Group) (x : OneStep rules events e c step s t)
+module _ (rules : Rules) (events : List Event) (e : Event) (c : Cause) (step : Step) (s t : Group) (x : TrimStep rules events e c step s t)
     (leads : is_sequencer ((run rules events).nodes (actor (run rules events) e)) ≡ true)
     (same : view step.node ≡ view ((run rules events).nodes (actor (run rules events) e))) where
-  abbrev w : World
-  w = run rules events
-
-  abbrev i : ℕ
-  i = actor w e
-
-  abbrev m : Node
-  m = w.nodes i
-
-  abbrev n : Node
-  n = step.node
-
-  abbrev v : World
-  v = stepped w e i step
-
-  few_i : i < 256
-  few_i = trims.few rules events e c step s t x
+  open parts rules events e step use {w, i, m, n, v}
+  open plain x.goes use {few as few_i, kept_s, node_v as here, others_v as there}
 
   was : Settles w i
   was = x.trims.settles i few_i leads x.runs
@@ -72,12 +58,6 @@ module _ (rules : Rules) (events : List Event) (e : Event) (c : Cause) (step : S
   rises : Rises m n
   rises = rises_along rules m n (trims.heard rules events e c step s t x) (trims.used rules events e c step s t x) x.effect.changes
       (trims.along rules events e c step s t x)
-
-  here : v.nodes i ≡ n
-  here = trims.node_v rules events e c step s t x
-
-  there : (j : ℕ) → (j == i) ≡ false → v.nodes j ≡ w.nodes j
-  there j f = trims.others_v rules events e c step s t x j f
 
   same_v : view (v.nodes i) ≡ view m
   same_v = ap view here ∙ same
@@ -98,17 +78,7 @@ module _ (rules : Rules) (events : List Event) (e : Event) (c : Cause) (step : S
   welcomed j base low under old h = by_kind (trims.letter_v rules events e c step s t x h.number h.letter h.there)
     where
       by_kind : Sent w m n c h.letter → low ≤ base
-      by_kind (before k at) = old base (record {
-        number = k;
-        letter = h.letter;
-        there = at;
-        addressed = h.addressed;
-        from = h.from;
-        stamp = h.stamp;
-        join = h.join;
-        image = h.image;
-        is = h.is;
-      })
+      by_kind (before k at) = old base (welcomed_in v w j base h k at)
       by_kind (now says) =
           let is_ = (says_welcome m n c h.letter h.from h.stamp base h.join h.image says h.is).base_ in
           let up = rises.base in
@@ -135,13 +105,12 @@ module _ (rules : Rules) (events : List Event) (e : Event) (c : Cause) (step : S
   known_joined j few other fit base = split (is_stopped w j)
       (λ stop. halts (trims.stopped_v rules events e c step s t x j ∙ stop))
       (λ goes.
-      let kept = trims.kept_s rules events e c step s t x in
       let who = trims.who_w rules events e c step s t x i in
-      let none = no_list rules w s i j x.old kept few_i few who leads x.runs fit in
+      let none = no_list rules w s i j x.old kept_s few_i few who leads x.runs fit in
       let up = rises.base in
       joins (ap (λ (y : Node). has_log y.status) (there j other) ∙ none) (omega arith)
       (λ b h. (let z = welcomed j b m.core.base (omega arith)
-      (λ b_ h_. absurd (no_welcome rules w s i j x.old kept few_i few who leads x.runs fit b_ goes h_
+      (λ b_ h_. absurd (no_welcome rules w s i j x.old kept_s few_i few who leads x.runs fit b_ goes h_
       (all_get GoesSo w.letters h_.number h_.letter (run_goes rules events) h_.there))) h in omega arith)))
 
   knows_n : (j : ℕ) → j < 256 → (j == i) ≡ false → Knows v was.low n j

@@ -125,7 +125,7 @@ module _ (rules : Rules) (w : World) (s : Group) (place : ℕ) (old : Following 
 -- nothing besides is kept
 nothing_kept : (rules : Rules) → KeptBy (λ w s. Unit {0}) rules
 nothing_kept rules = record {
-  by_step = λ events e c step s t may runs cause effect is old path grows shaped new h. tt;
+  by_step = λ x h. tt;
   by_quiet = λ w v s t q h. tt;
 }
 

@@ -9,43 +9,29 @@ use Rattle.am_chain_moves.specs.Group.{Group}
 use Rattle.am_model.specs.Node.{Node, view, acts, is_sequencer}
 use Rattle.am_model.specs.Group.{has_log}
 use Rattle.am_model.specs.Emit.{Step}
-use Rattle.am_model.specs.World.{World, is_stopped, stepped, run}
+use Rattle.am_model.specs.World.{is_stopped, run}
 use Rattle.am_model.specs.Claims.{heard_by}
 use Rattle.am_model.proofs.Greatest.{split, and_both}
 use Rattle.am_effects.specs.Causes.{Cause}
 use Rattle.am_effects.specs.Events.{actor, WasSentTo, IsCause}
+use Rattle.am_headline.proofs.OneStep.{itself, parts, plain}
 use Rattle.am_repair.proofs.Reported.{Rises}
 use Rattle.am_repaired.proofs.Began.{Began, begins, rises_along}
 use Rattle.am_repaired.proofs.Came.{Tells, by_piece, by_result, by_welcome, Came, before as went_on, own, told_so}
-use Rattle.am_repaired.proofs.Fresh.{Welcomed}
+use Rattle.am_repaired.proofs.Fresh.{Welcomed, welcomed_in}
 use Rattle.am_repaired.proofs.Mailed.{says_apart, says_welcome}
 use Rattle.am_repaired.proofs.One.{one_sequencer}
-use Rattle.am_repaired.proofs.Trims.{LetterLow, Knows, took, joins, halts, Settles, OneStep, Sent, before, now, item_get, equal, itself}
-use Rattle.am_repaired.proofs.Trims.{few, kept_t, along, heard, used, who_v, who_n, node_v, others_v, stopped_v, letter_v, came_n}
+use Rattle.am_repaired.proofs.Trims.{LetterLow, Knows, took, joins, halts, Settles, TrimStep, Sent, before, now, item_get, equal}
+use Rattle.am_repaired.proofs.Trims.{along, heard, used, who_v, who_n, stopped_v, letter_v, came_n}
 
-module _ (rules : Rules) (events : List Event) (e : Event) (c : Cause) (step : Step) (s t : Group) (x : OneStep rules events e c step s t)
+module _ (rules : Rules) (events : List Event) (e : Event) (c : Cause) (step : Step) (s t : Group) (x : TrimStep rules events e c step s t)
     (q : ℕ) (few_q : q < 256) (other : (q == actor (run rules events) e) ≡ false) (leads : is_sequencer ((run rules events).nodes q) ≡ true)
     (runs_q : is_stopped (run rules events) q ≡ false) where
-  abbrev w : World
-  w = run rules events
-
-  abbrev i : ℕ
-  i = actor w e
-
-  abbrev m : Node
-  m = w.nodes i
-
-  abbrev n : Node
-  n = step.node
-
-  abbrev v : World
-  v = stepped w e i step
-
-  at_i : v.nodes i ≡ n
-  at_i = node_v rules events e c step s t x
+  open parts rules events e step use {w, i, m, n, v}
+  open plain x.goes use {few, kept_t, node_v as at_i, others_v}
 
   at_q : v.nodes q ≡ w.nodes q
-  at_q = others_v rules events e c step s t x q other
+  at_q = others_v q other
 
   h : Settles w q
   h = x.trims.settles q few_q leads runs_q
@@ -91,7 +77,7 @@ module _ (rules : Rules) (events : List Event) (e : Event) (c : Cause) (step : S
   acting_i act same = by_way (came_n rules events e c step s t x act)
     where
       by_way : Came c m n → h.low ≤ n.core.taken
-      by_way (went_on was stays more) = let low = h.acting i (few rules events e c step s t x) was (sym stays ∙ same) in omega arith
+      by_way (went_on was stays more) = let low = h.acting i few was (sym stays ∙ same) in omega arith
       by_way (own mine above) = absurd (apart (sym (who_n rules events e c step s t x) ∙ sym mine ∙ ap (λ (u : Stamp). u.by) same ∙ own_q))
       by_way (told_so from u base tells is by far low) =
           let a = told_low from u base tells (sym by ∙ ap (λ (z : Stamp). z.by) (sym is ∙ same) ∙ own_q) (sym is ∙ same) in omega arith
@@ -102,7 +88,7 @@ module _ (rules : Rules) (events : List Event) (e : Event) (c : Cause) (step : S
       let is : v.nodes j ≡ n = ap v.nodes (equal j i u) ∙ at_i in
       subst (λ (y : Node). h.low ≤ y.core.taken) (sym is) (acting_i (ap acts (sym is) ∙ act) (ap view (sym is) ∙ same)))
       (λ f.
-      let is = others_v rules events e c step s t x j f in
+      let is = others_v j f in
       subst (λ (y : Node). h.low ≤ y.core.taken) (sym is) (h.acting j few_j (ap acts (sym is) ∙ act) (ap view (sym is) ∙ same)))
 
   -- ---- letters
@@ -113,7 +99,7 @@ module _ (rules : Rules) (events : List Event) (e : Event) (c : Cause) (step : S
 
   -- who steps is no sequencer, so it sends no Welcome
   no_second : is_sequencer n ≡ true → ⊥
-  no_second t_ = apart (one_sequencer rules v t i q x.new (kept_t rules events e c step s t x) (few rules events e c step s t x) few_q
+  no_second t_ = apart (one_sequencer rules v t i q x.new kept_t few few_q
       (who_v rules events e c step s t x i) (who_v rules events e c step s t x q) (ap is_sequencer at_i ∙ t_) (ap is_sequencer at_q ∙ leads)
       (stopped_v rules events e c step s t x i ∙ x.runs) (stopped_v rules events e c step s t x q ∙ runs_q))
 
@@ -121,17 +107,7 @@ module _ (rules : Rules) (events : List Event) (e : Event) (c : Cause) (step : S
   welcomed j base z = by_time (letter_v rules events e c step s t x z.number z.letter z.there)
     where
       by_time : Sent w m n c z.letter → Welcomed w j base
-      by_time (before k at) = record {
-        number = k;
-        letter = z.letter;
-        there = at;
-        addressed = z.addressed;
-        from = z.from;
-        stamp = z.stamp;
-        join = z.join;
-        image = z.image;
-        is = z.is;
-      }
+      by_time (before k at) = welcomed_in v w j base z k at
       by_time (now says) = absurd (no_second (says_welcome m n c z.letter z.from z.stamp base z.join z.image says z.is).leads)
 
   -- ---- what is known
@@ -170,10 +146,10 @@ module _ (rules : Rules) (events : List Event) (e : Event) (c : Cause) (step : S
 
   known_other : (j : ℕ) → (j == i) ≡ false → Knows w h.low (w.nodes q) j → Knows v h.low (w.nodes q) j
   known_other j f (took most) =
-      let z = ap (λ (y : Node). y.core.taken) (others_v rules events e c step s t x j f) in
+      let z = ap (λ (y : Node). y.core.taken) (others_v j f) in
       took (omega arith)
   known_other j f (joins none low welcomes) =
-      joins (ap (λ (y : Node). has_log y.status) (others_v rules events e c step s t x j f) ∙ none) low (λ base z. welcomes base (welcomed j base z))
+      joins (ap (λ (y : Node). has_log y.status) (others_v j f) ∙ none) low (λ base z. welcomes base (welcomed j base z))
   known_other j f (halts stopped) = halts (stopped_v rules events e c step s t x j ∙ stopped)
 
   known : (j : ℕ) → j < 256 → (j == q) ≡ false → Knows v h.low (w.nodes q) j

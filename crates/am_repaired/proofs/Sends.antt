@@ -13,10 +13,9 @@ use Rattle.am_model.specs.Node.{Node, Ballot, with_report}
 use Rattle.am_model.specs.World.{has_departed, stepped, happens, run}
 use Rattle.am_model.proofs.Greatest.{split}
 use Rattle.am_effects.specs.Causes.{Cause}
-use Rattle.am_effects.specs.Looks.{Looks, finds_itself_out, waits, fetches_from_best, finds_too_few, finds_no_room, decides}
-use Rattle.am_effects.specs.Changes.{Change, refreshes, settles, takes_report, admits, numbers, keeps_body, notes, stores, begins_list, departs, promises}
-use Rattle.am_effects.specs.Changes.{opens}
-use Rattle.am_effects.specs.Changes.{looks, fetches, stores_view, queues, collects, takes, asks_to_join, asks_to_leave, closes}
+use Rattle.am_effects.specs.Looks.{Looks, finds_itself_out}
+use Rattle.am_effects.specs.Changes.{Change, refreshes, settles, begins_list, departs}
+use Rattle.am_effects.specs.Changes.{looks, asks_to_join, closes}
 use Rattle.am_effects.specs.Courses.{IsPlain, Course, nothing_yet, used_report, and_then, Deeds, plainly, looked, Ending, at_end, let_go, closing}
 use Rattle.am_effects.specs.Effects.{Effect}
 use Rattle.am_effects.specs.Events.{actor}
@@ -32,25 +31,12 @@ Here x = has_departed x.status ≡ false
 here_change : (c : Cause) (o : Outcome) (x y : Node) (z : Change c o x y) → IsPlain z → Here x → Here y
 here_change c o x y refreshes plain h = absurd plain
 here_change c o x y settles plain h = ap (λ (n : Node). has_departed n.status) (settle_is x) ∙ h
-here_change c o x y (takes_report s v report brings may) plain h = h
-here_change c o x y (admits s v is leads fit) plain h = h
-here_change c o x y (numbers e leads room why) plain h = h
-here_change c o x y (keeps_body s v report req body is heard) plain h = h
-here_change c o x y (notes s v base acc brings heard) plain h = h
-here_change c o x y (stores s v base acc number e carries heard no_view may) plain h = h
 here_change c o x y (begins_list s v base join image is says may) plain h = refl
 here_change c o x y (departs s v number is heard leaves) plain h = absurd plain
-here_change c o x y (promises v low why) plain h = h
-here_change c o x y (opens least resilience begins may) plain h = h
 here_change c o x y (looks b verdict over why look is) plain h = absurd plain
-here_change c o x y (fetches s v base number e is heard promise below why may) plain h = h
-here_change c o x y (stores_view s v base number names resilience is heard own other promise below may) plain h = h
-here_change c o x y (queues body is says member stays few) plain h = h
-here_change c o x y (collects req is) plain h = h
-here_change c o x y (takes e is says member some there) plain h = h
 here_change c o x y (asks_to_join is was) plain h = refl
-here_change c o x y (asks_to_leave is was stays done) plain h = h
 here_change c o x y (closes leads leaves alone room) plain h = absurd plain
+here_change c o x y _ plain h = h
 
 here_course : {c : Cause} {o : Outcome} (m x : Node) → Course c o m x → Here m → Here x
 here_course m x nothing_yet h = h
@@ -59,11 +45,7 @@ here_course m x (and_then {n = y} course z plain) h = here_change _ _ y x z plai
 
 here_look : (x : Node) (b : Ballot) (v : Verdict) → Looks x b v → Here x → Here v.node
 here_look x b v (finds_itself_out w) h = h
-here_look x b v (waits w u) h = h
-here_look x b v (fetches_from_best w u z) h = h
-here_look x b v (finds_too_few w u) h = h
-here_look x b v (finds_no_room w) h = h
-here_look x b v (decides may) h = h
+here_look x b v _ h = h
 
 here_deeds : {c : Cause} {o : Outcome} (m x : Node) → Deeds c o m x → Here m → Here x
 here_deeds m x (plainly course) h = here_course m x course h

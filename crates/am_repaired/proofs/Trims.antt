@@ -9,7 +9,7 @@ use Rattle.std.proofs.lemmas.Bool.Decides.{nat_tests}
 use Rattle.am_base.specs.declared.entry.Entry.{Entry}
 use Rattle.am_base.specs.declared.image.Image.{Image}
 use Rattle.am_base.specs.declared.name.Stamp.{Stamp}
-use Rattle.am_base.specs.Founding.{Rules, MayFound}
+use Rattle.am_base.specs.Founding.{Rules}
 use Rattle.am_packet.specs.declared.packet.Packet.{Packet}
 use Rattle.am_packet.specs.declared.packet.Packet.TheVariants as packet
 use Rattle.am_packet.specs.Boxes.{Letter}
@@ -18,28 +18,23 @@ use Rattle.am_group.specs.Journals.{item_at}
 use Rattle.am_chain_lists.specs.Whole.{key}
 use Rattle.am_chain_lists.proofs.Order.{key_by}
 use Rattle.am_chain_moves.specs.Group.{Group}
-use Rattle.am_chain_moves.specs.Kept.{Kept}
-use Rattle.am_model.specs.Node.{Node, view, acts, is_member, is_sequencer, lowest_or_first}
+use Rattle.am_model.specs.Node.{Node, view, acts, is_member, is_sequencer}
 use Rattle.am_model.specs.Group.{has_log}
 use Rattle.am_model.specs.Emit.{Step}
-use Rattle.am_model.specs.World.{World, is_stopped, stepped, happens, run}
+use Rattle.am_model.specs.World.{World, is_stopped, stepped, run}
 use Rattle.am_model.specs.Claims.{heard_by}
 use Rattle.am_model.proofs.Greatest.{and_both}
 use Rattle.am_effects.specs.Causes.{Cause}
-use Rattle.am_effects.specs.Effects.{Effect}
 use Rattle.am_effects.specs.Letters.{LetterSays}
-use Rattle.am_effects.specs.Events.{actor, WasSentTo, IsCause, steps}
+use Rattle.am_effects.specs.Events.{WasSentTo, IsCause, steps}
 use Rattle.am_effects.proofs.Items.{all_get}
 use Rattle.am_effects.proofs.Statuses.{logged}
-use Rattle.am_laws.proofs.Named.{few_names}
 use Rattle.am_laws.proofs.Views.{heard_names}
 use Rattle.am_laws.proofs.ViewNames.{HeardNames}
 use Rattle.am_laws.proofs.Taken.{HeardUsed}
 use Rattle.am_laws.proofs.TakenRuns.{Along, AllOwned, run_owned, each_owned, each_along, heard_used}
 use Rattle.am_stands.specs.Letters.{PacketSays, PieceSays, of_line, of_shown, over}
-use Rattle.am_stands.specs.Growing.{Grows}
-use Rattle.am_stands.specs.Running.{Following}
-use Rattle.am_stands.proofs.Onward.{group_kept}
+use Rattle.am_headline.proofs.OneStep.{OneStep, parts, plain}
 use Rattle.am_repaired.proofs.Came.{Tells, by_piece, by_result, by_welcome, Came, came}
 use Rattle.am_repaired.proofs.Fresh.{Welcomed}
 use Rattle.am_repaired.proofs.Sends.{sent_by}
@@ -80,21 +75,12 @@ item_get list (suc k) x at = (k, at)
 pub equal : (a b : ℕ) → (a == b) ≡ true → a ≡ b
 equal a b t = grind (arith, nat_tests)
 
-pub itself : (a : ℕ) → (a == a) ≡ true
-itself a = grind (arith, nat_tests)
-
 -- ---- a step
 
 -- of a run with the group that follows it, from where the record is kept
-pub record OneStep (rules : Rules) (events : List Event) (e : Event) (c : Cause) (step : Step) (s t : Group) : Type 0 where
-  pub may : MayFound rules
-  pub runs : is_stopped (run rules events) (actor (run rules events) e) ≡ false
-  pub cause : IsCause (run rules events) (actor (run rules events) e) e.act c
-  pub effect : Effect ((run rules events).nodes (actor (run rules events) e)) c step
-  pub is : stepped (run rules events) e (actor (run rules events) e) step ≡ happens (run rules events) e
-  pub old : Following rules (run rules events) s
-  pub grows : Grows s t
-  pub new : Following rules (stepped (run rules events) e (actor (run rules events) e) step) t
+pub record TrimStep (rules : Rules) (events : List Event) (e : Event) (c : Cause) (step : Step) (s t : Group) : Type 0 where
+  pub goes : OneStep rules events e c step s t
+  pub open goes use *
   pub trims : Trims (run rules events) s
 
 -- a letter was sent before, or tells of the node after the step
@@ -102,36 +88,15 @@ pub data Sent (w : World) (m n : Node) (c : Cause) (l : Letter) : Type 0 where
   before : (k : ℕ) → slice_get w.letters k ≡ Some l → Sent w m n c l
   now : LetterSays m c n l → Sent w m n c l
 
-module _ (rules : Rules) (events : List Event) (e : Event) (c : Cause) (step : Step) (s t : Group) (x : OneStep rules events e c step s t) where
-  abbrev w : World
-  w = run rules events
-
-  abbrev i : ℕ
-  i = actor w e
-
-  abbrev m : Node
-  m = w.nodes i
-
-  abbrev n : Node
-  n = step.node
-
-  abbrev v : World
-  v = stepped w e i step
+module _ (rules : Rules) (events : List Event) (e : Event) (c : Cause) (step : Step) (s t : Group) (x : TrimStep rules events e c step s t) where
+  open parts rules events e step use {w, i, m, n, v}
+  open plain x.goes use {few, kept_s, node_v}
 
   pub laws_w : AllOwned rules w
   laws_w = run_owned rules events x.may
 
   pub laws_v : AllOwned rules v
   laws_v = each_owned rules w e v (steps c step x.runs x.cause x.effect) laws_w
-
-  pub few : i < 256
-  few = few_names rules w e laws_w.blanks.views.named
-
-  pub kept_s : Kept s
-  kept_s = group_kept rules.founders (lowest_or_first rules.founders) rules.resilience s x.old.group
-
-  pub kept_t : Kept t
-  kept_t = group_kept rules.founders (lowest_or_first rules.founders) rules.resilience t x.new.group
 
   pub along : Along rules m
   along = each_along rules w i few laws_w
@@ -147,14 +112,6 @@ module _ (rules : Rules) (events : List Event) (e : Event) (c : Cause) (step : S
 
   pub who_v : (j : ℕ) → (v.nodes j).core.who ≡ j
   who_v j = laws_v.blanks.views.named.who j
-
-  pub node_v : v.nodes i ≡ n
-  unfolding stepped
-  node_v = let u : (i == i) ≡ true = itself i in rw u refl
-
-  pub others_v : (j : ℕ) → (j == i) ≡ false → v.nodes j ≡ w.nodes j
-  unfolding stepped
-  others_v j f = rw f refl
 
   pub who_n : n.core.who ≡ i
   who_n = ap (λ (y : Node). y.core.who) (sym node_v) ∙ who_v i

@@ -21,37 +21,33 @@ use Rattle.am_model.specs.Group.{has_log}
 use Rattle.am_model.specs.Emit.{Step}
 use Rattle.am_model.specs.Calls.{is_unfinished}
 use Rattle.am_packet.specs.Boxes.{Letter}
-use Rattle.am_model.specs.World.{Decided, World, start, founders_decided, is_stopped, has_departed, grown, group_after, stepped, happens, run}
+use Rattle.am_model.specs.World.{Decided, World, start, founders_decided, has_departed, grown, run}
 use Rattle.am_model.proofs.Greatest.{split, and_both}
 use Rattle.am_effects.specs.Causes.{Cause}
 use Rattle.am_effects.specs.Changes.{Changes, unchanged, changed}
 use Rattle.am_effects.specs.Courses.{Ending, at_end, let_go, closing}
-use Rattle.am_effects.specs.Effects.{Effect}
-use Rattle.am_effects.specs.Events.{actor, IsCause}
 use Rattle.am_effects.proofs.Items.{all_get}
 use Rattle.am_effects.proofs.Receiving.{asking}
 use Rattle.am_effects.proofs.Rests.{rests_refresh, rests_closed, settle_is}
 use Rattle.am_effects.proofs.Statuses.{asking_log}
-use Rattle.am_laws.proofs.Named.{few_names}
 use Rattle.am_laws.proofs.RunCounts.{numbers_hold}
-use Rattle.am_laws.proofs.Founders.{first_founder}
+use Rattle.am_model.proofs.Founders.{first_founder}
 use Rattle.am_laws.proofs.TakenRuns.{run_owned}
 use Rattle.am_laws.proofs.Views.{IsNoted}
 use Rattle.am_watched.proofs.Lists.{lists_go_on}
 use Rattle.am_stands.specs.Standing.{NameStands}
-use Rattle.am_stands.specs.States.{LinesOpen}
-use Rattle.am_stands.specs.Moving.{Moves, none, moves}
-use Rattle.am_stands.specs.Growing.{Grows, NewView}
+use Rattle.am_stands.specs.Moving.{Moves}
+use Rattle.am_stands.specs.Growing.{NewView}
 use Rattle.am_stands.specs.Keeping.{GroupOk}
 use Rattle.am_stands.specs.Running.{Following}
 use Rattle.am_stands.proofs.Changes.{told_all, long_all}
 use Rattle.am_stands.proofs.Ends.{taken_more}
-use Rattle.am_stands.proofs.Onward.{group_kept, move_on}
-use Rattle.am_stands.proofs.Opens.{runs_open}
+use Rattle.am_stands.proofs.Onward.{group_kept}
 use Rattle.am_steps.proofs.Departed.{rests_step, rests_course}
 use Rattle.am_steps.proofs.Statuses.{departed_is}
-use Rattle.am_headline.proofs.Fold.{KeptBy, run_push}
-use Rattle.am_headline.proofs.Shapes.{ListGoes, same, up, gone, move_goes, Shaped}
+use Rattle.am_headline.proofs.OneStep.{OneStep, parts, plain}
+use Rattle.am_headline.proofs.Fold.{KeptBy}
+use Rattle.am_headline.proofs.Shapes.{ListGoes, same, up, gone, list_moves}
 use Rattle.am_headline.proofs.Ways as ways
 use Rattle.am_headline.proofs.Ways.{Kind, kind_of}
 
@@ -73,12 +69,8 @@ part_move r s t i grows k (gone on) h = part_chain r t i grows k on
 
 part_moves : (founders : List ℕ) (first resilience : ℕ) (r s t : Group) (i : ℕ) → Begins r.group s.group → GroupOk founders first resilience s → Moves s t
     → Part r s i → Part r t i
-part_moves founders first resilience r s t i grows g none h = h
-part_moves founders first resilience r s t i grows g (moves {t = u} move ok rest) h =
-    let on = move_on founders first resilience s u g move ok in
-    let more = begins_trans grows on.grows.group in
-    part_moves founders first resilience r u t i more on.group_ rest
-    (part_move r s u i more (group_kept founders first resilience u on.group_) (move_goes s u move (group_kept founders first resilience s g) i) h)
+part_moves founders first resilience r s t i grows g path h =
+    list_moves (λ q. Part r q i) founders first resilience r s t i (λ a b. part_move r a b i) grows g path h
 
 -- ---- how far a name accepted
 
@@ -164,60 +156,11 @@ departed_low m n letters (closing {x = x} ev call course leads leaves alone room
 
 -- ---- a step
 
-module _ (rules : Rules) (events : List Event) (e : Event) (c : Cause) (step : Step) (s t : Group) (may : MayFound rules)
-    (runs : is_stopped (run rules events) (actor (run rules events) e) ≡ false) (cause : IsCause (run rules events) (actor (run rules events) e) e.act c)
-    (effect : Effect ((run rules events).nodes (actor (run rules events) e)) c step)
-    (is : stepped (run rules events) e (actor (run rules events) e) step ≡ happens (run rules events) e)
-    (old : Following rules (run rules events) s) (path : Moves s t) (grows : Grows s t) (shaped : Shaped t)
-    (new : Following rules (stepped (run rules events) e (actor (run rules events) e) step) t)
+module _ (rules : Rules) (events : List Event) (e : Event) (c : Cause) (step : Step) (s t : Group) (one : OneStep rules events e c step s t)
     (h : Upheld (run rules events) s) where
-  abbrev w : World
-  w = run rules events
-
-  abbrev i : ℕ
-  i = actor w e
-
-  abbrev m : Node
-  m = w.nodes i
-
-  abbrev n : Node
-  n = step.node
-
-  abbrev v : World
-  v = stepped w e i step
-
-  few : i < 256
-  few = few_names rules w e (run_owned rules events may).blanks.views.named
-
-  kept_s : Kept s
-  kept_s = group_kept rules.founders (lowest_or_first rules.founders) rules.resilience s old.group
-
-  kept_t : Kept t
-  kept_t = group_kept rules.founders (lowest_or_first rules.founders) rules.resilience t new.group
-
-  opens_t : LinesOpen t
-  opens_t = runs_open rules.founders (lowest_or_first rules.founders) rules.resilience t new.group.run
-
-  itself : (k : ℕ) → (k == k) ≡ true
-  itself k = grind (arith, nat_tests)
-
-  node_v : v.nodes i ≡ n
-  unfolding stepped
-  node_v = let u : (i == i) ≡ true = itself i in rw u refl
-
-  others_v : (j : ℕ) → (j == i) ≡ false → v.nodes j ≡ w.nodes j
-  unfolding stepped
-  others_v j f = rw f refl
-
-  stands_n : NameStands v i n (t.node i)
-  stands_n = subst (λ x. NameStands v i x (t.node i)) node_v (new.stands.each i few)
-
-  group_v : v.group ≡ group_after w.group n
-  unfolding stepped
-  group_v = refl
-
-  group_grows : Begins w.group v.group
-  group_grows = subst (λ g. Begins g v.group) old.stands.group (subst (Begins s.group) new.stands.group grows.group)
+  open parts rules events e step use {w, i, m, n, v}
+  open one use {may, runs, cause, effect, old, path, grows, shaped, new}
+  open plain one use {few, kept_s, kept_t, opens_t, node_v, others_v, group_v, node_run, stands_n, group_grows}
 
   -- nobody accepts less than it did
   acc_up : (j : ℕ) → has_log (w.nodes j).status ≡ true → (w.nodes j).core.acc ≤ (v.nodes j).core.acc
@@ -271,9 +214,7 @@ module _ (rules : Rules) (events : List Event) (e : Event) (c : Cause) (step : S
       nil_part k l = subst (λ x. Begins x l) (sym (take_all k [] (omega arith))) (record { rest = l; same = refl })
 
   acc_low : n.core.acc ≤ top n
-  acc_low =
-      let same_ : (run rules (events ++ e ∷ [])).nodes i ≡ n = ap (λ (x : World). x.nodes i) (run_push rules events e ∙ sym is) ∙ node_v in
-      subst (λ (x : Node). x.core.acc ≤ top x) same_ ((numbers_hold rules (events ++ e ∷ [])).each i).accepted
+  acc_low = subst (λ (x : Node). x.core.acc ≤ top x) node_run ((numbers_hold rules (events ++ e ∷ [])).each i).accepted
 
   view_n : view_of (t.node i).list ≡ view n
   unfolding view_of
@@ -358,8 +299,7 @@ upheld_start rules t may f =
 
 pub upheld_keeps : (rules : Rules) → KeptBy Upheld rules
 upheld_keeps rules = record {
-  by_step = λ events e c step s t may runs cause effect is old path grows shaped new h.
-      upheld_step rules events e c step s t may runs cause effect is old path grows shaped new h;
+  by_step = λ {events = events} {e = e} {c = c} {step = step} {s = s} {t = t} x h. upheld_step rules events e c step s t x h;
   by_quiet = λ w v s t q h. by_parts w v s t q.stays.group q.stays.nodes q.current q.chosen h;
 }
   where

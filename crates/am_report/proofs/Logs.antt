@@ -10,7 +10,7 @@ use Rattle.am_group.specs.declared.event.Record.{Record}
 use Rattle.am_group.specs.Deliveries.{deliveries, given_to}
 use Rattle.am_model.specs.Group.{has_log, logs}
 use Rattle.am_model.specs.World.{World}
-use Rattle.am_model.specs.Text.{log_line, log_text, logs_text, empty_log_line}
+use Rattle.am_model.specs.Text.{log_text, logs_text, empty_log_line}
 use Rattle.am_report.specs.Logs.{logs_for, given_lines}
 
 -- what is left to be given

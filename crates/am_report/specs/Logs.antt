@@ -1,5 +1,5 @@
 -- What names were given, line by line.
-use Rattle.std.specs.Prelude.{ℕ, ◌++◌, List, map, Option}
+use Rattle.std.specs.Prelude.{ℕ, List, map}
 use Rattle.std.specs.List.{flat_map}
 use Rattle.am_base.specs.declared.entry.Entry.{Entry}
 use Rattle.am_base.specs.Founding.{Rules}

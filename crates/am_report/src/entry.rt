@@ -4,34 +4,23 @@ ghost use Rattle.am_model.specs.Text.{hex_byte, body_text, resilience_text, entr
 
 use crate::name::{push_name, push_names, push_stamp};
 use am_base::NoMemory;
-use am_base::body::Body;
 use am_base::entry::Entry;
 use am_base::founding::Founding;
-
-#[tactic(auto, using(std::proofs::lemmas::Fmt::hex_byte))]
-fn push_byte(out: &mut String, byte: u8) -> Result<(), NoMemory>
-    ensures { OnOk result (string_bytes out.new ≡ string_bytes out.old ++ hex_byte byte) }
-{
-    write!(out, "{byte:02x}")
-}
 
 /// Adds two lower-case hexadecimal digits for each byte.
 pub fn push_bytes(out: &mut String, bytes: &[u8]) -> Result<(), NoMemory>
     ensures { OnOk result (string_bytes out.new
         ≡ string_bytes out.old ++ flat_map hex_byte bytes.now) }
 {
-    for at in 0..bytes.len() {
-        push_byte(out, bytes[at])?;
-    }
-    Ok(())
+    let digits = hex::encode(*out.allocator(), bytes)?;
+    out.push_str(digits.as_str())
 }
 
 /// Adds a body: its bytes, or a dash where there are none.
 #[tactic(auto, unfolding(am_model::specs::Text::body_text))]
-pub fn push_body(out: &mut String, body: &Body) -> Result<(), NoMemory>
-    ensures { OnOk result (string_bytes out.new ≡ string_bytes out.old ++ body_text body.now) }
+pub fn push_body(out: &mut String, bytes: &[u8]) -> Result<(), NoMemory>
+    ensures { OnOk result (string_bytes out.new ≡ string_bytes out.old ++ body_text bytes.now) }
 {
-    let bytes = body.bytes();
     if bytes.is_empty() {
         return out.push_str("-");
     }
@@ -65,7 +54,7 @@ pub fn push_entry(out: &mut String, founding: &Founding, entry: &Entry) -> Resul
             out.push_str("data ")?;
             push_name(out, *from)?;
             write!(out, " {req} ")?;
-            push_body(out, body)
+            push_body(out, body.bytes())
         }
         Entry::Join(name) => {
             out.push_str("join ")?;

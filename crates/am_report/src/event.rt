@@ -39,7 +39,7 @@ fn push_parts(out: &mut String, founding: &Founding, act: &Act) -> Result<(), No
     match act {
         Act::Send(body) => {
             out.push_str(" ")?;
-            push_body(out, body.get())
+            push_body(out, body.bytes())
         }
         Act::Done(req) => write!(out, " {req}"),
         Act::Reset { least, resilience } => {

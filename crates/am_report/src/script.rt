@@ -42,7 +42,7 @@ fn push_body(out: &mut String, act: &Act) -> Result<(), NoMemory>
     match act {
         Act::Send(body) => {
             out.push_str("\"body\":\"")?;
-            push_bytes(out, body.get().bytes())?;
+            push_bytes(out, body.bytes())?;
             out.push_str("\",")
         }
         _ => Ok(()),

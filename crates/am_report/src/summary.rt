@@ -29,22 +29,31 @@ fn is_held(item: &Record) -> bool
     matches!(item.outcome, Outcome::Held { .. })
 }
 
-fn took(records: &[Record]) -> usize
-    ensures { result ≡ count_by (λ r. is_took r.outcome) records.now }
-{
-    records.iter().filter(|item| is_took(item)).count()
+/// How many events took, were sent and were held.
+#[derive(Clone, Copy)]
+struct Tally {
+    took: usize,
+    sent: usize,
+    held: usize,
 }
 
-fn sent(records: &[Record]) -> usize
-    ensures { result ≡ count_by (λ r. is_sent r.outcome) records.now }
+fn counts(records: &[Record]) -> Tally
+    ensures took { result.took ≡ count_by (λ r. is_took r.outcome) records.now }
+    ensures sent { result.sent ≡ count_by (λ r. is_sent r.outcome) records.now }
+    ensures held { result.held ≡ count_by (λ r. is_held r.outcome) records.now }
 {
-    records.iter().filter(|item| is_sent(item)).count()
-}
-
-fn held(records: &[Record]) -> usize
-    ensures { result ≡ count_by (λ r. is_held r.outcome) records.now }
-{
-    records.iter().filter(|item| is_held(item)).count()
+    let mut counts = Tally {
+        took: 0,
+        sent: 0,
+        held: 0,
+    };
+    for at in 0..records.len() {
+        let item = &records[at];
+        counts.took += usize::from(is_took(item));
+        counts.sent += usize::from(is_sent(item));
+        counts.held += usize::from(is_held(item));
+    }
+    counts
 }
 
 // Adds a word and a number as a line.
@@ -72,9 +81,10 @@ pub fn summary_text(
     push_count(&mut out, "events", records.len())?;
     push_count(&mut out, "packets", journal.packets() as usize)?;
     push_count(&mut out, "entries", group.len())?;
-    push_count(&mut out, "took", took(records))?;
-    push_count(&mut out, "sent", sent(records))?;
-    push_count(&mut out, "held", held(records))?;
+    let counts = counts(records);
+    push_count(&mut out, "took", counts.took)?;
+    push_count(&mut out, "sent", counts.sent)?;
+    push_count(&mut out, "held", counts.held)?;
     push_mark(&mut out, broken)?;
     Ok(out)
 }

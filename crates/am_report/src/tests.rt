@@ -3,6 +3,7 @@ ghost use Rattle.std.specs.Prelude.{◌≡◌};
 use crate::lines::{push_empty_log, push_group_line, push_log_line, push_mark, push_record};
 use crate::play::play_text;
 use crate::summary::summary_text;
+use am_base::NoMemory;
 use am_base::body::Body;
 use am_base::boxed::Boxed;
 use am_base::entry::Entry;
@@ -15,6 +16,7 @@ use am_group::event::{Act, By, Event, Part, Record};
 use am_group::journal::Journal;
 use am_letter::letter::Letter;
 use am_packet::packet::Packet;
+use std::alloc::Global;
 use std::test::Fail;
 
 fn set(names: &[u8]) -> Names {
@@ -37,7 +39,7 @@ fn stamp(round: u32, by: u8) -> Stamp {
 }
 
 #[tactic(auto, unfolding(am_codec::specs::Limits::IsWithin))]
-fn invite_to(to: Names) -> Letter {
+fn invite_to(alloc: Global, to: Names) -> Result<Letter, NoMemory> {
     let invite = Packet::Invite {
         sender: Name::of_byte(0),
         stamp: Stamp {
@@ -45,7 +47,14 @@ fn invite_to(to: Names) -> Letter {
             by: Name::of_byte(0),
         },
     };
-    Letter::of(to, &invite)
+    Letter::of(alloc, to, &invite)
+}
+
+fn both(alloc: Global, first: Letter, second: Letter) -> Result<Items<Letter>, NoMemory> {
+    let mut packets = Items::new(alloc);
+    packets.push(first)?;
+    packets.push(second)?;
+    Ok(packets)
 }
 
 fn happened(place: u8, act: Act, outcome: Outcome, packets: Items<Letter>) -> Record
@@ -160,7 +169,9 @@ fn events_with_letters(rt: HostRuntime) -> Result<(), Fail> {
         },
     };
     let others = set(&[1, 2, 3, 4, 5, 6, 7, 8, 9, 10, 11, 12, 13, 14, 15]);
-    for (act, outcome, letter, want) in [
+    let twice = others.with(Name::of_byte(17));
+    let alloc = rt.alloc();
+    for (act, outcome, packets, want) in [
         (
             Act::Reset {
                 least: 1,
@@ -169,31 +180,36 @@ fn events_with_letters(rt: HostRuntime) -> Result<(), Fail> {
             Outcome::Waiting {
                 names: set(&[1, 2]),
             },
-            invite_to(set(&[1, 2])),
+            both(
+                alloc,
+                invite_to(alloc, set(&[1, 2]))?,
+                invite_to(alloc, set(&[1, 2]))?,
+            )?,
             "1 reset 0 1 r1 : waiting 1,2 | 4 Invite to 1,2 | 5 Invite to 1,2\n",
         ),
         (
             Act::Tick,
             Outcome::Ticked,
-            invite_to(others),
+            both(alloc, invite_to(alloc, others)?, invite_to(alloc, others)?)?,
             "1 tick 0 : ticked | 4 Invite to all | 5 Invite to all\n",
         ),
         (
             Act::Tick,
             Outcome::Ticked,
-            invite_to(others.with(Name::of_byte(17))),
+            both(alloc, invite_to(alloc, twice)?, invite_to(alloc, twice)?)?,
             "1 tick 0 : ticked | 4 Invite to 1/2,2,3,4,5,6,7,8,9,10,11,12,13,14,15 | 5 Invite to 1/2,2,3,4,5,6,7,8,9,10,11,12,13,14,15\n",
         ),
         (
             Act::Join,
             Outcome::Asked,
-            Letter::of(set(&[4]), &asked),
+            both(
+                alloc,
+                Letter::of(alloc, set(&[4]), &asked)?,
+                Letter::of(alloc, set(&[4]), &asked)?,
+            )?,
             "1 join 0 : asked | 4 JoinAsk to all | 5 JoinAsk to all\n",
         ),
     ] {
-        let mut packets = Items::new(rt.alloc());
-        packets.push(letter.copied())?;
-        packets.push(letter)?;
         let item = happened(0, act, outcome, packets);
         let mut out = String::new(rt.alloc());
         push_record(&mut out, &founding, 1, 3, &item)?;
@@ -237,7 +253,7 @@ fn whole_text(rt: HostRuntime) -> Result<(), Fail> {
         entry: Boxed::of(rt.alloc(), view.copied())?,
     };
     let mut packets = Items::new(rt.alloc());
-    packets.push(invite_to(set(&[1, 2])))?;
+    packets.push(invite_to(rt.alloc(), set(&[1, 2]))?)?;
     let mut journal = Journal::new(rt.alloc(), &founding);
     journal.reserve()?;
     journal.push(happened(0, Act::Tick, Outcome::Ticked, packets));

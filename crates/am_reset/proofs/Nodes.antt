@@ -1,16 +1,15 @@
 -- What the parts of a node keep where its list is trimmed or gets one entry more.
-use Rattle.std.proofs.Common.{◌≡◌, ◌⊎◌, ⊎_elim, inl, inr, ℕ, ◌+◌, ◌-◌, ◌<◌, ◌≤◌, max, List, [], ◌∷◌, length, Bool, true, false, ◌==◌, ◌&&◌, nat_lt}
-use Rattle.std.proofs.Common.{if◌then◌else◌, Option, Some, None, refl, sym, ap, subst, ◌∙◌, length-append, arith}
+use Rattle.std.proofs.Common.{◌≡◌, ◌⊎◌, ⊎_elim, inl, inr, ℕ, ◌+◌, ◌≤◌, max, [], ◌∷◌, Bool, true, false, ◌==◌, ◌&&◌, nat_lt}
+use Rattle.std.proofs.Common.{Some, refl, sym, ap, subst, ◌∙◌, length-append, arith}
 use Rattle.std.proofs.lemmas.Bool.Decides.{nat_tests}
 use Rattle.am_base.specs.declared.image.Image.{Image}
-use Rattle.am_base.specs.declared.image.Report.{Report}
 use Rattle.am_base.specs.declared.name.Stamp.{Stamp}
 use Rattle.am_base.specs.declared.entry.Entry.{Entry}
 use Rattle.am_base.specs.declared.entry.Entry.TheVariants.{Data, Join, Leave, View}
 use Rattle.am_base.specs.Names.{has}
 use Rattle.am_base.specs.Stamps.{stamp_lt, stamp_eq}
-use Rattle.am_base.specs.Lists.{Log, top_of, told_by, with_entry, after, fits, members_of}
-use Rattle.am_core.specs.Cores.{CoreState, Keeps, Stands, IsInOrder, trim_to, whole}
+use Rattle.am_base.specs.Lists.{Log, top_of, with_entry, after, fits, members_of}
+use Rattle.am_core.specs.Cores.{CoreState, Keeps, trim_to}
 use Rattle.am_core.proofs.Ends.{end-top, end-told, told-push}
 use Rattle.am_core.proofs.CoreLaws.{stands_self}
 use Rattle.am_core.proofs.Folds.{split}
@@ -19,11 +18,10 @@ use Rattle.am_model.specs.Group.{has_log}
 use Rattle.am_model.specs.Node.{Node, Ballot, top, told, view, members, acts, is_member, is_sequencer, pushed}
 use Rattle.am_core.specs.Kept.{IsKept}
 use Rattle.am_sender.specs.Sends.{next_request}
-use Rattle.am_handlers.specs.Keeps.{NodeKeeps, IsOwnBallot, IsSteady}
-use Rattle.am_handlers.proofs.Keeping.{due_pushed}
-use Rattle.am_handlers.proofs.Keeping.{steady_leads, keeps_steady}
+use Rattle.am_handlers.specs.Keeps.{NodeKeeps, IsSteady}
+use Rattle.am_handlers.proofs.Keeping.{due_pushed, keeps_steady, over_own}
 use Rattle.am_reset.specs.Deciding.{IsTakenOut, IsUpTo, MayStore}
-use Rattle.am_reset.proofs.Orders.{lt_self, lt_not_eq}
+use Rattle.am_reset.proofs.Orders.{lt_not_eq}
 use Rattle.am_reset.proofs.Views.{view_has, view_is, view_stays_data, view_stays_join, view_stays_leave}
 
 -- who doesn't act doesn't lead
@@ -124,23 +122,12 @@ keeps_pushed m e capacity kept keeps fit up_to idle logged over = record {
   settled = keeps.settled;
   due = due_pushed m e capacity kept fit (next_request m.sends) keeps.due;
   unsent = keeps.unsent;
-  ballot = λ b there. is_over_own (pushed m e) b (over b there) (keeps.ballot b there).resilience;
+  ballot = λ b there. over_own (pushed m e) b (over b there) (keeps.ballot b there).resilience;
 }
   where
     split_right : (a b : Bool) → (a && b) ≡ true → b ≡ true
     split_right true b h = h
     split_right false b h = absurd (cc)
-
-    is_over_own : (n : Node) (b : Ballot) → b.is_over ≡ true → b.resilience ≤ 15 → IsOwnBallot n b
-    is_over_own n b is few = record {
-      stamp = λ open_. absurd (let x = sym is ∙ open_ in cc);
-      by = λ open_. absurd (let x = sym is ∙ open_ in cc);
-      ahead = λ open_. absurd (let x = sym is ∙ open_ in cc);
-      logged = λ open_. absurd (let x = sym is ∙ open_ in cc);
-      itself = λ open_. absurd (let x = sym is ∙ open_ in cc);
-      unvoted = λ open_. absurd (let x = sym is ∙ open_ in cc);
-      resilience = few;
-    }
 
 -- what may be stored, once the list is trimmed
 pub keeps_stored : (m n : Node) (base : ℕ) (e : Entry) (capacity : ℕ) → IsKept n.core.log capacity → MayStore m base e → IsSteady m n → NodeKeeps n
@@ -166,35 +153,8 @@ taken_idle m b is =
     and_false true b h = h
     and_false false b h = refl
 
-pub own_steady : (m n : Node) (b : Ballot) → IsSteady m n → IsOwnBallot m b → IsOwnBallot n b
-own_steady m n b s own = record {
-  stamp = λ open_. own.stamp open_ ∙ sym s.promise;
-  by = λ open_. own.by open_ ∙ sym s.who;
-  ahead = λ open_. (λ k. stamp_lt (s.told k).view b.stamp) ∙ own.ahead open_;
-  logged = λ open_. ap has_log s.status ∙ own.logged open_;
-  itself = λ open_. ap b.given_up s.who ∙ own.itself open_;
-  unvoted = λ open_. ap b.votes s.who ∙ own.unvoted open_;
-  resilience = own.resilience;
-}
-
 -- the reports begin anew
 pub keeps_restarted : (m : Node) (base : ℕ) → base ≤ m.core.taken → NodeKeeps m → NodeKeeps (record m { reports = reports.restarted base })
-keeps_restarted m base low keeps = record {
-  own = split (nat_lt m.core.who 256) (λ t. rw t low) (λ f. rw f (omega arith));
-  leads = keeps.leads;
-  promised = keeps.promised;
-  blank = keeps.blank;
-  settled = keeps.settled;
-  due = keeps.due;
-  unsent = keeps.unsent;
-  ballot = λ b there. let is_own = keeps.ballot b there in record {
-    stamp = is_own.stamp;
-    by = is_own.by;
-    ahead = is_own.ahead;
-    logged = is_own.logged;
-    itself =
-        is_own.itself;
-    unvoted = is_own.unvoted;
-    resilience = is_own.resilience;
-  };
-}
+keeps_restarted m base low keeps = keeps_steady m (record m { reports = reports.restarted base })
+    (record { who = refl; promise = refl; told = refl; top = refl; status = refl; ballot = refl; leaving = refl; sends = refl }) keeps
+    (split (nat_lt m.core.who 256) (λ t. rw t low) (λ f. rw f (omega arith)))

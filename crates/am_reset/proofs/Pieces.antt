@@ -22,16 +22,17 @@ use Rattle.am_model.specs.Ballots.{Verdict, promised, decide}
 use Rattle.am_model.specs.Resets.{is_view_past, fetched, caught_up, fetched_for, fetches_from, piece_promised, piece_for, piece_row, hears_result, result_row}
 use Rattle.am_model.specs.Ends.{IsEndOf}
 use Rattle.am_handlers.specs.Keeps.{NodeKeeps, IsOwnBallot, IsSteady}
-use Rattle.am_reset.specs.Catching.{unless, plan_of, FollowsAsView, ComesNext, IsBelow}
+use Rattle.am_handlers.specs.Finishing.{unless}
+use Rattle.am_reset.specs.Catching.{plan_of, FollowsAsView, ComesNext, IsBelow}
 use Rattle.am_reset.specs.Deciding.{IsUpTo, MayStore, IsTakenOut}
 use Rattle.am_reset.specs.declared.replies.Telling.{Telling}
 use Rattle.am_reset.specs.declared.replies.Telling.TheVariants as tell
 use Rattle.am_reset.specs.Replies.{Replies, ComesTo}
-use Rattle.am_reset.proofs.Nodes.{own_steady}
+use Rattle.am_handlers.proofs.Keeping.{own_steady}
 use Rattle.am_reset.proofs.Views.{view_is, view_stays_data, view_stays_join, view_stays_leave}
 use Rattle.am_reset.proofs.VoteRows.{by_plan, if_no}
 use Rattle.am_reset.proofs.Orders.{lt_self, same_stamp}
-use Rattle.am_reset.proofs.Verdicts.{not_false}
+use Rattle.std.proofs.lemmas.Bool.{not-false}
 use Rattle.am_reset.proofs.Replying.{replies_quiet, replies_looked, decide_with}
 
 or_left : (a b : Bool) → (a || b) ≡ false → a ≡ false
@@ -164,7 +165,7 @@ piece_by m n s v base number e o t b f is r = rw f (subst (λ (x : Option Ballot
 -- what isn't apart
 pub not_apart : (m : Node) (v : Stamp) → (not (stamp_eq v m.core.promise) || stamp_eq (view m) v) ≡ false → (v ≡ m.core.promise) × (stamp_eq (view m) v ≡ false)
 not_apart m v h = (
-  same_stamp v m.core.promise (not_false (stamp_eq v m.core.promise) (or_left (not (stamp_eq v m.core.promise)) (stamp_eq (view m) v) h)),
+  same_stamp v m.core.promise (not-false (stamp_eq v m.core.promise) (or_left (not (stamp_eq v m.core.promise)) (stamp_eq (view m) v) h)),
   or_right (not (stamp_eq v m.core.promise)) (stamp_eq (view m) v) h,
 )
   where

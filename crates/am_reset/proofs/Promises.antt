@@ -1,5 +1,6 @@
 -- What the parts of a node keep where the promise is raised, and where a ballot is taken out.
-use Rattle.std.proofs.Common.{◌≡◌, ◌≢◌, ℕ, ◌+◌, ◌<◌, ◌≤◌, min, nat_lt, Bool, true, false, ◌==◌, ◌&&◌, Option, Some, None, refl, sym, ap, subst, ◌∙◌, arith}
+use Rattle.std.proofs.Common.{◌≡◌, ◌≢◌, ℕ, ◌+◌, ◌<◌, ◌≤◌, min, nat_lt, Bool, true, false, ◌==◌, ◌&&◌, Option, Some, None, option_map, refl, sym, ap, subst}
+use Rattle.std.proofs.Common.{◌∙◌, arith}
 use Rattle.std.specs.Option.{IfSome}
 use Rattle.am_base.specs.Most.{most_number}
 use Rattle.am_base.specs.declared.name.Stamp.{Stamp}
@@ -10,25 +11,13 @@ use Rattle.am_model.specs.Node.{Node, Ballot, top, view, is_member}
 use Rattle.am_model.specs.Ballots.{overtaken, promised, with_vote, without_voter, next_stamp, new_ballot}
 use Rattle.am_core.specs.Cores.{IsInOrder}
 use Rattle.am_model.specs.Group.{has_log}
-use Rattle.am_model.specs.declared.status.Status.{Status}
-use Rattle.am_model.specs.declared.status.Status.TheVariants.{Stranger, Asking, Member, Departed}
 use Rattle.am_base.specs.declared.image.Vote.{Vote}
+use Rattle.am_ballots.specs.Kept.{Kept, ballot_of}
 use Rattle.am_reset.specs.Deciding.{IsTakenOut}
 use Rattle.std.proofs.lemmas.Bool.Decides.{nat_tests}
 use Rattle.am_handlers.specs.Keeps.{NodeKeeps, IsOwnBallot}
+use Rattle.am_handlers.proofs.Keeping.{own_for, over_own}
 use Rattle.am_reset.proofs.Orders.{lt_self, lt_next, lt_none, lt_or, lt_apart, same_stamp}
-
--- an ended ballot needs nothing else
-pub over_own : (n : Node) (b : Ballot) → b.is_over ≡ true → b.resilience ≤ 15 → IsOwnBallot n b
-over_own n b is few = record {
-  stamp = λ open_. absurd (let x = sym is ∙ open_ in cc);
-  by = λ open_. absurd (let x = sym is ∙ open_ in cc);
-  ahead = λ open_. absurd (let x = sym is ∙ open_ in cc);
-  logged = λ open_. absurd (let x = sym is ∙ open_ in cc);
-  itself = λ open_. absurd (let x = sym is ∙ open_ in cc);
-  unvoted = λ open_. absurd (let x = sym is ∙ open_ in cc);
-  resilience = few;
-}
 
 -- the ballot of a stamp that isn't below stays
 stays : (v : Stamp) (o : Option Ballot) → ((b : Ballot) → o ≡ Some b → b.is_over ≡ false → b.stamp ≡ v) → overtaken v o ≡ o
@@ -85,56 +74,37 @@ keeps_promised m v keeps small little higher apart =
     leads_not true false c e h = cc
     leads_not false b c e h = cc
 
--- without a ballot, and with one of its own
-pub keeps_without : (m : Node) → NodeKeeps m → NodeKeeps (record m { ballot = None })
-keeps_without m keeps = record {
-  own = keeps.own;
-  leads = keeps.leads;
-  promised = keeps.promised;
-  blank = keeps.blank;
-  settled = keeps.settled;
-  due = keeps.due;
-  unsent = keeps.unsent;
-  ballot = λ b there. absurd (cc);
-}
-
-pub own_with : (m : Node) (o : Option Ballot) (b : Ballot) → IsOwnBallot m b → IsOwnBallot (record m { ballot = o }) b
-own_with m o b is = record {
-  stamp = is.stamp;
-  by = is.by;
-  ahead = is.ahead;
-  logged = is.logged;
-  itself = is.itself;
-  unvoted = is.unvoted;
-  resilience =
-      is.resilience;
-}
-
-pub keeps_with : (m : Node) (b : Ballot) → NodeKeeps m → IsOwnBallot m b → NodeKeeps (record m { ballot = Some b })
-keeps_with m b keeps own = record {
-  own = keeps.own;
-  leads = keeps.leads;
-  promised = keeps.promised;
-  blank = keeps.blank;
-  settled = keeps.settled;
-  due = keeps.due;
-  unsent = keeps.unsent;
-  ballot = λ a there. subst (λ (x : Ballot). IsOwnBallot (record m { ballot = Some b }) x) (some_is b a there) (own_with m (Some b) b own);
-}
-
+-- a ballot that is taken out stays the node's own
 pub taken_own : (m n : Node) (o : Option Ballot) → NodeKeeps m → m.ballot ≡ o → n ≡ record m { ballot = None } → IfSome o (λ b. IsOwnBallot n b)
 taken_own m n None keeps is e = tt
-taken_own m n (Some b) keeps is e = subst (λ (x : Node). IsOwnBallot x b) (sym e) (own_with m None b (keeps.ballot b is))
+taken_own m n (Some b) keeps is e =
+    subst (λ (x : Node). IsOwnBallot x b) (sym e) (own_for m (record m { ballot = None }) b refl refl refl (λ logged. logged) (keeps.ballot b is))
+
+-- the parts that a ballot was taken out of: without one they are what they were, and with one they are that once it is back
+pub none_taken : (m n : Node) {o : Option Kept} → option_map ballot_of o ≡ m.ballot → n ≡ record m { ballot = None } → o ≡ None
+    → (m.ballot ≡ None) × (n ≡ m)
+none_taken m n is rest none =
+    let there : m.ballot ≡ None = sym is ∙ ap (option_map ballot_of) none in
+    (there, rest ∙ ap (λ (x : Option Ballot). record m { ballot = x }) (sym there))
+
+pub one_taken : (m n : Node) {o : Option Kept} {k : Kept} → option_map ballot_of o ≡ m.ballot → n ≡ record m { ballot = None } → o ≡ Some k
+    → (m.ballot ≡ Some (ballot_of k)) × (record n { ballot = Some (ballot_of k) } ≡ m)
+one_taken m n {o} {k} is rest one =
+    let there : m.ballot ≡ Some (ballot_of k) = sym is ∙ ap (option_map ballot_of) one in (
+      there,
+      ap (λ (x : Node). record x { ballot = Some (ballot_of k) }) rest ∙ ap (λ (x : Option Ballot). record m { ballot = x }) (sym there),
+    )
 
 -- ---- a ballot that was taken out, with a vote more or a name given up
 
 other_place : (name who : ℕ) → name ≢ who → (who == name) ≡ false
 other_place name who h = split (who == name) (λ t. absurd (h (grind (arith, nat_tests)))) (λ f. f)
 
-pub taken_voted : (m : Node) (b : Ballot) (name : ℕ) (vote : Vote) → name ≢ m.core.who → IsTakenOut m b → IsTakenOut m (with_vote b name vote)
-taken_voted m b name vote other is =
+-- with other votes and other names given up, but not at the node itself
+taken_with : (m : Node) (b : Ballot) (votes : ℕ → Option Vote) (given_up : ℕ → Bool) → votes m.core.who ≡ b.votes m.core.who
+    → given_up m.core.who ≡ b.given_up m.core.who → IsTakenOut m b → IsTakenOut m (record b { votes = votes; given_up = given_up })
+taken_with m b votes given_up same_vote same_given is =
     let own = is.own in
-    let apart = other_place name m.core.who other in
     record {
       order = is.order;
       out = is.out;
@@ -143,35 +113,23 @@ taken_voted m b name vote other is =
         by = own.by;
         ahead = own.ahead;
         logged = own.logged;
-        itself = own.itself;
-        unvoted =
-            λ open_. rw apart (own.unvoted open_);
+        itself = λ open_. same_given ∙ own.itself open_;
+        unvoted = λ open_. same_vote ∙ own.unvoted open_;
         resilience = own.resilience;
       };
       is_open = is.is_open;
       number = is.number;
     }
 
+pub taken_voted : (m : Node) (b : Ballot) (name : ℕ) (vote : Vote) → name ≢ m.core.who → IsTakenOut m b → IsTakenOut m (with_vote b name vote)
+taken_voted m b name vote other is =
+    let apart = other_place name m.core.who other in
+    taken_with m b (with_vote b name vote).votes b.given_up (rw apart refl) refl is
+
 pub taken_given : (m : Node) (b : Ballot) (name : ℕ) → name ≢ m.core.who → IsTakenOut m b → IsTakenOut m (without_voter b name)
 taken_given m b name other is =
-    let own = is.own in
     let apart = other_place name m.core.who other in
-    record {
-      order = is.order;
-      out = is.out;
-      own = record {
-        stamp = own.stamp;
-        by = own.by;
-        ahead = own.ahead;
-        logged = own.logged;
-        itself = λ open_. rw apart (own.itself open_);
-        unvoted =
-            λ open_. rw apart (own.unvoted open_);
-        resilience = own.resilience;
-      };
-      is_open = is.is_open;
-      number = is.number;
-    }
+    taken_with m b (without_voter b name).votes (without_voter b name).given_up (rw apart refl) (rw apart refl) is
 
 -- ---- a ballot that begins
 
@@ -202,9 +160,3 @@ begins m least resilience order keeps logged number = record {
   is_open = refl;
   number = number;
 }
-
-pub member_logged : (s : Status) → is_member s ≡ true → has_log s ≡ true
-member_logged Stranger h = absurd (cc)
-member_logged Asking h = absurd (cc)
-member_logged Member h = refl
-member_logged Departed h = absurd (cc)

@@ -1,5 +1,5 @@
 -- What a look at a ballot comes to, from the end of a list as from all of it.
-use Rattle.std.proofs.Common.{◌≡◌, ℕ, ◌+◌, ◌-◌, ◌≤◌, max, List, [], ◌∷◌, Bool, true, false, not, ◌==◌, nat_lt, if◌then◌else◌, Option, Some, None, unwrap_or}
+use Rattle.std.proofs.Common.{◌≡◌, ℕ, ◌+◌, ◌-◌, ◌<◌, ◌≤◌, max, List, [], ◌∷◌, true, false, not, ◌==◌, nat_lt, if◌then◌else◌, Option, Some, None, unwrap_or}
 use Rattle.std.proofs.Common.{refl, sym, ap, subst, ◌∙◌, arith}
 use Rattle.std.specs.Option.{IfSome}
 use Rattle.am_base.specs.declared.image.Image.{Image}
@@ -21,6 +21,7 @@ use Rattle.am_model.specs.Ballots.{decide}
 use Rattle.am_model.specs.Ends.{IsEndOf, with_log}
 use Rattle.am_handlers.proofs.Ends.{told_same, top_same}
 use Rattle.am_reset.specs.Replies.{ComesTo}
+use Rattle.am_reset.proofs.Looked.{Looked, Waited, Idle, Counted, some_waited, few, enough}
 
 -- it is enough to look at the same node with another list
 pub comes : (f : Node → Verdict) (m n : Node) (o : Outcome) → ((all : Log) → Stands all m.core → ComesTo (f (with_log m all)) o n) → (all : Node)
@@ -126,50 +127,59 @@ pub comes_best : (m n : Node) (b : Ballot) (best : Shown) (o : Outcome) → best
     → ((all : Log) → Stands all m.core → ComesTo (by_best (with_log m all) b best) o n) → (all : Node) → IsEndOf all m → ComesTo (decide all b) o n
 comes_best m n b best o is by = comes (λ x. decide x b) m n o (λ all s. subst (λ (v : Verdict). ComesTo v o n) (sym (decide_best m b best all s is)) (by all s))
 
-pub not_in_comes : (m n : Node) (b : Ballot) (best : Shown) (o : Outcome) → best ≡ best_vote b.votes m.core.who (own_vote m)
+-- an answer is the one that the ballot was given
+pub ended : (m n : Node) (b : Ballot) {o p : Outcome} → o ≡ p → n ≡ record m { ballot = Some (finished b p) } → n ≡ record m { ballot = Some (finished b o) }
+ended m n b answer is = is ∙ ap (λ (x : Outcome). record m { ballot = Some (finished b x) }) (sym answer)
+
+pub kept_on : (m n : Node) (b : Ballot) {o p : Outcome} → o ≡ p → n ≡ record m { ballot = Some (unfinished b p) }
+    → n ≡ record m { ballot = Some (unfinished b o) }
+kept_on m n b answer is = is ∙ ap (λ (x : Outcome). record m { ballot = Some (unfinished b x) }) (sym answer)
+
+pub not_in_comes : {m : Node} {b : Ballot} {best : Shown} {who : ℕ} {needed : List ℕ} (n : Node) (o : Outcome) → Looked m b best who needed
     → has best.vote.members m.core.who ≡ false → o ≡ said.NotIn best.vote.view → n ≡ record m { ballot = Some (finished b o) } → (all : Node) → IsEndOf all m
     → ComesTo (decide all b) o n
-not_in_comes m n b best o best_is out answer is = comes_best m n b best o best_is
+not_in_comes {m} {b} {best} n o seen out answer is = comes_best m n b best o seen.best_is
     (λ all s. rw out (ends_comes (with_log m all) m n b o (said.NotIn best.vote.view) (end_here m all s) answer is))
 
-pub waiting_comes : (m n : Node) (b : Ballot) (best : Shown) (o : Outcome) → best ≡ best_vote b.votes m.core.who (own_vote m)
-    → has best.vote.members m.core.who ≡ true → nat_lt 0 (size (those (is_waited_for m.core.who b) best.vote.members)) ≡ true
-    → o ≡ said.Waiting (those (is_waited_for m.core.who b) best.vote.members) → n ≡ record m { ballot = Some (unfinished b o) } → (all : Node) → IsEndOf all m
-    → ComesTo (decide all b) o n
-waiting_comes m n b best o best_is in_ some answer is = comes_best m n b best o best_is
-    (λ all s. rw (in_, some) (goes_comes (with_log m all) m n b o (said.Waiting (those (is_waited_for m.core.who b) best.vote.members))
-    (end_here m all s) answer is))
+pub waiting_comes : {m : Node} {b : Ballot} {best : Shown} {who count : ℕ} {needed waited : List ℕ} (n : Node) (o : Outcome)
+    → Waited m b best who needed waited count → 0 < count → o ≡ said.Waiting waited → n ≡ record m { ballot = Some (unfinished b o) } → (all : Node)
+    → IsEndOf all m → ComesTo (decide all b) o n
+waiting_comes {m} {b} {best} n o waits some answer is = comes_best m n b best o waits.looked.best_is
+    (λ all s. rw (waits.inside, some_waited waits some)
+    (goes_comes (with_log m all) m n b o (said.Waiting (those (is_waited_for m.core.who b) best.vote.members)) (end_here m all s)
+    (answer ∙ ap said.Waiting waits.waited_is) is))
 
-pub fetching_comes : (m n : Node) (b : Ballot) (best : Shown) (o : Outcome) → best ≡ best_vote b.votes m.core.who (own_vote m)
-    → has best.vote.members m.core.who ≡ true → nat_lt 0 (size (those (is_waited_for m.core.who b) best.vote.members)) ≡ false → (best.by == m.core.who) ≡ false
-    → o ≡ said.Fetching best.by (top m + 1) → n ≡ record m { ballot = Some (unfinished b o) } → (all : Node) → IsEndOf all m → ComesTo (decide all b) o n
-fetching_comes m n b best o best_is in_ none other answer is =
-    comes_best m n b best o best_is (λ all s. rw (
-      in_,
-      none,
+pub fetching_comes : {m : Node} {b : Ballot} {best : Shown} {who : ℕ} {needed : List ℕ} (n : Node) (o : Outcome) → Idle m b best who needed
+    → (best.by == m.core.who) ≡ false → o ≡ said.Fetching best.by (top m + 1) → n ≡ record m { ballot = Some (unfinished b o) } → (all : Node)
+    → IsEndOf all m → ComesTo (decide all b) o n
+fetching_comes {m} {b} {best} n o idle other answer is =
+    comes_best m n b best o idle.looked.best_is (λ all s. rw (
+      idle.inside,
+      idle.none,
       other,
     ) (goes_comes (with_log m all) m n b o (said.Fetching best.by (top_of all + 1)) (end_here m all s) (answer
     ∙ ap (λ k. said.Fetching best.by (k + 1)) (sym (top_same m all s))) is))
 
-pub too_few_comes : (m n : Node) (b : Ballot) (best : Shown) (o : Outcome) → best ≡ best_vote b.votes m.core.who (own_vote m)
-    → has best.vote.members m.core.who ≡ true → nat_lt 0 (size (those (is_waited_for m.core.who b) best.vote.members)) ≡ false → (best.by == m.core.who) ≡ true
-    → nat_lt (size (left_in b best.vote.members)) b.least ≡ true → o ≡ said.TooFew (size (left_in b best.vote.members)) b.least
+pub too_few_comes : {m : Node} {b : Ballot} {best : Shown} {who got least : ℕ} {needed left : List ℕ} (n : Node) (o : Outcome) → Idle m b best who needed
+    → (best.by == m.core.who) ≡ true → Counted b best left got least → got < least → o ≡ said.TooFew got least
     → n ≡ record m { ballot = Some (finished b o) } → (all : Node) → IsEndOf all m → ComesTo (decide all b) o n
-too_few_comes m n b best o best_is in_ none own few answer is =
-    comes_best m n b best o best_is (λ all s. rw (
-      in_,
-      none,
+too_few_comes {m} {b} {best} n o idle own count below answer is =
+    comes_best m n b best o idle.looked.best_is (λ all s. rw (
+      idle.inside,
+      idle.none,
       own,
-      few,
-    ) (ends_comes (with_log m all) m n b o (said.TooFew (size (left_in b best.vote.members)) b.least) (end_here m all s) answer is))
+      few count below,
+    ) (ends_comes (with_log m all) m n b o (said.TooFew (size (left_in b best.vote.members)) b.least) (end_here m all s)
+    (answer ∙ (λ k. said.TooFew (count.got_is k) (count.least_is k))) is))
 
-pub view_comes : (m n : Node) (b : Ballot) (best : Shown) (o : Outcome) → best ≡ best_vote b.votes m.core.who (own_vote m)
-    → has best.vote.members m.core.who ≡ true → nat_lt 0 (size (those (is_waited_for m.core.who b) best.vote.members)) ≡ false → (best.by == m.core.who) ≡ true
-    → nat_lt (size (left_in b best.vote.members)) b.least ≡ false
-    → ((all : Node) → IsEndOf all m → ComesTo (decide_view (trimmed_for all b (left_in b best.vote.members)) b (left_in b best.vote.members)) o n)
+pub view_comes : {m : Node} {b : Ballot} {best : Shown} {who got least : ℕ} {needed left : List ℕ} (n : Node) (o : Outcome) → Idle m b best who needed
+    → (best.by == m.core.who) ≡ true → Counted b best left got least → least ≤ got
+    → ((all : Node) → IsEndOf all m → ComesTo (decide_view (trimmed_for all b left) b left) o n)
     → (all : Node) → IsEndOf all m → ComesTo (decide all b) o n
-view_comes m n b best o best_is in_ none own enough then_ = comes_best m n b best o best_is
-    (λ all s. rw (in_, none, own, enough) (then_ (with_log m all) (end_here m all s)))
+view_comes {m} {b} {best} n o idle own count above then_ = comes_best m n b best o idle.looked.best_is
+    (λ all s. rw (idle.inside, idle.none, own, enough count above)
+    (subst (λ (names : List ℕ). ComesTo (decide_view (trimmed_for (with_log m all) b names) b names) o n) count.left_is
+    (then_ (with_log m all) (end_here m all s))))
 
 -- ---- the coordinator's own vote
 
@@ -208,12 +218,3 @@ pub trimmed_comes : (m mid n : Node) (b : Ballot) (names : List ℕ) (o : Outcom
 trimmed_comes m mid n b names o least is trims then_ = comes (λ x. decide_view (trimmed_for x b names) b names) m n o (λ all s.
     let w = with_log m all in
     subst (λ (k : ℕ). ComesTo (decide_view (trimmed w k) b names) o n) is (then_ (trimmed w least) (trims w (end_here m all s))))
-
--- a test and its opposite
-pub not_true : (b : Bool) → not b ≡ true → b ≡ false
-not_true true h = absurd (cc)
-not_true false h = refl
-
-pub not_false : (b : Bool) → not b ≡ false → b ≡ true
-not_false true h = refl
-not_false false h = absurd (cc)

@@ -19,6 +19,11 @@ use Rattle.am_reset.specs.declared.replies.Telling.TheVariants as tell
 use Rattle.am_reset.specs.Replies.{Replies}
 use Rattle.am_reset.proofs.Replying.{replies_quiet, replies_vote, keep_with, give_with}
 
+-- whether a stamp is above the promise, by what was read
+pub above_is : (m : Node) (v : Stamp) {promise copy : Stamp} {is_below answer : Bool} → promise ≡ m.core.promise → copy ≡ v → is_below ≡ stamp_lt promise copy
+    → is_below ≡ answer → stamp_lt m.core.promise v ≡ answer
+above_is m v promise_is copy_is test is = (λ k. stamp_lt (sym promise_is k) (sym copy_is k)) ∙ sym test ∙ is
+
 -- the same plan
 pub by_plan : (p q : Plan) (o : Outcome) (t : Telling) (n : Node) → p ≡ q → Replies q o t n → Replies p o t n
 by_plan p q o t n e r = subst (λ (x : Plan). Replies x o t n) (sym e) r

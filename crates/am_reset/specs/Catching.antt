@@ -13,11 +13,6 @@ use Rattle.am_reset.specs.declared.replies.Reply.{Reply}
 use Rattle.am_reset.specs.declared.replies.Telling.{Telling}
 use Rattle.am_reset.specs.Replies.{letters_of}
 
--- a refusal, or else the plan
-abbrev pub unless : Option Outcome → Node → Plan → Plan
-unless None m plan = plan
-unless (Some outcome) m plan = quiet m outcome
-
 -- the node with this ballot
 abbrev pub with_ballot : Node → Option Ballot → Node
 with_ballot m ballot = record m { ballot = ballot }

@@ -13,7 +13,8 @@ ghost use Rattle.am_model.specs.Ends.{Does};
 ghost use Rattle.am_handlers.specs.Keeps.{IsOwnBallot};
 ghost use Rattle.am_handlers.specs.Parts.{node_of};
 ghost use Rattle.am_base.specs.Stamps.{stamp_lt, stamp_eq};
-ghost use Rattle.am_reset.specs.Catching.{unless, unless_reply, with_ballot, ComesNext, FollowsAsView, IsBelow};
+ghost use Rattle.am_handlers.specs.Finishing.{unless};
+ghost use Rattle.am_reset.specs.Catching.{unless_reply, with_ballot, ComesNext, FollowsAsView, IsBelow};
 ghost use Rattle.am_reset.specs.Deciding.{IsTakenOut, IsUpTo, MayStore};
 ghost use Rattle.am_reset.specs.Replies.{Replies, MayTell};
 

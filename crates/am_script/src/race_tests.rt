@@ -248,7 +248,7 @@ fn race_in(alloc: Global, text: &str) -> Option<RacePlan> {
 /// Whether the call at an index of a thread is the one of `RACE` there.
 fn is_wanted(thread: usize, at: usize, act: &Act) -> bool {
     match (thread, at, act) {
-        (0, 0, Act::Send(body)) => body.get().bytes() == b"ao".as_slice(),
+        (0, 0, Act::Send(body)) => body.bytes() == b"ao".as_slice(),
         (0, 1, Act::Take) | (0, 2, Act::Join) | (1, 0, Act::Leave) | (1, 3, Act::Stop) => true,
         (1, 1, Act::Reset { least, resilience }) => *least == 16 && *resilience == 2,
         (1, 2, Act::Reset { least, resilience }) => *least == 1 && *resilience == 0,

@@ -177,7 +177,7 @@ const ACTS: &str =
 /// Whether the event at an index is the one of `ACTS` there.
 fn is_wanted(at: usize, event: &Event) -> bool {
     match (at, &event.act) {
-        (0, Act::Send(body)) => body.get().bytes() == b"ao".as_slice() && event.node.get() == 1,
+        (0, Act::Send(body)) => body.bytes() == b"ao".as_slice() && event.node.get() == 1,
         (1, Act::Done(2_000_000_000)) => event.node.get() == 1,
         (2, Act::Take) => event.node.get() == 15,
         (3, Act::Join) | (4, Act::State) => event.node.get() == 4,

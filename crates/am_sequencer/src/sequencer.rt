@@ -1,12 +1,12 @@
-ghost use Rattle.std.specs.Prelude.{◌≡◌, ◌≢◌, ◌<◌, [], true};
+ghost use Rattle.std.specs.Prelude.{◌≡◌, ◌≢◌, ◌<◌, ◌≤◌, [], true, false, IfNone};
 ghost use Rattle.am_base.specs.Most.{most_number};
 ghost use Rattle.am_base.specs.Limits.{IsNumber};
 ghost use Rattle.am_model.specs.Node.{top, is_sequencer};
-ghost use Rattle.am_model.specs.Sequencing.{ack_row, nack_row, request_row};
+ghost use Rattle.am_model.specs.Sequencing.{is_unknown, ack_row, nack_row, request_row};
 ghost use Rattle.am_model.specs.Ends.{Does};
 ghost use Rattle.am_handlers.specs.Parts.{node_of};
 ghost use Rattle.am_handlers.specs.Finishing.{Done};
-ghost use Rattle.am_sequencer.specs.Pieces.{following};
+ghost use Rattle.am_sequencer.specs.Pieces.{following, report_refusal};
 
 use crate::numbering::requested;
 use crate::serving::asked_again;
@@ -18,6 +18,22 @@ use am_handlers::asking::{is_unknown, report_fits};
 use am_handlers::finishing::finish_quietly;
 use am_handlers::parts::Parts;
 use am_letter::out_box::OutBox;
+
+/// What is told of a report that isn't taken; None where a Join of its sender stands in the list, and it is one of this
+/// list.
+fn report_refusal(parts: &Parts, from: Name, report: Report) -> Option<Outcome>
+    ensures value { result ≡ report_refusal (node_of parts.now) from report }
+    ensures known { IfNone result (is_unknown (node_of parts.now) from ≡ false) }
+    ensures stored { IfNone result (report.stored ≤ top (node_of parts.now)) }
+{
+    if is_unknown(parts, from) {
+        return Some(Outcome::Stranger);
+    }
+    if !report_fits(parts, report) {
+        return Some(Outcome::Unfit);
+    }
+    None
+}
 
 /// The end of a step whose report is taken, and before which so much was accepted. It tells whether that rose.
 fn follow(parts: &mut Parts, before: u32, out: &mut OutBox) -> Outcome
@@ -44,11 +60,8 @@ pub fn on_ack(parts: &mut Parts, from: Name, report: Report, out: &mut OutBox) -
         (node_of parts.new) }
 {
     let before = parts.accepted();
-    if is_unknown(parts, from) {
-        return finish_quietly(parts, before, Outcome::Stranger, out);
-    }
-    if !report_fits(parts, report) {
-        return finish_quietly(parts, before, Outcome::Unfit, out);
+    if let Some(answer) = report_refusal(parts, from, report) {
+        return finish_quietly(parts, before, answer, out);
     }
     parts.report(from, report);
     follow(parts, before, out)
@@ -64,11 +77,8 @@ pub fn on_nack(parts: &mut Parts, from: Name, report: Report, out: &mut OutBox) 
         (node_of parts.new) }
 {
     let before = parts.accepted();
-    if is_unknown(parts, from) {
-        return finish_quietly(parts, before, Outcome::Stranger, out);
-    }
-    if !report_fits(parts, report) {
-        return finish_quietly(parts, before, Outcome::Unfit, out);
+    if let Some(answer) = report_refusal(parts, from, report) {
+        return finish_quietly(parts, before, answer, out);
     }
     parts.take_report(from, report);
     asked_again(parts, before, from, report.stored, out)
@@ -96,11 +106,8 @@ pub fn on_request(
         (node_of parts.old) result out.new (node_of parts.new) }
 {
     let before = parts.accepted();
-    if is_unknown(parts, from) {
-        return finish_quietly(parts, before, Outcome::Stranger, out);
-    }
-    if !report_fits(parts, report) {
-        return finish_quietly(parts, before, Outcome::Unfit, out);
+    if let Some(answer) = report_refusal(parts, from, report) {
+        return finish_quietly(parts, before, answer, out);
     }
     parts.take_report(from, report);
     requested(parts, before, from, req, body, by_order, out)

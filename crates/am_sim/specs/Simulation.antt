@@ -34,6 +34,10 @@ use Rattle.am_script.specs.declared.script.Script.TheVariants.{Play, Race}
 use Rattle.am_sim.specs.declared.simulate.Status.{Status}
 use Rattle.am_sim.specs.declared.simulate.Status.TheVariants.{Done, Usage, BadScript, TooLong, ReadFault, WriteFault, NoMemory, Spent}
 
+-- the most bytes of an input
+abbrev pub most_input : ℕ
+most_input = 16777216
+
 -- the form of words
 abbrev pub asked : List (Bor (List ℕ)) → Option Form
 asked words = form_of (map (λ word. word.now) words)

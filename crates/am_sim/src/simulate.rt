@@ -8,7 +8,7 @@ ghost use Rattle.am_script.specs.Scripts.{IsOfKind, reading};
 ghost use Rattle.am_sim.specs.declared.simulate.Unplayed.TheVariants as unplayed;
 ghost use Rattle.am_words.specs.declared.form.Form.TheVariants as form;
 ghost use Rattle.am_words.specs.Forms.{IsGen};
-ghost use Rattle.am_sim.specs.Simulation.{asked, Reads, key_for, EndsGen, IsAnswer, IsPlayed, IsRacedText, IsSummary, OnDone, OnWriteFault, IfBadScript, Writes, Played, Raced, WrotePart, IsSpent, IsText, IsUnrun, IsUnplayed, unplayed_for, reads_after, writes_after, number_of};
+ghost use Rattle.am_sim.specs.Simulation.{asked, most_input, Reads, key_for, EndsGen, IsAnswer, IsPlayed, IsRacedText, IsSummary, OnDone, OnWriteFault, IfBadScript, Writes, Played, Raced, WrotePart, IsSpent, IsText, IsUnrun, IsUnplayed, unplayed_for, reads_after, writes_after, number_of};
 
 use crate::generating::summary_of_run;
 use crate::playing::text_of_run;
@@ -30,7 +30,7 @@ use std::sync::Wait;
 use std::thread::Threads;
 
 /// The most bytes of an input.
-const INPUT_MOST: u32 = 16777216;
+const INPUT_MOST: u32 = 16_777_216;
 
 /// What came of a call of the program.
 #[derive(Clone, Copy, PartialEq, Eq, Debug)]
@@ -91,9 +91,9 @@ pub fn simulate<R: Threads + Wait + Sync, S: Source, K: Sink, G: Gate + Sync>(
     ensures reads { S.count source.new ≡ reads_after result (S.count source.old) }
     ensures writes { K.count sink.new ≡ writes_after result (K.count sink.old) }
     ensures too_long { result ≡ Status.TooLong
-        → GaveMore 16777216 (S.left source.old) (S.left source.new) }
+        → GaveMore most_input (S.left source.old) (S.left source.new) }
     ensures within { result ≢ Status.TooLong
-        → GaveAtMost 16777216 (S.left source.old) (S.left source.new) }
+        → GaveAtMost most_input (S.left source.old) (S.left source.new) }
     ensures bad_script { IfBadScript result (λ cause. (bytes : List ℕ)
         × ReadToEnd (S.left source.old) (S.left source.new) bytes
         × (reading (key_for (asked words.now)) bytes ≡ Err cause)) }
@@ -148,9 +148,9 @@ pub fn simulate_alone<S: Source, K: Sink>(
     ensures writes { IfSome result (λ status. K.count sink.new
         ≡ writes_after status (K.count sink.old)) }
     ensures too_long { IfSome result (λ status. status ≡ Status.TooLong
-        → GaveMore 16777216 (S.left source.old) (S.left source.new)) }
+        → GaveMore most_input (S.left source.old) (S.left source.new)) }
     ensures within { IfSome result (λ status. status ≢ Status.TooLong
-        → GaveAtMost 16777216 (S.left source.old) (S.left source.new)) }
+        → GaveAtMost most_input (S.left source.old) (S.left source.new)) }
     ensures bad_script { IfSome result (λ status. IfBadScript status (λ cause. (bytes : List ℕ)
         × ReadToEnd (S.left source.old) (S.left source.new) bytes
         × (reading (key_for (asked words.now)) bytes ≡ Err cause))) }
@@ -208,9 +208,9 @@ fn play<S: Source, K: Sink>(alloc: Global, source: &mut S, sink: &mut K) -> Stat
     ensures reads { S.count source.new ≡ reads_after result (S.count source.old) }
     ensures writes { K.count sink.new ≡ writes_after result (K.count sink.old) }
     ensures too_long { result ≡ Status.TooLong
-        → GaveMore 16777216 (S.left source.old) (S.left source.new) }
+        → GaveMore most_input (S.left source.old) (S.left source.new) }
     ensures within { result ≢ Status.TooLong
-        → GaveAtMost 16777216 (S.left source.old) (S.left source.new) }
+        → GaveAtMost most_input (S.left source.old) (S.left source.new) }
     ensures bad_script { IfBadScript result (λ cause. (bytes : List ℕ)
         × ReadToEnd (S.left source.old) (S.left source.new) bytes
         × (reading key.Play bytes ≡ Err cause)) }
@@ -256,9 +256,9 @@ fn race_script<R: Threads + Wait + Sync, S: Source, K: Sink, G: Gate + Sync>(
     ensures reads { S.count source.new ≡ reads_after result (S.count source.old) }
     ensures writes { K.count sink.new ≡ writes_after result (K.count sink.old) }
     ensures too_long { result ≡ Status.TooLong
-        → GaveMore 16777216 (S.left source.old) (S.left source.new) }
+        → GaveMore most_input (S.left source.old) (S.left source.new) }
     ensures within { result ≢ Status.TooLong
-        → GaveAtMost 16777216 (S.left source.old) (S.left source.new) }
+        → GaveAtMost most_input (S.left source.old) (S.left source.new) }
     ensures bad_script { IfBadScript result (λ cause. (bytes : List ℕ)
         × ReadToEnd (S.left source.old) (S.left source.new) bytes
         × (reading key.Race bytes ≡ Err cause)) }

@@ -425,21 +425,7 @@ decisions_are_new s t (group.decides i members resilience may) voted k law b = (
       (λ f. f),
   new_view s k law i members resilience may b voted.1,
 )
-decisions_are_new s t (group.numbers i e leads fit may) voted k law b = tt
-decisions_are_new s t (group.stores i e up decided other stays next) voted k law b = tt
-decisions_are_new s t (group.accepts i n leads may) voted k law b = tt
-decisions_are_new s t (group.learns i told acc up rises within before up_to given low) voted k law b = tt
-decisions_are_new s t (group.begins i few up stays member) voted k law b = tt
-decisions_are_new s t (group.raises i stamp there above) voted k law b = tt
-decisions_are_new s t (group.shows i there small other begun none) voted k law b = tt
-decisions_are_new s t (group.serves i list up shown others) voted k law b = tt
-decisions_are_new s t (group.fetches i f list e up ballot served shown next) voted k law b = tt
-decisions_are_new s t (group.gives_over i) voted k law b = tt
-decisions_are_new s t (group.welcomes j stamp base join may) voted k law b = tt
-decisions_are_new s t (group.asks i up none) voted k law b = tt
-decisions_are_new s t (group.departs i before may) voted k law b = tt
-decisions_are_new s t (group.closes i n leads leaving alone may) voted k law b = tt
-decisions_are_new s t (group.stops i) voted k law b = tt
+decisions_are_new s t _ voted k law b = tt
 
 -- ---- the start
 

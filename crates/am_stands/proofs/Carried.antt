@@ -11,8 +11,8 @@ use Rattle.am_model.specs.Hearing.{hears_member, hears_in_view, hears_sequencer}
 use Rattle.am_model.specs.Group.{has_log}
 use Rattle.am_model.specs.World.{World, has_departed}
 use Rattle.am_model.proofs.Greatest.{and_both}
-use Rattle.am_effects.specs.Changes.{refreshes, settles, takes_report, admits, numbers, keeps_body, notes, stores, begins_list, departs, promises, opens}
-use Rattle.am_effects.specs.Changes.{looks, fetches, stores_view, queues, collects, takes, asks_to_join, asks_to_leave, closes}
+use Rattle.am_effects.specs.Changes.{refreshes, settles, numbers, stores, begins_list, departs, promises, opens}
+use Rattle.am_effects.specs.Changes.{looks, fetches, stores_view, asks_to_join, asks_to_leave, closes}
 use Rattle.am_effects.proofs.Rests.{rests_refresh, settle_is}
 use Rattle.am_stands.specs.Standing.{StandsBut, within}
 use Rattle.am_model.specs.Node.{Ballot}
@@ -62,11 +62,7 @@ changes_stand w name c o x y s refreshes may is h = let r = rests_refresh x in
     same_to_it w name x (refresh x) s r.log r.rests.status r.rests.leaving r.rests.promise r.rests.ballot r.begins h
 changes_stand w name c o x y s settles may is h = subst (λ n. Onto name (within w name n) s) (sym (settle_is x))
     (same_to_it w name x _ s refl refl refl refl refl refl h)
-changes_stand w name c o x y s (takes_report from v report by may_) may is h = same_to_it w name x y s refl refl refl refl refl refl h
-changes_stand w name c o x y s (admits from v was leads fit) may is h = same_to_it w name x y s refl refl refl refl refl refl h
 changes_stand w name c o x y s (numbers e leads room why) may is h = number_stands w name c x e s may leads why is h
-changes_stand w name c o x y s (keeps_body from v report req body was by) may is h = same_to_it w name x y s refl refl refl refl refl refl h
-changes_stand w name c o x y s (notes from v base acc by heard) may is h = same_to_it w name x y s refl refl refl refl refl refl h
 changes_stand w name c o x y s (stores from v base acc number e by heard plain may_) may is h = piece_stands w name x y e s may.few may.runs
     (hears_in_view_member x from v heard) (record { log = refl; stays = refl; leaving = refl; promise = refl; ballot = refl; start = refl }) (of_line is) h
 changes_stand w name c o x y s (begins_list from v base join image was says may_) may is h = welcome_stands w name c x v base join image s may is h
@@ -80,9 +76,6 @@ changes_stand w name c o x y s (fetches from v base number e was by promise belo
 changes_stand w name c o x y s (stores_view from v base number names resilience was by own other promise below may_) may is h = piece_stands w name x y
     (View v names resilience) s may.few may.runs (hears_member_member x from by)
     (record { log = refl; stays = refl; leaving = refl; promise = refl; ballot = refl; start = refl }) (of_line is) h
-changes_stand w name c o x y s (queues body was says member stays few) may is h = same_to_it w name x y s refl refl refl refl refl refl h
-changes_stand w name c o x y s (collects req was) may is h = same_to_it w name x y s refl refl refl refl refl refl h
-changes_stand w name c o x y s (takes e was says member some there) may is h = same_to_it w name x y s refl refl refl refl refl refl h
 changes_stand w name c o x y s (asks_to_join was asked) may is h = unmoved w name x y s
     (record {
       log = refl;
@@ -96,3 +89,4 @@ changes_stand w name c o x y s (asks_to_join was asked) may is h = unmoved w nam
 changes_stand w name c o x y s (asks_to_leave was member stays done) may is h = ask_stands w name c x s may member
     (or_last (nat_lt 0 (unsettled x)) (is_unfinished x.ballot) done) h
 changes_stand w name c o x y s (closes leads leaves alone room) may is h = absurd is
+changes_stand w name c o x y s _ may is h = same_to_it w name x y s refl refl refl refl refl refl h

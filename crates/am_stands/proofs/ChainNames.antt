@@ -49,28 +49,16 @@ front_named (x ∷ a) b h k = (let all = subst (All NamesNamed) (sym h.same) k i
 pub moves_named : MovesNamed
 moves_named s t (group.numbers i e leads fit may) ok k h = subst (All NamesNamed) (sym (longer_chain s i (longer (s.node i) e) e k leads refl))
     (pushed_named (chain_of s.views) e h ok)
-moves_named s t (group.stores i e up decided other stays next) ok k h = h
-moves_named s t (group.accepts i n leads may) ok k h = h
-moves_named s t (group.learns i told acc up rises within before up_to given low) ok k h = h
-moves_named s t (group.begins i few up stays member) ok k h = h
-moves_named s t (group.raises i stamp there above) ok k h = h
-moves_named s t (group.shows i there small other begun none) ok k h = h
-moves_named s t (group.serves i list up shown others) ok k h = h
-moves_named s t (group.fetches i f list e up ballot served shown next) ok k h = h
 moves_named s t (group.decides i members resilience may) ok k h =
     subst (All NamesNamed) (sym (put_same s.views.line (key (s.node i).promise) (opening (choice_of (s.node i) members resilience))))
     (pushed_named (s.node i).list (groups_view i members resilience) (front_named (s.node i).list (chain_of s.views) ((k.each i).list may.up) h) ok.0)
   where
     groups_view : ℕ → List ℕ → ℕ → Entry
     groups_view i members resilience = View (s.node i).promise members resilience
-moves_named s t (group.gives_over i) ok k h = h
-moves_named s t (group.welcomes j stamp base join may) ok k h = h
-moves_named s t (group.asks i up none) ok k h = h
-moves_named s t (group.departs i before may) ok k h = h
 moves_named s t (group.closes i n leads leaving alone may) ok k h =
     subst (All NamesNamed) (sym (longer_chain s i (record (longer (s.node i) (Leave i)) { departed = true }) (Leave i) k leads refl))
     (pushed_named (chain_of s.views) (Leave i) h tt)
-moves_named s t (group.stops i) ok k h = h
+moves_named s t _ ok k h = h
 
 -- ---- rows
 

@@ -21,6 +21,7 @@ use Rattle.am_model.specs.declared.status.Status.TheVariants as status
 use Rattle.am_model.specs.Node as nodes
 use Rattle.am_model.specs.Node.{Node, Ballot, members, is_member, is_asking, unsettled, set_at}
 use Rattle.am_model.specs.Calls.{is_unfinished}
+use Rattle.am_model.specs.Refresh.{refresh}
 use Rattle.am_model.specs.Ballots.{Verdict, overtaken, promised, next_stamp}
 use Rattle.am_model.specs.Hearing.{hears_member}
 use Rattle.am_model.specs.Group.{has_log}
@@ -31,6 +32,7 @@ use Rattle.am_effects.specs.Causes.{Cause, hears}
 use Rattle.am_effects.specs.Looks.{Balloting, with_more, without_one, as_it_is, Looks, finds_itself_out, waits, fetches_from_best, finds_too_few}
 use Rattle.am_effects.specs.Looks.{finds_no_room, decides}
 use Rattle.am_effects.specs.Changes.{Promises, invited, overtaken as overtaken_by, told_result}
+use Rattle.am_effects.proofs.Rests.{rests_refresh}
 use Rattle.am_effects.proofs.Statuses.{logged}
 use Rattle.am_laws.proofs.Stamps.{equal_stamps}
 use Rattle.am_packet.specs.declared.packet.Packet.TheVariants as packet
@@ -51,6 +53,20 @@ pub record Unmoved (x y : Node) : Type 0 where
   pub ballot : is_unfinished y.ballot ≡ is_unfinished x.ballot
   pub start : y.core.start ≡ x.core.start
 
+-- as a refresh leaves it
+pub unmoved_refresh : (x : Node) → Unmoved x (refresh x)
+unmoved_refresh x =
+    let r = rests_refresh x in
+    record {
+      log = r.log;
+      log_ = ap has_log r.rests.status;
+      departed = ap has_departed r.rests.status;
+      leaving = r.rests.leaving;
+      promise = r.rests.promise;
+      ballot = ap is_unfinished r.rests.ballot;
+      start = r.begins;
+    }
+
 -- the same to what stands for it
 pub same_name : (w : World) (name i : ℕ) (x y : Node) (a : groups.Node) → Unmoved x y → NameStands (within w name x) i x a → NameStands (within w name y) i y a
 same_name w name i x y a u h = record {
@@ -59,10 +75,7 @@ same_name w name i x y a u h = record {
     image = subst (λ (l : Log). l.image ≡ told (take l.start w.group)) (sym u.log) h.begins.image;
   };
   list = h.list ∙ ap (λ (l : Log). take l.start w.group ++ l.entries) (sym u.log);
-  log_ = h.log_ ∙ sym u.log_;
-  stopped = h.stopped;
-  departed = h.departed ∙ sym u.departed;
-  leaving = h.leaving ∙ sym u.leaving;
+  flags = record { log_ = h.log_ ∙ sym u.log_; stopped = h.stopped; departed = h.departed ∙ sym u.departed; leaving = h.leaving ∙ sym u.leaving };
   promise = h.promise ∙ sym u.promise;
   ballot = h.ballot ∙ sym u.ballot;
   start = λ t. h.start (sym u.log_ ∙ t) ∙ sym u.start;
@@ -104,6 +117,27 @@ moved w name x y s b log move ok told_ acc_ f h = onto_move name (within w name 
       views = views_in (within w name x) (within w name y) s.views refl (lines_within w name x y log) h.views;
       group = h.group;
     })
+
+-- with the same list and status, and another promise or ballot
+name_as : (w : World) (name : ℕ) (x y : Node) (a : groups.Node) (stamp : Stamp) (open_ : Bool) → y.core.log ≡ x.core.log → y.status ≡ x.status
+    → y.leaving ≡ x.leaving → y.core.start ≡ x.core.start → stamp ≡ y.core.promise → open_ ≡ is_unfinished y.ballot
+    → NameStands (within w name x) name x a → NameStands (within w name y) name y (record a { promise = stamp; ballot = open_ })
+name_as w name x y a stamp open_ log status leaving start_ promise ballot k = record {
+  begins = record {
+    within = subst (λ (l : Log). l.start ≤ length w.group) (sym log) k.begins.within;
+    image = subst (λ (l : Log). l.image ≡ told (take l.start w.group)) (sym log) k.begins.image;
+  };
+  list = k.list ∙ ap (λ (l : Log). take l.start w.group ++ l.entries) (sym log);
+  flags = record {
+    log_ = k.log_ ∙ ap has_log (sym status);
+    stopped = k.stopped;
+    departed = k.departed ∙ ap has_departed (sym status);
+    leaving = k.leaving ∙ sym leaving;
+  };
+  promise = promise;
+  ballot = ballot;
+  start = λ t. k.start (ap has_log (sym status) ∙ t) ∙ sym start_;
+}
 
 is_itself : (name : ℕ) → (name == name) ≡ true
 is_itself name = grind (arith, nat_tests)
@@ -198,17 +232,7 @@ promise_stands w name c x v s may low why h =
     (λ b is open_. subst (λ u. stamp_lt u v ≡ true) (sym (may.ballot b is open_)) t) in
     moved w name x (promised x v) s (record (s.node name) { promise = v; ballot = false }) refl
     (group.raises name v (is_there w name x (s.node name) may.runs (promiser_stays c x v why) old) above) tt refl refl
-    (λ k. record {
-      begins = record { within = k.begins.within; image = k.begins.image };
-      list = k.list;
-      log_ = k.log_;
-      stopped = k.stopped;
-      departed = k.departed;
-      leaving = k.leaving;
-      promise = refl;
-      ballot = sym ends;
-      start = k.start;
-    }) h)
+    (λ k. name_as w name x (promised x v) (s.node name) _ _ refl refl refl refl refl (sym ends) k) h)
     (λ f.
     let same : v ≡ x.core.promise = equal_stamps v x.core.promise begun.small small low f in
     let stays : is_unfinished (overtaken v x.ballot) ≡ is_unfinished x.ballot = kept v x.ballot
@@ -223,20 +247,7 @@ pub given_over : (w : World) (name : ℕ) (x y : Node) (s : Group) → y.core.lo
     → Onto name (within w name y) s
 given_over w name x y s log stays leaving promise ends start_ h =
     moved w name x y s (record (s.node name) { ballot = false }) log (group.gives_over name) tt refl refl
-    (λ k. record {
-      begins = record {
-        within = subst (λ (l : Log). l.start ≤ length w.group) (sym log) k.begins.within;
-        image = subst (λ (l : Log). l.image ≡ told (take l.start w.group)) (sym log) k.begins.image;
-      };
-      list = k.list ∙ ap (λ (l : Log). take l.start w.group ++ l.entries) (sym log);
-      log_ = k.log_ ∙ ap has_log (sym stays);
-      stopped = k.stopped;
-      departed = k.departed ∙ ap has_departed (sym stays);
-      leaving = k.leaving ∙ sym leaving;
-      promise = k.promise ∙ sym promise;
-      ballot = sym ends;
-      start = λ t. k.start (ap has_log (sym stays) ∙ t) ∙ sym start_;
-    }) h
+    (λ k. name_as w name x y (s.node name) _ _ log stays leaving start_ (k.promise ∙ sym promise) (sym ends) k) h
 
 pub open_stands : (w : World) (name : ℕ) (c : Cause) (x y : Node) (s : Group) → MayMove w name c x s → is_member x.status ≡ true
     → has (members x) x.core.who ≡ true → x.leaving ≡ false → y.core.log ≡ x.core.log → y.status ≡ x.status → y.leaving ≡ x.leaving
@@ -252,20 +263,7 @@ open_stands w name c x y s may member listed stays log same_status same_leaving 
     let own : own_stamp name (s.node name) ≡ y.core.promise = (λ i. record { round = (old.promise i).round + 1; by = sym who i }) ∙ sym promise in
     moved w name x y s (record (s.node name) { promise = own_stamp name (s.node name); ballot = true }) log
     (group.begins name may.few up (old.leaving ∙ stays) in_list) tt refl refl
-    (λ k. record {
-      begins = record {
-        within = subst (λ (l : Log). l.start ≤ length w.group) (sym log) k.begins.within;
-        image = subst (λ (l : Log). l.image ≡ told (take l.start w.group)) (sym log) k.begins.image;
-      };
-      list = k.list ∙ ap (λ (l : Log). take l.start w.group ++ l.entries) (sym log);
-      log_ = k.log_ ∙ ap has_log (sym same_status);
-      stopped = k.stopped;
-      departed = k.departed ∙ ap has_departed (sym same_status);
-      leaving = k.leaving ∙ sym same_leaving;
-      promise = own;
-      ballot = sym open_;
-      start = λ t. k.start (ap has_log (sym same_status) ∙ t) ∙ sym start_;
-    }) h
+    (λ k. name_as w name x y (s.node name) _ _ log same_status same_leaving start_ own (sym open_) k) h
 
 abbrev pub IsDecision : {m : Node} {b : Ballot} {v : Verdict} → Looks m b v → Type 0
 IsDecision (decides may) = Unit {0}
@@ -304,10 +302,7 @@ ask_stands w name c x s may was none h =
     (λ k. record {
       begins = record { within = k.begins.within; image = k.begins.image };
       list = k.list;
-      log_ = k.log_;
-      stopped = k.stopped;
-      departed = k.departed;
-      leaving = refl;
+      flags = record { log_ = k.log_; stopped = k.stopped; departed = k.departed; leaving = refl };
       promise = k.promise;
       ballot = k.ballot;
       start = k.start;
@@ -333,10 +328,7 @@ depart_stands w name from number v c x s may is heard leaves h =
     (λ k. record {
       begins = record { within = k.begins.within; image = k.begins.image };
       list = k.list;
-      log_ = up.log;
-      stopped = k.stopped;
-      departed = refl;
-      leaving = k.leaving;
+      flags = record { log_ = up.log; stopped = k.stopped; departed = refl; leaving = k.leaving };
       promise = k.promise;
       ballot = k.ballot;
       start = λ t. k.start (logged x.status member);

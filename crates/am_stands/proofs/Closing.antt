@@ -40,10 +40,7 @@ gone_name w name x b log h =
         image = subst (λ (g : Log). g.image ≡ told (take g.start w.group)) (sym r.log) h.begins.image;
       };
       list = h.list ∙ ap (λ (g : Log). take g.start w.group ++ g.entries) (sym r.log);
-      log_ = log;
-      stopped = h.stopped;
-      departed = refl;
-      leaving = h.leaving ∙ sym r.rests.leaving;
+      flags = record { log_ = log; stopped = h.stopped; departed = refl; leaving = h.leaving ∙ sym r.rests.leaving };
       promise = h.promise ∙ sym r.rests.promise;
       ballot = h.ballot ∙ ap is_unfinished (sym r.rests.ballot);
       start = λ t. h.start (sym h.log_ ∙ log) ∙ sym r.begins;

@@ -1,5 +1,5 @@
 -- Who is concerned by a list with one entry more, and what is reported of it.
-use Rattle.std.proofs.Common.{◌≡◌, ◌⊎◌, inl, inr, ⊎_elim, ℕ, ◌+◌, ◌≤◌, List, [], ◌∷◌, ◌++◌, length, true, false, refl, sym, ap, ◌∙◌, subst, arith}
+use Rattle.std.proofs.Common.{◌≡◌, ◌⊎◌, inl, inr, ⊎_elim, ℕ, ◌+◌, ◌<◌, ◌≤◌, List, [], ◌∷◌, ◌++◌, length, true, false, refl, sym, ap, ◌∙◌, subst, arith}
 use Rattle.am_base.specs.declared.entry.Entry.{Entry}
 use Rattle.am_base.specs.declared.entry.Entry.TheVariants.{Data, Join, Leave, View}
 use Rattle.am_base.specs.declared.image.Report.{Report}
@@ -52,17 +52,25 @@ concerned_push list e name plain h =
 
 -- ---- reports
 
--- where names have no less, and a report of one that joins is at the base
+-- where names have no less, and who is concerned above the base was so before
+pub reporting_on : (node after_ : ℕ → groups.Node) (list : List Entry) (e : Entry) (base : ℕ) (reports : ℕ → Report)
+    → ((name : ℕ) → base < (reports name).stored → IsConcerned (list ++ e ∷ []) name → IsConcerned list name)
+    → ((i : ℕ) → Begins (node i).list (after_ i).list) → Reporting node list base reports → Reporting after_ (list ++ e ∷ []) base reports
+reporting_on node after_ list e base reports before grow r = record {
+  within = λ name. (let low = r.within name in let more = length_push list e in omega arith);
+  taken = r.taken;
+  true_ = λ name few concerned above. subst (λ l. Begins l (after_ name).list)
+      (sym (taken_more (reports name).stored list (list ++ e ∷ []) (begins_more list (e ∷ [])) (r.within name)))
+      (begins_trans (r.true_ name few (before name above concerned) above) (grow name));
+}
+
+-- and a report of one that joins is at the base
 pub reporting_push : (node after_ : ℕ → groups.Node) (list : List Entry) (e : Entry) (base : ℕ) (reports : ℕ → Report) → NotView e
     → ((i : ℕ) → Begins (node i).list (after_ i).list) → ((i : ℕ) → e ≡ Join i → (reports i).stored ≤ base)
     → Reporting node list base reports → Reporting after_ (list ++ e ∷ []) base reports
-reporting_push node after_ list e base reports plain grow fresh r = record {
-  within = λ name. (let low = r.within name in let more = length_push list e in omega arith);
-  taken = r.taken;
-  true_ = λ name few concerned above. ⊎_elim
-      (λ (z : IsConcerned list name). subst (λ l. Begins l (after_ name).list)
-      (sym (taken_more (reports name).stored list (list ++ e ∷ []) (begins_more list (e ∷ [])) (r.within name)))
-      (begins_trans (r.true_ name few z above) (grow name)))
-      (λ (z : e ≡ Join name). absurd (let low = fresh name z in omega arith))
-      (concerned_push list e name plain concerned);
-}
+reporting_push node after_ list e base reports plain grow fresh r = reporting_on node after_ list e base reports
+    (λ name above concerned. ⊎_elim
+    (λ (z : IsConcerned list name). z)
+    (λ (z : e ≡ Join name). absurd (let low = fresh name z in omega arith))
+    (concerned_push list e name plain concerned))
+    grow r

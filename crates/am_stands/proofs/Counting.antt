@@ -29,7 +29,7 @@ but_passes q k j = by_cases (j == k)
 
 -- ---- counts
 
-count_up_to : (p q : ℕ → Bool) (n : ℕ) → ((j : ℕ) → j < n → p j ≡ true → q j ≡ true) → count p n ≤ count q n
+pub count_up_to : (p q : ℕ → Bool) (n : ℕ) → ((j : ℕ) → j < n → p j ≡ true → q j ≡ true) → count p n ≤ count q n
 unfolding count
 count_up_to p q zero h = omega arith
 count_up_to p q (suc n) h =

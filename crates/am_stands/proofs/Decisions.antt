@@ -196,10 +196,7 @@ decision_stands w name c x b s may why needs h =
     let name_ : NameStands (within w name x) name x a → NameStands (within w name y) name y chosen = λ k. record {
       begins = record { within = k.begins.within; image = k.begins.image };
       list = list_;
-      log_ = k.log_;
-      stopped = k.stopped;
-      departed = k.departed;
-      leaving = k.leaving;
+      flags = k.flags;
       promise = k.promise;
       ballot = refl;
       start = k.start;

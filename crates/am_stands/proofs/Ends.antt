@@ -40,10 +40,7 @@ name_grows w v i m a grows stopped h =
     record {
       begins = record { within = omega arith; image = h.begins.image ∙ ap told (sym same) };
       list = h.list ∙ ap (λ l. l ++ m.core.log.entries) (sym same);
-      log_ = h.log_;
-      stopped = h.stopped ∙ sym stopped;
-      departed = h.departed;
-      leaving = h.leaving;
+      flags = record { log_ = h.log_; stopped = h.stopped ∙ sym stopped; departed = h.departed; leaving = h.leaving };
       promise = h.promise;
       ballot = h.ballot;
       start = h.start;
@@ -133,10 +130,7 @@ learned w e name step s told_ acc_ h = record {
       (record (s.node name) { told = told_; acc = acc_ }) = record {
         begins = old.begins;
         list = old.list;
-        log_ = old.log_;
-        stopped = old.stopped;
-        departed = old.departed;
-        leaving = old.leaving;
+        flags = old.flags;
         promise = old.promise;
         ballot = old.ballot;
         start = old.start;

@@ -32,7 +32,7 @@ use Rattle.am_laws.proofs.Stamps.{same_stamp}
 use Rattle.am_stands.specs.Standing.{NameStands, NotedStands, ViewsStand, StandsBut, within}
 use Rattle.am_stands.specs.Moving.{MoveOk, Leads}
 use Rattle.am_stands.specs.Steps.{MayMove, NeedsNumber, IsOthers, NeedsEntry, NeedsPiece, of_line, of_shown, NeedsWelcome, FrontsBegin}
-use Rattle.am_stands.proofs.Names.{Onto, onto_move, one_move, views_noted, each_within, fronts_within}
+use Rattle.am_stands.proofs.Names.{Onto, onto_move, one_move, views_noted, each_within, fronts_within, noted_line}
 use Rattle.am_stands.proofs.Changes.{own_name, is_up, told_whole}
 use Rattle.am_stands.proofs.Lines.{HasViewOf, next_of_list, line_stays, line_ends, line_grows, opened}
 
@@ -58,10 +58,12 @@ name_longer w name x y e a l h = record {
     image = subst (λ (g : Log). g.image ≡ told (take g.start w.group)) (sym l.log) h.begins.image;
   };
   list = ap (λ k. k ++ e ∷ []) h.list ∙ sym (whole_longer w name x y e l);
-  log_ = h.log_ ∙ ap has_log (sym l.stays);
-  stopped = h.stopped;
-  departed = h.departed ∙ ap has_departed (sym l.stays);
-  leaving = h.leaving ∙ sym l.leaving;
+  flags = record {
+    log_ = h.log_ ∙ ap has_log (sym l.stays);
+    stopped = h.stopped;
+    departed = h.departed ∙ ap has_departed (sym l.stays);
+    leaving = h.leaving ∙ sym l.leaving;
+  };
   promise = h.promise ∙ sym l.promise;
   ballot = h.ballot ∙ ap is_unfinished (sym l.ballot);
   start = λ t. h.start (ap has_log (sym l.stays) ∙ t) ∙ sym l.start;
@@ -174,15 +176,9 @@ views_numbered w name x y e a views l old plain by few small chain h = record {
       let was : views.line (key v) ≡ a.list = ap views.line keys ∙ chain in
       let whole_line : up_to_next v a.list ≡ a.list = ap (up_to_next v) is_list ∙ sym (line_here w name x v mine) ∙ sym n.line ∙ was in
       let now : line_of (within w name y) v ≡ a.list ++ e ∷ [] = line_here w name y v mine ∙ ap (up_to_next v) next ∙ line_grows v a.list e plain whole_line in
-      record {
-        decided = n.decided;
-        stamp = n.stamp;
-        members = n.members;
-        resilience = n.resilience;
-        number = n.number;
-        line = rw t (sym now);
-        opens = rw t (begins_trans (subst (Begins (opening (views.chosen (key v)))) was n.opens) (begins_more a.list (e ∷ [])));
-      })
+      noted_line (within w name x) (within w name y) views d (put views.line (key (view_of a.list)) (a.list ++ e ∷ []))
+      (rw t (sym now))
+      (rw t (begins_trans (subst (Begins (opening (views.chosen (key v)))) was n.opens) (begins_more a.list (e ∷ [])))) n)
       (λ f.
       let stays : line_of (within w name y) v ≡ line_of (within w name x) v = split (v.by == name)
       (λ u.
@@ -193,15 +189,9 @@ views_numbered w name x y e a views l old plain by few small chain h = record {
       let z : ⊥ = grind (arith, nat_tests) in z) in
       line_here w name y v mine ∙ ap (up_to_next v) (whole_longer w name x y e l) ∙ line_stays v list e (next_of_list v list stands other) ∙ sym here)
       (λ g. rw g refl) in
-      record {
-        decided = n.decided;
-        stamp = n.stamp;
-        members = n.members;
-        resilience = n.resilience;
-        number = n.number;
-        line = rw f (n.line ∙ sym stays);
-        opens = rw f n.opens;
-      }));
+      noted_line (within w name x) (within w name y) views d (put views.line (key (view_of a.list)) (a.list ++ e ∷ []))
+      (rw f (n.line ∙ sym stays))
+      (rw f n.opens) n));
   decided = λ i t. (let n = h.decided i t in record { index = n.index; view = n.view; there = n.there; is = n.is });
   current = λ d last. h.current d (record { before = last.before; is = last.is });
 }
@@ -286,10 +276,7 @@ welcome_stands w name c x v base join image s may needs h =
         each = each_within w name x y s b (λ k. record {
           begins = record { within = subst (λ (g : List Entry). base ≤ length g) h.group needs.within; image = needs.image_ ∙ ap told all_of };
           list = all_of ∙ sym (append-nil (take base w.group));
-          log_ = refl;
-          stopped = k.stopped;
-          departed = needs.may.there.stays;
-          leaving = k.leaving;
+          flags = record { log_ = refl; stopped = k.stopped; departed = needs.may.there.stays; leaving = k.leaving };
           promise = refl;
           ballot = k.ballot;
           start = λ t. refl;

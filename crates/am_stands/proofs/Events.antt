@@ -53,10 +53,7 @@ with_stop w v i m a group_ now h = record {
     image = h.begins.image ∙ ap (λ (g : List Entry). told (take m.core.log.start g)) (sym group_);
   };
   list = h.list ∙ ap (λ (g : List Entry). take m.core.log.start g ++ m.core.log.entries) (sym group_);
-  log_ = h.log_;
-  stopped = sym now;
-  departed = h.departed;
-  leaving = h.leaving;
+  flags = record { log_ = h.log_; stopped = sym now; departed = h.departed; leaving = h.leaving };
   promise = h.promise;
   ballot = h.ballot;
   start = h.start;

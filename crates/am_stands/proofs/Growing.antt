@@ -16,7 +16,7 @@ use Rattle.am_stands.specs.Growing.{NameGrows, NewView, Grows, MovesGrow}
 
 -- ---- one name
 
-same_name : (a : groups.Node) → NameGrows a a
+pub same_name : (a : groups.Node) → NameGrows a a
 same_name a = record { list = begins_refl a.list; log = λ z. z; promise = omega arith; stopped = λ t. t; departed = λ t. t; leaving = λ t. t }
 
 longer_name : (a : groups.Node) (e : Entry) → NameGrows a (longer a e)
@@ -25,17 +25,22 @@ longer_name a e = record { list = begins_more a.list (e ∷ []); log = λ z. z; 
 put_grows : (s : Group) (i : ℕ) (b : groups.Node) → NameGrows (s.node i) b → (j : ℕ) → NameGrows (s.node j) (put s.node i b j)
 put_grows s i b h j = put_at (λ k n. NameGrows (s.node k) n) s.node i b h (λ k other. same_name (s.node k)) j
 
--- a move of one node alone
-node_grows : (s : Group) (i : ℕ) (b : groups.Node) → NameGrows (s.node i) b → Grows s (with_node s i b)
-node_grows s i b h = record {
-  each = put_grows s i b h;
-  group = begins_refl s.group;
-  lines = λ x d. begins_refl (s.views.line x);
-  decided = λ x d. (d, refl);
-  new = λ x d. inl d;
-  shown = λ x j list is. is;
-  served = λ x j is. is;
+-- where names alone change, or nothing
+pub grows_names : (s t : Group) → ((i : ℕ) → NameGrows (s.node i) (t.node i)) → t.group ≡ s.group → t.views.line ≡ s.views.line
+    → t.views.decided ≡ s.views.decided → t.views.chosen ≡ s.views.chosen → t.shown ≡ s.shown → t.served ≡ s.served → Grows s t
+grows_names s t each group line decided chosen shown served = record {
+  each = each;
+  group = subst (Begins s.group) (sym group) (begins_refl s.group);
+  lines = λ x d. subst (Begins (s.views.line x)) (ap (λ f. f x) (sym line)) (begins_refl (s.views.line x));
+  decided = λ x d. (ap (λ f. f x) decided ∙ d, ap (λ f. f x) chosen);
+  new = λ x d. inl (ap (λ f. f x) (sym decided) ∙ d);
+  shown = λ x j list is. ap (λ f. f x j) shown ∙ is;
+  served = λ x j is. ap (λ f. f x j) served ∙ is;
 }
+
+-- a move of one node alone
+pub node_grows : (s : Group) (i : ℕ) (b : groups.Node) → NameGrows (s.node i) b → Grows s (with_node s i b)
+node_grows s i b h = grows_names s (with_node s i b) (put_grows s i b h) refl refl refl refl refl refl
 
 -- ---- a sequencer
 

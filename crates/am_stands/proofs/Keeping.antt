@@ -28,12 +28,12 @@ use Rattle.am_model.specs.Group.{has_log}
 use Rattle.am_model.specs.World.{World, is_stopped, has_departed}
 use Rattle.am_model.proofs.Greatest.{split, and_both}
 use Rattle.am_effects.specs.Causes.{Cause, hears}
-use Rattle.am_effects.specs.Looks.{Balloting, Looks, finds_itself_out, waits, fetches_from_best, finds_too_few, finds_no_room, decides, with_more}
+use Rattle.am_effects.specs.Looks.{Balloting, Looks, decides, with_more}
 use Rattle.am_effects.specs.Looks.{without_one, as_it_is}
 use Rattle.am_effects.specs.Changes.{Numbers, MayStore, MayBeWelcomed, Fetches}
-use Rattle.am_effects.specs.Changes.{Promises, invited, overtaken, told_result, Carries, whole_entry, by_number, Change, refreshes, settles, takes_report}
-use Rattle.am_effects.specs.Changes.{admits, numbers, keeps_body, notes, stores, begins_list, departs}
-use Rattle.am_effects.specs.Changes.{looks, promises, opens, fetches, stores_view, queues, collects, takes, asks_to_join, asks_to_leave, closes}
+use Rattle.am_effects.specs.Changes.{Promises, invited, overtaken, told_result, Carries, whole_entry, by_number, Change}
+use Rattle.am_effects.specs.Changes.{numbers, stores, begins_list}
+use Rattle.am_effects.specs.Changes.{looks, fetches, stores_view, closes}
 use Rattle.am_effects.proofs.Tests.{not_true}
 use Rattle.am_laws.proofs.Stamps.{same_stamp}
 use Rattle.am_laws.proofs.Taken.{looked_vote}
@@ -217,12 +217,8 @@ module _ (rules : Rules) (w : World) (name : ℕ) (c : Cause) (x : Node) (s : Gr
   looks_own b why = (let o = (looked_at x b why h.along.balloted).open_ in ap (λ (u : Stamp). u.by) o.promised ∙ o.own ∙ h.who)
 
   look_ok : (b : Ballot) (v : Verdict) → Balloting c x b → (look : Looks x b v) → NeedsLook s name look
-  look_ok b v why (finds_itself_out y) = tt
-  look_ok b v why (waits y z) = tt
-  look_ok b v why (fetches_from_best y z u) = tt
-  look_ok b v why (finds_too_few y z) = tt
-  look_ok b v why (finds_no_room y) = tt
   look_ok b v why (decides may) = decision_needs w name x b s kept (known b why) (looks_own b why) (member_set (h.keeps.opens (unfinished b why)).0) may
+  look_ok b v why _ = tt
 
   pub other_heard : (from : ℕ) → hears_member x from ≡ true → ((from == x.core.who) ≡ false) × (is_member x.status ≡ true)
   other_heard from t = (let both = and_both (not (from == x.core.who)) (is_member x.status) t in (not_true (from == x.core.who) both.0, both.1))
@@ -255,25 +251,12 @@ module _ (rules : Rules) (w : World) (name : ℕ) (c : Cause) (x : Node) (s : Gr
   IsNoClose _ = Unit {0}
 
   pub needs : (o : Outcome) (y : Node) (z : Change c o x y) → IsNoClose z → Needs s name z
-  needs o y refreshes open_ = tt
-  needs o y settles open_ = tt
-  needs o y (takes_report from v report by may) open_ = tt
-  needs o y (admits from v is leads fit) open_ = tt
   needs o y (numbers e leads room why) open_ = number_ok e leads why
-  needs o y (keeps_body from v report req body is heard) open_ = tt
-  needs o y (notes from v base acc by heard) open_ = tt
   needs o y (stores from v base acc number e by heard plain may) open_ = store_ok from v base acc number e by heard may
   needs o y (begins_list from v base join image is says_ may) open_ = welcome_ok from v base join image is may
-  needs o y (departs from v number is heard leaves) open_ = tt
-  needs o y (promises v low why) open_ = tt
-  needs o y (opens least resilience by may) open_ = tt
   needs o y (looks b verdict over why look is) open_ = look_ok b verdict why look
   needs o y (fetches from v base number e is heard promise below why may) open_ = fetch_ok from v base number e is heard promise why may
   needs o y (stores_view from v base number names resilience is heard own other promise below may) open_ =
       result_ok from v base number names resilience is heard own other promise may
-  needs o y (queues body is says_ member stays few) open_ = tt
-  needs o y (collects req is) open_ = tt
-  needs o y (takes e is says_ member some there) open_ = tt
-  needs o y (asks_to_join is was) open_ = tt
-  needs o y (asks_to_leave is was stays done) open_ = tt
   needs o y (closes leads leaves alone room) open_ = absurd open_
+  needs o y _ open_ = tt

@@ -23,16 +23,14 @@ use Rattle.am_chain_moves.proofs.Puts.{by_cases, put_same, put_at}
 use Rattle.am_model.specs.Node as nodes
 use Rattle.am_model.specs.Node.{Node, view, others, is_member, is_sequencer, pushed}
 use Rattle.am_model.specs.Refresh.{refresh, refresh_at_end}
-use Rattle.am_model.specs.Calls.{is_unfinished}
-use Rattle.am_model.specs.Group.{has_log}
-use Rattle.am_model.specs.World.{Decided, World, has_departed, grown, group_after, views_after}
+use Rattle.am_model.specs.World.{Decided, World, grown, group_after, views_after}
 use Rattle.am_effects.proofs.Rests.{rests_refresh, settle_is, leads_rests}
 use Rattle.am_effects.proofs.Says.{leads_pushed, view_pushed}
 use Rattle.am_laws.proofs.Taken.{leave_fits}
 use Rattle.am_stands.specs.Standing.{NameStands, within}
 use Rattle.am_stands.specs.Ends.{NeedsClose, closed}
 use Rattle.am_stands.specs.Accepting.{CountsNames, MayCount, CountsAmong, ComesTo, ClosingAccepts}
-use Rattle.am_stands.proofs.Changes.{same_name, told_all, is_up}
+use Rattle.am_stands.proofs.Changes.{same_name, told_all, is_up, unmoved_refresh}
 use Rattle.am_stands.proofs.Concerned.{reporting_push}
 use Rattle.am_stands.proofs.Entries.{name_longer}
 use Rattle.am_stands.proofs.Growing.{leads_line}
@@ -178,17 +176,7 @@ module _ (w : World) (s : Group) (name heard : ℕ) (x : Node) (k : Kept s) (h :
 
   -- the same list after the refresh
   stands_gone : NameStands (within w name (refresh p)) name (refresh p) (longer a (Leave name))
-  stands_gone =
-      let r = rests_refresh p in
-      same_name w name name p (refresh p) (longer a (Leave name)) (record {
-        log = r.log;
-        log_ = ap has_log r.rests.status;
-        departed = ap has_departed r.rests.status;
-        leaving = r.rests.leaving;
-        promise = r.rests.promise;
-        ballot = ap is_unfinished r.rests.ballot;
-        start = r.begins;
-      }) stands_then
+  stands_gone = same_name w name name p (refresh p) (longer a (Leave name)) (unmoved_refresh p) stands_then
 
   -- what the end leaves of it
   closed_acc : (closed x).core ≡ (refresh p).core

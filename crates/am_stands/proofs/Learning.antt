@@ -15,15 +15,13 @@ use Rattle.am_chain_moves.specs.Kept.{Kept}
 use Rattle.am_model.specs.Node as nodes
 use Rattle.am_model.specs.Node.{Node, view, acts, is_sequencer}
 use Rattle.am_model.specs.Refresh.{refresh}
-use Rattle.am_model.specs.Calls.{is_unfinished}
-use Rattle.am_model.specs.Group.{has_log}
-use Rattle.am_model.specs.World.{World, has_departed, grown, group_after}
+use Rattle.am_model.specs.World.{World, grown, group_after}
 use Rattle.am_model.proofs.Greatest.{split, and_both}
 use Rattle.am_effects.proofs.Rests.{rests_refresh, leads_rests}
 use Rattle.am_stands.specs.Standing.{NameStands, within}
 use Rattle.am_stands.specs.Ends.{no_more, rises}
 use Rattle.am_stands.specs.Accepting.{ComesTo, AcceptsAndLearns, RefreshLearns}
-use Rattle.am_stands.proofs.Changes.{same_name, is_up}
+use Rattle.am_stands.proofs.Changes.{same_name, is_up, unmoved_refresh}
 use Rattle.am_stands.proofs.Sent.{Speaks, leading}
 use Rattle.am_stands.proofs.Learned.{word_group, follower_learns}
 use Rattle.am_stands.proofs.Accepting.{lead_acc, lead_told, refresh_accepts}
@@ -86,17 +84,7 @@ module _ (w : World) (s : Group) (name heard : ℕ) (x : Node) (k : Kept s) (h :
 
   -- the same list after the refresh
   stands_after : NameStands (within w name y) name y (s.node name)
-  stands_after =
-      let r = rests_refresh x in
-      same_name w name name x y (s.node name) (record {
-        log = r.log;
-        log_ = ap has_log r.rests.status;
-        departed = ap has_departed r.rests.status;
-        leaving = r.rests.leaving;
-        promise = r.rests.promise;
-        ballot = ap is_unfinished r.rests.ballot;
-        start = r.begins;
-      }) h.stands
+  stands_after = same_name w name name x y (s.node name) (unmoved_refresh x) h.stands
 
   -- who follows
   follows : is_sequencer x ≡ false → AcceptsAndLearns w s name y

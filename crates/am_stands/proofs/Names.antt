@@ -4,15 +4,15 @@ use Rattle.std.proofs.lemmas.Bool.Decides.{nat_tests}
 use Rattle.am_base.specs.declared.name.Stamp.{Stamp}
 use Rattle.am_base.specs.declared.entry.Entry.{Entry}
 use Rattle.am_base.specs.Lists.{Log}
-use Rattle.am_chain_lists.specs.Whole.{told}
+use Rattle.am_chain_lists.specs.Whole.{Begins, told, key}
 use Rattle.am_chain_moves.specs.Group as groups
-use Rattle.am_chain_moves.specs.Group.{Group, Views, put}
+use Rattle.am_chain_moves.specs.Group.{Group, Views, put, opening}
 use Rattle.am_chain_moves.specs.Moves.{Move}
 use Rattle.am_model.specs.Node.{Node}
 use Rattle.am_model.specs.World.{Decided, World, is_stopped, has_departed}
 use Rattle.am_model.specs.Claims.{up_to_next, line_of}
 use Rattle.am_model.proofs.Greatest.{split}
-use Rattle.am_stands.specs.Standing.{NameStands, FrontsStand, ViewsStand, StandsBut, within}
+use Rattle.am_stands.specs.Standing.{NameStands, NotedStands, FrontsStand, ViewsStand, StandsBut, within}
 use Rattle.am_stands.specs.Steps.{FrontsStay}
 use Rattle.am_stands.specs.Moving.{MoveOk, none, moves, Leads}
 
@@ -47,10 +47,7 @@ name_in w v i m a group stopped h = record {
     image = h.begins.image ∙ ap (λ (g : List Entry). told (take m.core.log.start g)) (sym group);
   };
   list = h.list ∙ ap (λ (g : List Entry). take m.core.log.start g ++ m.core.log.entries) (sym group);
-  log_ = h.log_;
-  stopped = h.stopped ∙ sym stopped;
-  departed = h.departed;
-  leaving = h.leaving;
+  flags = record { log_ = h.log_; stopped = h.stopped ∙ sym stopped; departed = h.departed; leaving = h.leaving };
   promise = h.promise;
   ballot = h.ballot;
   start = h.start;
@@ -58,19 +55,25 @@ name_in w v i m a group stopped h = record {
 
 -- ---- views
 
+-- with another line
+pub noted_line : (w v : World) (views : Views) (d : Decided) (line : ℕ → List Entry) → line (key d.stamp) ≡ line_of v d.stamp
+    → Begins (opening (views.chosen (key d.stamp))) (line (key d.stamp)) → NotedStands w views d → NotedStands v (record views { line = line }) d
+noted_line w v views d line is opens n = record {
+  decided = n.decided;
+  stamp = n.stamp;
+  members = n.members;
+  resilience = n.resilience;
+  number = n.number;
+  line = is;
+  opens = opens;
+}
+
 -- where the lines of the noted views stay
 pub views_noted : (w v : World) (views : Views) → v.views ≡ w.views
     → ((k : ℕ) (d : Decided) → slice_get w.views k ≡ Some d → line_of v d.stamp ≡ line_of w d.stamp) → ViewsStand w views → ViewsStand v views
 views_noted w v views same lines h = record {
-  noted = λ k d at. (let there = ap (λ (l : List Decided). slice_get l k) (sym same) ∙ at in let n = h.noted k d there in record {
-    decided = n.decided;
-    stamp = n.stamp;
-    members = n.members;
-    resilience = n.resilience;
-    number = n.number;
-    line = n.line ∙ sym (lines k d there);
-    opens = n.opens;
-  });
+  noted = λ k d at. (let there = ap (λ (l : List Decided). slice_get l k) (sym same) ∙ at in let n = h.noted k d there in
+      noted_line w v views d views.line (n.line ∙ sym (lines k d there)) n.opens n);
   decided = λ x t. (let n = h.decided x t in
       record { index = n.index; view = n.view; there = ap (λ (l : List Decided). slice_get l n.index) same ∙ n.there; is = n.is });
   current = λ d last. h.current d (record { before = last.before; is = sym same ∙ last.is });

@@ -2,7 +2,7 @@
 use Rattle.std.proofs.Common.{◌≡◌, inl, inr, ⊎_elim, ℕ, List, true, refl, sym, ◌∙◌, subst, arith}
 use Rattle.am_base.specs.Names.{has}
 use Rattle.am_chain_lists.specs.Whole.{Begins}
-use Rattle.am_chain_lists.proofs.Prefixes.{begins_refl, begins_trans}
+use Rattle.am_chain_lists.proofs.Prefixes.{begins_trans}
 use Rattle.am_chain_moves.specs.Group as groups
 use Rattle.am_chain_moves.specs.Group.{Group}
 use Rattle.am_chain_moves.specs.Moves as group
@@ -15,7 +15,7 @@ use Rattle.am_stands.specs.Lawful.{IsNoStop}
 use Rattle.am_stands.specs.Sending.{KeptWhole}
 use Rattle.am_stands.proofs.Branches.{moves_branch, decisions_are_new}
 use Rattle.am_stands.proofs.ChainNames.{moves_named}
-use Rattle.am_stands.proofs.Growing.{moves_grow}
+use Rattle.am_stands.proofs.Growing.{same_name, grows_names, moves_grow}
 use Rattle.am_stands.proofs.Lawful.{runs_go_on}
 use Rattle.am_stands.proofs.LeftOut.{runs_leave_out}
 use Rattle.am_stands.proofs.Opens.{runs_open}
@@ -38,15 +38,7 @@ no_stop (group.stops i) ok = ok
 no_stop _ ok = tt
 
 pub grows_same : (s : Group) → Grows s s
-grows_same s = record {
-  each = λ i. record { list = begins_refl (s.node i).list; log = λ z. z; promise = omega arith; stopped = λ z. z; departed = λ z. z; leaving = λ z. z };
-  group = begins_refl s.group;
-  lines = λ x d. begins_refl (s.views.line x);
-  decided = λ x d. (d, refl);
-  new = λ x d. inl d;
-  shown = λ x i list is. is;
-  served = λ x i is. is;
-}
+grows_same s = grows_names s s (λ i. same_name (s.node i)) refl refl refl refl refl refl
 
 pub grows_trans : (s t u : Group) → Grows s t → Grows t u → Grows s u
 grows_trans s t u g k = record {

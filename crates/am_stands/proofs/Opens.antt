@@ -9,8 +9,8 @@ use Rattle.am_chain_lists.proofs.Order.{view_viewed, view_push}
 use Rattle.am_chain_lists.proofs.Prefixes.{begins_refl, begins_more, begins_trans, begins_pushed, begins_length}
 use Rattle.am_chain_moves.specs.Group as groups
 use Rattle.am_chain_moves.specs.Group.{Group, Views, put, opening, Leads, IsUp}
-use Rattle.am_chain_moves.specs.Moves.{Move, MayNumber, MayDecide, with_line, with_choice, choice_of, longer, numbers, stores, accepts, learns, begins}
-use Rattle.am_chain_moves.specs.Moves.{raises, shows, serves, fetches, decides, gives_over, welcomes, asks, departs, closes, stops}
+use Rattle.am_chain_moves.specs.Moves.{Move, MayNumber, MayDecide, with_line, with_choice, choice_of, longer, numbers}
+use Rattle.am_chain_moves.specs.Moves.{decides, closes}
 use Rattle.am_chain_moves.specs.Kept.{Kept}
 use Rattle.am_chain_moves.specs.Runs.{founded, more, start, first_stamp}
 use Rattle.am_chain_moves.proofs.Puts.{put_same, put_other, put_cases, put_at}
@@ -99,23 +99,11 @@ numbers_plain node i (View stamp members resilience) may = may
 
 pub moves_open : (s t : Group) → Move s t → Kept s → LinesOpen s → LinesOpen t
 moves_open s t (numbers i e leads fit may) k h = line_opens s i e (longer (s.node i) e) k leads (numbers_plain s.node i e may) refl h
-moves_open s t (stores i e up decided other stays next) k h = same_lines s t refl refl h
-moves_open s t (accepts i n leads may) k h = same_lines s t refl refl h
-moves_open s t (learns i told acc up rises within before up_to given low) k h = same_lines s t refl refl h
-moves_open s t (begins i few up stays member) k h = same_lines s t refl refl h
-moves_open s t (raises i stamp there above) k h = same_lines s t refl refl h
-moves_open s t (shows i there small other begun none) k h = same_lines s t refl refl h
-moves_open s t (serves i list up shown others) k h = same_lines s t refl refl h
-moves_open s t (fetches i f list e up ballot served shown next) k h = same_lines s t refl refl h
 moves_open s t (decides i members resilience may) k h = choice_opens s i members resilience k may h
-moves_open s t (gives_over i) k h = same_lines s t refl refl h
-moves_open s t (welcomes j stamp base join may) k h = same_lines s t refl refl h
-moves_open s t (asks i up none) k h = same_lines s t refl refl h
-moves_open s t (departs i before may) k h = same_lines s t refl refl h
 moves_open s t (closes i n leads leaving alone may) k h =
     let b = record (longer (s.node i) (Leave i)) { departed = true } in
     same_lines (with_line s i b) t refl refl (line_opens s i (Leave i) b k leads tt refl h)
-moves_open s t (stops i) k h = same_lines s t refl refl h
+moves_open s t _ k h = same_lines s t refl refl h
 
 -- ---- each run
 

@@ -7,7 +7,7 @@ use Rattle.am_model.specs.Node.{Node, Ballot}
 use Rattle.am_model.specs.World.{World, is_stopped}
 use Rattle.am_stands.specs.Standing.{NameStands}
 use Rattle.am_stands.specs.States.{Reporting}
-use Rattle.am_stands.specs.Keeping.{LastStands, OwnTurn, OthersKeep}
+use Rattle.am_stands.specs.Keeping.{LastStands, NodeKeeps, OwnTurn, OthersKeep}
 use Rattle.am_stands.proofs.Ends.{taken_more}
 use Rattle.am_stands.proofs.Keeps.{trimmed_grow, fetches_grow}
 use Rattle.am_stands.proofs.Reporting.{reporting_grow}
@@ -21,6 +21,21 @@ list_same w v i x a b h k grows = k.list ∙ ap (λ l. l ++ x.core.log.entries) 
 pub last_stays : (w v : World) (ballot : Option Ballot) → ((j : ℕ) → is_stopped w j ≡ true → is_stopped v j ≡ true) → LastStands w ballot → LastStands v ballot
 last_stays w v None stopped h = tt
 last_stays w v (Some b) stopped h = record { given = λ j is. stopped j (h.given j is); names = λ j vote is. h.names j vote is }
+
+-- in another world, where those that had stopped have stopped
+pub keeps_in : (w v : World) (s : Group) (i : ℕ) (x : Node) → ((j : ℕ) → is_stopped w j ≡ true → is_stopped v j ≡ true) → NodeKeeps w s i x → NodeKeeps v s i x
+keeps_in w v s i x stopped h = record {
+  good = h.good;
+  votes = h.votes;
+  fetches = h.fetches;
+  last = last_stays w v x.ballot stopped h.last;
+  opens = h.opens;
+  reports = h.reports;
+  fresh = h.fresh;
+  trimmed = h.trimmed;
+  turn = h.turn;
+  leaves = h.leaves;
+}
 
 pub others_keep : OthersKeep
 others_keep w v s t i x stopped g h new grows k =

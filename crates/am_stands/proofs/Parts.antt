@@ -11,7 +11,7 @@ use Rattle.am_base.specs.Lists.{blank, fold, after, members_of, entry_at, image_
 use Rattle.am_base.specs.Fronts.{counted_of, counted_at, need_at}
 use Rattle.am_core.proofs.Folds.{slice_get-drop}
 use Rattle.am_fronts.proofs.Views.{view_grows}
-use Rattle.am_chain_lists.specs.Whole.{IsGood, told, mem, resilience_of}
+use Rattle.am_chain_lists.specs.Whole.{IsGood, told, mem, resilience_of, Begins}
 use Rattle.am_chain_lists.proofs.Prefixes.{begins_take, begins_push, length_take, length_push, take_begins}
 use Rattle.am_chain_lists.proofs.Members.{good_begins, told_push, viewed_mem}
 use Rattle.am_chain_moves.specs.Group as groups
@@ -133,18 +133,40 @@ next_part list n e low at =
     let size : length (take n list ++ e ∷ []) ≡ n + 1 = length_push (take n list) e ∙ ap (λ k. k + 1) long in
     ap (λ k. take k list) (sym size) ∙ take_begins all
 
-counted_in : (list : List Entry) (n : ℕ) (name : ℕ) (o : Option Entry) → IsGood list → n < length list → (told list).view_number ≤ n + 1
-    → slice_get list n ≡ o → has (counted_of o (members_of (told (take n list)))) name ≡ true → IsConcerned list name
+-- a beginning of the list that reaches at least to before the number, and has the last View, where the name is a member
+pub record Stood (list : List Entry) (n name : ℕ) : Type 0 where
+  pub upto : List Entry
+  pub begins_ : Begins upto list
+  pub near : n ≤ length upto + 1
+  pub from : (told list).view_number ≤ length upto
+  pub member : mem upto name ≡ true
+
+no_none : (list : List Entry) (n : ℕ) → n < length list → slice_get list n ≡ None → ⊥
+no_none [] n low is = omega arith
+no_none (e ∷ list) zero low is = cc
+no_none (e ∷ list) (suc n) low is = no_none list n (omega arith) is
+
+stood_view : (list : List Entry) (n name : ℕ) (e : Entry) → IsGood list → n < length list → (told list).view_number ≤ n + 1
+    → is_view e ≡ true → slice_get list n ≡ Some e → has (counted_of (Some e) (members_of (told (take n list)))) name ≡ true → Stood list (n + 1) name
+stood_view list n name (Data from req body) good low high t is h = absurd (cc)
+stood_view list n name (Join joiner) good low high t is h = absurd (cc)
+stood_view list n name (Leave leaver) good low high t is h = absurd (cc)
+stood_view list n name (View stamp names resilience) good low high t is h =
+    let part = next_part list n (View stamp names resilience) low is in
+    let long : length (take (n + 1) list) ≡ n + 1 = length_take (n + 1) list (omega arith) in
+    let good_part : IsGood (take n list ++ View stamp names resilience ∷ []) = subst IsGood part (good_begins (begins_take (n + 1) list) good) in
+    record {
+      upto = take (n + 1) list;
+      begins_ = begins_take (n + 1) list;
+      near = omega arith;
+      from = omega arith;
+      member = subst (λ l. mem l name ≡ true) (sym part) (viewed_mem (take n list) stamp names resilience name good_part h);
+    }
+
+stood_plain : (list : List Entry) (n name : ℕ) (e : Entry) → n < length list → (told list).view_number ≤ n + 1
+    → is_view e ≡ false → slice_get list n ≡ Some e → has (counted_of (Some e) (members_of (told (take n list)))) name ≡ true → Stood list (n + 1) name
 unfolding mem
-counted_in list n name None good low high is h = absurd (some list n low is)
-  where
-    some : (list : List Entry) (n : ℕ) → n < length list → slice_get list n ≡ None → ⊥
-    some [] n low is = omega arith
-    some (e ∷ list) zero low is = cc
-    some (e ∷ list) (suc n) low is = some list n (omega arith) is
-counted_in list n name (Some e) good low high is h = split (is_view e)
-    (λ t. viewed e t is h)
-    (λ f.
+stood_plain list n name e low high f is h =
     let part = next_part list n e low is in
     let long : length (take n list) ≡ n = length_take n list (omega arith) in
     let same = part_number list (n + 1) (omega arith) high in
@@ -152,27 +174,27 @@ counted_in list n name (Some e) good low high is h = split (is_view e)
     let short = number_low (take n list) in
     record {
       upto = take n list;
-      begins = begins_take n list;
+      begins_ = begins_take n list;
+      near = omega arith;
       from = omega arith;
       member = ap (λ set. has set name) (sym (plain_counts e (members_of (told (take n list))) f)) ∙ h;
-    })
-  where
-    viewed : (e : Entry) → is_view e ≡ true → slice_get list n ≡ Some e → has (counted_of (Some e) (members_of (told (take n list)))) name ≡ true
-        → IsConcerned list name
-    viewed (Data from req body) t is h = absurd (cc)
-    viewed (Join joiner) t is h = absurd (cc)
-    viewed (Leave leaver) t is h = absurd (cc)
-    viewed (View stamp names resilience) t is h =
-        let part = next_part list n (View stamp names resilience) low is in
-        let long : length (take (n + 1) list) ≡ n + 1 = length_take (n + 1) list (omega arith) in
-        let good_part : IsGood (take n list ++ View stamp names resilience ∷ []) = subst IsGood part (good_begins (begins_take (n + 1) list) good) in
-        record {
-          upto = take (n + 1) list;
-          begins = begins_take (n + 1) list;
-          from = omega arith;
-          member = subst (λ l. mem l name ≡ true) (sym part) (viewed_mem (take n list) stamp names resilience name good_part h);
-        }
+    }
+
+stood_in : (list : List Entry) (n name : ℕ) (o : Option Entry) → IsGood list → n < length list → (told list).view_number ≤ n + 1
+    → slice_get list n ≡ o → has (counted_of o (members_of (told (take n list)))) name ≡ true → Stood list (n + 1) name
+stood_in list n name None good low high is h = absurd (no_none list n low is)
+stood_in list n name (Some e) good low high is h = split (is_view e)
+    (λ t. stood_view list n name e good low high t is h)
+    (λ f. stood_plain list n name e low high f is h)
+
+pub stood : (list : List Entry) (n name : ℕ) → IsGood list → 0 < n → n ≤ length list → (told list).view_number ≤ n → has (counted list n) name ≡ true
+    → Stood list n name
+stood list n name good low high view_ h =
+    let one : n - 1 + 1 ≡ n = omega arith in
+    subst (λ k. Stood list k name) one (stood_in list (n - 1) name (slice_get list (n - 1)) good (omega arith) (omega arith) refl h)
 
 pub counted_concerned : (list : List Entry) (n name : ℕ) → IsGood list → 0 < n → n ≤ length list → (told list).view_number ≤ n
     → has (counted list n) name ≡ true → IsConcerned list name
-counted_concerned list n name good low high from_ h = counted_in list (n - 1) name (slice_get list (n - 1)) good (omega arith) (omega arith) refl h
+counted_concerned list n name good low high from_ h =
+    let s = stood list n name good low high from_ h in
+    record { upto = s.upto; begins = s.begins_; from = s.from; member = s.member }

@@ -23,7 +23,7 @@ use Rattle.am_model.proofs.Greatest.{split}
 use Rattle.am_laws.proofs.ViewSteps.{after_same}
 use Rattle.am_stands.specs.Letters.{line, IsDecided, ReportSays, LeaverSays, of_view, before_it}
 use Rattle.am_stands.specs.States.{IsConcerned, Reporting, IsNew}
-use Rattle.am_stands.proofs.Ends.{taken_more}
+use Rattle.am_stands.proofs.Concerned.{reporting_on}
 use Rattle.am_stands.proofs.Joins.{Becomes, stayed, joins, founds, became, blank_nil}
 use Rattle.am_stands.proofs.Parts.{number_low, view_its}
 use Rattle.am_stands.proofs.Results.{last_view_at}
@@ -125,19 +125,15 @@ concerned_before a e name good h = ⊎_elim
 pub reporting_pushed : (node after_ : ℕ → groups.Node) (list : List Entry) (e : Entry) (base : ℕ) (reports : ℕ → Report) → IsGood list
     → ((i : ℕ) → Begins (node i).list (after_ i).list) → ((i : ℕ) → e ≡ Join i → (reports i).stored ≤ base)
     → Reporting node list base reports → Reporting after_ (list ++ e ∷ []) base reports
-reporting_pushed node after_ list e base reports good grow fresh r = record {
-  within = λ name. (let low = r.within name in let more = length_push list e in omega arith);
-  taken = r.taken;
-  true_ = λ name few concerned above. ⊎_elim
-      (λ (z : IsConcerned list name).
-      subst (λ l. Begins l (after_ name).list) (sym (taken_more (reports name).stored list (list ++ e ∷ []) (begins_more list (e ∷ [])) (r.within name)))
-      (begins_trans (r.true_ name few z above) (grow name)))
-      (λ (z : (e ≡ Join name) ⊎ (list ≡ [])). absurd (⊎_elim
-      (λ (y : e ≡ Join name). (let low = fresh name y in let x : ⊥ = omega arith in x))
-      (λ (y : list ≡ []). (let low = r.within name in let none = ap length y in let x : ⊥ = omega arith in x))
-      z))
-      (concerned_before list e name good concerned);
-}
+reporting_pushed node after_ list e base reports good grow fresh r = reporting_on node after_ list e base reports
+    (λ name above concerned. ⊎_elim
+    (λ (z : IsConcerned list name). z)
+    (λ (z : (e ≡ Join name) ⊎ (list ≡ [])). absurd (⊎_elim
+    (λ (y : e ≡ Join name). (let low = fresh name y in let x : ⊥ = omega arith in x))
+    (λ (y : list ≡ []). (let low = r.within name in let none = ap length y in let x : ⊥ = omega arith in x))
+    z))
+    (concerned_before list e name good concerned))
+    grow r
 
 -- ---- who may join yet
 

@@ -17,7 +17,7 @@ use Rattle.am_model.specs.Node.{founder, stranger, lowest_or_first, founding_sta
 use Rattle.am_model.specs.World.{Decided, start, first_node, founders_decided}
 use Rattle.am_model.specs.Claims.{up_to_view, up_to_next, line_of}
 use Rattle.am_model.proofs.Greatest.{split}
-use Rattle.am_laws.proofs.Founders.{first_founder}
+use Rattle.am_model.proofs.Founders.{first_founder}
 use Rattle.am_laws.proofs.Views.{same_is_equal}
 use Rattle.am_stands.specs.Standing.{NameStands, FrontsStand, NotedStands, ViewsStand, StartStands}
 use Rattle.am_stands.specs.Moving.{none, moves, Leads}
@@ -170,10 +170,7 @@ unfolding fold
 founder_name rules i = record {
   begins = record { within = omega arith; image = refl };
   list = refl;
-  log_ = refl;
-  stopped = refl;
-  departed = refl;
-  leaving = refl;
+  flags = record { log_ = refl; stopped = refl; departed = refl; leaving = refl };
   promise = refl;
   ballot = refl;
   start = λ t. refl;
@@ -198,10 +195,7 @@ unfolding fold
 stranger_name rules i = record {
   begins = record { within = omega arith; image = refl };
   list = refl;
-  log_ = refl;
-  stopped = refl;
-  departed = refl;
-  leaving = refl;
+  flags = record { log_ = refl; stopped = refl; departed = refl; leaving = refl };
   promise = refl;
   ballot = refl;
   start = λ t. absurd (cc);

@@ -1,5 +1,5 @@
 -- One change of a step after another, while none is a refresh: what is known within the step stays known.
-use Rattle.std.proofs.Common.{◌≡◌, ⊎_elim, ℕ, ◌<◌, ◌≤◌, List, [], length, Option, Some, None, slice_get, refl, sym}
+use Rattle.std.proofs.Common.{◌≡◌, ⊎_elim, ℕ, ◌<◌, ◌≤◌, List, [], length, Some, slice_get, refl, sym}
 use Rattle.std.proofs.Common.{ap, subst, arith, append-nil}
 use Rattle.am_base.specs.declared.outcome.Outcome.{Outcome}
 use Rattle.am_base.specs.declared.name.Stamp.{Stamp}
@@ -11,8 +11,8 @@ use Rattle.am_model.specs.Ballots.{Verdict}
 use Rattle.am_model.specs.World.{Decided, World, last_view}
 use Rattle.am_effects.specs.Causes.{Cause}
 use Rattle.am_effects.specs.Looks.{Looks, finds_itself_out, waits, fetches_from_best, finds_too_few, finds_no_room, decides}
-use Rattle.am_effects.specs.Changes.{Change, refreshes, settles, takes_report, admits, numbers, keeps_body, notes, stores, begins_list, departs, promises}
-use Rattle.am_effects.specs.Changes.{opens, looks, fetches, stores_view, queues, collects, takes, asks_to_join, asks_to_leave, closes, unchanged, changed}
+use Rattle.am_effects.specs.Changes.{Change, refreshes, settles, begins_list}
+use Rattle.am_effects.specs.Changes.{looks, closes, unchanged, changed}
 use Rattle.am_effects.proofs.Items.{get_push}
 use Rattle.am_effects.proofs.Rests.{settle_is}
 use Rattle.am_laws.specs.Packets.{stamp_of}
@@ -21,6 +21,7 @@ use Rattle.am_laws.proofs.TakenRuns.{Along, along_changes}
 use Rattle.am_sent.proofs.Changes.{CauseSent, change_sent}
 use Rattle.am_stands.specs.Standing.{StandsBut, within}
 use Rattle.am_stands.specs.Steps.{Needs, after_change, after_look}
+use Rattle.am_stands.proofs.Others.{keeps_in}
 use Rattle.am_stands.proofs.Carried.{changes_stand}
 use Rattle.am_stands.proofs.Changes.{own_name}
 use Rattle.am_stands.proofs.Entries.{view_whole}
@@ -30,30 +31,12 @@ use Rattle.am_stands.proofs.Keeping.{may_move, needs, IsNoClose}
 use Rattle.am_stands.proofs.Keeps.{keeps_next}
 use Rattle.am_stands.proofs.Letters.{letters_stay}
 use Rattle.am_stands.proofs.Onward.{GoesOn, goes_on}
-use Rattle.am_stands.specs.Keeping.{ChangesGoOn, IsPlain, LastStands, Next, NodeKeeps, Stepping}
+use Rattle.am_stands.specs.Keeping.{ChangesGoOn, IsPlain, Next, NodeKeeps, Stepping}
 
 -- ---- the world after a change: with the views that it noted
 
 abbrev pub viewing : World → List Decided → World
 viewing w views = record w { views = views }
-
-last_same : (w : World) (views : List Decided) (ballot : Option Ballot) → LastStands w ballot → LastStands (viewing w views) ballot
-last_same w views None h = tt
-last_same w views (Some b) h = record { given = h.given; names = h.names }
-
-keeps_same : (w : World) (views : List Decided) (s : Group) (i : ℕ) (x : Node) → NodeKeeps w s i x → NodeKeeps (viewing w views) s i x
-keeps_same w views s i x h = record {
-  good = h.good;
-  votes = h.votes;
-  fetches = h.fetches;
-  last = last_same w views x.ballot h.last;
-  opens = h.opens;
-  reports = h.reports;
-  fresh = h.fresh;
-  trimmed = h.trimmed;
-  turn = h.turn;
-  leaves = h.leaves;
-}
 
 asked_same : (w : World) (views : List Decided) (who req : ℕ) (body : List ℕ) → WasAsked (viewing w views) who req body → WasAsked w who req body
 asked_same w views who req body k = record { index = k.index; done = k.done; there = k.there; is = k.is }
@@ -63,34 +46,11 @@ once_same w views h name req a b p q = h name req a b (asked_same w views name r
 
 looked_is : {m : Node} {b : Ballot} {v : Verdict} (look : Looks m b v) (w : World) → after_look look w ≡ viewing w (after_look look w).views
 looked_is (finds_itself_out a) w = refl
-looked_is (waits a d) w = refl
-looked_is (fetches_from_best a d e) w = refl
-looked_is (finds_too_few a d) w = refl
-looked_is (finds_no_room a) w = refl
-looked_is (decides may) w = refl
+looked_is _ w = refl
 
 after_is : {c : Cause} {o : Outcome} {x y : Node} (z : Change c o x y) (w : World) → after_change z w ≡ viewing w (after_change z w).views
-after_is refreshes w = refl
-after_is settles w = refl
-after_is (takes_report from v report by may) w = refl
-after_is (admits from v is leads fit) w = refl
-after_is (numbers e leads room why) w = refl
-after_is (keeps_body from v report req body is heard) w = refl
-after_is (notes from v base acc by heard) w = refl
-after_is (stores from v base acc number e by heard plain may) w = refl
-after_is (begins_list from v base join image is says_ may) w = refl
-after_is (departs from v number is heard leaves) w = refl
-after_is (promises v low why) w = refl
-after_is (opens least resilience by may) w = refl
 after_is (looks b verdict over why look is) w = looked_is look w
-after_is (fetches from v base number e is heard promise below why may) w = refl
-after_is (stores_view from v base number names resilience is heard own other promise below may) w = refl
-after_is (queues body is says_ member stays few) w = refl
-after_is (collects req is) w = refl
-after_is (takes e is says_ member some there) w = refl
-after_is (asks_to_join is was) w = refl
-after_is (asks_to_leave is was stays done) w = refl
-after_is (closes leads leaves alone room) w = refl
+after_is _ w = refl
 
 looked_noted : {m : Node} {b : Ballot} {v : Verdict} (look : Looks m b v) (w : World) → (view v.node).by < 256
     → ((k : ℕ) (d : Decided) → slice_get w.views k ≡ Some d → d.stamp.by < 256)
@@ -108,62 +68,24 @@ looked_noted {v = v} (decides may) w small h = λ k d is. ⊎_elim
 noted_next : {c : Cause} {o : Outcome} {x y : Node} (z : Change c o x y) (w : World) → (view y).by < 256
     → ((k : ℕ) (d : Decided) → slice_get w.views k ≡ Some d → d.stamp.by < 256)
     → (k : ℕ) (d : Decided) → slice_get (after_change z w).views k ≡ Some d → d.stamp.by < 256
-noted_next refreshes w small h = h
-noted_next settles w small h = h
-noted_next (takes_report from v report by may) w small h = h
-noted_next (admits from v is leads fit) w small h = h
-noted_next (numbers e leads room why) w small h = h
-noted_next (keeps_body from v report req body is heard) w small h = h
-noted_next (notes from v base acc by heard) w small h = h
-noted_next (stores from v base acc number e by heard plain may) w small h = h
-noted_next (begins_list from v base join image is says_ may) w small h = h
-noted_next (departs from v number is heard leaves) w small h = h
-noted_next (promises v low why) w small h = h
-noted_next (opens least resilience by may) w small h = h
 noted_next (looks b verdict over why look is) w small h = looked_noted look w small h
-noted_next (fetches from v base number e is heard promise below why may) w small h = h
-noted_next (stores_view from v base number names resilience is heard own other promise below may) w small h = h
-noted_next (queues body is says_ member stays few) w small h = h
-noted_next (collects req is) w small h = h
-noted_next (takes e is says_ member some there) w small h = h
-noted_next (asks_to_join is was) w small h = h
-noted_next (asks_to_leave is was stays done) w small h = h
-noted_next (closes leads leaves alone room) w small h = h
+noted_next _ w small h = h
 
 -- ---- how far its list is accepted
 
 looked_acc : {m : Node} {b : Ballot} {v : Verdict} (look : Looks m b v) → v.node.core.acc ≡ m.core.acc
 looked_acc (finds_itself_out a) = refl
-looked_acc (waits a e) = refl
-looked_acc (fetches_from_best a e f) = refl
-looked_acc (finds_too_few a e) = refl
-looked_acc (finds_no_room a) = refl
-looked_acc (decides may) = refl
+looked_acc _ = refl
 
 acc_next : (rules : Rules) (w : World) (name : ℕ) (c : Cause) (o : Outcome) (x y : Node) (s : Group) (z : Change c o x y) → IsPlain z → Needs s name z
     → s.group ≡ w.group → x.core.acc ≤ length w.group → y.core.acc ≤ length w.group
 acc_next rules w name c o x y s refreshes plain is group_ low = absurd plain
 acc_next rules w name c o x y s settles plain is group_ low = (let same : y.core.acc ≡ x.core.acc = ap (λ (n : Node). n.core.acc) (settle_is x) in omega arith)
-acc_next rules w name c o x y s (takes_report from v report by may) plain is group_ low = low
-acc_next rules w name c o x y s (admits from v was leads fit) plain is group_ low = low
-acc_next rules w name c o x y s (numbers e leads room why) plain is group_ low = low
-acc_next rules w name c o x y s (keeps_body from v report req body was heard) plain is group_ low = low
-acc_next rules w name c o x y s (notes from v base acc by heard) plain is group_ low = low
-acc_next rules w name c o x y s (stores from v base acc number e by heard plain_ may) plain is group_ low = low
 acc_next rules w name c o x y s (begins_list from v base join image was says_ may) plain is group_ low =
     (let most = is.within in let same = ap length group_ in omega arith)
-acc_next rules w name c o x y s (departs from v number was heard leaves) plain is group_ low = low
-acc_next rules w name c o x y s (promises v below why) plain is group_ low = low
-acc_next rules w name c o x y s (opens least resilience by may) plain is group_ low = low
 acc_next rules w name c o x y s (looks b verdict over why look was) plain is group_ low = (let same = looked_acc look in omega arith)
-acc_next rules w name c o x y s (fetches from v base number e was heard promise below why may) plain is group_ low = low
-acc_next rules w name c o x y s (stores_view from v base number names resilience was heard own other promise below may) plain is group_ low = low
-acc_next rules w name c o x y s (queues body was says_ member stays few) plain is group_ low = low
-acc_next rules w name c o x y s (collects req was) plain is group_ low = low
-acc_next rules w name c o x y s (takes e was says_ member some there) plain is group_ low = low
-acc_next rules w name c o x y s (asks_to_join was asked) plain is group_ low = low
-acc_next rules w name c o x y s (asks_to_leave was member stays done) plain is group_ low = low
 acc_next rules w name c o x y s (closes leads leaves alone room) plain is group_ low = absurd plain
+acc_next rules w name c o x y s _ plain is group_ low = low
 
 -- a plain change ends nothing
 no_close : {c : Cause} {o : Outcome} {x y : Node} (rules : Rules) (w : World) (name : ℕ) (s : Group) (h : Stepping rules w name c x s) (z : Change c o x y)
@@ -203,7 +125,7 @@ step_to rules w views name c o x y s t z plain h sent_ on stands noted along kee
             ([], sym (append-nil w.records)) g k.says;
       });
       given = h.given;
-      keeps = keeps_same w views t name y keeps;
+      keeps = keeps_in w (viewing w views) t name y (λ j z. z) keeps;
       accepted = acc_next rules w name c o x y s z plain (needs rules w name c x s h o y z (no_close rules w name s h z plain)) h.stands.group h.accepted;
     }
 

@@ -17,7 +17,7 @@ use Rattle.am_chain_lists.proofs.Order.{key_lt, view_up}
 use Rattle.am_chain_lists.proofs.Prefixes.{begins_trans}
 use Rattle.am_chain_lists.proofs.Members.{told_push}
 use Rattle.am_chain_moves.specs.Group.{Group, IsThere, IsUp}
-use Rattle.am_chain_moves.specs.Moves.{MayDecide}
+use Rattle.am_chain_moves.specs.Moves.{MayDecide, Voted}
 use Rattle.am_chain_moves.specs.Kept.{Kept}
 use Rattle.am_model.specs.Node as nodes
 use Rattle.am_model.specs.Node.{Node, Ballot, view, members, only_name, name_where, those, is_member}
@@ -158,6 +158,32 @@ those_in test names j in_ =
     (is_equal (slice_index names (place_of j)) (life_of j) life, ap test (sym name) ∙ t))
     (λ g. absurd (let z : 0 ≡ life_of j = rw (f, g) at at in omega arith)))
 
+-- another name that is needed, and isn't given up, has voted for no better list
+other_voted : (w : World) (name : ℕ) (x : Node) (b : Ballot) (s : Group) (j : ℕ) → BallotKnown w name x b s → looks.MayDecide x b
+    → has (need_of x b) j ≡ true → b.given_up j ≡ false → (j == x.core.who) ≡ false
+    → Voted s (key (s.node name).promise) j (s.node name).list
+unfolding view_of
+other_voted w name x b s j h may needed stays other =
+    let a = s.node name in
+    let told_is = told_whole w name name x a h.stands in
+    let long = long_all (within w name x) name x a h.stands in
+    let stamp : b.stamp ≡ a.promise = h.stamp ∙ sym h.stands.promise in
+    let vote = some_vote (b.votes j) (voted x.core.who j b (not_waited x b j may.learned.all needed) stays other) in
+    let tells = h.votes j vote.0 vote.1 in
+    let low = best_low x b may.learned.own h.own h.view_ h.views j vote.0 (h.names j vote.0 vote.1) vote.1 in
+    let order = vote_low (own_vote x) vote.0 h.view_ (h.views j vote.0 vote.1) low in
+    let seen : key vote.0.view ≡ key (view_of tells.list) = ap key tells.view in
+    let mine : key (view x) ≡ key (view_of a.list) = ap (λ (i : Image). key i.view) (sym told_is) in
+    let top = tells.top in
+    record {
+      vote = tells.list;
+      is = ap (λ (u : Stamp). s.shown (key u) j) (sym stamp) ∙ tells.shown;
+      worse = ⊎_elim
+          (λ (z : key vote.0.view < key (view x)). inl (omega arith))
+          (λ (z : (key vote.0.view ≡ key (view x)) × (vote.0.top ≤ nodes.top x)). (let y = z.0 in let u = z.1 in inr (omega arith, omega arith)))
+          order;
+    }
+
 -- ---- the group's own test
 
 pub may_decide : (w : World) (name : ℕ) (x : Node) (b : Ballot) (s : Group) → BallotKnown w name x b s → looks.MayDecide x b
@@ -182,21 +208,7 @@ may_decide w name x b s h may =
       needed = ap (λ set. has set name) (members_is ∙ sym need) ∙ ap (has (need_of x b)) (sym who) ∙ may.learned.needed;
       votes = λ j m there. split (j == x.core.who)
           (λ t. inl (let same : j ≡ x.core.who = grind (arith, nat_tests) in same ∙ who))
-          (λ f. (let vote = some_vote (b.votes j) (voted x.core.who j b (not_waited x b j may.learned.all (in_need j m)) (spared j there) f) in
-          let tells = h.votes j vote.0 vote.1 in
-          let low = best_low x b may.learned.own h.own h.view_ h.views j vote.0 (h.names j vote.0 vote.1) vote.1 in
-          let order = vote_low (own_vote x) vote.0 h.view_ (h.views j vote.0 vote.1) low in
-          let seen : key vote.0.view ≡ key (view_of tells.list) = ap key tells.view in
-          let mine : key (view x) ≡ key (view_of a.list) = ap (λ (i : Image). key i.view) (sym told_is) in
-          let top = tells.top in
-          inr (record {
-            vote = tells.list;
-            is = ap (λ (u : Stamp). s.shown (key u) j) (sym stamp) ∙ tells.shown;
-            worse = ⊎_elim
-                (λ (z : key vote.0.view < key (view x)). inl (omega arith))
-                (λ (z : (key vote.0.view ≡ key (view x)) × (vote.0.top ≤ nodes.top x)). (let y = z.0 in let u = z.1 in inr (omega arith, omega arith)))
-                order;
-          })));
+          (λ f. inr (other_voted w name x b s j h may (in_need j m) (spared j there) f));
       within = subst (λ set. is_within (left_in b (need_of x b)) set ≡ true) (need ∙ sym members_is)
           (all_places _ 0 16 (λ place low. is_some_of test (need_of x b) place (omega arith)));
       all = λ j m there. (let at = those_at test (need_of x b) j (in_need j m) (ap not (spared j there)) in grind (arith, nat_tests));
@@ -252,30 +264,11 @@ view_members x b long need =
 -- each other name of the View has voted for no better list, whether it stopped or not
 all_voted : (w : World) (name : ℕ) (x : Node) (b : Ballot) (s : Group) → BallotKnown w name x b s → looks.MayDecide x b
     → AllVoted s name (λ j. has (left_in b (need_of x b)) j ≡ true)
-unfolding view_of
 all_voted w name x b s h may j in_ =
-    let a = s.node name in
-    let told_is = told_whole w name name x a h.stands in
-    let long = long_all (within w name x) name x a h.stands in
-    let stamp : b.stamp ≡ a.promise = h.stamp ∙ sym h.stands.promise in
     let both = those_in (λ k. not (b.given_up k)) (need_of x b) j in_ in
     split (j == x.core.who)
     (λ t. inl (is_the_same j x.core.who t ∙ h.who))
-    (λ f. (let vote = some_vote (b.votes j) (voted x.core.who j b (not_waited x b j may.learned.all both.0) (not_false_of (b.given_up j) both.1) f) in
-    let tells = h.votes j vote.0 vote.1 in
-    let low = best_low x b may.learned.own h.own h.view_ h.views j vote.0 (h.names j vote.0 vote.1) vote.1 in
-    let order = vote_low (own_vote x) vote.0 h.view_ (h.views j vote.0 vote.1) low in
-    let seen : key vote.0.view ≡ key (view_of tells.list) = ap key tells.view in
-    let mine : key (view x) ≡ key (view_of a.list) = ap (λ (i : Image). key i.view) (sym told_is) in
-    let top = tells.top in
-    inr (record {
-      vote = tells.list;
-      is = ap (λ (u : Stamp). s.shown (key u) j) (sym stamp) ∙ tells.shown;
-      worse = ⊎_elim
-          (λ (z : key vote.0.view < key (view x)). inl (omega arith))
-          (λ (z : (key vote.0.view ≡ key (view x)) × (vote.0.top ≤ nodes.top x)). (let y = z.0 in let u = z.1 in inr (omega arith, omega arith)))
-          order;
-    })))
+    (λ f. inr (other_voted w name x b s j h may both.0 (not_false_of (b.given_up j) both.1) f))
   where
     not_false_of : (b : Bool) → not b ≡ true → b ≡ false
     not_false_of true h = absurd (cc)

@@ -1,5 +1,5 @@
 -- What stands for what: a world of the definitions, and a group of whole lists.
-use Rattle.std.specs.Prelude.{◌≡◌, ◌≢◌, ℕ, ◌+◌, ◌<◌, ◌≤◌, List, [], ◌∷◌, ◌++◌, length, take, Some, true, false, slice_get}
+use Rattle.std.specs.Prelude.{◌≡◌, ◌≢◌, ℕ, ◌+◌, ◌<◌, ◌≤◌, List, [], ◌∷◌, ◌++◌, length, take, Some, Bool, true, false, slice_get}
 use Rattle.am_base.specs.Lists.{Log}
 use Rattle.am_chain_lists.specs.Whole.{Begins, told, key}
 use Rattle.am_chain_moves.specs.Group as groups
@@ -7,6 +7,7 @@ use Rattle.am_chain_moves.specs.Group.{Group, Views, opening}
 use Rattle.am_chain_moves.specs.Runs as begun
 use Rattle.am_base.specs.Founding.{Rules, MayFound}
 use Rattle.am_stands.specs.Moving.{Leads}
+use Rattle.am_model.specs.declared.status.Status.{Status}
 use Rattle.am_model.specs.Node.{Node, set_at, lowest_or_first}
 use Rattle.am_model.specs.Calls.{is_unfinished}
 use Rattle.am_model.specs.Group.{has_log}
@@ -21,14 +22,19 @@ pub record BeginsIn (w : World) (log : Log) : Type 0 where
   pub within : log.start ≤ length w.group
   pub image : log.image ≡ told (take log.start w.group)
 
+-- whether a name has a log, has stopped, has departed, and leaves
+pub record FlagsStand (status : Status) (leaves stops : Bool) (log halted gone quits : Bool) : Type 0 where
+  pub log_ : log ≡ has_log status
+  pub stopped : halted ≡ stops
+  pub departed : gone ≡ has_departed status
+  pub leaving : quits ≡ leaves
+
 -- what a name has, but for how far its list is accepted
 pub record NameStands (w : World) (i : ℕ) (m : Node) (a : groups.Node) : Type 0 where
   pub begins : BeginsIn w m.core.log
   pub list : a.list ≡ whole w m
-  pub log_ : a.has_log ≡ has_log m.status
-  pub stopped : a.stopped ≡ is_stopped w i
-  pub departed : a.departed ≡ has_departed m.status
-  pub leaving : a.leaving ≡ m.leaving
+  pub flags : FlagsStand m.status m.leaving (is_stopped w i) a.has_log a.stopped a.departed a.leaving
+  pub open flags use *
   pub promise : a.promise ≡ m.core.promise
   pub ballot : a.ballot ≡ is_unfinished m.ballot
   -- the number of its Join, where there is a log

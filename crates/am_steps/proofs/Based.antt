@@ -16,10 +16,10 @@ use Rattle.am_model.specs.Ballots.{Verdict}
 use Rattle.am_model.specs.Receiving.{is_view}
 use Rattle.am_model.proofs.Greatest.{split, and_both}
 use Rattle.am_effects.specs.Causes.{Cause}
-use Rattle.am_effects.specs.Looks.{BeginsBy, by_reset, by_hand_over, Looks, finds_itself_out, waits, fetches_from_best, finds_too_few, finds_no_room, decides}
-use Rattle.am_effects.specs.Changes.{Promises, invited, overtaken, told_result, Change, refreshes, settles, takes_report, admits, numbers, keeps_body}
-use Rattle.am_effects.specs.Changes.{notes, stores, begins_list, departs, promises, opens, looks, fetches, stores_view, queues, collects, takes, asks_to_join}
-use Rattle.am_effects.specs.Changes.{asks_to_leave, closes, Changes, unchanged, changed}
+use Rattle.am_effects.specs.Looks.{Looks, finds_itself_out}
+use Rattle.am_effects.specs.Changes.{Change, refreshes, settles}
+use Rattle.am_effects.specs.Changes.{begins_list, promises, opens, looks, stores_view}
+use Rattle.am_effects.specs.Changes.{closes, Changes, unchanged, changed}
 use Rattle.am_effects.proofs.Rests.{rests_refresh, rests_closed, settle_is}
 use Rattle.am_effects.proofs.Runs.{along}
 use Rattle.am_effects.proofs.Tests.{not_true}
@@ -28,7 +28,7 @@ use Rattle.am_laws.proofs.Stamps.{same_stamp}
 use Rattle.am_laws.proofs.Taken.{HeardUsed}
 use Rattle.am_laws.proofs.TakenRuns.{Along, along_changes}
 use Rattle.am_stands.proofs.Parts.{view_its}
-use Rattle.am_steps.proofs.Courses.{was_welcomed, both_ways}
+use Rattle.am_steps.proofs.Courses.{was_welcomed, both_ways, promise_brings, begin_brings}
 use Rattle.am_steps.proofs.Statuses.{asking_bare}
 
 -- ---- along the changes
@@ -47,22 +47,9 @@ based_other : {c : Cause} (m x y : Node) → y.core.log.start ≡ x.core.log.sta
 based_other m x y start acc f (as_it_was same low) = as_it_was (start ∙ same) (omega arith)
 based_other m x y start acc f (was_bare welcomed other low) = absurd (both_ways _ welcomed f)
 
-promise_welcomes : {c : Cause} {m : Node} (v : Stamp) → Promises c m v → was_welcomed c ≡ false
-promise_welcomes v (invited s u is heard own) = ap was_welcomed is
-promise_welcomes v (overtaken s u shown is heard above) = ap was_welcomed is
-promise_welcomes v (told_result s u base number names resilience is heard own other) = ap was_welcomed is
-
-begin_welcomes : {c : Cause} {m : Node} → BeginsBy m c → was_welcomed c ≡ false
-begin_welcomes (by_reset least resilience) = refl
-begin_welcomes (by_hand_over s v heard) = refl
-
 looked_based : {c : Cause} (m x : Node) {b : Ballot} {v : Verdict} → Looks x b v → Based c m x → Based c m v.node
 looked_based m x (finds_itself_out a) h = based_same m x _ refl refl refl (omega arith) h
-looked_based m x (waits a d) h = based_same m x _ refl refl refl (omega arith) h
-looked_based m x (fetches_from_best a d e) h = based_same m x _ refl refl refl (omega arith) h
-looked_based m x (finds_too_few a d) h = based_same m x _ refl refl refl (omega arith) h
-looked_based m x (finds_no_room a) h = based_same m x _ refl refl refl (omega arith) h
-looked_based m x (decides may) h = based_same m x _ refl refl refl (omega arith) h
+looked_based m x _ h = based_same m x _ refl refl refl (omega arith) h
 
 bare_before : {c : Cause} (m x : Node) → x.core.acc ≡ 0 → Based c m x → m.core.acc ≡ 0
 bare_before m x none (as_it_was same low) = omega arith
@@ -71,12 +58,6 @@ bare_before m x none (was_bare welcomed other low) = omega arith
 based_change : {c : Cause} {o : Outcome} (rules : Rules) (m x y : Node) → Change c o x y → Along rules x → Based c m x → Based c m y
 based_change rules m x y refreshes a h = let r = (rests_refresh x).rests in based_same m x y r.start r.promise r.who r.acc h
 based_change rules m x y settles a h = subst (Based _ m) (sym (settle_is x)) (based_same m x _ refl refl refl (omega arith) h)
-based_change rules m x y (takes_report s v report by may) a h = based_same m x y refl refl refl (omega arith) h
-based_change rules m x y (admits s v is leads fit) a h = based_same m x y refl refl refl (omega arith) h
-based_change rules m x y (numbers e leads room why) a h = based_same m x y refl refl refl (omega arith) h
-based_change rules m x y (keeps_body s v report req body is heard) a h = based_same m x y refl refl refl (omega arith) h
-based_change rules m x y (notes s v base acc by heard) a h = based_same m x y refl refl refl (omega arith) h
-based_change rules m x y (stores s v base acc number e by heard plain may) a h = based_same m x y refl refl refl (omega arith) h
 based_change rules m x y (begins_list s v base join image is says may) a h =
     let asks = and_both (not (s == x.core.who)) (is_member x.status || is_asking x.status) may.asks in
     let none = a.blanked (asking_bare x.status may.no_member asks.1) in
@@ -86,19 +67,13 @@ based_change rules m x y (begins_list s v base join image is says may) a h =
     let other = not_true (s == x.core.who) asks.0 in
     let own = may.own in
     was_bare (ap was_welcomed is) (grind (arith, nat_tests)) (omega arith)
-based_change rules m x y (departs s v number is heard leaves) a h = based_same m x y refl refl refl (omega arith) h
-based_change rules m x y (promises v low why) a h = based_other m x y refl refl (promise_welcomes v why) h
-based_change rules m x y (opens least resilience by may) a h = based_other m x y refl refl (begin_welcomes by) h
+based_change rules m x y (promises v low why) a h = based_other m x y refl refl (promise_brings v why).welcomes h
+based_change rules m x y (opens least resilience by may) a h = based_other m x y refl refl (begin_brings by).welcomes h
 based_change rules m x y (looks b verdict over why look is) a h = looked_based m x look h
-based_change rules m x y (fetches s v base number e is heard promise below why may) a h = based_same m x y refl refl refl (omega arith) h
 based_change rules m x y (stores_view s v base number names resilience is heard own other promise below may) a h = based_same m x y refl refl refl
     (omega arith) h
-based_change rules m x y (queues body is says member stays few) a h = based_same m x y refl refl refl (omega arith) h
-based_change rules m x y (collects req is) a h = based_same m x y refl refl refl (omega arith) h
-based_change rules m x y (takes e is says member some there) a h = based_same m x y refl refl refl (omega arith) h
-based_change rules m x y (asks_to_join is was) a h = based_same m x y refl refl refl (omega arith) h
-based_change rules m x y (asks_to_leave is was stays done) a h = based_same m x y refl refl refl (omega arith) h
 based_change rules m x y (closes leads leaves alone room) a h = let r = rests_closed x in based_same m x y r.start r.promise r.who r.acc h
+based_change rules m x y _ a h = based_same m x y refl refl refl (omega arith) h
 
 record Basing (rules : Rules) (c : Cause) (m x : Node) : Type 0 where
   along_ : Along rules x

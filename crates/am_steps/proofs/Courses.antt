@@ -10,7 +10,7 @@ use Rattle.am_model.specs.declared.status.Status.TheVariants as status
 use Rattle.am_model.specs.Node.{Node, Ballot, top, is_member, is_asking, is_sequencer}
 use Rattle.am_model.specs.World.{World, has_departed, group_after}
 use Rattle.am_model.proofs.Greatest.{and_both}
-use Rattle.am_effects.specs.Causes.{Cause, hears, by_request, by_spread, BringsReport, with_send, by_ack, by_nack, by_leave_ask}
+use Rattle.am_effects.specs.Causes.{Cause, hears, by_request, BringsReport, with_send}
 use Rattle.am_effects.specs.Causes.{BringsFronts, with_entry as by_entry, with_number, alone}
 use Rattle.am_effects.specs.Looks.{MayLook, was_reset, was_handed, was_fetched, Balloting, with_more, without_one, as_it_is, BeginsBy, by_reset, by_hand_over}
 use Rattle.am_effects.specs.Changes.{Promises, invited, overtaken, told_result, Carries, whole_entry, by_number}
@@ -38,10 +38,7 @@ was_welcomed _ = false
 
 pub brings_true : {c : Cause} (s : ℕ) (v : Stamp) (report : Report) → BringsReport c s v report → brings_report c ≡ true
 brings_true s v report (with_send from u told req body (by_request a b d e f)) = refl
-brings_true s v report (with_send from u told req body (by_spread a b d e f)) = refl
-brings_true s v report (by_ack from u told) = refl
-brings_true s v report (by_nack from u told) = refl
-brings_true s v report (by_leave_ask from u told) = refl
+brings_true s v report _ = refl
 
 fronts_bring : {c : Cause} (s : ℕ) (v : Stamp) (base acc : ℕ) → BringsFronts c s v base acc → brings_report c ≡ false
 fronts_bring s v base acc (by_entry a b d e f g) = refl
@@ -52,34 +49,29 @@ carried_brings : {c : Cause} {m : Node} (s : ℕ) (v : Stamp) (base acc number :
 carried_brings s v base acc number e (whole_entry x is) = ap brings_report is
 carried_brings s v base acc number e (by_number from req body is found) = ap brings_report is
 
-promise_brings : {c : Cause} {m : Node} (v : Stamp) → Promises c m v → brings_report c ≡ false
-promise_brings v (invited s u is heard own) = ap brings_report is
-promise_brings v (overtaken s u shown is heard above) = ap brings_report is
-promise_brings v (told_result s u base number names resilience is heard own other) = ap brings_report is
+-- a cause that brings no report, and is no Welcome
+pub record BringsNothing (c : Cause) : Type 0 where
+  pub brings : brings_report c ≡ false
+  pub welcomes : was_welcomed c ≡ false
 
-begin_brings : {c : Cause} {m : Node} → BeginsBy m c → brings_report c ≡ false
-begin_brings (by_reset least resilience) = refl
-begin_brings (by_hand_over s v heard) = refl
+pub promise_brings : {c : Cause} {m : Node} (v : Stamp) → Promises c m v → BringsNothing c
+promise_brings v (invited s u is heard own) = record { brings = ap brings_report is; welcomes = ap was_welcomed is }
+promise_brings v (overtaken s u shown is heard above) = record { brings = ap brings_report is; welcomes = ap was_welcomed is }
+promise_brings v (told_result s u base number names resilience is heard own other) = record { brings = ap brings_report is; welcomes = ap was_welcomed is }
 
-may_look_brings : {c : Cause} {m : Node} → MayLook c m → brings_report c ≡ false
-may_look_brings (was_reset least resilience is) = ap brings_report is
-may_look_brings (was_handed s v is) = ap brings_report is
-may_look_brings (was_fetched s v base number e is same) = ap brings_report is
+pub begin_brings : {c : Cause} {m : Node} → BeginsBy m c → BringsNothing c
+begin_brings (by_reset least resilience) = record { brings = refl; welcomes = refl }
+begin_brings (by_hand_over s v heard) = record { brings = refl; welcomes = refl }
 
-pub look_brings : {c : Cause} {m : Node} (b : Ballot) → Balloting c m b → brings_report c ≡ false
-look_brings b (with_more old s v vote is heard low high open_ same stays) = ap brings_report is
-look_brings b (without_one old name is open_ other) = ap brings_report is
+may_look_brings : {c : Cause} {m : Node} → MayLook c m → BringsNothing c
+may_look_brings (was_reset least resilience is) = record { brings = ap brings_report is; welcomes = ap was_welcomed is }
+may_look_brings (was_handed s v is) = record { brings = ap brings_report is; welcomes = ap was_welcomed is }
+may_look_brings (was_fetched s v base number e is same) = record { brings = ap brings_report is; welcomes = ap was_welcomed is }
+
+pub look_brings : {c : Cause} {m : Node} (b : Ballot) → Balloting c m b → BringsNothing c
+look_brings b (with_more old s v vote is heard low high open_ same stays) = record { brings = ap brings_report is; welcomes = ap was_welcomed is }
+look_brings b (without_one old name is open_ other) = record { brings = ap brings_report is; welcomes = ap was_welcomed is }
 look_brings b (as_it_is old open_ on) = may_look_brings on
-
-may_look_welcomes : {c : Cause} {m : Node} → MayLook c m → was_welcomed c ≡ false
-may_look_welcomes (was_reset least resilience is) = ap was_welcomed is
-may_look_welcomes (was_handed s v is) = ap was_welcomed is
-may_look_welcomes (was_fetched s v base number e is same) = ap was_welcomed is
-
-pub look_welcomes : {c : Cause} {m : Node} (b : Ballot) → Balloting c m b → was_welcomed c ≡ false
-look_welcomes b (with_more old s v vote is heard low high open_ same stays) = ap was_welcomed is
-look_welcomes b (without_one old name is open_ other) = ap was_welcomed is
-look_welcomes b (as_it_is old open_ on) = may_look_welcomes on
 
 pub both_ways : (b : Bool) → b ≡ true → b ≡ false → ⊥
 both_ways b t f = (let z = sym t ∙ f in cc)
@@ -89,50 +81,15 @@ both_ways b t f = (let z = sym t ∙ f in cc)
 -- it is plain, too, to what is known within a step
 pub plain_too : {c : Cause} {o : Outcome} {x y : Node} (z : Change c o x y) → IsPlain z → plainly.IsPlain z
 plain_too refreshes p = p
-plain_too settles p = tt
-plain_too (takes_report from v report by may) p = tt
-plain_too (admits from v is leads fit) p = tt
-plain_too (numbers e leads room why) p = tt
-plain_too (keeps_body from v report req body is heard) p = tt
-plain_too (notes from v base acc by heard) p = tt
-plain_too (stores from v base acc number e by heard plain may) p = tt
-plain_too (begins_list from v base join image is says_ may) p = tt
 plain_too (departs from v number is heard leaves) p = absurd p
-plain_too (promises v low why) p = tt
-plain_too (opens least resilience by may) p = tt
 plain_too (looks b verdict over why look is) p = absurd p
-plain_too (fetches from v base number e is heard promise below why may) p = tt
-plain_too (stores_view from v base number names resilience is heard own other promise below may) p = tt
-plain_too (queues body is says_ member stays few) p = tt
-plain_too (collects req is) p = tt
-plain_too (takes e is says_ member some there) p = tt
-plain_too (asks_to_join is was) p = tt
-plain_too (asks_to_leave is was stays done) p = tt
 plain_too (closes leads leaves alone_ room) p = p
+plain_too _ p = tt
 
 -- and notes no view
 pub none_noted : {c : Cause} {o : Outcome} {x y : Node} (z : Change c o x y) → IsPlain z → (w : World) → after_change z w ≡ w
-none_noted refreshes p w = refl
-none_noted settles p w = refl
-none_noted (takes_report from v report by may) p w = refl
-none_noted (admits from v is leads fit) p w = refl
-none_noted (numbers e leads room why) p w = refl
-none_noted (keeps_body from v report req body is heard) p w = refl
-none_noted (notes from v base acc by heard) p w = refl
-none_noted (stores from v base acc number e by heard plain may) p w = refl
-none_noted (begins_list from v base join image is says_ may) p w = refl
-none_noted (departs from v number is heard leaves) p w = refl
-none_noted (promises v low why) p w = refl
-none_noted (opens least resilience by may) p w = refl
 none_noted (looks b verdict over why look is) p w = absurd p
-none_noted (fetches from v base number e is heard promise below why may) p w = refl
-none_noted (stores_view from v base number names resilience is heard own other promise below may) p w = refl
-none_noted (queues body is says_ member stays few) p w = refl
-none_noted (collects req is) p w = refl
-none_noted (takes e is says_ member some there) p w = refl
-none_noted (asks_to_join is was) p w = refl
-none_noted (asks_to_leave is was stays done) p w = refl
-none_noted (closes leads leaves alone_ room) p w = refl
+none_noted _ p w = refl
 
 -- nobody departs by it, and who is a member then was one before, or was welcomed
 pub record Stays (c : Cause) (x y : Node) : Type 0 where
@@ -149,29 +106,16 @@ not_gone t is gone = (let z = sym gone ∙ ap has_departed is in cc)
 pub stays : {c : Cause} {o : Outcome} (x y : Node) (z : Change c o x y) → IsPlain z → Stays c x y
 stays x y refreshes p = absurd p
 stays x y settles p = stays_same x y (ap (λ (n : Node). n.status) (settle_is x))
-stays x y (takes_report from v report by may) p = stays_same x y refl
-stays x y (admits from v is leads fit) p = stays_same x y refl
-stays x y (numbers e leads room why) p = stays_same x y refl
-stays x y (keeps_body from v report req body is heard) p = stays_same x y refl
-stays x y (notes from v base acc by heard) p = stays_same x y refl
-stays x y (stores from v base acc number e by heard plain may) p = stays_same x y refl
 stays x y (begins_list from v base join image is says_ may) p = record {
   there = λ f. refl;
   gone = λ t. absurd (asking_stays x.status (and_both (not (from == x.core.who)) (is_member x.status || is_asking x.status) may.asks).1 t);
   member = λ f t. absurd (both_ways _ (ap was_welcomed is) f);
 }
 stays x y (departs from v number is heard leaves) p = absurd p
-stays x y (promises v low why) p = stays_same x y refl
-stays x y (opens least resilience by may) p = stays_same x y refl
 stays x y (looks b verdict over why look is) p = absurd p
-stays x y (fetches from v base number e is heard promise below why may) p = stays_same x y refl
-stays x y (stores_view from v base number names resilience is heard own other promise below may) p = stays_same x y refl
-stays x y (queues body is says_ member stays_ few) p = stays_same x y refl
-stays x y (collects req is) p = stays_same x y refl
-stays x y (takes e is says_ member some there) p = stays_same x y refl
 stays x y (asks_to_join is was) p = record { there = λ f. refl; gone = λ t. absurd (not_gone x.status was t); member = λ f t. absurd (cc) }
-stays x y (asks_to_leave is was stays_ done) p = stays_same x y refl
 stays x y (closes leads leaves alone_ room) p = absurd p
+stays x y _ p = stays_same x y refl
 
 -- ---- a sequencer that took a report
 
@@ -195,8 +139,8 @@ leads_on group x y (notes from v base acc by heard) p t l low high = absurd (bot
 leads_on group x y (stores from v base acc number e by heard plain may) p t l low high = absurd (both_ways _ t (carried_brings from v base acc number e by))
 leads_on group x y (begins_list from v base join image is says_ may) p t l low high = absurd (both_ways _ t (ap brings_report is))
 leads_on group x y (departs from v number is heard leaves) p t l low high = absurd p
-leads_on group x y (promises v below why) p t l low high = absurd (both_ways _ t (promise_brings v why))
-leads_on group x y (opens least resilience by may) p t l low high = absurd (both_ways _ t (begin_brings by))
+leads_on group x y (promises v below why) p t l low high = absurd (both_ways _ t (promise_brings v why).brings)
+leads_on group x y (opens least resilience by may) p t l low high = absurd (both_ways _ t (begin_brings by).brings)
 leads_on group x y (looks b verdict over why look is) p t l low high = absurd p
 leads_on group x y (fetches from v base number e is heard promise below why may) p t l low high = absurd (both_ways _ t (ap brings_report is))
 leads_on group x y (stores_view from v base number names resilience is heard own other promise below may) p t l low high =

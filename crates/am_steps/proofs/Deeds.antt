@@ -29,7 +29,7 @@ use Rattle.am_stands.proofs.Onward.{grows_trans}
 use Rattle.am_stands.proofs.Stepped.{changes_go_on}
 use Rattle.am_steps.proofs.Worlds.{growing}
 use Rattle.am_steps.proofs.Refreshed.{Fronted}
-use Rattle.am_steps.proofs.Courses.{was_welcomed, look_brings, look_welcomes, both_ways, stays}
+use Rattle.am_steps.proofs.Courses.{was_welcomed, look_brings, both_ways, stays}
 use Rattle.am_steps.proofs.Fronts.{fronts_next}
 use Rattle.am_steps.proofs.Going.{Grown, as_before, by_reports, going_on}
 
@@ -88,16 +88,12 @@ seen_by {x = x} {b = b} {v = v} (decides may) w m member own above = one_new (re
 world_after : {x : Node} {b : Ballot} {v : Verdict} (look : Looks x b v) (w : World) (group : List Entry)
     → after_look look (growing w group) ≡ further w group (after_look look w).views
 world_after (finds_itself_out a) w group = refl
-world_after (waits a d) w group = refl
-world_after (fetches_from_best a d e) w group = refl
-world_after (finds_too_few a d) w group = refl
-world_after (finds_no_room a) w group = refl
-world_after (decides may) w group = refl
+world_after _ w group = refl
 
 -- a sequencer that took a report looks at no ballot
 before_look : {c : Cause} {x y : Node} (b : Ballot) (old group : List Entry) → Balloting c x b → Grown c old group x → Grown c old group y
 before_look b old group why (as_before is) = as_before is
-before_look b old group why (by_reports brings leads start is) = absurd (both_ways _ brings (look_brings b why))
+before_look b old group why (by_reports brings leads start is) = absurd (both_ways _ brings (look_brings b why).brings)
 
 view_up : (a b stamp : Stamp) → (b ≡ a) ⊎ (stamp_lt a b ≡ true) → stamp_lt b stamp ≡ true → stamp_lt a stamp ≡ true
 view_up a b stamp h above = ⊎_elim
@@ -128,7 +124,7 @@ deeds_on rules w name c o m x s (looked {n = n} b verdict course over why look i
     let goes = subst (λ v. Stepping rules v name c x one.to) (world_after look w g.group) one.goes in
     let fronts = fronts_next rules now name c o n x g.to one.to z tt g.goes goes.accepted one.fronts one.grows g.fronts in
     let open_ = (looked_at n b why g.goes.along.balloted).open_ in
-    let member = course_member m n course (look_welcomes b why) (g.goes.keeps.opens (looked_open c n b why)).0 in
+    let member = course_member m n course (look_brings b why).welcomes (g.goes.keeps.opens (looked_open c n b why)).0 in
     let gone = changes_do m n h.names (course_changes course) h.along.names h.along.balloted in
     let up : (view n ≡ view m) ⊎ (stamp_lt (view m) (view n) ≡ true) = ⊎_elim
     (λ (same : SameView (told n) (told m)). inl same.view)

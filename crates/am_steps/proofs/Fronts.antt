@@ -16,9 +16,9 @@ use Rattle.am_model.specs.Receiving.{noted}
 use Rattle.am_model.specs.World.{World, has_departed}
 use Rattle.am_model.proofs.Greatest.{split, and_both}
 use Rattle.am_effects.specs.Causes.{Cause, hears, BringsFronts, with_entry, with_number, alone}
-use Rattle.am_effects.specs.Looks.{Looks, finds_itself_out, waits, fetches_from_best, finds_too_few, finds_no_room, decides}
-use Rattle.am_effects.specs.Changes.{Change, refreshes, settles, takes_report, admits, numbers, keeps_body, notes, stores, begins_list, departs, promises}
-use Rattle.am_effects.specs.Changes.{opens, looks, fetches, stores_view, queues, collects, takes, asks_to_join, asks_to_leave, closes}
+use Rattle.am_effects.specs.Looks.{Looks, finds_itself_out}
+use Rattle.am_effects.specs.Changes.{Change, refreshes, settles, notes, stores, begins_list, departs}
+use Rattle.am_effects.specs.Changes.{looks, fetches, stores_view, asks_to_join, closes}
 use Rattle.am_effects.proofs.Rests.{settle_is}
 use Rattle.am_laws.proofs.Stamps.{same_stamp}
 use Rattle.am_stands.specs.Accepting.{nothing, of_sequencer}
@@ -89,21 +89,13 @@ noted_fronts rules w name c x s t from v base acc by heard h stay g f =
 pub looked_fronts : {m : Node} {b : Ballot} {v : Verdict} (look : Looks m b v) → (v.node.core.acc ≡ m.core.acc) × (v.node.core.told ≡ m.core.told)
     × (v.node.status ≡ m.status)
 looked_fronts (finds_itself_out a) = (refl, refl, refl)
-looked_fronts (waits a e) = (refl, refl, refl)
-looked_fronts (fetches_from_best a e f) = (refl, refl, refl)
-looked_fronts (finds_too_few a e) = (refl, refl, refl)
-looked_fronts (finds_no_room a) = (refl, refl, refl)
-looked_fronts (decides may) = (refl, refl, refl)
+looked_fronts _ = (refl, refl, refl)
 
 pub fronts_next : (rules : Rules) (w : World) (name : ℕ) (c : Cause) (o : Outcome) (x y : Node) (s t : Group) (z : Change c o x y) → IsPlain z
     → Stepping rules w name c x s → y.core.acc ≤ length w.group → FrontsAfter z name s t → Grows s t → Fronted w name x s → Fronted w name y t
 fronts_next rules w name c o x y s t refreshes p h low after g f = absurd p
 fronts_next rules w name c o x y s t settles p h low after g f = same_fronts w name x y s t (ap (λ (n : Node). n.core.acc) (settle_is x))
     (ap (λ (n : Node). n.core.told) (settle_is x)) (λ d. sym (ap (λ (n : Node). has_departed n.status) (settle_is x)) ∙ d) after g f
-fronts_next rules w name c o x y s t (takes_report from v report by may) p h low after g f = same_fronts w name x y s t refl refl (λ d. d) after g f
-fronts_next rules w name c o x y s t (admits from v is leads fit) p h low after g f = same_fronts w name x y s t refl refl (λ d. d) after g f
-fronts_next rules w name c o x y s t (numbers e leads room why) p h low after g f = same_fronts w name x y s t refl refl (λ d. d) after g f
-fronts_next rules w name c o x y s t (keeps_body from v report req body is heard) p h low after g f = same_fronts w name x y s t refl refl (λ d. d) after g f
 fronts_next rules w name c o x y s t (notes from v base acc by heard) p h low after g f =
     noted_fronts rules w name c x s t from v base acc by heard h after g f
 fronts_next rules w name c o x y s t (stores from v base acc number e by heard plain may) p h low after g f =
@@ -122,17 +114,12 @@ fronts_next rules w name c o x y s t (departs from v number is heard leaves) p h
   acc = λ d. absurd (cc);
   told = λ d. absurd (cc);
 }
-fronts_next rules w name c o x y s t (promises v below why) p h low after g f = same_fronts w name x y s t refl refl (λ d. d) after g f
-fronts_next rules w name c o x y s t (opens least resilience by may) p h low after g f = same_fronts w name x y s t refl refl (λ d. d) after g f
 fronts_next rules w name c o x y s t (looks b verdict over why look is) p h low after g f = (let same = looked_fronts look in
     same_fronts w name x y s t same.0 same.1 (λ d. sym (ap has_departed same.2) ∙ d) after g f)
 fronts_next rules w name c o x y s t (fetches from v base number e is heard promise below why may) p h low after g f =
     same_fronts w name x y s t refl refl (λ d. d) after g f
 fronts_next rules w name c o x y s t (stores_view from v base number names resilience is heard own other promise below may) p h low after g f =
     same_fronts w name x y s t refl refl (λ d. d) after g f
-fronts_next rules w name c o x y s t (queues body is says_ member stays_ few) p h low after g f = same_fronts w name x y s t refl refl (λ d. d) after g f
-fronts_next rules w name c o x y s t (collects req is) p h low after g f = same_fronts w name x y s t refl refl (λ d. d) after g f
-fronts_next rules w name c o x y s t (takes e is says_ member some there) p h low after g f = same_fronts w name x y s t refl refl (λ d. d) after g f
 fronts_next rules w name c o x y s t (asks_to_join is was) p h low after g f = same_fronts w name x y s t refl refl (λ d. ap has_departed was) after g f
-fronts_next rules w name c o x y s t (asks_to_leave is was stays_ done) p h low after g f = same_fronts w name x y s t refl refl (λ d. d) after g f
 fronts_next rules w name c o x y s t (closes leads leaves alone_ room) p h low after g f = absurd p
+fronts_next rules w name c o x y s t _ p h low after g f = same_fronts w name x y s t refl refl (λ d. d) after g f

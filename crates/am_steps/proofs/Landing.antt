@@ -28,8 +28,7 @@ use Rattle.am_stands.proofs.Ends.{then_moves}
 use Rattle.am_stands.proofs.Letters.{letters_stay}
 use Rattle.am_stands.proofs.Names.{name_in, views_in}
 use Rattle.am_stands.proofs.Onward.{goes_on, grows_trans}
-use Rattle.am_stands.proofs.Others.{others_keep}
-use Rattle.am_steps.proofs.Worlds.{keeps_in}
+use Rattle.am_stands.proofs.Others.{keeps_in, others_keep}
 use Rattle.am_steps.proofs.Starting.{recorded}
 use Rattle.am_steps.proofs.Deeds.{further}
 use Rattle.am_steps.proofs.Letters.{Told}

@@ -14,9 +14,9 @@ use Rattle.am_model.specs.Emit.{Step}
 use Rattle.am_model.specs.World.{World, start, record_of, unchanged, stepped, run}
 use Rattle.am_model.proofs.Greatest.{split}
 use Rattle.am_effects.specs.Causes.{Cause, calls}
-use Rattle.am_effects.specs.Looks.{Looks, finds_itself_out, waits, fetches_from_best, finds_too_few, finds_no_room, decides}
-use Rattle.am_effects.specs.Changes.{Change, refreshes, settles, takes_report, admits, numbers, keeps_body, notes, stores, begins_list, departs, promises}
-use Rattle.am_effects.specs.Changes.{opens, looks, fetches, stores_view, queues, collects, takes, asks_to_join, asks_to_leave, closes}
+use Rattle.am_effects.specs.Looks.{Looks, finds_itself_out}
+use Rattle.am_effects.specs.Changes.{Change, refreshes, settles}
+use Rattle.am_effects.specs.Changes.{looks, queues, collects, closes}
 use Rattle.am_effects.specs.Effects.{Answers, WasQueued, AnswersAsk, Effect}
 use Rattle.am_effects.specs.Events.{actor, IsCall, IsCause, IsIdle, idles, stops, returns, steps}
 use Rattle.am_effects.proofs.Rests.{rests_refresh, rests_closed, settle_is}
@@ -29,34 +29,16 @@ use Rattle.am_stands.specs.States.{SendsOnce}
 
 looked_last : (m : Node) (b : Ballot) (v : Verdict) → Looks m b v → v.node.sends ≡ m.sends
 looked_last m b v (finds_itself_out x) = refl
-looked_last m b v (waits x y) = refl
-looked_last m b v (fetches_from_best x y z) = refl
-looked_last m b v (finds_too_few x y) = refl
-looked_last m b v (finds_no_room x) = refl
-looked_last m b v (decides may) = refl
+looked_last m b v _ = refl
 
 last_kept : {c : Cause} {o : Outcome} (low : ℕ) (m n : Node) → Change c o m n → low ≤ m.sends.last → low ≤ n.sends.last
 last_kept low m n refreshes h = subst (λ k. low ≤ k) (sym (rests_refresh m).rests.asked) h
 last_kept low m n settles h = subst (λ (x : Node). low ≤ x.sends.last) (sym (settle_is m)) h
-last_kept low m n (takes_report s v report by may) h = h
-last_kept low m n (admits s v is leads fit) h = h
-last_kept low m n (numbers e leads room why) h = h
-last_kept low m n (keeps_body s v report req body is heard) h = h
-last_kept low m n (notes s v base a by heard) h = h
-last_kept low m n (stores s v base a number e by heard plain may) h = h
-last_kept low m n (begins_list s v base join image is says may) h = h
-last_kept low m n (departs s v number is heard leaves) h = h
-last_kept low m n (promises v low_ why) h = h
-last_kept low m n (opens least resilience by may) h = h
 last_kept low m n (looks b verdict over why look is) h = (let same = ap (λ (q : own.Sends). q.last) (looked_last m b verdict look) in omega arith)
-last_kept low m n (fetches s v base number e is heard promise below from may) h = h
-last_kept low m n (stores_view s v base number names resilience is heard own_ other promise below may) h = h
 last_kept low m n (queues body is says member stays few) h = omega arith
 last_kept low m n (collects req is) h = split (own.is_settled req m.sends) (λ t. rw t h) (λ f. rw f h)
-last_kept low m n (takes e is says member some there) h = h
-last_kept low m n (asks_to_join is was) h = h
-last_kept low m n (asks_to_leave is was stays done) h = h
 last_kept low m n (closes leads leaves alone room) h = subst (λ k. low ≤ k) (sym (rests_closed m).asked) h
+last_kept low m n _ h = h
 
 -- ---- a step
 

@@ -14,9 +14,9 @@ use Rattle.am_model.specs.World.{World, start, unchanged, stepped, run}
 use Rattle.am_model.proofs.Greatest.{split, and_both}
 use Rattle.am_effects.specs.Causes.{Cause}
 use Rattle.am_effects.specs.Looks.{Looks, finds_itself_out, waits, fetches_from_best, finds_too_few, finds_no_room, decides}
-use Rattle.am_effects.specs.Changes.{Promises, invited, overtaken as overtaken_by, told_result, Change, refreshes, settles, takes_report, admits, numbers}
-use Rattle.am_effects.specs.Changes.{keeps_body, notes, stores, begins_list, departs, promises, opens, looks, fetches, stores_view, queues, collects, takes}
-use Rattle.am_effects.specs.Changes.{asks_to_join, asks_to_leave, closes}
+use Rattle.am_effects.specs.Changes.{Promises, invited, overtaken as overtaken_by, told_result, Change, refreshes, settles}
+use Rattle.am_effects.specs.Changes.{begins_list, promises, opens, looks}
+use Rattle.am_effects.specs.Changes.{closes}
 use Rattle.am_effects.specs.Events.{actor, idles, stops, returns, steps}
 use Rattle.am_effects.proofs.Rests.{rests_refresh, rests_closed, settle_is}
 use Rattle.am_effects.proofs.Runs.{along, EachKeeps, runs_keep}
@@ -102,18 +102,11 @@ change_owns nodes i c o x y names begun refreshes h = let r = (rests_refresh x).
 change_owns nodes i c o x y names begun settles h = same_owning x y (ap (λ (n : Node). n.core.who) (settle_is x))
     (ap (λ (n : Node). n.core.promise) (settle_is x))
     (ap (λ (n : Node). n.ballot) (settle_is x)) h.owns
-change_owns nodes i c o x y names begun (takes_report s v report by may) h = h.owns
-change_owns nodes i c o x y names begun (admits s v is leads fit) h = h.owns
-change_owns nodes i c o x y names begun (numbers e leads room why) h = h.owns
-change_owns nodes i c o x y names begun (keeps_body s v report req body is heard) h = h.owns
-change_owns nodes i c o x y names begun (notes s v base a by heard) h = h.owns
-change_owns nodes i c o x y names begun (stores s v base a number e by heard plain may) h = h.owns
 change_owns nodes i c o x y names begun (begins_list s v base join image is says may) h = λ b number all at answer mine. absurd (
     let asks = and_both (not (s == x.core.who)) (is_member x.status || is_asking x.status) may.asks in
     let none = h.balloted.none (asking_bare x.status may.no_member asks.1) in
     let z = sym none ∙ at in
     cc)
-change_owns nodes i c o x y names begun (departs s v number is heard leaves) h = h.owns
 change_owns nodes i c o x y names begun (promises v low why) h = promise_owns nodes i c x v names begun why low (raised why) h
   where
     raised : {v : Stamp} → Promises c x v → IsBegun nodes v
@@ -122,14 +115,8 @@ change_owns nodes i c o x y names begun (promises v low why) h = promise_owns no
     raised (told_result s w base number names_ resilience is heard own other) = subst (CauseBegun nodes) is begun
 change_owns nodes i c o x y names begun (opens least resilience by may) h = λ b number all at answer mine. absurd (let z = ap answer_in at ∙ answer in cc)
 change_owns nodes i c o x y names begun (looks b verdict over why look is) h = look_owns x b verdict look (looked_at x b why h.balloted).open_.promised
-change_owns nodes i c o x y names begun (fetches s v base number e is heard promise below from may) h = h.owns
-change_owns nodes i c o x y names begun (stores_view s v base number all resilience is heard own other promise below may) h = h.owns
-change_owns nodes i c o x y names begun (queues body is says member stays few) h = h.owns
-change_owns nodes i c o x y names begun (collects req is) h = h.owns
-change_owns nodes i c o x y names begun (takes e is says member some there) h = h.owns
-change_owns nodes i c o x y names begun (asks_to_join is was) h = h.owns
-change_owns nodes i c o x y names begun (asks_to_leave is was stays done) h = h.owns
 change_owns nodes i c o x y names begun (closes leads leaves alone room) h = let r = rests_closed x in same_owning x y r.who r.promise r.ballot h.owns
+change_owns nodes i c o x y names begun _ h = h.owns
 
 change_knows : (nodes : ℕ → Node) (i : ℕ) (c : Cause) (o : Outcome) → HeardNames c → CauseBegun nodes c → (x y : Node) → Change c o x y → Knows nodes i x
     → Knows nodes i y

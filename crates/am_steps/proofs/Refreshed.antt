@@ -14,8 +14,6 @@ use Rattle.am_chain_moves.specs.Kept.{Kept}
 use Rattle.am_chain_moves.proofs.Puts.{put_same}
 use Rattle.am_model.specs.Node as nodes
 use Rattle.am_model.specs.Node.{Node, is_member, is_sequencer, lowest_or_first}
-use Rattle.am_model.specs.Calls.{is_unfinished}
-use Rattle.am_model.specs.Group.{has_log}
 use Rattle.am_model.specs.Refresh.{refresh}
 use Rattle.am_model.specs.World.{World, has_departed, group_after}
 use Rattle.am_model.proofs.Greatest.{split}
@@ -31,7 +29,7 @@ use Rattle.am_stands.specs.Accepting.{MayCount, Word, nothing, of_sequencer, Com
 use Rattle.am_stands.specs.Growing.{Grows}
 use Rattle.am_stands.specs.Moving.{Moves, none, moves}
 use Rattle.am_stands.specs.Keeping.{Stepping}
-use Rattle.am_stands.proofs.Changes.{Unmoved, own_name, is_up}
+use Rattle.am_stands.proofs.Changes.{own_name, is_up, unmoved_refresh}
 use Rattle.am_stands.proofs.ChainNames.{front_named, counts_names}
 use Rattle.am_stands.proofs.Ends.{accept_moves, then_moves}
 use Rattle.am_stands.proofs.Keeping.{kept, old}
@@ -39,8 +37,9 @@ use Rattle.am_stands.proofs.Learning.{no_more_group, refresh_learns, advanced}
 use Rattle.am_stands.proofs.Letters.{letters_stay, sequencer_stays}
 use Rattle.am_stands.proofs.Onward.{goes_on, grows_same}
 use Rattle.am_stands.proofs.Refreshing.{refreshes_keep}
+use Rattle.am_stands.proofs.Others.{keeps_in}
 use Rattle.am_steps.proofs.Statuses.{bare_status, member_here}
-use Rattle.am_steps.proofs.Worlds.{growing, grown_stands, same_stands, learned, learned_stands, keeps_in, once_in}
+use Rattle.am_steps.proofs.Worlds.{growing, grown_stands, same_stands, learned, learned_stands, once_in}
 
 -- ---- how far a name was told, and gives out, within its step
 
@@ -58,19 +57,6 @@ word_stays s t w name heard g (of_sequencer from v low says) =
     of_sequencer from v (omega arith) (sequencer_stays w w s t g ([], sym (append-nil w.records)) from v heard says)
 
 -- ---- the node
-
-pub unmoved_refresh : (x : Node) → Unmoved x (refresh x)
-unmoved_refresh x =
-    let r = rests_refresh x in
-    record {
-      log = r.log;
-      log_ = ap has_log r.rests.status;
-      departed = ap has_departed r.rests.status;
-      leaving = r.rests.leaving;
-      promise = r.rests.promise;
-      ballot = ap is_unfinished r.rests.ballot;
-      start = r.begins;
-    }
 
 no_leader : (x : Node) → is_member x.status ≡ false → is_sequencer x ≡ false
 no_leader x f = split (is_sequencer x) (λ t. absurd (let z = leads_member x t in cc)) (λ g. g)

@@ -83,23 +83,7 @@ stands_but w records name s h = subst (λ f. StandsBut name (record (recorded w 
 
 same_stamp_of : (p : Packet) → spelled.stamp_of p ≡ stamp_of p
 same_stamp_of (packet.Request s v report req body) = refl
-same_stamp_of (packet.Spread s v report req body) = refl
-same_stamp_of (packet.Bcast s v base acc number e) = refl
-same_stamp_of (packet.Order s v base acc number from req) = refl
-same_stamp_of (packet.Accept s v base acc high poll) = refl
-same_stamp_of (packet.Ack s v report) = refl
-same_stamp_of (packet.Nack s v report) = refl
-same_stamp_of (packet.Hold s v base high req) = refl
-same_stamp_of (packet.JoinAsk s v) = refl
-same_stamp_of (packet.Welcome s v base join image) = refl
-same_stamp_of (packet.LeaveAsk s v report) = refl
-same_stamp_of (packet.Gone s v number) = refl
-same_stamp_of (packet.Invite s v) = refl
-same_stamp_of (packet.Vote s v vote) = refl
-same_stamp_of (packet.Fetch s v stored) = refl
-same_stamp_of (packet.Piece s v base number e) = refl
-same_stamp_of (packet.Result s v base number names resilience) = refl
-same_stamp_of (packet.HandOver s v) = refl
+same_stamp_of _ = refl
 
 item_get : {A : Type 0} (xs : List A) (number : ℕ) (x : A) → item_at xs number ≡ Some x → (k : ℕ) × (slice_get xs k ≡ Some x)
 item_get xs zero x is = absurd (cc)
@@ -122,24 +106,8 @@ begun_stands w s v h named small is = record {
 
 -- only a joiner's asking goes to any life, and says nothing
 any_says : (w : World) (s : Group) (to : List ℕ) (p : Packet) → goes_to_any p ≡ true → PacketSays w s to p
-any_says w s to (packet.Request i v report req body) t = absurd (cc)
-any_says w s to (packet.Spread i v report req body) t = absurd (cc)
-any_says w s to (packet.Bcast i v base acc number e) t = absurd (cc)
-any_says w s to (packet.Order i v base acc number from req) t = absurd (cc)
-any_says w s to (packet.Accept i v base acc high poll) t = absurd (cc)
-any_says w s to (packet.Ack i v report) t = absurd (cc)
-any_says w s to (packet.Nack i v report) t = absurd (cc)
-any_says w s to (packet.Hold i v base high req) t = absurd (cc)
 any_says w s to (packet.JoinAsk i v) t = tt
-any_says w s to (packet.Welcome i v base join image) t = absurd (cc)
-any_says w s to (packet.LeaveAsk i v report) t = absurd (cc)
-any_says w s to (packet.Gone i v number) t = absurd (cc)
-any_says w s to (packet.Invite i v) t = absurd (cc)
-any_says w s to (packet.Vote i v vote) t = absurd (cc)
-any_says w s to (packet.Fetch i v stored) t = absurd (cc)
-any_says w s to (packet.Piece i v base number e) t = absurd (cc)
-any_says w s to (packet.Result i v base number names resilience) t = absurd (cc)
-any_says w s to (packet.HandOver i v) t = absurd (cc)
+any_says w s to _ t = absurd (cc)
 
 only_has : (name : ℕ) → has (with_name nobody name) name ≡ true
 only_has name =
@@ -164,16 +132,8 @@ heard_so w s name a p says goes was =
     (λ f. record { to = was.letter.to; addressed = rw f at was.addressed; says = told })
 
 given_stopped : (w : World) (a : Act) (ev : NodeEvent) (other : ℕ) → ev ≡ GiveUp other → IsCall w a ev → is_stopped w other ≡ true
-given_stopped w a ev other is (event.send body) = absurd (cc)
-given_stopped w a ev other is (event.done req) = absurd (cc)
-given_stopped w a ev other is event.take = absurd (cc)
-given_stopped w a ev other is event.join = absurd (cc)
-given_stopped w a ev other is event.state = absurd (cc)
-given_stopped w a ev other is event.leave = absurd (cc)
-given_stopped w a ev other is (event.reset least resilience) = absurd (cc)
-given_stopped w a ev other is (event.ask round) = absurd (cc)
 given_stopped w a ev other is (event.give_up name t) = (let same : name ≡ other = cc in subst (λ k. is_stopped w k ≡ true) same t)
-given_stopped w a ev other is event.tick = absurd (cc)
+given_stopped w a ev other is _ = absurd (cc)
 
 -- ---- where a step begins
 

@@ -1,5 +1,5 @@
 -- A world within a step whose group list, and views, have gone on.
-use Rattle.std.proofs.Common.{◌≡◌, ℕ, ◌<◌, true, List, ◌++◌, Some, slice_get, refl, sym, ap, ◌∙◌}
+use Rattle.std.proofs.Common.{◌≡◌, ℕ, ◌<◌, List, ◌++◌, Some, slice_get, refl, sym, ap, ◌∙◌}
 use Rattle.am_base.specs.declared.entry.Entry.{Entry}
 use Rattle.am_group.specs.declared.event.Record.{Record}
 use Rattle.am_chain_lists.specs.Whole.{Begins}
@@ -7,16 +7,14 @@ use Rattle.am_chain_moves.specs.Group as groups
 use Rattle.am_chain_moves.specs.Group.{Group, put}
 use Rattle.am_chain_moves.specs.Moves.{with_node}
 use Rattle.am_model.specs.Node.{Node}
-use Rattle.am_model.specs.World.{Decided, World, is_stopped}
+use Rattle.am_model.specs.World.{Decided, World}
 use Rattle.am_model.specs.Claims.{up_to_next}
 use Rattle.am_stands.specs.Standing.{NameStands, StandsBut, within}
 use Rattle.am_stands.specs.Letters.{WasAsked}
 use Rattle.am_stands.specs.States.{SendsOnce}
-use Rattle.am_stands.specs.Keeping.{NodeKeeps}
 use Rattle.am_stands.proofs.Names.{views_noted, each_within, fronts_within, lines_within, views_in}
 use Rattle.am_stands.proofs.Changes.{Unmoved, others_same, others_fronts, same_name}
 use Rattle.am_stands.proofs.Ends.{taken_more, name_grows}
-use Rattle.am_stands.proofs.Others.{last_stays}
 
 -- views were noted by names
 abbrev pub AreNoted : List Decided → Type 0
@@ -56,10 +54,7 @@ name_learned : (v : World) (i : ℕ) (m : Node) (a : groups.Node) (told acc : �
 name_learned v i m a told acc h = record {
   begins = h.begins;
   list = h.list;
-  log_ = h.log_;
-  stopped = h.stopped;
-  departed = h.departed;
-  leaving = h.leaving;
+  flags = h.flags;
   promise = h.promise;
   ballot = h.ballot;
   start = h.start;
@@ -76,20 +71,6 @@ learned_stands w name x y s told acc u h = record {
 }
 
 -- ---- what a node keeps, and what was asked
-
-pub keeps_in : (w v : World) (s : Group) (i : ℕ) (x : Node) → ((j : ℕ) → is_stopped w j ≡ true → is_stopped v j ≡ true) → NodeKeeps w s i x → NodeKeeps v s i x
-keeps_in w v s i x stopped h = record {
-  good = h.good;
-  votes = h.votes;
-  fetches = h.fetches;
-  last = last_stays w v x.ballot stopped h.last;
-  opens = h.opens;
-  reports = h.reports;
-  fresh = h.fresh;
-  trimmed = h.trimmed;
-  turn = h.turn;
-  leaves = h.leaves;
-}
 
 pub once_in : (w v : World) → v.records ≡ w.records → SendsOnce w → SendsOnce v
 once_in w v same h name req a b p q = h name req a b (asked_in name req a p) (asked_in name req b q)

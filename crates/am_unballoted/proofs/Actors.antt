@@ -25,8 +25,8 @@ use Rattle.am_model.specs.Group.{has_log}
 use Rattle.am_model.specs.Claims.{heard_by}
 use Rattle.am_model.proofs.Greatest.{split}
 use Rattle.am_effects.specs.Causes.{Cause, calls, hears, refuses}
-use Rattle.am_effects.specs.Changes.{Change, refreshes, settles, takes_report, admits, numbers, keeps_body, notes, stores, begins_list, departs, promises}
-use Rattle.am_effects.specs.Changes.{opens, looks, fetches, stores_view, queues, collects, takes, asks_to_join, asks_to_leave, closes}
+use Rattle.am_effects.specs.Changes.{Change, refreshes, settles, numbers, stores, begins_list}
+use Rattle.am_effects.specs.Changes.{opens, looks, fetches, stores_view, closes}
 use Rattle.am_effects.specs.Letters.{LetterSays}
 use Rattle.am_effects.specs.Effects.{Answers, WasQueued, AnswersAsk, Effect}
 use Rattle.am_effects.specs.Events.{actor, IsCause}
@@ -200,26 +200,16 @@ grown_same k m n e up h = grown_by k m n [] (e ∙ sym (append-nil m.core.log.en
 grown_change : {c : Cause} {o : Outcome} (rules : Rules) (k m n : Node) → FirstOk rules m → Change c o m n → n.ballot ≡ None → Grown k m → Grown k n
 grown_change rules k m n f refreshes none h = let r = rests_refresh m in grown_same k m n (ap (λ (l : Log). l.entries) r.log) r.rests.acc h
 grown_change rules k m n f settles none h = subst (Grown k) (sym (settle_is m)) (grown_same k m _ refl (omega arith) h)
-grown_change rules k m n f (takes_report s v report by may) none h = grown_same k m n refl (omega arith) h
-grown_change rules k m n f (admits s v is leads fit) none h = grown_same k m n refl (omega arith) h
 grown_change rules k m n f (numbers e leads room why) none h = grown_by k m n (e ∷ []) refl (omega arith) h
-grown_change rules k m n f (keeps_body s v report req body is heard) none h = grown_same k m n refl (omega arith) h
-grown_change rules k m n f (notes s v base a by heard) none h = grown_same k m n refl (omega arith) h
 grown_change rules k m n f (stores s v base a number e by heard plain may) none h = grown_by k m n (e ∷ []) refl (omega arith) h
 grown_change rules k m n f (begins_list s v base join image is says may) none h = absurd (not_welcomed m s v base join image may f.base.log)
-grown_change rules k m n f (departs s v number is heard leaves) none h = grown_same k m n refl (omega arith) h
-grown_change rules k m n f (promises v low why) none h = grown_same k m n refl (omega arith) h
 grown_change rules k m n f (opens least resilience by may) none h = absurd (cc)
 grown_change rules k m n f (looks b verdict over why look is) none h = absurd (looks_leave m b verdict look none)
 grown_change rules k m n f (fetches s v base number e is heard promise below from may) none h = grown_by k m n (e ∷ []) refl (omega arith) h
 grown_change rules k m n f (stores_view s v base number names resilience is heard own other promise below may) none h =
     grown_by k m n (View v names resilience ∷ []) refl (omega arith) h
-grown_change rules k m n f (queues body is says member stays few) none h = grown_same k m n refl (omega arith) h
-grown_change rules k m n f (collects req is) none h = grown_same k m n refl (omega arith) h
-grown_change rules k m n f (takes e is says member some there) none h = grown_same k m n refl (omega arith) h
-grown_change rules k m n f (asks_to_join is was) none h = grown_same k m n refl (omega arith) h
-grown_change rules k m n f (asks_to_leave is was stays done) none h = grown_same k m n refl (omega arith) h
 grown_change rules k m n f (closes leads leaves last room) none h = let r = rests_closed m in grown_by k m n r.more r.entries r.acc h
+grown_change rules k m n f _ none h = grown_same k m n refl (omega arith) h
 
 pub record FirstGoes (rules : Rules) (c : Cause) (o : Outcome) (m x : Node) : Type 0 where
   pub ok : FirstOk rules x
@@ -252,20 +242,36 @@ first_group rules group list more acc n h is up low same =
     let count : n.core.acc - length group ≡ n.core.acc - acc = omega arith in
     rw by ((λ j. begins j ++ take (count j) (drop (skip j) (is j))) ∙ take_rest (list ++ more) acc n.core.acc up)
 
+-- the first founder's node, before its step
+record FirstNow (rules : Rules) (w : World) (i : ℕ) (c : Cause) : Type 0 where
+  first : FirstOk rules (w.nodes i)
+  kept : Kept rules (w.nodes i).core.log.entries (w.nodes i).core.acc w
+  cause : CauseOk rules (w.nodes i).core.log.entries (w.nodes i).core.acc i c
+
+first_now : (rules : Rules) (w : World) (e : Event) (c : Cause) → WorldOk rules w → actor w e ≡ first_of rules → IsCause w (actor w e) e.act c
+    → FirstNow rules w (actor w e) c
+first_now rules w e c h eq cause =
+    let i = actor w e in
+    let m = w.nodes i in
+    let here : w.nodes (first_of rules) ≡ m = ap w.nodes (sym eq) in
+    let kept : Kept rules m.core.log.entries m.core.acc w = subst (λ (x : Node). Kept rules x.core.log.entries x.core.acc w) here h.kept in
+    record {
+      first = subst (FirstOk rules) here h.first;
+      kept = kept;
+      cause = cause_ok rules m.core.log.entries m.core.acc i w e.act c kept.letters cause;
+    }
+
 pub first_chain : (rules : Rules) (w : World) (e : Event) (c : Cause) (s : Step) → WorldOk rules w → actor w e ≡ first_of rules → IsCause w (actor w e) e.act c
     → Effect (w.nodes (actor w e)) c s → s.node.ballot ≡ None → FirstGoes rules c s.outcome (w.nodes (actor w e)) s.node
 first_chain rules w e c s h eq cause effect none =
     let i = actor w e in
     let m = w.nodes i in
-    let here : w.nodes (first_of rules) ≡ m = ap w.nodes (sym eq) in
-    let ok_m : FirstOk rules m = subst (FirstOk rules) here h.first in
     let list = m.core.log.entries in
     let acc = m.core.acc in
-    let kept_m : Kept rules list acc w = subst (λ (x : Node). Kept rules x.core.log.entries x.core.acc w) here h.kept in
-    let ok = cause_ok rules list acc i w e.act c kept_m.letters cause in
-    let ok_first : CauseOk rules list acc (first_of rules) c = subst (λ x. CauseOk rules list acc x c) eq ok in
+    let now = first_now rules w e c h eq cause in
+    let ok_first : CauseOk rules list acc (first_of rules) c = subst (λ x. CauseOk rules list acc x c) eq now.cause in
     let before : FirstGoes rules c s.outcome m m = record {
-      ok = ok_m;
+      ok = now.first;
       grown = record { more = []; is = sym (append-nil list); up = omega arith };
       gave =
           nothing refl refl refl;
@@ -285,21 +291,18 @@ unfolding stepped
 first_step rules w e c s h eq cause effect none =
     let i = actor w e in
     let m = w.nodes i in
-    let here : w.nodes (first_of rules) ≡ m = ap w.nodes (sym eq) in
-    let ok_m : FirstOk rules m = subst (FirstOk rules) here h.first in
     let list = m.core.log.entries in
     let acc = m.core.acc in
-    let kept_m : Kept rules list acc w = subst (λ (x : Node). Kept rules x.core.log.entries x.core.acc w) here h.kept in
-    let ok = cause_ok rules list acc i w e.act c kept_m.letters cause in
+    let now = first_now rules w e c h eq cause in
     let p = first_chain rules w e c s h eq cause effect none in
     let n = s.node in
     let g = p.grown in
     let to = n.core.acc in
-    let within = accepted_within rules m ok_m.base in
+    let within = accepted_within rules m now.first.base in
     let node_i : NodeOk rules n.core.log.entries to i n = subst (λ x. NodeOk rules n.core.log.entries to x n) (sym eq) p.ok.base.node in
     let node : NodeOk rules (list ++ g.more) to i n = subst (λ l. NodeOk rules l to i n) g.is node_i in
     let sends = sends_of rules (list ++ g.more) to i m c s effect node none in
-    let fetched = fetched_of rules list acc i m c s effect (kept_m.each i) none in
+    let fetched = fetched_of rules list acc i m c s effect (now.kept.each i) none in
     let core : n.core ≡ effect.sender.core = ap (λ (x : Node). x.core) effect.is in
     let first : IsFirst rules (list ++ g.more) to m effect.sender = record {
       high = subst (λ (x : CoreState). acc ≤ x.acc) core g.up;
@@ -309,9 +312,10 @@ first_step rules w e c s h eq cause effect none =
       group = subst (IsGroup rules) g.is p.ok.base.group;
     } in
     let says : (l : Letter) → LetterSays m c effect.sender l
-    → LetterOk rules (list ++ g.more) to l = λ l x. letter_says rules (list ++ g.more) list to acc i m effect.sender c l sends (λ q. first) fetched ok x in
-    let group = first_group rules w.group list g.more acc n p.ok.base g.is g.up within kept_m.group in
-    let kept = kept_step rules list g.more acc to w e c s kept_m within g.up node group
+    → LetterOk rules (list ++ g.more) to l =
+    λ l x. letter_says rules (list ++ g.more) list to acc i m effect.sender c l sends (λ q. first) fetched now.cause x in
+    let group = first_group rules w.group list g.more acc n p.ok.base g.is g.up within now.kept.group in
+    let kept = kept_step rules list g.more acc to w e c s now.kept within g.up node group
     (All-weaker (LetterSays m c effect.sender) (LetterOk rules (list ++ g.more) to) says s.letters effect.letters) p.gave cause effect.answer
     (none_first effect.changes none) in
     let mine : (first_of rules == i) ≡ true = grind (arith, nat_tests) in

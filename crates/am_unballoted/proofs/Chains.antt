@@ -23,8 +23,8 @@ use Rattle.am_model.specs.Joining.{begun}
 use Rattle.am_model.specs.Group.{has_log}
 use Rattle.am_model.proofs.Greatest.{split, and_both}
 use Rattle.am_effects.specs.Causes.{Cause, hears}
-use Rattle.am_effects.specs.Changes.{MayBeWelcomed, Change, refreshes, settles, takes_report, admits, numbers, keeps_body, notes, stores, begins_list, departs}
-use Rattle.am_effects.specs.Changes.{promises, opens, looks, fetches, stores_view, queues, collects, takes, asks_to_join, asks_to_leave, closes, Changes}
+use Rattle.am_effects.specs.Changes.{MayBeWelcomed, Change, refreshes, settles, begins_list, departs}
+use Rattle.am_effects.specs.Changes.{promises, opens, looks, stores_view, queues, collects, takes, asks_to_join, closes, Changes}
 use Rattle.am_effects.specs.Changes.{unchanged, changed}
 use Rattle.am_effects.proofs.Rests.{rests_refresh, rests_closed, settle_is}
 use Rattle.am_unballoted.proofs.Kept.{NodeOk}
@@ -38,14 +38,6 @@ use Rattle.am_unballoted.proofs.Others.{looks_leave}
 none_before : {c : Cause} {o : Outcome} (m n : Node) → Change c o m n → n.ballot ≡ None → m.ballot ≡ None
 none_before m n refreshes h = sym (rests_refresh m).rests.ballot ∙ h
 none_before m n settles h = subst (λ (x : Node). x.ballot ≡ None → m.ballot ≡ None) (sym (settle_is m)) (λ z. z) h
-none_before m n (takes_report s v report by may) h = h
-none_before m n (admits s v is leads fit) h = h
-none_before m n (numbers e leads room why) h = h
-none_before m n (keeps_body s v report req body is heard) h = h
-none_before m n (notes s v base a by heard) h = h
-none_before m n (stores s v base a number e by heard plain may) h = h
-none_before m n (begins_list s v base join image is says may) h = h
-none_before m n (departs s v number is heard leaves) h = h
 none_before m n (promises v low why) h = still v m.ballot h
   where
     still : (by : Stamp) (b : Option Ballot) → overtaken by b ≡ None → b ≡ None
@@ -53,14 +45,8 @@ none_before m n (promises v low why) h = still v m.ballot h
     still by (Some b) x = split (not b.is_over && stamp_lt b.stamp by) (λ t. let y = rw t at x in absurd (cc)) (λ f. let y = rw f at x in absurd (cc))
 none_before m n (opens least resilience by may) h = absurd (cc)
 none_before m n (looks b verdict over why look is) h = absurd (looks_leave m b verdict look h)
-none_before m n (fetches s v base number e is heard promise below from may) h = h
-none_before m n (stores_view s v base number names resilience is heard own other promise below may) h = h
-none_before m n (queues body is says member stays few) h = h
-none_before m n (collects req is) h = h
-none_before m n (takes e is says member some there) h = h
-none_before m n (asks_to_join is was) h = h
-none_before m n (asks_to_leave is was stays done) h = h
 none_before m n (closes leads leaves last room) h = sym (rests_closed m).ballot ∙ h
+none_before m n _ h = h
 
 pub none_first : {c : Cause} {o : Outcome} {m n : Node} → Changes c o m n → n.ballot ≡ None → m.ballot ≡ None
 none_first unchanged h = h
@@ -87,25 +73,11 @@ stays_then k m n e h = record { start = e ∙ h.start }
 start_stays : {c : Cause} {o : Outcome} (k m n : Node) → NoWelcome c → Change c o m n → n.ballot ≡ None → Stays k m → Stays k n
 start_stays k m n w refreshes none h = stays_then k m n ((rests_refresh m).rests.start) h
 start_stays k m n w settles none h = stays_then k m n (ap (λ (x : Node). x.core.log.start) (settle_is m)) h
-start_stays k m n w (takes_report s v report by may) none h = stays_then k m n refl h
-start_stays k m n w (admits s v is leads fit) none h = stays_then k m n refl h
-start_stays k m n w (numbers e leads room why) none h = stays_then k m n refl h
-start_stays k m n w (keeps_body s v report req body is heard) none h = stays_then k m n refl h
-start_stays k m n w (notes s v base a by heard) none h = stays_then k m n refl h
-start_stays k m n w (stores s v base a number e by heard plain may) none h = stays_then k m n refl h
 start_stays k m n w (begins_list s v base join image is says may) none h = absurd (w s v base join image is)
-start_stays k m n w (departs s v number is heard leaves) none h = stays_then k m n refl h
-start_stays k m n w (promises v low why) none h = stays_then k m n refl h
 start_stays k m n w (opens least resilience by may) none h = absurd (cc)
 start_stays k m n w (looks b verdict over why look is) none h = absurd (looks_leave m b verdict look none)
-start_stays k m n w (fetches s v base number e is heard promise below from may) none h = stays_then k m n refl h
-start_stays k m n w (stores_view s v base number names resilience is heard own other promise below may) none h = stays_then k m n refl h
-start_stays k m n w (queues body is says member stays few) none h = stays_then k m n refl h
-start_stays k m n w (collects req is) none h = stays_then k m n refl h
-start_stays k m n w (takes e is says member some there) none h = stays_then k m n refl h
-start_stays k m n w (asks_to_join is was) none h = stays_then k m n refl h
-start_stays k m n w (asks_to_leave is was stays done) none h = stays_then k m n refl h
 start_stays k m n w (closes leads leaves last room) none h = stays_then k m n ((rests_closed m).start) h
+start_stays k m n w _ none h = stays_then k m n refl h
 
 pub start_same : {c : Cause} {o : Outcome} {m n : Node} → NoWelcome c → Changes c o m n → n.ballot ≡ None → n.core.log.start ≡ m.core.log.start
 start_same {m = m} w chain none = (quietly (Stays m) (λ x y. start_stays m x y w) chain none (record { start = refl })).start
@@ -114,25 +86,11 @@ start_same {m = m} w chain none = (quietly (Stays m) (λ x y. start_stays m x y 
 last_kept : {c : Cause} {o : Outcome} (low : ℕ) (m n : Node) → Change c o m n → n.ballot ≡ None → low ≤ m.sends.last → low ≤ n.sends.last
 last_kept low m n refreshes none h = subst (λ k. low ≤ k) (sym (rests_refresh m).rests.asked) h
 last_kept low m n settles none h = subst (λ (x : Node). low ≤ x.sends.last) (sym (settle_is m)) h
-last_kept low m n (takes_report s v report by may) none h = h
-last_kept low m n (admits s v is leads fit) none h = h
-last_kept low m n (numbers e leads room why) none h = h
-last_kept low m n (keeps_body s v report req body is heard) none h = h
-last_kept low m n (notes s v base a by heard) none h = h
-last_kept low m n (stores s v base a number e by heard plain may) none h = h
-last_kept low m n (begins_list s v base join image is says may) none h = h
-last_kept low m n (departs s v number is heard leaves) none h = h
-last_kept low m n (promises v low_ why) none h = h
-last_kept low m n (opens least resilience by may) none h = h
 last_kept low m n (looks b verdict over why look is) none h = absurd (looks_leave m b verdict look none)
-last_kept low m n (fetches s v base number e is heard promise below from may) none h = h
-last_kept low m n (stores_view s v base number names resilience is heard own other promise below may) none h = h
 last_kept low m n (queues body is says member stays few) none h = omega arith
 last_kept low m n (collects req is) none h = split (own.is_settled req m.sends) (λ t. rw t h) (λ f. rw f h)
-last_kept low m n (takes e is says member some there) none h = h
-last_kept low m n (asks_to_join is was) none h = h
-last_kept low m n (asks_to_leave is was stays done) none h = h
 last_kept low m n (closes leads leaves last room) none h = subst (λ k. low ≤ k) (sym (rests_closed m).asked) h
+last_kept low m n _ none h = h
 
 pub last_up : {c : Cause} {o : Outcome} {m n : Node} → Changes c o m n → n.ballot ≡ None → m.sends.last ≤ n.sends.last
 last_up {m = m} chain none = quietly (λ x. m.sends.last ≤ x.sends.last) (λ x y. last_kept m.sends.last x y) chain none (omega arith)
@@ -209,10 +167,10 @@ gave_taken rules list acc i k m n e h member some says is (began s v base join i
 
 -- ---- each change
 
-still_log : (s : Status) → is_member s ≡ true → has_log status.Departed ≡ has_log s
+pub still_log : (s : Status) → is_member s ≡ true → has_log status.Departed ≡ has_log s
 still_log s t = sym (logged s t)
 
-gave_begun : {c : Cause} {o : Outcome} (k m : Node) (s : ℕ) (v : Stamp) (base join : ℕ) (image : Image) → c ≡ hears (packet.Welcome s v base join image)
+pub gave_begun : {c : Cause} {o : Outcome} (k m : Node) (s : ℕ) (v : Stamp) (base join : ℕ) (image : Image) → c ≡ hears (packet.Welcome s v base join image)
     → o ≡ said.Welcomed join → MayBeWelcomed m s v base join image → Gave c o k m → Gave c o k (begun m v base join image)
 gave_begun k m s v base join image is says may (nothing x y z) =
     let no = asking_log m.status (asking m s v base join image may) in
@@ -226,26 +184,16 @@ pub gave_change : {c : Cause} {o : Outcome} (rules : Rules) (list : List Entry) 
     → n.ballot ≡ None → Gave c o k m → Gave c o k n
 gave_change rules list acc i k m n h refreshes none g = let f = refresh_front m in gave_still k m n f.0 f.1 (ap has_log (rests_refresh m).rests.status) g
 gave_change rules list acc i k m n h settles none g = let f = settle_front m in gave_still k m n f.0 f.1 (ap (λ (x : Node). has_log x.status) (settle_is m)) g
-gave_change rules list acc i k m n h (takes_report s v report by may) none g = gave_still k m n refl refl refl g
-gave_change rules list acc i k m n h (admits s v is leads fit) none g = gave_still k m n refl refl refl g
-gave_change rules list acc i k m n h (numbers e leads room why) none g = gave_still k m n refl refl refl g
-gave_change rules list acc i k m n h (keeps_body s v report req body is heard) none g = gave_still k m n refl refl refl g
-gave_change rules list acc i k m n h (notes s v base a by heard) none g = gave_still k m n refl refl refl g
-gave_change rules list acc i k m n h (stores s v base a number e by heard plain may) none g = gave_still k m n refl refl refl g
 gave_change rules list acc i k m n h (begins_list s v base join image is says may) none g = gave_begun k m s v base join image is says may g
 gave_change rules list acc i k m n h (departs s v number is heard leaves) none g =
     gave_still k m n refl refl (still_log m.status (and_both (not (s == m.core.who)) (is_member m.status) heard).1) g
-gave_change rules list acc i k m n h (promises v low why) none g = gave_still k m n refl refl refl g
 gave_change rules list acc i k m n h (opens least resilience by may) none g = absurd (cc)
 gave_change rules list acc i k m n h (looks b verdict over why look is) none g = absurd (looks_leave m b verdict look none)
-gave_change rules list acc i k m n h (fetches s v base number e is heard promise below from may) none g = gave_still k m n refl refl refl g
 gave_change rules list acc i k m n h (stores_view s v base number names resilience is heard own_ other promise below may) none g =
     gave_still k m n refl refl refl g
-gave_change rules list acc i k m n h (queues body is says member stays few) none g = gave_still k m n refl refl refl g
-gave_change rules list acc i k m n h (collects req is) none g = gave_still k m n refl refl refl g
 gave_change rules list acc i k m n h (takes e is says member some there) none g = gave_taken rules list acc i k m n e h member some says refl g
 gave_change rules list acc i k m n h (asks_to_join is was) none g = gave_still k m n refl refl (sym (ap has_log was)) g
-gave_change rules list acc i k m n h (asks_to_leave is was stays done) none g = gave_still k m n refl refl refl g
 gave_change rules list acc i k m n h (closes leads leaves last room) none g =
     let f = end_front (pushed m (Leave m.core.who)) in
     gave_still k m n f.0 f.1 (still_log m.status (and_both (is_member m.status) _ (and_both (acts m) _ leads).0).0) g
+gave_change rules list acc i k m n h _ none g = gave_still k m n refl refl refl g

@@ -9,7 +9,7 @@ use Rattle.am_base.specs.declared.entry.Entry.{Entry}
 use Rattle.am_base.specs.declared.entry.Entry.TheVariants.{Data, Join, Leave, View}
 use Rattle.am_base.specs.Founding.{Rules}
 use Rattle.am_base.specs.Names.{life_of}
-use Rattle.am_base.specs.Lists.{blank, fold, after, fits, at_place}
+use Rattle.am_base.specs.Lists.{Log, blank, fold, after, fits, at_place}
 use Rattle.am_sender.specs.Sends as own
 use Rattle.am_model.specs.Node as nodes
 use Rattle.am_model.specs.Node.{Node, top, own_row, is_member, is_sequencer, pushed, waiting, founders_view, founding_stamp}
@@ -94,6 +94,18 @@ pub record FirstBase (rules : Rules) (m : Node) : Type 0 where
   pub good : IsGood m.core.log.entries
   pub log : has_log m.status ≡ true
   pub own : OwnOk rules m.core.log.entries m.sends
+
+-- with the same list and the same sends
+pub base_as : (rules : Rules) (m n : Node) → n.core.log ≡ m.core.log → n.sends ≡ m.sends → has_log n.status ≡ true
+    → NodeOk rules n.core.log.entries n.core.acc (first_of rules) n → FirstBase rules m → FirstBase rules n
+base_as rules m n log sends listed node h = record {
+  node = node;
+  start = ap (λ (l : Log). l.start) log ∙ h.start;
+  group = subst (λ (l : Log). IsGroup rules l.entries) (sym log) h.group;
+  good = subst (λ (l : Log). IsGood l.entries) (sym log) h.good;
+  log = listed;
+  own = subst (λ (q : own.Sends). OwnOk rules n.core.log.entries q) (sym sends) (subst (λ (l : Log). OwnOk rules l.entries m.sends) (sym log) h.own);
+}
 
 pub record FirstOk (rules : Rules) (m : Node) : Type 0 where
   pub base : FirstBase rules m

@@ -32,16 +32,16 @@ use Rattle.am_chain_lists.proofs.Rows as rows
 use Rattle.am_chain_lists.proofs.Members.{mem_in, in_mem, mem_push}
 use Rattle.am_orders.proofs.Turns.{request_within, next_in}
 use Rattle.am_effects.specs.Causes.{Cause}
-use Rattle.am_effects.specs.Changes.{Numbers, asked_send, own_send, asked_join, asked_leave, MayBeWelcomed, Change, refreshes, settles, takes_report, admits}
-use Rattle.am_effects.specs.Changes.{numbers, keeps_body, notes, stores, begins_list, departs, promises, opens, looks, fetches, stores_view, queues, collects}
-use Rattle.am_effects.specs.Changes.{takes, asks_to_join, asks_to_leave, closes}
+use Rattle.am_effects.specs.Changes.{Numbers, asked_send, own_send, asked_join, asked_leave, MayBeWelcomed, Change, refreshes, settles}
+use Rattle.am_effects.specs.Changes.{numbers, notes, stores, begins_list, departs, promises, opens, looks, fetches, stores_view, queues, collects}
+use Rattle.am_effects.specs.Changes.{takes, asks_to_join, closes}
 use Rattle.am_effects.proofs.Rests.{base_up, rests_refresh, settle_is}
 use Rattle.am_unballoted.proofs.Kept.{first_of, At, ListOk, NodeOk, CauseOk, node_more}
 use Rattle.am_effects.proofs.Statuses.{logged}
 use Rattle.am_unballoted.proofs.Changes.{found_at, settle_ok, queued_ok, collected_ok}
 use Rattle.am_unballoted.proofs.Others.{same_node, looks_leave, promised_first, with_status, with_promise, taken_ok}
 use Rattle.am_unballoted.proofs.Turns.{Turn, waiting_is, one_more, waiting_settled, collected_turn}
-use Rattle.am_unballoted.proofs.First.{group_view, OwnOk, FirstBase, FirstOk, first_told, first_push}
+use Rattle.am_unballoted.proofs.First.{group_view, base_as, OwnOk, FirstBase, FirstOk, first_told, first_push}
 
 -- ---- what is accepted goes on
 
@@ -334,14 +334,8 @@ closed rules m leads h =
     let n = refresh_at_end p in
     let base = first_at_end rules p (first_push rules m (Leave m.core.who) refl fit h.base) in
     record {
-      base = record {
-        node = with_status rules n.core.log.entries n.core.acc i n status.Departed (sym base.log) base.node;
-        start = base.start;
-        group = base.group;
-        good = base.good;
-        log = refl;
-        own = base.own;
-      };
+      base = base_as rules n (record n { status = status.Departed }) refl refl refl
+          (with_status rules n.core.log.entries n.core.acc i n status.Departed (sym base.log) base.node) base;
       member = λ t. absurd (cc);
     }
 
@@ -349,78 +343,20 @@ pub first_change : (rules : Rules) (list : List Entry) (acc : ℕ) (c : Cause) (
     → Change c o m n → n.ballot ≡ None → FirstOk rules m → FirstOk rules n
 first_change rules list acc c o m n w refreshes none h = record { base = first_refresh rules m h.base; member = member_refreshed rules m h }
 first_change rules list acc c o m n w settles none h = record { base = first_settle rules m h.base; member = member_settled rules m h }
-first_change rules list acc c o m n w (takes_report s v report by may) none h =
-    let b = h.base in
-    record {
-      base = record {
-        node = same_node rules _ _ _ m n refl refl refl b.node;
-        start = b.start;
-        group = b.group;
-        good = b.good;
-        log = b.log;
-        own =
-            b.own;
-      };
-      member = h.member;
-    }
-first_change rules list acc c o m n w (admits s v is leads fit) none h =
-    let b = h.base in
-    record {
-      base = record {
-        node = same_node rules _ _ _ m n refl refl refl b.node;
-        start = b.start;
-        group = b.group;
-        good = b.good;
-        log = b.log;
-        own =
-            b.own;
-      };
-      member = h.member;
-    }
 first_change rules list acc c o m n w (numbers e leads room why) none h = numbered rules c m e leads why h
-first_change rules list acc c o m n w (keeps_body s v report req body is heard) none h =
-    let b = h.base in
-    record {
-      base = record {
-        node = same_node rules _ _ _ m n refl refl refl b.node;
-        start = b.start;
-        group = b.group;
-        good = b.good;
-        log = b.log;
-        own =
-            b.own;
-      };
-      member = h.member;
-    }
 first_change rules list acc c o m n w (notes s v base a by heard) none h = absurd (not_heard rules m s v h.base heard)
 first_change rules list acc c o m n w (stores s v base a number e by heard plain may) none h = absurd (not_heard rules m s v h.base heard)
 first_change rules list acc c o m n w (begins_list s v base join image is says may) none h = absurd (not_welcomed m s v base join image may h.base.log)
 first_change rules list acc c o m n w (departs s v number is heard leaves) none h =
     let b = h.base in
     record {
-      base = record {
-        node = with_status rules _ _ _ m status.Departed (sym b.log) b.node;
-        start = b.start;
-        group = b.group;
-        good = b.good;
-        log = refl;
-        own =
-            b.own;
-      };
+      base = base_as rules m n refl refl refl (with_status rules _ _ _ m status.Departed (sym b.log) b.node) b;
       member = λ t. absurd (cc);
     }
 first_change rules list acc c o m n w (promises v low why) none h =
     let b = h.base in
     record {
-      base = record {
-        node = with_promise rules _ _ _ m n v refl (promised_first rules list acc (first_of rules) c m v why w) b.node;
-        start = b.start;
-        group =
-            b.group;
-        good = b.good;
-        log = b.log;
-        own = b.own;
-      };
+      base = base_as rules m n refl refl b.log (with_promise rules _ _ _ m n v refl (promised_first rules list acc (first_of rules) c m v why w) b.node) b;
       member = h.member;
     }
 first_change rules list acc c o m n w (opens least resilience by may) none h = absurd (cc)
@@ -448,22 +384,14 @@ first_change rules list acc c o m n w (collects req is) none h =
 first_change rules list acc c o m n w (takes e is says member some there) none h =
     let b = h.base in
     record {
-      base = record { node = taken_ok rules _ _ _ m member some b.node; start = b.start; group = b.group; good = b.good; log = b.log; own = b.own };
+      base = base_as rules m n refl refl b.log (taken_ok rules _ _ _ m member some b.node) b;
       member = h.member;
     }
 first_change rules list acc c o m n w (asks_to_join is was) none h = let l = h.base.log in let z = ap has_log was in absurd (cc)
-first_change rules list acc c o m n w (asks_to_leave is was stays done) none h =
+first_change rules list acc c o m n w (closes leads leaves last room) none h = closed rules m leads h
+first_change rules list acc c o m n w _ none h =
     let b = h.base in
     record {
-      base = record {
-        node = same_node rules _ _ _ m n refl refl refl b.node;
-        start = b.start;
-        group = b.group;
-        good = b.good;
-        log = b.log;
-        own =
-            b.own;
-      };
+      base = base_as rules m n refl refl b.log (same_node rules _ _ _ m n refl refl refl b.node) b;
       member = h.member;
     }
-first_change rules list acc c o m n w (closes leads leaves last room) none h = closed rules m leads h

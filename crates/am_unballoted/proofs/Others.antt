@@ -23,7 +23,7 @@ use Rattle.am_model.specs.Joining.{begun}
 use Rattle.am_model.specs.Group.{has_log}
 use Rattle.am_model.proofs.Greatest.{split, and_both}
 use Rattle.am_effects.specs.Causes.{Cause, BringsFronts, with_entry, with_number, alone}
-use Rattle.am_effects.specs.Looks.{Looks, finds_itself_out, waits, fetches_from_best, finds_too_few, finds_no_room, decides}
+use Rattle.am_effects.specs.Looks.{Looks, finds_itself_out}
 use Rattle.am_effects.specs.Changes.{Carries, whole_entry, by_number, Promises, invited, overtaken, told_result, Change, refreshes, settles, takes_report}
 use Rattle.am_effects.specs.Changes.{admits, numbers, keeps_body, notes, stores, begins_list, departs, promises, opens, looks, fetches, stores_view, queues}
 use Rattle.am_effects.specs.Changes.{collects, takes, asks_to_join, asks_to_leave, closes}
@@ -234,11 +234,7 @@ carried_ok rules list acc i all c m s v base a number e one sent k (by_number fr
 -- a look leaves a ballot
 pub looks_leave : (m : Node) (b : Ballot) (v : Verdict) → Looks m b v → v.node.ballot ≡ None → ⊥
 looks_leave m b v (finds_itself_out x) h = absurd (cc)
-looks_leave m b v (waits x y) h = absurd (cc)
-looks_leave m b v (fetches_from_best x y z) h = absurd (cc)
-looks_leave m b v (finds_too_few x y) h = absurd (cc)
-looks_leave m b v (finds_no_room x) h = absurd (cc)
-looks_leave m b v (decides x) h = absurd (cc)
+looks_leave m b v _ h = absurd (cc)
 
 pub promised_first : (rules : Rules) (list : List Entry) (acc i : ℕ) (c : Cause) (m : Node) (v : Stamp) → Promises c m v → CauseOk rules list acc i c
     → v ≡ founding_stamp rules

@@ -15,7 +15,7 @@ use Rattle.am_effects.specs.Events.{actor, idles, stops, returns, steps}
 use Rattle.am_effects.proofs.Runs.{EachKeeps, runs_keep}
 use Rattle.am_chain_lists.specs.Whole.{IsGood, AllSmall, mem}
 use Rattle.am_chain_lists.proofs.Members.{viewed_mem}
-use Rattle.am_effects.proofs.Founders.{lowest_founder, lowest_founds}
+use Rattle.am_model.proofs.Founders.{first_founder}
 use Rattle.am_sent.proofs.Runs as sent
 use Rattle.am_sent.proofs.Runs.{AllSent, sent_start}
 use Rattle.am_unballoted.proofs.Lists.{within_all, within_none}
@@ -76,10 +76,10 @@ abbrev founders_list : Rules → List Entry
 founders_list rules = founders_view rules ∷ []
 
 first_founds : (rules : Rules) → MayFound rules → has rules.founders (first_of rules) ≡ true
-first_founds rules may = lowest_founds rules may
+first_founds rules may = (first_founder rules may).founds
 
 first_low : (rules : Rules) → MayFound rules → first_of rules < 256
-first_low rules may = let s = lowest_founder rules may in let low = s.1 in let is : first_of rules ≡ s.0 = s.3 in omega arith
+first_low rules may = let low = (first_founder rules may).few in omega arith
 
 good_start : (rules : Rules) → MayFound rules → IsGood (founders_list rules)
 unfolding AllFit fits AllSmall

@@ -25,8 +25,8 @@ use Rattle.am_chain_lists.proofs.Rows.{row_at, row_set}
 use Rattle.am_chain_lists.proofs.Members.{told_push, long_told}
 use Rattle.am_chain_lists.proofs.Prefixes.{begins_take, begins_push, begins_same, length_take, length_push}
 use Rattle.am_effects.specs.Causes.{Cause, hears}
-use Rattle.am_effects.specs.Letters.{Stands, MayWelcome, just_joined, asks_again, has_begun, goes_on, leads, decided, Says, request, spread, bcast, order}
-use Rattle.am_effects.specs.Letters.{accept, ack, nack, hold, join_ask, welcome, leave_ask, gone, invite, vote, fetch, piece, result, hand_over, LetterSays}
+use Rattle.am_effects.specs.Letters.{Stands, MayWelcome, just_joined, asks_again, has_begun, goes_on, leads, decided, Says, bcast, order}
+use Rattle.am_effects.specs.Letters.{accept, welcome, invite, vote, piece, result, LetterSays}
 use Rattle.am_effects.proofs.Ballots.{entry_is}
 use Rattle.am_unballoted.proofs.Lists.{get_item, within_get}
 use Rattle.am_unballoted.proofs.Kept.{first_of, ListOk, FrontsOk, PacketOk, WelcomeOk, LetterOk, CauseOk}
@@ -217,54 +217,36 @@ Fetched c m n = (s : ℕ) (v : Stamp) (stored : ℕ) → c ≡ hears (packet.Fet
 
 said : (rules : Rules) (list from : List Entry) (acc low i : ℕ) (m n : Node) (c : Cause) (to : List ℕ) (p : Packet) → Sends rules list acc i m n
     → Firsts rules list acc i m n → Fetched c m n → CauseOk rules from low i c → Says m c n to p → Right rules list acc to p
-said rules list from acc low i m n c to p h f g w (request x req body a b s) j t = tt
-said rules list from acc low i m n c to p h f g w (spread x req body a b s) j t = tt
 said rules list from acc low i m n c to p h f g w (bcast x number e a s) j t =
     (h.fronts.accepted, stands_item rules list acc i m n number e h (at_first rules list acc i m n h f a) s)
 said rules list from acc low i m n c to p h f g w (order x number name req v report body a b s) j t =
     (h.fronts.accepted, body, stands_item rules list acc i m n number (Data name req body) h (at_first rules list acc i m n h f b) s)
 said rules list from acc low i m n c to p h f g w (accept x poll a) j t = h.fronts.accepted
-said rules list from acc low i m n c to p h f g w (ack x a) j t = tt
-said rules list from acc low i m n c to p h f g w (nack x a) j t = tt
-said rules list from acc low i m n c to p h f g w (hold x s v report req body by a) j t = tt
-said rules list from acc low i m n c to p h f g w (join_ask x a) j t = tt
 said rules list from acc low i m n c to p h f g w (welcome s a b) j t =
     let same = only_is s j t in
     let first = f (sequencer_first rules list acc i m n h a) in
     subst (λ x. WelcomeOk rules list acc x n.core.promise n.core.base (row_of (nodes.told n) s).joined (image_at n.core.log n.core.base)) (sym same)
     (welcome_says rules list acc i m n s h first a b)
-said rules list from acc low i m n c to p h f g w (leave_ask x a b) j t = tt
-said rules list from acc low i m n c to p h f g w (gone s a b) j t = tt
 said rules list from acc low i m n c to p h f g w (invite x (has_begun b is stamp)) j t = let z = h.none in absurd (cc)
 said rules list from acc low i m n c to p h f g w (invite x (goes_on b is)) j t = let z = h.before in let y = is.last in absurd (cc)
 said rules list from acc low i m n c to p h f g w (vote s v is) j t = absurd (subst (CauseOk rules from low i) is w)
-said rules list from acc low i m n c to p h f g w (fetch x a) j t = tt
 said rules list from acc low i m n c to p h f g w (piece s v stored number e is a b) j t = stands_item rules list acc i m n number e h (g s v stored is) b
 said rules list from acc low i m n c to p h f g w (result x number names a b (leads d)) j t =
     result_says rules list acc i m n number names h (f (sequencer_first rules list acc i m n h d)) d a b
 said rules list from acc low i m n c to p h f g w (result x number names a b (decided ballot k l is d q)) j t = let z = h.none in absurd (cc)
-said rules list from acc low i m n c to p h f g w (hand_over x a b) j t = tt
+said rules list from acc low i m n c to p h f g w _ j t = tt
 
 -- a Join is asked for of every life, and tells nothing
 any_says : (rules : Rules) (list : List Entry) (acc i : ℕ) (p : Packet) → goes_to_any p ≡ true → PacketOk rules list acc i p
-any_says rules list acc i (packet.JoinAsk s v) t = tt
-any_says rules list acc i (packet.Request s v report req body) t = tt
-any_says rules list acc i (packet.Spread s v report req body) t = tt
 any_says rules list acc i (packet.Bcast s v base a number e) t = absurd (cc)
 any_says rules list acc i (packet.Order s v base a number from req) t = absurd (cc)
 any_says rules list acc i (packet.Accept s v base a high poll) t = absurd (cc)
-any_says rules list acc i (packet.Ack s v report) t = tt
-any_says rules list acc i (packet.Nack s v report) t = tt
-any_says rules list acc i (packet.Hold s v base high req) t = tt
 any_says rules list acc i (packet.Welcome s v base join image) t = absurd (cc)
-any_says rules list acc i (packet.LeaveAsk s v report) t = tt
-any_says rules list acc i (packet.Gone s v number) t = tt
 any_says rules list acc i (packet.Invite s v) t = absurd (cc)
 any_says rules list acc i (packet.Vote s v shown) t = absurd (cc)
-any_says rules list acc i (packet.Fetch s v stored) t = tt
 any_says rules list acc i (packet.Piece s v base number e) t = absurd (cc)
 any_says rules list acc i (packet.Result s v base number names resilience) t = absurd (cc)
-any_says rules list acc i (packet.HandOver s v) t = tt
+any_says rules list acc i _ t = tt
 
 pub letter_says : (rules : Rules) (list from : List Entry) (acc low i : ℕ) (m n : Node) (c : Cause) (letter : Letter) → Sends rules list acc i m n
     → Firsts rules list acc i m n → Fetched c m n → CauseOk rules from low i c → LetterSays m c n letter → LetterOk rules list acc letter

@@ -58,8 +58,10 @@ pub nil_of : {A : Type 0} (xs : List A) → length xs ≡ 0 → xs ≡ []
 nil_of [] h = refl
 nil_of (x ∷ xs) h = absurd (omega arith)
 
-given_push : (list : List Entry) (acc : ℕ) (m n : Node) (given : List (ℕ × Entry)) (k : ℕ) (e : Entry) → GivenOk list acc m given → n.core.start ≡ m.core.start
-    → front m ≡ k → front n ≡ k + 1 → 0 < m.core.start → m.core.start - 1 ≤ k → At list acc (k + 1) e → GivenOk list acc n (given ++ (k + 1, e) ∷ [])
+-- one entry more is given
+pub given_push : (list : List Entry) (acc : ℕ) (m n : Node) (given : List (ℕ × Entry)) (k : ℕ) (e : Entry) → GivenOk list acc m given
+    → n.core.start ≡ m.core.start → front m ≡ k → front n ≡ k + 1 → 0 < m.core.start → m.core.start - 1 ≤ k → At list acc (k + 1) e
+    → GivenOk list acc n (given ++ (k + 1, e) ∷ [])
 given_push list acc m n given k e h start a b some low at =
     let count = h.count in
     let long = length-append given ((k + 1, e) ∷ []) in

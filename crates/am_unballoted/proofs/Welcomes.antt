@@ -31,15 +31,7 @@ use Rattle.am_unballoted.proofs.Chains.{Gave, nothing, took, began}
 -- a call hears nothing
 call_unheard : (w : World) (a : Act) (ev : NodeEvent) → IsCall w a ev → heard_by a ≡ 0
 call_unheard w a ev (event.send body) = refl
-call_unheard w a ev (event.done req) = refl
-call_unheard w a ev event.take = refl
-call_unheard w a ev event.join = refl
-call_unheard w a ev event.state = refl
-call_unheard w a ev event.leave = refl
-call_unheard w a ev (event.reset least resilience) = refl
-call_unheard w a ev (event.ask round) = refl
-call_unheard w a ev (event.give_up other stopped) = refl
-call_unheard w a ev event.tick = refl
+call_unheard w a ev _ = refl
 
 -- ---- the record of a step
 

@@ -1,5 +1,6 @@
 -- The end of an event: where it is looked for a greater complete view, and where nothing changed that views ask for.
-use Rattle.std.proofs.Common.{◌≡◌, ℕ, ◌+◌, Bool, true, false, ◌&&◌, if◌then◌else◌, List, [], ◌∷◌, map, filter, Option, Some, None, refl, sym, ap, ◌∙◌, subst}
+use Rattle.std.proofs.Common.{◌≡◌, ℕ, ◌+◌, Bool, true, false, ◌&&◌, if◌then◌else◌, List, [], ◌∷◌, length, map, filter}
+use Rattle.std.proofs.Common.{Option, Some, None, refl, sym, ap, ◌∙◌, subst}
 use Rattle.am_base.specs.declared.entry.Entry.{Entry}
 use Rattle.am_base.specs.Stamps.{stamp_lt}
 use Rattle.am_model.specs.World.{Decided, World}
@@ -9,7 +10,7 @@ use Rattle.am_model.proofs.Greatest.{split}
 use Rattle.am_watch.specs.declared.views.DecidedView.{DecidedView}
 use Rattle.am_watch.specs.declared.views.Pending.{Pending}
 use Rattle.am_watch.specs.Watching as kept
-use Rattle.am_watch.specs.Watching.{Watching, greater, greatest, is_above, ended, looked, passed}
+use Rattle.am_watch.specs.Watching.{Watching, standing, greater, greatest, is_above, ended, looked, passed}
 use Rattle.am_watch.specs.Watches.{decided_of, comes_after, Each, Sees, IsNoted, WatchesUpTo, after}
 use Rattle.am_watch.proofs.Folds.{IsUpTo, IsLeft, up_self, up_greatest, each_of, each_filter, map_filter, each_left, greatest_is, greatest_above, filter_above}
 use Rattle.am_watch.proofs.Complete.{each_kept, lawful_is}
@@ -22,6 +23,18 @@ pub record IsReady (group : List Entry) (k : Watching) (s : Watch) (w : World) :
   pub complete : decided_of k.complete ≡ s.complete
   pub count : k.count ≡ s.count
   pub broken : k.broken ≡ s.broken
+
+-- the same names in the same states
+sees_as : (k l : Watching) (w : World) (group : List Entry) → ((name : ℕ) → standing l name ≡ standing k name) → l.names ≡ k.names → l.stopped ≡ k.stopped
+    → Sees k w group → Sees l w group
+sees_as k l w group same names stopped h = record {
+  names = λ name. same name ∙ h.names name;
+  places = ap length names ∙ h.places;
+  stopped = stopped ∙ h.stopped;
+  within = h.within;
+  more = h.more;
+  goes_on = h.goes_on;
+}
 
 best_is : (group : List Entry) (k : Watching) (s : Watch) (w : World) → IsReady group k s w
     → decided_of (greatest k k.complete k.pending) ≡ law.greatest_complete w s.complete w.views
@@ -75,15 +88,7 @@ looks group k s w r =
     let best = greatest k k.complete k.pending in
     let is = best_is group k s w r in
     record {
-      sees = record {
-        names = r.sees.names;
-        places = r.sees.places;
-        stopped = r.sees.stopped;
-        within = r.sees.within;
-        more = r.sees.more;
-        goes_on =
-            r.sees.goes_on;
-      };
+      sees = sees_as k (looked k) w group (λ name. refl) refl refl r.sees;
       due = refl;
       noted = each_of _ (IsNoted w group) (λ v h. h.0) _ (each_filter (IsNoted w group) (is_above best.stamp) k.pending r.noted);
       pending = left_over group k s w r;
@@ -128,15 +133,7 @@ passes group k s w r due rest lawful =
     ∙ best_is group k s w r in
     let same : s.complete ≡ law.greatest_complete w s.complete w.views = sym r.complete ∙ is in
     record {
-      sees = record {
-        names = r.sees.names;
-        places = r.sees.places;
-        stopped = r.sees.stopped;
-        within = r.sees.within;
-        more = r.sees.more;
-        goes_on =
-            r.sees.goes_on;
-      };
+      sees = sees_as k (passed k) w group (λ name. refl) refl refl r.sees;
       due = due;
       noted = r.noted;
       pending = r.pending ∙ ap (λ (v : Decided). filter (comes_after v.stamp) w.views) same;

@@ -17,10 +17,10 @@ use Rattle.am_model.specs.Hearing.{hears_member, hears_in_view, hears_sequencer}
 use Rattle.am_model.specs.Group.{has_log}
 use Rattle.am_model.proofs.Greatest.{split, and_both}
 use Rattle.am_effects.specs.Causes.{Cause, hears}
-use Rattle.am_effects.specs.Looks.{HasOpen, Balloting, with_more, without_one, as_it_is, Looks, finds_itself_out, waits, fetches_from_best, finds_too_few}
-use Rattle.am_effects.specs.Looks.{finds_no_room, decides}
-use Rattle.am_effects.specs.Changes.{MayBeWelcomed, Change, refreshes, settles, takes_report, admits, numbers, keeps_body, notes, stores, begins_list, departs}
-use Rattle.am_effects.specs.Changes.{promises, opens, looks, fetches, stores_view, queues, collects, takes, asks_to_join, asks_to_leave, closes, Changes}
+use Rattle.am_effects.specs.Looks.{HasOpen, Balloting, with_more, without_one, as_it_is, Looks, finds_itself_out}
+use Rattle.am_effects.specs.Looks.{decides}
+use Rattle.am_effects.specs.Changes.{MayBeWelcomed, Change, refreshes, settles, numbers, stores, begins_list, departs}
+use Rattle.am_effects.specs.Changes.{looks, fetches, stores_view, asks_to_join, closes, Changes}
 use Rattle.am_effects.specs.Changes.{unchanged, changed}
 use Rattle.am_effects.proofs.Rests.{rests_refresh, rests_at_end, settle_is}
 use Rattle.am_laws.proofs.ViewNames.{HasNames, HeardNames}
@@ -78,41 +78,28 @@ longer_pushed m x y e log is h = record {
 }
 
 look_longer : (m x : Node) (b : Ballot) (v : Verdict) → Looks x b v → has_log x.status ≡ true → IsLonger m x → IsLonger m v.node
-look_longer m x b v (finds_itself_out y) log h = longer_same m x v.node refl refl h
-look_longer m x b v (waits y z) log h = longer_same m x v.node refl refl h
-look_longer m x b v (fetches_from_best y z u) log h = longer_same m x v.node refl refl h
-look_longer m x b v (finds_too_few y z) log h = longer_same m x v.node refl refl h
-look_longer m x b v (finds_no_room y) log h = longer_same m x v.node refl refl h
 look_longer m x b v (decides may) log h = longer_pushed m x v.node _ log refl h
+look_longer m x b v _ log h = longer_same m x v.node refl refl h
 
 change_longer : {c : Cause} {o : Outcome} (m x y : Node) → Change c o x y → Balloted x → IsLonger m x → IsLonger m y
 change_longer m x y refreshes k h = let r = rests_refresh x in longer_same m x (refresh x) r.rests.status r.log h
 change_longer m x y settles k h = longer_same m x (settle x) (ap (λ (n : Node). n.status) (settle_is x)) (ap (λ (n : Node). n.core.log) (settle_is x)) h
-change_longer m x y (takes_report s v report by may) k h = longer_same m x y refl refl h
-change_longer m x y (admits s v is leads fit) k h = longer_same m x y refl refl h
 change_longer m x y (numbers e leads room why) k h = longer_pushed m x y e (leads_log x leads) refl h
-change_longer m x y (keeps_body s v report req body is by) k h = longer_same m x y refl refl h
-change_longer m x y (notes s v base acc by from) k h = longer_same m x y refl refl h
 change_longer m x y (stores s v base acc number e by from plain may) k h = longer_pushed m x y e (in_view_log x s v from) refl h
 change_longer m x y (begins_list s v base join image is o may) k h =
     let none : x.core.log.entries ≡ [] = h.bare (welcomed_none x s v base join image may) in
     record { bare = λ f. refl; more = h.more; is = sym none ∙ h.is }
 change_longer m x y (departs s v number is by leaves) k h = record { bare = λ f. absurd (cc); more = h.more; is = h.is }
-change_longer m x y (promises v low why) k h = longer_same m x y refl refl h
-change_longer m x y (opens least resilience by may) k h = longer_same m x y refl refl h
 change_longer m x y (looks b verdict over why look is) k h = look_longer m x b verdict look (looked_log x b why k) h
 change_longer m x y (fetches s v base number e is by promise below from may) k h = longer_pushed m x y e (hears_log x s by) refl h
 change_longer m x y (stores_view s v base number names resilience is by own other promise below may) k h =
     longer_pushed m x y (View v names resilience) (hears_log x s by) refl h
-change_longer m x y (queues body is o member stays few) k h = longer_same m x y refl refl h
-change_longer m x y (collects req is) k h = longer_same m x y refl refl h
-change_longer m x y (takes e is o member some there) k h = longer_same m x y refl refl h
 change_longer m x y (asks_to_join is was) k h = record { bare = λ f. h.bare (ap has_log was); more = h.more; is = h.is }
-change_longer m x y (asks_to_leave is was stays done) k h = longer_same m x y refl refl h
 change_longer m x y (closes leads leaves alone room) k h =
     let p = pushed x (Leave x.core.who) in
     let r = rests_at_end p in
     longer_pushed m x y (Leave x.core.who) refl (ap (λ (l : Log). l.entries) r.log) h
+change_longer m x y _ k h = longer_same m x y refl refl h
 
 pub changes_longer : {c : Cause} {o : Outcome} (m x n : Node) → HeardNames c → Changes c o x n → HasNames x → Balloted x → IsLonger m x → IsLonger m n
 changes_longer m x n heard unchanged k b h = h
@@ -128,66 +115,28 @@ pub record HeardLow (c : Cause) (g : ℕ) : Type 0 where
 
 look_begins : (g : ℕ) (x : Node) (b : Ballot) (v : Verdict) → Looks x b v → x.core.log.start ≤ g → v.node.core.log.start ≤ g
 look_begins g x b v (finds_itself_out y) h = h
-look_begins g x b v (waits y z) h = h
-look_begins g x b v (fetches_from_best y z u) h = h
-look_begins g x b v (finds_too_few y z) h = h
-look_begins g x b v (finds_no_room y) h = h
-look_begins g x b v (decides may) h = h
+look_begins g x b v _ h = h
 
 pub change_begins : {c : Cause} {o : Outcome} (g : ℕ) → HeardLow c g → (x y : Node) → Change c o x y → x.core.log.start ≤ g → y.core.log.start ≤ g
 change_begins g heard x y refreshes h = let e = ap (λ (l : Log). l.start) (rests_refresh x).log in omega arith
 change_begins g heard x y settles h = let e = ap (λ (n : Node). n.core.log.start) (settle_is x) in omega arith
-change_begins g heard x y (takes_report s v report by may) h = h
-change_begins g heard x y (admits s v is leads fit) h = h
-change_begins g heard x y (numbers e leads room why) h = h
-change_begins g heard x y (keeps_body s v report req body is by) h = h
-change_begins g heard x y (notes s v base acc by from) h = h
-change_begins g heard x y (stores s v base acc number e by from plain may) h = h
 change_begins g heard x y (begins_list s v base join image is o may) h = heard.welcome s v base join image is
-change_begins g heard x y (departs s v number is by leaves) h = h
-change_begins g heard x y (promises v low why) h = h
-change_begins g heard x y (opens least resilience by may) h = h
 change_begins g heard x y (looks b verdict over why look is) h = look_begins g x b verdict look h
-change_begins g heard x y (fetches s v base number e is by promise below from may) h = h
-change_begins g heard x y (stores_view s v base number names resilience is by own other promise below may) h = h
-change_begins g heard x y (queues body is o member stays few) h = h
-change_begins g heard x y (collects req is) h = h
-change_begins g heard x y (takes e is o member some there) h = h
-change_begins g heard x y (asks_to_join is was) h = h
-change_begins g heard x y (asks_to_leave is was stays done) h = h
 change_begins g heard x y (closes leads leaves alone room) h = let e = ap (λ (l : Log). l.start) (rests_at_end (pushed x (Leave x.core.who))).log in omega arith
+change_begins g heard x y _ h = h
 
 -- a list that is there begins where it did
 look_stays : (x : Node) (b : Ballot) (v : Verdict) → Looks x b v → v.node.core.log.start ≡ x.core.log.start
 look_stays x b v (finds_itself_out y) = refl
-look_stays x b v (waits y z) = refl
-look_stays x b v (fetches_from_best y z u) = refl
-look_stays x b v (finds_too_few y z) = refl
-look_stays x b v (finds_no_room y) = refl
-look_stays x b v (decides may) = refl
+look_stays x b v _ = refl
 
 change_stays : {c : Cause} {o : Outcome} (x y : Node) → Change c o x y → has_log x.status ≡ true → y.core.log.start ≡ x.core.log.start
 change_stays x y refreshes t = ap (λ (l : Log). l.start) (rests_refresh x).log
 change_stays x y settles t = ap (λ (n : Node). n.core.log.start) (settle_is x)
-change_stays x y (takes_report s v report by may) t = refl
-change_stays x y (admits s v is leads fit) t = refl
-change_stays x y (numbers e leads room why) t = refl
-change_stays x y (keeps_body s v report req body is by) t = refl
-change_stays x y (notes s v base acc by from) t = refl
-change_stays x y (stores s v base acc number e by from plain may) t = refl
 change_stays x y (begins_list s v base join image is o may) t = absurd (let f = welcomed_none x s v base join image may in cc)
-change_stays x y (departs s v number is by leaves) t = refl
-change_stays x y (promises v low why) t = refl
-change_stays x y (opens least resilience by may) t = refl
 change_stays x y (looks b verdict over why look is) t = look_stays x b verdict look
-change_stays x y (fetches s v base number e is by promise below from may) t = refl
-change_stays x y (stores_view s v base number names resilience is by own other promise below may) t = refl
-change_stays x y (queues body is o member stays few) t = refl
-change_stays x y (collects req is) t = refl
-change_stays x y (takes e is o member some there) t = refl
-change_stays x y (asks_to_join is was) t = refl
-change_stays x y (asks_to_leave is was stays done) t = refl
 change_stays x y (closes leads leaves alone room) t = ap (λ (l : Log). l.start) (rests_at_end (pushed x (Leave x.core.who))).log
+change_stays x y _ t = refl
 
 pub changes_stay : {c : Cause} {o : Outcome} (x n : Node) → HeardNames c → Changes c o x n → HasNames x → Balloted x → has_log x.status ≡ true
     → n.core.log.start ≡ x.core.log.start

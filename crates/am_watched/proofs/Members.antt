@@ -20,11 +20,11 @@ use Rattle.am_model.specs.Receiving.{is_view}
 use Rattle.am_model.specs.Refresh.{refresh}
 use Rattle.am_model.proofs.Greatest.{split, and_both}
 use Rattle.am_effects.specs.Causes.{Cause, calls, hears}
-use Rattle.am_effects.specs.Looks.{was_reset, was_handed, was_fetched, HasOpen, Balloting, with_more, without_one, as_it_is, Looks, finds_itself_out, waits}
-use Rattle.am_effects.specs.Looks.{fetches_from_best, finds_too_few, finds_no_room, decides}
+use Rattle.am_effects.specs.Looks.{was_reset, was_handed, was_fetched, HasOpen, Balloting, with_more, without_one, as_it_is, Looks, finds_itself_out}
+use Rattle.am_effects.specs.Looks.{decides}
 use Rattle.am_effects.specs.Changes.{Numbers, asked_send, own_send, asked_join, asked_leave, Carries, whole_entry, by_number, Change, refreshes, settles}
-use Rattle.am_effects.specs.Changes.{takes_report, admits, numbers, keeps_body, notes, stores, begins_list, departs, promises, opens, looks, fetches}
-use Rattle.am_effects.specs.Changes.{stores_view, queues, collects, takes, asks_to_join, asks_to_leave, closes}
+use Rattle.am_effects.specs.Changes.{numbers, stores, begins_list, promises, opens, looks, fetches}
+use Rattle.am_effects.specs.Changes.{stores_view, asks_to_leave, closes}
 use Rattle.am_effects.proofs.Rests.{rests_refresh, rests_at_end, settle_is}
 use Rattle.am_effects.proofs.Says.{told_pushed, view_pushed}
 use Rattle.am_laws.proofs.Stamps.{same_stamp, at_most_below}
@@ -168,11 +168,7 @@ overtaken_quiet by (Some b) t = split (not b.is_over && stamp_lt b.stamp by) (λ
 
 look_leaving : (m : Node) (b : Ballot) (v : Verdict) → Looks m b v → v.node.leaving ≡ m.leaving
 look_leaving m b v (finds_itself_out x) = refl
-look_leaving m b v (waits x y) = refl
-look_leaving m b v (fetches_from_best x y z) = refl
-look_leaving m b v (finds_too_few x y) = refl
-look_leaving m b v (finds_no_room x) = refl
-look_leaving m b v (decides may) = refl
+look_leaving m b v _ = refl
 
 or_last : (a b : Bool) → (a || b) ≡ false → b ≡ false
 or_last true b h = absurd (cc)
@@ -181,26 +177,13 @@ or_last false b h = h
 pub change_quiet : {c : Cause} {o : Outcome} (m n : Node) → Change c o m n → Quiet m → Quiet n
 change_quiet m n refreshes h = let r = (rests_refresh m).rests in λ t. r.leaving ∙ h (sym (ap is_unfinished r.ballot) ∙ t)
 change_quiet m n settles h = subst Quiet (sym (settle_is m)) h
-change_quiet m n (takes_report s v report by may) h = h
-change_quiet m n (admits s v is leads fit) h = h
-change_quiet m n (numbers e leads room why) h = h
-change_quiet m n (keeps_body s v report req body is by) h = h
-change_quiet m n (notes s v base acc by from) h = h
-change_quiet m n (stores s v base acc number e by from plain may) h = h
-change_quiet m n (begins_list s v base join image is o may) h = h
-change_quiet m n (departs s v number is by leaves) h = h
 change_quiet m n (promises v low why) h = λ t. h (overtaken_quiet v m.ballot t)
 change_quiet m n (opens least resilience by may) h = λ t. may.stays
 change_quiet m n (looks b verdict over why look is) h = λ t. look_leaving m b verdict look ∙ looked_quiet _ m b why h
-change_quiet m n (fetches s v base number e is by promise below from may) h = h
-change_quiet m n (stores_view s v base number names resilience is by own other promise below may) h = h
-change_quiet m n (queues body is o member stays few) h = h
-change_quiet m n (collects req is) h = h
-change_quiet m n (takes e is o member some there) h = h
-change_quiet m n (asks_to_join is was) h = h
 change_quiet m n (asks_to_leave is was stays done) h = λ t. absurd (let f = or_last (nat_lt 0 (unsettled m)) (is_unfinished m.ballot) done in cc)
 change_quiet m n (closes leads leaves alone room) h = let r = (rests_at_end (pushed m (Leave m.core.who))).rests in
     λ t. r.leaving ∙ h (sym (ap is_unfinished r.ballot) ∙ t)
+change_quiet m n _ h = h
 
 -- ---- each change
 
@@ -228,11 +211,6 @@ carried_alters c m s v base acc number e (by_number from req body is found) = su
 
 look_viewed : (c : Cause) (old : Stamp) (m : Node) (b : Ballot) (v : Verdict) → Looks m b v → LooksBy c b.stamp → m.leaving ≡ false → length (told m).rows ≡ 16
     → b.votes m.core.who ≡ None → Viewed c old m → Viewed c old v.node
-look_viewed c old m b v (finds_itself_out x) by stays long none h = viewed_same c old m v.node refl refl refl h
-look_viewed c old m b v (waits x y) by stays long none h = viewed_same c old m v.node refl refl refl h
-look_viewed c old m b v (fetches_from_best x y z) by stays long none h = viewed_same c old m v.node refl refl refl h
-look_viewed c old m b v (finds_too_few x y) by stays long none h = viewed_same c old m v.node refl refl refl h
-look_viewed c old m b v (finds_no_room x) by stays long none h = viewed_same c old m v.node refl refl refl h
 look_viewed c old m b v (decides may) by stays long none h =
     let test : ℕ → Bool = λ name. not (b.given_up name) in
     let names = left_in b (need_of m b) in
@@ -251,6 +229,7 @@ look_viewed c old m b v (decides may) by stays long none h =
       by = subst (LooksBy c) (sym (view_last before b.stamp names r)) by;
       stays = stays;
     })
+look_viewed c old m b v _ by stays long none h = viewed_same c old m v.node refl refl refl h
 
 -- a fetched entry
 fetch_viewed : (c : Cause) (old : Stamp) (nodes : ℕ → Node) (name : ℕ) (m : Node) (s : ℕ) (v : Stamp) (base number : ℕ) (e : Entry)
@@ -285,29 +264,18 @@ change_viewed nodes name c o old m n heard refreshes log who up long none k q h 
     viewed_same c old m (refresh m) r.rests.who r.log r.rests.leaving h
 change_viewed nodes name c o old m n heard settles log who up long none k q h =
     subst (Viewed c old) (sym (settle_is m)) (viewed_same c old m _ refl refl refl h)
-change_viewed nodes name c o old m n heard (takes_report s v report by may) log who up long none k q h = viewed_same c old m n refl refl refl h
-change_viewed nodes name c o old m n heard (admits s v is leads fit) log who up long none k q h = viewed_same c old m n refl refl refl h
 change_viewed nodes name c o old m n heard (numbers e leads room why) log who up long none k q h =
     viewed_plain c old m n e (numbers_plain c m e why) refl refl (fresh_numbered c m e why long) h
-change_viewed nodes name c o old m n heard (keeps_body s v report req body is by) log who up long none k q h = viewed_same c old m n refl refl refl h
-change_viewed nodes name c o old m n heard (notes s v base acc by from) log who up long none k q h = viewed_same c old m n refl refl refl h
 change_viewed nodes name c o old m n heard (stores s v base acc number e by from plain may) log who up long none k q h =
     viewed_plain c old m n e plain refl refl (λ z. absurd (never_both c (view m) z.by (carried_alters c m s v base acc number e by))) h
 change_viewed nodes name c o old m n heard (begins_list s v base join image is says may) log who up long none k q h =
     absurd (let f = welcomed_none m s v base join image may in cc)
-change_viewed nodes name c o old m n heard (departs s v number is by leaves) log who up long none k q h = viewed_same c old m n refl refl refl h
-change_viewed nodes name c o old m n heard (promises v low why) log who up long none k q h = viewed_same c old m n refl refl refl h
-change_viewed nodes name c o old m n heard (opens least resilience by may) log who up long none k q h = viewed_same c old m n refl refl refl h
 change_viewed nodes name c o old m n heard (looks b verdict over why look is) log who up long none k q h =
     look_viewed c old m b verdict look (looks_by c m b why (looked_open m b why k).promised) (looked_quiet c m b why q) long (looked_vote c m b why none) h
 change_viewed nodes name c o old m n heard (fetches s v base number e is by promise below from may) log who up long none k q h =
     fetch_viewed c old nodes name m s v base number e is below who (heard.piece s v base number e is) up may.fits h
 change_viewed nodes name c o old m n heard (stores_view s v base number names resilience is by own other promise below may) log who up long none k q h =
     of_other (ap (λ (x : Stamp). x.by == m.core.who) (view_last (trimmed m base) v names resilience) ∙ other)
-change_viewed nodes name c o old m n heard (queues body is says member stays few) log who up long none k q h = viewed_same c old m n refl refl refl h
-change_viewed nodes name c o old m n heard (collects req is) log who up long none k q h = viewed_same c old m n refl refl refl h
-change_viewed nodes name c o old m n heard (takes e is says member some there) log who up long none k q h = viewed_same c old m n refl refl refl h
-change_viewed nodes name c o old m n heard (asks_to_join is was) log who up long none k q h = viewed_same c old m n refl refl refl h
 change_viewed nodes name c o old m n heard (asks_to_leave is was stays done) log who up long none k q (as_before x) = as_before x
 change_viewed nodes name c o old m n heard (asks_to_leave is was stays done) log who up long none k q (of_other x) = of_other x
 change_viewed nodes name c o old m n heard (asks_to_leave is was stays done) log who up long none k q (decided x) =
@@ -316,3 +284,4 @@ change_viewed nodes name c o old m n heard (closes leads leaves alone room) log 
     let e = Leave m.core.who in
     let r = rests_at_end (pushed m e) in
     viewed_plain c old m n e refl r.rests.who r.log (λ z. absurd (let f = z.stays in cc)) h
+change_viewed nodes name c o old m n heard _ log who up long none k q h = viewed_same c old m n refl refl refl h

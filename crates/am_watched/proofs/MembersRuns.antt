@@ -24,7 +24,7 @@ use Rattle.am_effects.proofs.Items.{all_get}
 use Rattle.am_effects.proofs.Runs.{EachKeeps, runs_keep}
 use Rattle.am_laws.proofs.Stamps.{at_most, not_above_itself}
 use Rattle.am_laws.proofs.Named.{few_names, change_named}
-use Rattle.am_laws.proofs.Founders.{first_founder}
+use Rattle.am_model.proofs.Founders.{first_founder}
 use Rattle.am_laws.proofs.ViewNames.{HeardNames}
 use Rattle.am_laws.proofs.ViewChanges.{Does, change_does, changes_do, log_of_member}
 use Rattle.am_laws.proofs.Views.{heard_names, same_is_equal}

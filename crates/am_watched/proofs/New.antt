@@ -25,14 +25,14 @@ use Rattle.am_model.specs.Lawful.{is_view_of}
 use Rattle.am_model.specs.Claims.{heard_by}
 use Rattle.am_model.proofs.Greatest.{split, and_both}
 use Rattle.am_effects.specs.Causes.{Cause}
-use Rattle.am_effects.specs.Letters.{MayTell, leads, decided, Says, request, spread, bcast, order, accept, ack, nack, hold, join_ask, welcome, leave_ask, gone}
-use Rattle.am_effects.specs.Letters.{invite, vote, fetch, piece, result, hand_over, LetterSays}
+use Rattle.am_effects.specs.Letters.{MayTell, leads, decided, Says}
+use Rattle.am_effects.specs.Letters.{piece, result, LetterSays}
 use Rattle.am_effects.specs.Effects.{Effect}
-use Rattle.am_effects.specs.Events.{actor, WasSentTo, IsCause, idles, stops, returns, steps}
+use Rattle.am_effects.specs.Events.{actor, WasSentTo, IsCause, steps, Happens}
 use Rattle.am_effects.proofs.Items.{all_get, all_item}
 use Rattle.am_effects.proofs.Runs.{EachKeeps, runs_keep}
 use Rattle.am_laws.specs.Packets.{stamp_of}
-use Rattle.am_laws.proofs.Founders.{first_founder}
+use Rattle.am_model.proofs.Founders.{first_founder}
 use Rattle.am_laws.proofs.Named.{few_names}
 use Rattle.am_laws.proofs.Stamps.{at_most, not_above_itself, same_stamp}
 use Rattle.am_laws.proofs.ViewSteps.{SameView, Stood}
@@ -112,21 +112,6 @@ module _ (nodes : ℕ → Node) (name : ℕ) (n : Node) (d : Does (nodes name) n
 -- who tells a View of its own has it, and promised nothing above
 says_known : (nodes : ℕ → Node) (m x : Node) (c : Cause) (to : List ℕ) (p : Packet) → All (Known nodes) x.core.log.entries → ToldNode x
     → (MayTell x → x.core.promise.by ≡ x.core.who → view x ≡ x.core.promise → IsKnown nodes x.core.promise) → Says m c x to p → PacketKnown nodes p
-says_known nodes m x c to p entries told own (request _ req body a f s) = tt
-says_known nodes m x c to p entries told own (spread _ req body a f s) = tt
-says_known nodes m x c to p entries told own (bcast _ number e l s) = tt
-says_known nodes m x c to p entries told own (order _ number from_ req v report body is l s) = tt
-says_known nodes m x c to p entries told own (accept _ poll l) = tt
-says_known nodes m x c to p entries told own (ack _ a) = tt
-says_known nodes m x c to p entries told own (nack _ a) = tt
-says_known nodes m x c to p entries told own (hold _ s v report req body by l) = tt
-says_known nodes m x c to p entries told own (join_ask _ a) = tt
-says_known nodes m x c to p entries told own (welcome s l may) = tt
-says_known nodes m x c to p entries told own (leave_ask _ a l) = tt
-says_known nodes m x c to p entries told own (gone s l may) = tt
-says_known nodes m x c to p entries told own (invite _ may) = tt
-says_known nodes m x c to p entries told own (vote s v is) = tt
-says_known nodes m x c to p entries told own (fetch _ may) = tt
 says_known nodes m x c to p entries told own (piece s v stored number e is may at) = all_get (Known nodes) x.core.log.entries at.index e entries at.there
 says_known nodes m x c to p entries told own (result _ number names is viewed may) = λ t. (
     let mine : x.core.promise.by ≡ x.core.who = grind (arith, nat_tests) in
@@ -136,7 +121,7 @@ says_known nodes m x c to p entries told own (result _ number names is viewed ma
     may_view x (leads l) told mine = sym (same_stamp x.core.promise (view x)
         (and_both (is_member x.status) (stamp_eq x.core.promise (view x)) (and_both (acts x) ((view x).by == x.core.who) l).0).1)
     may_view x (decided b number names there answer at) told mine = at ∙ sym (told.is b number names there answer mine)
-says_known nodes m x c to p entries told own (hand_over _ l leaves) = tt
+says_known nodes m x c to p entries told own _ = tt
 
 -- who may tell has a list, also where it departs
 tells_list : (n x : Node) → n ≡ record x { status = n.status } → (n.status ≡ x.status) ⊎ (n.status ≡ status.Departed) → Balloted n → MayTell x
@@ -264,12 +249,13 @@ own_same rules w v nodes letters group lists h = record {
   group = rw (nodes, group) h.group;
 }
 
-pub each_own : (rules : Rules) → EachKeeps (AllOwn rules)
+own_after : (rules : Rules) (w : World) (e : Event) (v : World) → Happens w e v → AllLists rules v → AllOwn rules w → AllOwn rules v
 unfolding unchanged
-each_own rules w e v (idles o idle) h = own_same rules w v refl refl refl (each_lists rules w e v (idles o idle) h.lists) h
-each_own rules w e v (stops runs) h = own_same rules w v refl refl refl (each_lists rules w e v (stops runs) h.lists) h
-each_own rules w e v (returns place is left more) h = own_same rules w v refl refl refl (each_lists rules w e v (returns place is left more) h.lists) h
-each_own rules w e v (steps c s runs cause effect) h = own_step rules w e c s cause effect (each_lists rules w e v (steps c s runs cause effect) h.lists) h
+own_after rules w e v (steps c s runs cause effect) lists h = own_step rules w e c s cause effect lists h
+own_after rules w e v _ lists h = own_same rules w v refl refl refl lists h
+
+pub each_own : (rules : Rules) → EachKeeps (AllOwn rules)
+each_own rules w e v happens h = own_after rules w e v happens (each_lists rules w e v happens h.lists) h
 
 -- ---- the start
 

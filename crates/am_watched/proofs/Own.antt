@@ -21,17 +21,17 @@ use Rattle.am_model.specs.Receiving.{is_view}
 use Rattle.am_model.specs.Group.{has_log}
 use Rattle.am_model.proofs.Greatest.{and_both}
 use Rattle.am_effects.specs.Causes.{Cause, hears}
-use Rattle.am_effects.specs.Looks.{HasOpen, Balloting, with_more, without_one, as_it_is, Looks, finds_itself_out, waits, fetches_from_best, finds_too_few}
-use Rattle.am_effects.specs.Looks.{finds_no_room, decides}
-use Rattle.am_effects.specs.Changes.{Promises, invited, overtaken as overtaken_by, told_result, Numbers, asked_send, own_send, asked_join, asked_leave, Change}
-use Rattle.am_effects.specs.Changes.{refreshes, settles, takes_report, admits, numbers, keeps_body, notes, stores, begins_list, departs, promises, opens, looks}
-use Rattle.am_effects.specs.Changes.{fetches, stores_view, queues, collects, takes, asks_to_join, asks_to_leave, closes, Changes, unchanged, changed}
+use Rattle.am_effects.specs.Looks.{HasOpen, Balloting, with_more, without_one, as_it_is, Looks}
+use Rattle.am_effects.specs.Looks.{decides}
+use Rattle.am_effects.specs.Changes.{Promises, invited, overtaken as overtaken_by, told_result, Change}
+use Rattle.am_effects.specs.Changes.{refreshes, settles, numbers, stores, begins_list, promises, opens, looks}
+use Rattle.am_effects.specs.Changes.{fetches, stores_view, closes, Changes, unchanged, changed}
 use Rattle.am_effects.proofs.Rests.{rests_refresh, rests_at_end, settle_is}
 use Rattle.am_laws.specs.Packets.{stamp_of}
 use Rattle.am_laws.proofs.Stamps.{at_most, not_above, not_above_itself}
 use Rattle.am_laws.proofs.ViewNames.{HasNames, HeardNames}
 use Rattle.am_laws.proofs.ViewSteps.{Goes, SameView, Stood, view_last}
-use Rattle.am_laws.proofs.ViewChanges.{Balloted, IsOpen, OpenBallot, Does, changes_do}
+use Rattle.am_laws.proofs.ViewChanges.{Balloted, IsOpen, OpenBallot, Does, changes_do, numbers_plain}
 use Rattle.am_watched.proofs.Chains.{welcomed_none, looked_log}
 
 -- ---- what is known of nodes before a step
@@ -114,12 +114,6 @@ plain_chained nodes name x (Join joiner) h = tt
 plain_chained nodes name x (Leave leaver) h = tt
 plain_chained nodes name x (View stamp names resilience) h = absurd (cc)
 
-numbers_plain : (c : Cause) (m : Node) (e : Entry) → Numbers c m e → is_view e ≡ false
-numbers_plain c m e (asked_send s v report req body by known stays next) = refl
-numbers_plain c m e (own_send s is last) = refl
-numbers_plain c m e (asked_join s v is other fit) = refl
-numbers_plain c m e (asked_leave s v report is other known stays) = refl
-
 -- ---- the kinds of changes
 
 along_same : (nodes : ℕ → Node) (name : ℕ) (x y : Node) → y.core.who ≡ x.core.who → y.core.promise ≡ x.core.promise → y.core.log ≡ x.core.log
@@ -181,51 +175,6 @@ next_above promise who = let t : nat_lt promise.round (promise.round + 1) ≡ tr
 
 look_along : (nodes : ℕ → Node) (name : ℕ) (x : Node) (b : Ballot) (v : Verdict) → Looks x b v → Does x v.node → IsOpen x.core.who x.core.promise (view x) b
     → has_log x.status ≡ true → Along nodes name x → Along nodes name v.node
-look_along nodes name x b v (finds_itself_out y) d o log h =
-    record {
-      who = h.who;
-      rises = h.rises;
-      below = h.below;
-      told = record { is = λ b2 number names is answer own. absurd (cc) };
-      entries =
-          All-weaker (Chained nodes name x) (Chained nodes name v.node) (chained_up nodes name x v.node d) x.core.log.entries h.entries;
-    }
-look_along nodes name x b v (waits y z) d o log h = record {
-  who = h.who;
-  rises = h.rises;
-  below = h.below;
-  told =
-      record { is = λ b2 number names is answer own. absurd (cc) };
-  entries =
-      All-weaker (Chained nodes name x) (Chained nodes name v.node) (chained_up nodes name x v.node d) x.core.log.entries h.entries;
-}
-look_along nodes name x b v (fetches_from_best y z u) d o log h =
-    record {
-      who = h.who;
-      rises = h.rises;
-      below = h.below;
-      told = record { is = λ b2 number names is answer own. absurd (cc) };
-      entries =
-          All-weaker (Chained nodes name x) (Chained nodes name v.node) (chained_up nodes name x v.node d) x.core.log.entries h.entries;
-    }
-look_along nodes name x b v (finds_too_few y z) d o log h = record {
-  who = h.who;
-  rises = h.rises;
-  below = h.below;
-  told =
-      record { is = λ b2 number names is answer own. absurd (cc) };
-  entries =
-      All-weaker (Chained nodes name x) (Chained nodes name v.node) (chained_up nodes name x v.node d) x.core.log.entries h.entries;
-}
-look_along nodes name x b v (finds_no_room y) d o log h = record {
-  who = h.who;
-  rises = h.rises;
-  below = h.below;
-  told =
-      record { is = λ b2 number names is answer own. absurd (cc) };
-  entries =
-      All-weaker (Chained nodes name x) (Chained nodes name v.node) (chained_up nodes name x v.node d) x.core.log.entries h.entries;
-}
 look_along nodes name x b v (decides may) d o log h =
     let names = left_in b (need_of x b) in
     let same : view v.node ≡ b.stamp = view_last (trimmed_for x b names) b.stamp names _ in
@@ -244,6 +193,13 @@ look_along nodes name x b v (decides may) d o log h =
           (All-weaker (Chained nodes name x) (Chained nodes name v.node) (chained_up nodes name x v.node d) x.core.log.entries h.entries)
           (All-cons (Chained nodes name v.node) _ [] (inr own) (All-nil (Chained nodes name v.node)));
     }
+look_along nodes name x b v _ d o log h = record {
+  who = h.who;
+  rises = h.rises;
+  below = h.below;
+  told = record { is = λ b2 number names is answer own. absurd (cc) };
+  entries = All-weaker (Chained nodes name x) (Chained nodes name v.node) (chained_up nodes name x v.node d) x.core.log.entries h.entries;
+}
 
 -- the ballot that is looked at is open, with the promise
 of_open : (m : Node) (b : Ballot) → HasOpen m b → Balloted m → IsOpen m.core.who m.core.promise (view m) b
@@ -265,12 +221,8 @@ change_along nodes name heard x y refreshes d k h = let r = rests_refresh x in
 change_along nodes name heard x y settles d k h = let e = settle_is x in
     along_same nodes name x (settle x) (ap (λ (n : Node). n.core.who) e) (ap (λ (n : Node). n.core.promise) e) (ap (λ (n : Node). n.core.log) e)
     (ap (λ (n : Node). n.ballot) e) d h
-change_along nodes name heard x y (takes_report s v report by may) d k h = along_same nodes name x y refl refl refl refl d h
-change_along nodes name heard x y (admits s v is leads fit) d k h = along_same nodes name x y refl refl refl refl d h
 change_along nodes name heard x y (numbers e leads room why) d k h =
     along_pushed nodes name x y e refl refl refl refl (plain_chained nodes name y e (numbers_plain _ x e why)) d h
-change_along nodes name heard x y (keeps_body s v report req body is by) d k h = along_same nodes name x y refl refl refl refl d h
-change_along nodes name heard x y (notes s v base acc by from) d k h = along_same nodes name x y refl refl refl refl d h
 change_along nodes name heard x y (stores s v base acc number e by from plain may) d k h =
     along_pushed nodes name x y e refl refl refl refl (plain_chained nodes name y e plain) d h
 change_along nodes name heard x y (begins_list s v base join image is o may) d k h =
@@ -282,7 +234,6 @@ change_along nodes name heard x y (begins_list s v base join image is o may) d k
       told = record { is = λ b number names there answer own. absurd (cc) };
       entries = All-nil (Chained nodes name y);
     }
-change_along nodes name heard x y (departs s v number is by leaves) d k h = along_same nodes name x y refl refl refl refl d h
 change_along nodes name heard x y (promises v low why) d k h = record {
   who = h.who;
   rises = at_most (nodes name).core.promise x.core.promise v h.rises low;
@@ -304,14 +255,10 @@ change_along nodes name heard x y (fetches s v base number e is by promise below
     along_pushed nodes name x y e refl refl refl refl (known_chained nodes name y e (heard.piece s v base number e is)) d h
 change_along nodes name heard x y (stores_view s v base number names resilience is by own other promise below may) d k h =
     along_pushed nodes name x y (View v names resilience) refl refl refl refl (inl (heard.result s v base number names resilience is own)) d h
-change_along nodes name heard x y (queues body is o member stays few) d k h = along_same nodes name x y refl refl refl refl d h
-change_along nodes name heard x y (collects req is) d k h = along_same nodes name x y refl refl refl refl d h
-change_along nodes name heard x y (takes e is o member some there) d k h = along_same nodes name x y refl refl refl refl d h
-change_along nodes name heard x y (asks_to_join is was) d k h = along_same nodes name x y refl refl refl refl d h
-change_along nodes name heard x y (asks_to_leave is was stays done) d k h = along_same nodes name x y refl refl refl refl d h
 change_along nodes name heard x y (closes leads leaves alone room) d k h =
     let r = rests_at_end (pushed x (Leave x.core.who)) in
     along_pushed nodes name x y (Leave x.core.who) r.rests.who r.rests.promise (ap (λ (l : Log). l.entries) r.log) r.rests.ballot tt d h
+change_along nodes name heard x y _ d k h = along_same nodes name x y refl refl refl refl d h
 
 pub changes_along : (nodes : ℕ → Node) (name : ℕ) {c : Cause} {o : Outcome} → HeardOwn nodes c → HeardNames c → (x n : Node) → Changes c o x n → HasNames x
     → Balloted x → Along nodes name x → Along nodes name n

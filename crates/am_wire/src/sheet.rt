@@ -10,7 +10,7 @@ use am_base::name::Name;
 use am_base::names::Names;
 use am_group::event::{Act, Record};
 use am_group::journal::Journal;
-use am_letter::letter::Letter;
+use am_letter::letter::LetterCopy;
 use std::alloc::Global;
 use std::marker::Model;
 
@@ -84,7 +84,7 @@ impl Sheet {
     }
 
     /// A letter by its number, from 1.
-    pub fn letter(&self, number: u32) -> Option<Letter>
+    pub fn letter(&self, number: u32) -> Option<LetterCopy>
         ensures { result ≡ letter_at (letters_of self.now.records) number }
     {
         match self.journal.packet(number) {

@@ -56,7 +56,7 @@ fn stop_at(alloc: Global, place: u8, caller: u32, to: u16) -> Result<Record, Fai
         stamp: Stamp { round: 2, by: node },
     };
     let mut packets = Items::new(alloc);
-    packets.push(Letter::of(Names::of_mask(to), &invite))?;
+    packets.push(Letter::of(alloc, Names::of_mask(to), &invite)?)?;
     Ok(Record {
         event: Event {
             node,

@@ -18,7 +18,7 @@ use am_base::name::Name;
 use am_base::names::Names;
 use am_group::event::Record;
 use am_group::journal::Journal;
-use am_letter::letter::Letter;
+use am_letter::letter::LetterCopy;
 use atomic_table::{Badge, Seat, Table};
 use std::alloc::{AllocError, Global};
 use std::marker::Model;
@@ -301,7 +301,7 @@ impl<L: Law> Wire<L> {
     }
 
     /// A letter of the journal by its number, from 1; None exactly where the journal that the pass has then seen has none.
-    pub fn read<R: Wait>(&self, rt: &R, pass: &mut Pass, number: u32) -> Option<Letter>
+    pub fn read<R: Wait>(&self, rt: &R, pass: &mut Pass, number: u32) -> Option<LetterCopy>
         requires own { pass.old.wire ≡ self.now.id }
         ensures sees { Sees pass.old pass.new }
         ensures letter { result ≡ letter_at (letters_of pass.new.seen) number }

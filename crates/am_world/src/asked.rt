@@ -10,9 +10,10 @@ ghost use Rattle.am_world.specs.Asked as asks;
 ghost use Rattle.am_world.specs.Asked.{flag_of, if_running, kept, SpellsPacket};
 
 use am_base::NoMemory;
-use am_base::body::{Body, PacketBytes};
+use am_base::body::SentBody;
 use am_base::boxed::Boxed;
 use am_base::event::NodeEvent;
+use am_base::items::Items;
 use am_base::name::Name;
 use am_base::outcome::Outcome;
 use am_group::addressed::is_for;
@@ -38,15 +39,14 @@ fn if_running(stopped: bool, what: NodeEvent) -> Result<NodeEvent, Outcome>
 }
 
 /// The bytes, or only so many of the first of them.
-fn kept(bytes: &PacketBytes, keep: Option<u32>) -> PacketBytes
-    ensures { result ≡ kept keep bytes.now }
+fn kept(bytes: &[u8], keep: Option<u32>) -> &[u8]
+    ensures { result.now ≡ kept keep bytes.now }
 {
     match keep {
-        None => bytes.copied(),
+        None => bytes,
         Some(keep) => {
-            let all = bytes.bytes();
-            let count = all.len().min(keep as usize);
-            PacketBytes::of(&all[..count]).unwrap()
+            let count = bytes.len().min(keep as usize);
+            &bytes[..count]
         }
     }
 }
@@ -74,16 +74,20 @@ fn hears(
     if stopped {
         return Ok(Err(Outcome::IsStopped));
     }
-    let bytes = Boxed::of(alloc, kept(letter.bytes(), keep))?;
-    Ok(Ok(NodeEvent::Hear(bytes)))
+    let bytes = Vec::from_slice(alloc, kept(letter.bytes(), keep))?;
+    Ok(Ok(NodeEvent::Hear(Items::of(bytes))))
 }
 
 /// A name sends a body.
 #[inline(never)]
-fn sends(alloc: Global, body: &Body, stopped: bool) -> Result<Result<NodeEvent, Outcome>, NoMemory>
+fn sends(
+    alloc: Global,
+    body: &SentBody,
+    stopped: bool,
+) -> Result<Result<NodeEvent, Outcome>, NoMemory>
     ensures { IfOk result (λ r. r ≡ if_running stopped (does.Send body.now)) }
 {
-    let body = Boxed::of(alloc, body.copied())?;
+    let body = Boxed::of(alloc, body.body())?;
     Ok(if_running(stopped, NodeEvent::Send(body)))
 }
 
@@ -137,7 +141,7 @@ pub fn asked(
 {
     let is_stopped = is_stopped(stopped, name);
     Ok(match act {
-        Act::Send(body) => sends(alloc, body.get(), is_stopped)?,
+        Act::Send(body) => sends(alloc, body, is_stopped)?,
         Act::Done(req) => if_running(is_stopped, NodeEvent::Done(*req)),
         Act::Take => if_running(is_stopped, NodeEvent::Take),
         Act::Join => if_running(is_stopped, NodeEvent::Join),

@@ -4,6 +4,7 @@ ghost use Rattle.am_core.specs.Cores.{IsInOrder};
 ghost use Rattle.am_model.specs.Step.{row};
 ghost use Rattle.am_model.specs.World.{grown, group_after};
 ghost use Rattle.am_model.specs.Ends.{Does};
+ghost use Rattle.am_node.specs.Nodes.{HasPlace};
 ghost use Rattle.am_node.specs.Stands.{state_of};
 ghost use Rattle.am_world.specs.Moves.{IsReady, IsReadyAt, StepsAt};
 
@@ -15,32 +16,36 @@ use am_base::items::Items;
 use am_base::name::Name;
 use am_base::outcome::Outcome;
 use am_letter::letter::Letter;
-use am_letter::out_box::OutBox;
+use am_letter::out_box::{OutBox, Rooms};
 use am_node::node::Node;
 use std::alloc::Global;
+use std::mem;
 
-/// An empty box for the letters of a step: a spare one, or a new one.
-pub fn empty_box(alloc: Global, spare: &mut Vec<OutBox>) -> Result<OutBox, NoMemory>
+/// An empty box for the letters of a step, over the rooms that earlier ones left.
+pub fn empty_box(alloc: Global, rooms: &mut Rooms) -> Result<OutBox, NoMemory>
     ensures { IfOk result (λ b. b ≡ []) }
 {
-    match spare.pop() {
-        Some(mut out) => {
-            out.clear();
-            Ok(out)
-        }
-        None => OutBox::new(alloc),
-    }
+    let left = mem::replace(rooms, Rooms::new(alloc));
+    OutBox::over(alloc, left)
 }
 
-/// The letters of a step. A box in which there are none is spare for the next step, where there is memory to keep it.
-pub fn packets_of(alloc: Global, out: OutBox, spare: &mut Vec<OutBox>) -> Items<Letter>
+/// The letters of a step. The rooms that they don't take are for the next one.
+pub fn packets_of(alloc: Global, out: OutBox, rooms: &mut Rooms) -> Items<Letter>
     ensures { result ≡ out }
 {
-    if out.letters().is_empty() {
-        let _ = spare.push(out);
-        return Items::new(alloc);
+    let (letters, left) = out.into_letters(alloc);
+    *rooms = left;
+    letters
+}
+
+/// A place for the entry that an event takes, where it takes one.
+pub fn spare_entry(alloc: Global, what: &NodeEvent) -> Result<Option<Boxed<Entry>>, NoMemory>
+    ensures { IfOk result (λ spare. HasPlace what.now spare) }
+{
+    match what {
+        NodeEvent::Take => Ok(Some(Boxed::of(alloc, Entry::default())?)),
+        _ => Ok(None),
     }
-    out.into_letters()
 }
 
 /// Makes room for so many entries in all.
@@ -84,12 +89,13 @@ fn grow(group: &mut Vec<Entry>, node: &Node)
 fn step_node(
     node: &mut Node,
     what: &NodeEvent,
-    spare: Boxed<Entry>,
+    spare: Option<Boxed<Entry>>,
     group: &mut Vec<Entry>,
     out: &mut OutBox,
 ) -> Outcome
     requires ready { IsReady (state_of node.old) what.now (vec_len group.old)
         (vec_capacity group.old) }
+    requires place { HasPlace what.now spare }
     requires empty { out.old ≡ [] }
     ensures does { Does (λ k. row k what.now) (state_of node.old) result out.new
         (state_of node.new) }
@@ -108,13 +114,14 @@ pub fn step_at(
     nodes: &mut [Node],
     name: Name,
     what: &NodeEvent,
-    spare: Boxed<Entry>,
+    spare: Option<Boxed<Entry>>,
     group: &mut Vec<Entry>,
     out: &mut OutBox,
 ) -> Outcome
     requires places { length nodes.old ≡ 16 }
     requires ready { IsReadyAt nodes.old (place_of name) what.now (vec_len group.old)
         (vec_capacity group.old) }
+    requires place { HasPlace what.now spare }
     requires empty { out.old ≡ [] }
     ensures steps { StepsAt nodes.old nodes.new group.old.items group.new.items
         (place_of name) what.now result out.new }

@@ -8,9 +8,8 @@ ghost use Rattle.am_node.specs.Stands.{state_of};
 ghost use Rattle.am_world.specs.Runs.{AreNodes, AreFirst, the_record};
 
 use crate::asked::{asked, is_stopped};
-use crate::nodes::{empty_box, make_room, packets_of, step_at};
+use crate::nodes::{empty_box, make_room, packets_of, spare_entry, step_at};
 use am_base::NoMemory;
-use am_base::boxed::Boxed;
 use am_base::entry::Entry;
 use am_base::event::NodeEvent;
 use am_base::founding::Founding;
@@ -19,7 +18,7 @@ use am_base::name::Name;
 use am_base::outcome::Outcome;
 use am_group::event::{By, Event, Part, Record};
 use am_group::journal::Journal;
-use am_letter::out_box::OutBox;
+use am_letter::out_box::Rooms;
 use am_model::status::Status;
 use am_node::founding::founders_view;
 use am_node::node::Node;
@@ -66,12 +65,6 @@ fn new_record(alloc: Global, event: &Event, life: u8, outcome: Outcome) -> Resul
     })
 }
 
-/// A place for an entry that is taken.
-#[inline(never)]
-fn spare_entry(alloc: Global) -> Result<Boxed<Entry>, NoMemory> {
-    Boxed::of(alloc, Entry::default())
-}
-
 fn has_departed(status: Status) -> bool
     ensures { result ≡ has_departed status }
 {
@@ -92,7 +85,7 @@ pub struct Run {
     stopped: [bool; 256],
     journal: Journal,
     group: Vec<Entry>,
-    spare: Vec<OutBox>,
+    rooms: Rooms,
 }
 
 impl Model for Run {
@@ -130,7 +123,7 @@ impl Run {
             stopped: [false; 256],
             journal: Journal::new(alloc, founding),
             group,
-            spare: Vec::new(alloc),
+            rooms: Rooms::new(alloc),
         })
     }
 
@@ -275,9 +268,9 @@ impl Run {
     {
         self.journal.reserve()?;
         let mut record = new_record(self.alloc, event, name.life(), Outcome::Idle)?;
-        let spare = spare_entry(self.alloc)?;
+        let spare = spare_entry(self.alloc, what)?;
         make_room(&mut self.group, self.journal.records().len() + 2)?;
-        let mut out = empty_box(self.alloc, &mut self.spare)?;
+        let mut out = empty_box(self.alloc, &mut self.rooms)?;
         record.outcome = step_at(
             &mut self.nodes,
             name,
@@ -286,7 +279,7 @@ impl Run {
             &mut self.group,
             &mut out,
         );
-        record.packets = packets_of(self.alloc, out, &mut self.spare);
+        record.packets = packets_of(self.alloc, out, &mut self.rooms);
         self.journal.push(record);
         Ok(())
     }

@@ -95,7 +95,7 @@ fn fetched(what: &NodeEvent) -> Option<Entry>
     let NodeEvent::Hear(bytes) = what else {
         return None;
     };
-    match decode(bytes.get().bytes()) {
+    match decode(bytes.as_slice()) {
         Ok(Packet::Piece { entry, .. }) => Some(entry),
         _ => None,
     }

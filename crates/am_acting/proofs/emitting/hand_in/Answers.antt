@@ -1,23 +1,20 @@
-use Rattle.std.proofs.Common.{false, sym, ap, ◌∙◌}
+use Rattle.std.proofs.Common.{sym, ap, ◌∙◌}
 use Rattle.am_model.specs.Node.{only_name}
-use Rattle.am_model.specs.Calls.{hand_in}
 use Rattle.am_handlers.specs.Parts.{node_of}
-use Rattle.am_acting.specs.declared.note.Note.TheVariants as note
-use Rattle.am_acting.specs.Forms.{noting, own_send}
 use Rattle.am_acting.proofs.Plans.{done_as}
 use Rattle.am_acting.proofs.Emits.{hand_short, hand_spread}
 use Rattle.am_acting.proofs.emitting.hand_in.Goals as goal
 
 pub returns-then-is_short : goal.returns-then-is_short
 returns-then-is_short c =
-    done_as c.args.before (noting false (node_of c.args.parts.now) c.args.answer c.only-to.result (note.Request c.args.send.req c.args.send.body))
-    (hand_in (node_of c.args.parts.now) (own_send c.args.send.req c.args.send.body) c.args.answer) c.finish_noting.result c.finish_noting.new.out
-    (node_of c.finish_noting.new.parts) (hand_short (node_of c.args.parts.now) c.args.send.req c.args.send.body c.args.answer c.only-to.result
-    (sym c.is_short.ensures ∙ c.if-is_short.true) (c.only-to.ensures ∙ ap (λ by. only_name by) c.leader.ensures)) c.finish_noting.ensures
+    done_as
+    (hand_short (node_of c.args.parts.now) c.args.send.req c.args.send.body c.args.answer c.only-to.result (sym c.is_short.ensures ∙ c.if-is_short.true)
+    (c.only-to.ensures ∙ ap (λ by. only_name by) c.leader.ensures))
+    c.finish_noting.ensures
 
 pub returns : goal.returns
 returns c =
-    done_as c.args.before (noting false (node_of c.args.parts.now) c.args.answer c.others-to.result (note.Spread c.args.send.req c.args.send.body))
-    (hand_in (node_of c.args.parts.now) (own_send c.args.send.req c.args.send.body) c.args.answer) c.finish_noting-2.result c.finish_noting-2.new.out
-    (node_of c.finish_noting-2.new.parts) (hand_spread (node_of c.args.parts.now) c.args.send.req c.args.send.body c.args.answer c.others-to.result
-    (sym c.is_short.ensures ∙ c.if-is_short.false) c.others-to.ensures) c.finish_noting-2.ensures
+    done_as
+    (hand_spread (node_of c.args.parts.now) c.args.send.req c.args.send.body c.args.answer c.others-to.result (sym c.is_short.ensures ∙ c.if-is_short.false)
+    c.others-to.ensures)
+    c.finish_noting-2.ensures

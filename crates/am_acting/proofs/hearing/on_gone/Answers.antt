@@ -1,8 +1,8 @@
-use Rattle.std.proofs.Common.{refl, sym, ◌∙◌}
+use Rattle.std.proofs.Common.{sym, ◌∙◌}
 use Rattle.am_base.specs.declared.outcome.Outcome.TheVariants as said
-use Rattle.am_model.specs.declared.status.Status.TheVariants as status
 use Rattle.am_model.specs.Emit.{quiet}
 use Rattle.am_handlers.specs.Parts.{node_of}
+use Rattle.am_handlers.proofs.Plans.{does_now}
 use Rattle.am_acting.proofs.Plans.{does_rest}
 use Rattle.am_model.specs.Joining.{gone_row}
 use Rattle.am_acting.proofs.Rows.{gone_leaving, gone_staying}
@@ -10,13 +10,10 @@ use Rattle.am_acting.proofs.hearing.on_gone.Goals as goal
 
 pub returns-then-is_leaving : goal.returns-then-is_leaving
 returns-then-is_leaving c =
-    does_rest gone_row (λ m. quiet m said.Departed) (node_of c.args.parts.now) (node_of c.set_status.new.parts)
-    (record (node_of c.args.parts.now) { status = status.Departed })
-    (node_of c.finish_quietly.new.parts) c.accepted-before.result c.finish_quietly.result c.finish_quietly.new.out c.accepted-before.ensures.value
-    c.set_status.ensures (gone_leaving (node_of c.args.parts.now) (sym c.is_leaving.ensures ∙ c.if-is_leaving.true)) c.finish_quietly.ensures
+    does_rest gone_row (λ m. quiet m said.Departed) (node_of c.args.parts.now) c.accepted-before.ensures.value c.set_status.ensures
+    (gone_leaving (node_of c.args.parts.now) (sym c.is_leaving.ensures ∙ c.if-is_leaving.true)) c.finish_quietly.ensures
 
 pub returns : goal.returns
 returns c =
-    does_rest gone_row (λ m. quiet m said.Known) (node_of c.args.parts.now) (node_of c.args.parts.now) (node_of c.args.parts.now)
-    (node_of c.finish_quietly-2.new.parts) c.accepted-before.result c.finish_quietly-2.result c.finish_quietly-2.new.out c.accepted-before.ensures.value
-    refl (gone_staying (node_of c.args.parts.now) (sym c.is_leaving.ensures ∙ c.if-is_leaving.false)) c.finish_quietly-2.ensures
+    does_now gone_row (node_of c.args.parts.now) c.accepted-before.ensures.value
+    (gone_staying (node_of c.args.parts.now) (sym c.is_leaving.ensures ∙ c.if-is_leaving.false)) c.finish_quietly-2.ensures

@@ -1,24 +1,22 @@
-use Rattle.std.proofs.Common.{refl, sym, ◌∙◌}
+use Rattle.std.proofs.Common.{sym, ◌∙◌}
 use Rattle.am_base.specs.declared.outcome.Outcome.TheVariants as said
 use Rattle.am_model.specs.Emit.{quiet}
 use Rattle.am_handlers.specs.Parts.{node_of}
+use Rattle.am_handlers.proofs.Plans.{does_now}
 use Rattle.am_acting.proofs.Plans.{does_rest}
-use Rattle.am_bodies.specs.Bodies.{keep_body}
 use Rattle.am_model.specs.Receiving.{spread_row}
 use Rattle.am_acting.proofs.Rows.{spread_known, spread_kept}
 use Rattle.am_acting.proofs.hearing.on_spread.Goals as goal
 
 pub returns-then-is_known : goal.returns-then-is_known
 returns-then-is_known c =
-    does_rest (λ m. spread_row m c.args.from c.args.req c.args.body.now) (λ m. quiet m said.Known) (node_of c.args.parts.now) (node_of c.args.parts.now)
-    (node_of c.args.parts.now) (node_of c.finish_quietly.new.parts) c.accepted-before.result c.finish_quietly.result c.finish_quietly.new.out
-    c.accepted-before.ensures.value refl (spread_known (node_of c.args.parts.now) c.args.from c.args.req c.args.body.now (sym c.is_known.ensures
-    ∙ c.if-is_known.true)) c.finish_quietly.ensures
+    does_now (λ m. spread_row m c.args.from c.args.req c.args.body.now) (node_of c.args.parts.now) c.accepted-before.ensures.value
+    (spread_known (node_of c.args.parts.now) c.args.from c.args.req c.args.body.now (sym c.is_known.ensures ∙ c.if-is_known.true))
+    c.finish_quietly.ensures
 
 pub returns : goal.returns
 returns c =
-    does_rest (λ m. spread_row m c.args.from c.args.req c.args.body.now) (λ m. quiet m said.Kept) (node_of c.args.parts.now) (node_of c.keep_body.new.parts)
-    (record (node_of c.args.parts.now) { bodies = keep_body c.args.from c.args.req c.args.body.now c.args.parts.now.pool })
-    (node_of c.finish_quietly-2.new.parts) c.accepted-before.result c.finish_quietly-2.result c.finish_quietly-2.new.out c.accepted-before.ensures.value
-    c.keep_body.ensures (spread_kept (node_of c.args.parts.now) c.args.from c.args.req c.args.body.now (sym c.is_known.ensures ∙ c.if-is_known.false))
+    does_rest (λ m. spread_row m c.args.from c.args.req c.args.body.now) (λ m. quiet m said.Kept) (node_of c.args.parts.now)
+    c.accepted-before.ensures.value c.keep_body.ensures
+    (spread_kept (node_of c.args.parts.now) c.args.from c.args.req c.args.body.now (sym c.is_known.ensures ∙ c.if-is_known.false))
     c.finish_quietly-2.ensures

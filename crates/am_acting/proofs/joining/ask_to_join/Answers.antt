@@ -1,5 +1,4 @@
 use Rattle.std.proofs.Common.{sym, ap, false}
-use Rattle.am_model.specs.Calls.{ask_to_join}
 use Rattle.am_handlers.specs.Parts.{node_of}
 use Rattle.am_acting.specs.declared.note.Note.TheVariants as note
 use Rattle.am_acting.specs.Forms.{noting}
@@ -8,6 +7,5 @@ use Rattle.am_acting.proofs.joining.ask_to_join.Goals as goal
 
 pub returns : goal.returns
 returns c =
-    done_as c.args.before (noting false (node_of c.args.parts.now) c.args.answer c.everywhere_else-to.result note.JoinAsk)
-    (ask_to_join (node_of c.args.parts.now) c.args.answer) c.finish_noting.result c.finish_noting.new.out (node_of c.finish_noting.new.parts)
-    (ap (λ set. noting false (node_of c.args.parts.now) c.args.answer set note.JoinAsk) (sym c.everywhere_else-to.ensures)) c.finish_noting.ensures
+    done_as (ap (λ set. noting false (node_of c.args.parts.now) c.args.answer set note.JoinAsk) (sym c.everywhere_else-to.ensures))
+    c.finish_noting.ensures

@@ -2,7 +2,7 @@ use Rattle.std.proofs.Common.{sym, ap, ◌∙◌}
 use Rattle.am_base.specs.declared.outcome.Outcome.TheVariants as said
 use Rattle.am_model.specs.Node.{Node, waiting}
 use Rattle.am_model.specs.Emit.{quiet}
-use Rattle.am_model.specs.Calls.{go, leave_now}
+use Rattle.am_model.specs.Calls.{go}
 use Rattle.am_handlers.specs.Parts.{node_of}
 use Rattle.am_acting.proofs.Plans.{done_as}
 use Rattle.am_acting.proofs.Leaves.{leave_leaving, leave_busy, leave_goes, idle_none}
@@ -10,23 +10,21 @@ use Rattle.am_acting.proofs.leaving.leave_now.Goals as goal
 
 pub returns-then-is_leaving : goal.returns-then-is_leaving
 returns-then-is_leaving c =
-    done_as c.args.before (quiet (node_of c.args.parts.now) said.Leaving)
-    (leave_now (node_of c.args.parts.now)) c.finish_quietly.result c.finish_quietly.new.out (node_of c.finish_quietly.new.parts)
-    (leave_leaving (node_of c.args.parts.now) (sym c.is_leaving.ensures ∙ c.if-is_leaving.true)) c.finish_quietly.ensures
+    done_as (leave_leaving (node_of c.args.parts.now) (sym c.is_leaving.ensures ∙ c.if-is_leaving.true)) c.finish_quietly.ensures
 
 pub returns-then-is_busy : goal.returns-then-is_busy
 returns-then-is_busy c =
-    done_as c.args.before (quiet (node_of c.args.parts.now) (said.Busy c.unsettled-queued.result))
-    (leave_now (node_of c.args.parts.now)) c.finish_quietly-then-is_busy.result c.finish_quietly-then-is_busy.new.out
-    (node_of c.finish_quietly-then-is_busy.new.parts) (leave_busy (node_of c.args.parts.now) c.unsettled-queued.result (sym c.is_leaving.ensures
-    ∙ c.if-is_leaving.false) (sym c.is_busy.ensures ∙ c.if-is_busy.true) c.unsettled-queued.ensures.value) c.finish_quietly-then-is_busy.ensures
+    done_as
+    (leave_busy (node_of c.args.parts.now) c.unsettled-queued.result (sym c.is_leaving.ensures ∙ c.if-is_leaving.false)
+    (sym c.is_busy.ensures ∙ c.if-is_busy.true) c.unsettled-queued.ensures.value)
+    c.finish_quietly-then-is_busy.ensures
 
 pub returns : goal.returns
 returns c =
-    done_as c.args.before (go (quiet (node_of c.begin_leaving.new.parts) said.Asked))
-    (leave_now (node_of c.args.parts.now)) c.go_on_leaving.result c.go_on_leaving.new.out (node_of c.go_on_leaving.new.parts)
-    (leave_goes (node_of c.args.parts.now) (sym c.is_leaving.ensures ∙ c.if-is_leaving.false) (sym c.is_busy.ensures ∙ c.if-is_busy.false)
-    ∙ ap (λ (x : Node). go (quiet x said.Asked)) (sym c.begin_leaving.ensures)) c.go_on_leaving.ensures
+    done_as
+    (leave_goes (node_of c.args.parts.now) (sym c.is_leaving.ensures ∙ c.if-is_leaving.false) (sym c.is_busy.ensures ∙ c.if-is_busy.false) ∙ ap
+    (λ (x : Node). go (quiet x said.Asked)) (sym c.begin_leaving.ensures))
+    c.go_on_leaving.ensures
 
 pub begin_leaving-requires : goal.begin_leaving-requires
 begin_leaving-requires c =

@@ -9,9 +9,10 @@ use Rattle.am_acting.proofs.sending.on_done.Goals as goal
 
 pub returns : goal.returns
 returns c =
-    does_rest (λ m. done_row m c.args.req) (λ m. quiet m c.collect-answer.result) (node_of c.args.parts.now) (node_of c.collect-answer.new.parts)
-    (record (node_of c.args.parts.now) { sends = own.collect c.args.req c.args.parts.now.sender })
-    (node_of c.finish_quietly.new.parts) c.accepted-before.result c.finish_quietly.result c.finish_quietly.new.out c.accepted-before.ensures.value
-    c.collect-answer.ensures.rest (done_is (node_of c.args.parts.now) c.args.req
-    ∙ ap (λ o. quiet (record (node_of c.args.parts.now) { sends = own.collect c.args.req c.args.parts.now.sender }) o)
-    (sym c.collect-answer.ensures.answer)) c.finish_quietly.ensures
+    does_rest (λ m. done_row m c.args.req) (λ m. quiet m c.collect-answer.result) (node_of c.args.parts.now) c.accepted-before.ensures.value
+    c.collect-answer.ensures.rest
+    (done_is (node_of c.args.parts.now) c.args.req ∙ ap (λ o. quiet (record (node_of c.args.parts.now) {
+      sends = own.collect c.args.req
+          c.args.parts.now.sender;
+    }) o) (sym c.collect-answer.ensures.answer))
+    c.finish_quietly.ensures

@@ -3,27 +3,26 @@ use Rattle.am_base.specs.declared.outcome.Outcome.TheVariants as said
 use Rattle.am_model.specs.Emit.{quiet}
 use Rattle.am_model.specs.Calls.{take_row}
 use Rattle.am_handlers.specs.Parts.{node_of}
+use Rattle.am_handlers.proofs.Plans.{does_now}
 use Rattle.am_acting.proofs.Plans.{does_rest}
 use Rattle.am_acting.proofs.Rows.{take_outside, take_empty, take_given}
 use Rattle.am_acting.proofs.taking.on_take.Goals as goal
 
 pub returns-then-not-is_member : goal.returns-then-not-is_member
 returns-then-not-is_member c =
-    does_rest take_row (λ m. quiet m said.NotMember) (node_of c.args.parts.now) (node_of c.args.parts.now) (node_of c.args.parts.now)
-    (node_of c.finish_quietly.new.parts) c.accepted-before.result c.finish_quietly.result c.finish_quietly.new.out c.accepted-before.ensures.value refl
+    does_now take_row (node_of c.args.parts.now) c.accepted-before.ensures.value
     (take_outside (node_of c.args.parts.now) (sym c.is_member.ensures ∙ c.if-not-is_member.true)) c.finish_quietly.ensures
 
 pub returns-in_default : goal.returns-in_default
 returns-in_default c =
-    does_rest take_row (λ m. quiet m said.Empty) (node_of c.args.parts.now) (node_of c.args.parts.now) (node_of c.args.parts.now)
-    (node_of c.finish_quietly-in_default.new.parts) c.accepted-before.result c.finish_quietly-in_default.result c.finish_quietly-in_default.new.out
-    c.accepted-before.ensures.value refl (take_empty (node_of c.args.parts.now) (sym c.is_member.ensures
-    ∙ c.if-not-is_member.false) (c.in_default.ensures.none.0 refl)) c.finish_quietly-in_default.ensures
+    does_now take_row (node_of c.args.parts.now) c.accepted-before.ensures.value
+    (take_empty (node_of c.args.parts.now) (sym c.is_member.ensures ∙ c.if-not-is_member.false) (c.in_default.ensures.none.0 refl))
+    c.finish_quietly-in_default.ensures
 
 pub returns : goal.returns
 returns c =
-    does_rest take_row (λ m. quiet m (said.Took c.in-Some.number c.in-Some.entry)) (node_of c.args.parts.now) (node_of c.set_taken.new.parts)
-    (record (node_of c.args.parts.now) { core = record c.args.parts.now.core { taken = c.in-Some.number } })
-    (node_of c.finish_quietly-2.new.parts) c.accepted-before.result c.finish_quietly-2.result c.finish_quietly-2.new.out c.accepted-before.ensures.value
-    c.set_taken.ensures (take_given (node_of c.args.parts.now) c.in-Some.number c.in-Some.entry (sym c.is_member.ensures
-    ∙ c.if-not-is_member.false) c.in-Some.ensures.accepted c.in-Some.ensures.number c.in-Some.ensures.entry) c.finish_quietly-2.ensures
+    does_rest take_row (λ m. quiet m (said.Took c.in-Some.number c.in-Some.entry)) (node_of c.args.parts.now) c.accepted-before.ensures.value
+    c.set_taken.ensures
+    (take_given (node_of c.args.parts.now) c.in-Some.number c.in-Some.entry (sym c.is_member.ensures ∙ c.if-not-is_member.false) c.in-Some.ensures.accepted
+    c.in-Some.ensures.number c.in-Some.ensures.entry)
+    c.finish_quietly-2.ensures

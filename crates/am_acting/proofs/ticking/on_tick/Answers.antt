@@ -1,35 +1,20 @@
-use Rattle.std.proofs.Common.{refl, sym, ◌∙◌}
-use Rattle.am_base.specs.declared.outcome.Outcome.TheVariants as said
+use Rattle.std.proofs.Common.{sym, ◌∙◌}
 use Rattle.am_model.specs.declared.status.Status.TheVariants as status
-use Rattle.am_model.specs.Emit.{quiet}
-use Rattle.am_model.specs.Calls.{ask_to_join}
-use Rattle.am_model.specs.Ticks.{tick_with, tick_row}
+use Rattle.am_model.specs.Ticks.{tick_row}
 use Rattle.am_handlers.specs.Parts.{node_of}
-use Rattle.am_acting.proofs.Plans.{does_rest}
+use Rattle.am_handlers.proofs.Plans.{does_now}
 use Rattle.am_acting.proofs.Ticks as ticks
 use Rattle.am_acting.proofs.ticking.on_tick.Goals as goal
 
-pub returns-in-Stranger : goal.returns-in-Stranger
-returns-in-Stranger c =
-    does_rest tick_row (λ m. quiet m said.Idle) (node_of c.args.parts.now) (node_of c.args.parts.now) (node_of c.args.parts.now)
-    (node_of c.finish_quietly.new.parts) c.accepted-before.result c.finish_quietly.result c.finish_quietly.new.out c.accepted-before.ensures.value refl
-    (ticks.tick_is (node_of c.args.parts.now) status.Stranger (sym c.status.ensures ∙ c.in-Stranger.is)) c.finish_quietly.ensures
-
-pub returns-in-Departed : goal.returns-in-Departed
-returns-in-Departed c =
-    does_rest tick_row (λ m. quiet m said.Idle) (node_of c.args.parts.now) (node_of c.args.parts.now) (node_of c.args.parts.now)
-    (node_of c.finish_quietly-in-Departed.new.parts) c.accepted-before.result c.finish_quietly-in-Departed.result c.finish_quietly-in-Departed.new.out
-    c.accepted-before.ensures.value refl (ticks.tick_is (node_of c.args.parts.now) status.Departed (sym c.status.ensures ∙ c.in-Departed.is))
-    c.finish_quietly-in-Departed.ensures
-
 pub returns-in-Asking : goal.returns-in-Asking
-returns-in-Asking c =
-    does_rest tick_row (λ m. ask_to_join m said.Ticked) (node_of c.args.parts.now) (node_of c.args.parts.now) (node_of c.args.parts.now)
-    (node_of c.ask_to_join.new.parts) c.accepted-before.result c.ask_to_join.result c.ask_to_join.new.out c.accepted-before.ensures.value refl
+returns-in-Asking c = does_now tick_row (node_of c.args.parts.now) c.accepted-before.ensures.value
     (ticks.tick_is (node_of c.args.parts.now) status.Asking (sym c.status.ensures ∙ c.in-Asking.is)) c.ask_to_join.ensures
 
+pub returns-in_default : goal.returns-in_default
+returns-in_default c = does_now tick_row (node_of c.args.parts.now) c.accepted-before.ensures.value
+    (ticks.tick_idle (node_of c.args.parts.now) (λ is. c.in_default.not-Asking (c.status.ensures ∙ is)) (λ is. c.in_default.not-Member (c.status.ensures ∙ is)))
+    c.finish_quietly.ensures
+
 pub returns-in-Member : goal.returns-in-Member
-returns-in-Member c =
-    does_rest tick_row (λ m. tick_with m m.ballot) (node_of c.args.parts.now) (node_of c.args.parts.now) (node_of c.args.parts.now)
-    (node_of c.tick_with.new.parts) c.accepted-before.result c.tick_with.result c.tick_with.new.out c.accepted-before.ensures.value refl
+returns-in-Member c = does_now tick_row (node_of c.args.parts.now) c.accepted-before.ensures.value
     (ticks.tick_is (node_of c.args.parts.now) status.Member (sym c.status.ensures ∙ c.in-Member.is)) c.tick_with.ensures

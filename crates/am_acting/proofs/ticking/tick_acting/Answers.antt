@@ -1,5 +1,4 @@
 use Rattle.std.proofs.Common.{sym, ◌∙◌}
-use Rattle.am_model.specs.Ticks.{tick_promised, tick_member, tick_sequencer, tick_acting}
 use Rattle.am_handlers.specs.Parts.{node_of}
 use Rattle.am_acting.proofs.Plans.{done_as}
 use Rattle.am_acting.proofs.Ticks as ticks
@@ -7,18 +6,17 @@ use Rattle.am_acting.proofs.ticking.tick_acting.Goals as goal
 
 pub returns-then-not-acts : goal.returns-then-not-acts
 returns-then-not-acts c =
-    done_as c.args.before (tick_promised (node_of c.args.parts.now)) (tick_acting (node_of c.args.parts.now)) c.tick_promised.result c.tick_promised.new.out
-    (node_of c.tick_promised.new.parts) (ticks.acting_promised (node_of c.args.parts.now) (sym c.acts.ensures.value ∙ c.if-not-acts.true))
-    c.tick_promised.ensures
+    done_as (ticks.acting_promised (node_of c.args.parts.now) (sym c.acts.ensures.value ∙ c.if-not-acts.true)) c.tick_promised.ensures
 
 pub returns-then-is_sequencer : goal.returns-then-is_sequencer
 returns-then-is_sequencer c =
-    done_as c.args.before (tick_sequencer (node_of c.args.parts.now)) (tick_acting (node_of c.args.parts.now)) c.tick_sequencer.result c.tick_sequencer.new.out
-    (node_of c.tick_sequencer.new.parts) (ticks.acting_leads (node_of c.args.parts.now) (sym c.acts.ensures.value
-    ∙ c.if-not-acts.false) (sym c.is_sequencer.ensures.value ∙ c.if-is_sequencer.true)) c.tick_sequencer.ensures
+    done_as
+    (ticks.acting_leads (node_of c.args.parts.now) (sym c.acts.ensures.value ∙ c.if-not-acts.false) (sym c.is_sequencer.ensures.value ∙ c.if-is_sequencer.true))
+    c.tick_sequencer.ensures
 
 pub returns : goal.returns
 returns c =
-    done_as c.args.before (tick_member (node_of c.args.parts.now)) (tick_acting (node_of c.args.parts.now)) c.tick_member.result c.tick_member.new.out
-    (node_of c.tick_member.new.parts) (ticks.acting_member (node_of c.args.parts.now) (sym c.acts.ensures.value
-    ∙ c.if-not-acts.false) (sym c.is_sequencer.ensures.value ∙ c.if-is_sequencer.false)) c.tick_member.ensures
+    done_as
+    (ticks.acting_member (node_of c.args.parts.now) (sym c.acts.ensures.value ∙ c.if-not-acts.false)
+    (sym c.is_sequencer.ensures.value ∙ c.if-is_sequencer.false))
+    c.tick_member.ensures

@@ -1,21 +1,13 @@
-use Rattle.std.proofs.Common.{false, sym, ap, ◌∙◌}
-use Rattle.am_base.specs.declared.outcome.Outcome.TheVariants as said
-use Rattle.am_model.specs.Node.{only_name, waiting}
-use Rattle.am_model.specs.Emit.{quiet}
-use Rattle.am_model.specs.Calls.{emit, go}
-use Rattle.am_model.specs.Ticks.{tick_member}
+use Rattle.std.proofs.Common.{sym, ap, ◌∙◌}
+use Rattle.am_model.specs.Node.{only_name}
 use Rattle.am_handlers.specs.Parts.{node_of}
-use Rattle.am_acting.specs.declared.note.Note.TheVariants as note
-use Rattle.am_acting.specs.Forms.{noting}
 use Rattle.am_acting.proofs.Plans.{done_as}
 use Rattle.am_acting.proofs.Ticks as ticks
 use Rattle.am_acting.proofs.ticking.tick_member.Goals as goal
 
 pub returns-then-is_leaving : goal.returns-then-is_leaving
 returns-then-is_leaving c =
-    done_as c.args.before (go (quiet (node_of c.args.parts.now) said.Ticked))
-    (tick_member (node_of c.args.parts.now)) c.go_on_leaving.result c.go_on_leaving.new.out (node_of c.go_on_leaving.new.parts)
-    (ticks.member_leaves (node_of c.args.parts.now) (sym c.is_leaving.ensures ∙ c.if-is_leaving.true)) c.go_on_leaving.ensures
+    done_as (ticks.member_leaves (node_of c.args.parts.now) (sym c.is_leaving.ensures ∙ c.if-is_leaving.true)) c.go_on_leaving.ensures
 
 pub go_on_leaving-requires-clause-idle : goal.go_on_leaving-requires-clause-idle
 go_on_leaving-requires-clause-idle c =
@@ -23,14 +15,14 @@ go_on_leaving-requires-clause-idle c =
 
 pub returns-then-would_emit_waiting : goal.returns-then-would_emit_waiting
 returns-then-would_emit_waiting c =
-    done_as c.args.before (emit (node_of c.args.parts.now) (waiting (node_of c.args.parts.now)) said.Ticked)
-    (tick_member (node_of c.args.parts.now)) c.emit.result c.emit.new.out (node_of c.emit.new.parts)
-    (ticks.member_emits (node_of c.args.parts.now) (sym c.is_leaving.ensures ∙ c.if-is_leaving.false) (sym c.would_emit_waiting.ensures
-    ∙ c.if-would_emit_waiting.true)) c.emit.ensures
+    done_as
+    (ticks.member_emits (node_of c.args.parts.now) (sym c.is_leaving.ensures ∙ c.if-is_leaving.false)
+    (sym c.would_emit_waiting.ensures ∙ c.if-would_emit_waiting.true))
+    c.emit.ensures
 
 pub returns : goal.returns
 returns c =
-    done_as c.args.before (noting false (node_of c.args.parts.now) said.Ticked c.only-to.result note.Ack)
-    (tick_member (node_of c.args.parts.now)) c.finish_noting.result c.finish_noting.new.out (node_of c.finish_noting.new.parts)
-    (ticks.member_reports (node_of c.args.parts.now) c.only-to.result (sym c.is_leaving.ensures ∙ c.if-is_leaving.false) (sym c.would_emit_waiting.ensures
-    ∙ c.if-would_emit_waiting.false) (c.only-to.ensures ∙ ap (λ k. only_name k) c.leader.ensures)) c.finish_noting.ensures
+    done_as
+    (ticks.member_reports (node_of c.args.parts.now) c.only-to.result (sym c.is_leaving.ensures ∙ c.if-is_leaving.false)
+    (sym c.would_emit_waiting.ensures ∙ c.if-would_emit_waiting.false) (c.only-to.ensures ∙ ap (λ k. only_name k) c.leader.ensures))
+    c.finish_noting.ensures

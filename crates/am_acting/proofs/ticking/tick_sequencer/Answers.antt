@@ -1,20 +1,15 @@
-use Rattle.std.proofs.Common.{true, sym, ◌∙◌}
-use Rattle.am_base.specs.declared.outcome.Outcome.TheVariants as said
-use Rattle.am_model.specs.Emit.{quiet}
-use Rattle.am_model.specs.Calls.{go}
-use Rattle.am_model.specs.Ticks.{tick_sequencer}
+use Rattle.std.proofs.Common.{sym, ◌∙◌}
 use Rattle.am_handlers.specs.Parts.{node_of}
-use Rattle.am_acting.specs.Forms.{noting, polled}
 use Rattle.am_acting.proofs.Plans.{done_as}
 use Rattle.am_acting.proofs.Ticks as ticks
 use Rattle.am_acting.proofs.ticking.tick_sequencer.Goals as goal
 
 pub returns-then-is_leaving : goal.returns-then-is_leaving
 returns-then-is_leaving c =
-    done_as c.args.before (go (polled (quiet (node_of c.args.parts.now) said.Ticked)))
-    (tick_sequencer (node_of c.args.parts.now)) c.poll_leaving.result c.poll_leaving.new.out (node_of c.poll_leaving.new.parts)
-    (ticks.leads_leaving (node_of c.args.parts.now) (sym c.is_leaving.ensures
-    ∙ c.if-is_leaving.true) (c.args.parts.now.keeps.settled (sym c.is_leaving.ensures ∙ c.if-is_leaving.true))) c.poll_leaving.ensures
+    done_as
+    (ticks.leads_leaving (node_of c.args.parts.now) (sym c.is_leaving.ensures ∙ c.if-is_leaving.true)
+    (c.args.parts.now.keeps.settled (sym c.is_leaving.ensures ∙ c.if-is_leaving.true)))
+    c.poll_leaving.ensures
 
 pub poll_leaving-requires-clause-idle : goal.poll_leaving-requires-clause-idle
 poll_leaving-requires-clause-idle c =
@@ -22,35 +17,29 @@ poll_leaving-requires-clause-idle c =
 
 pub returns-in_default : goal.returns-in_default
 returns-in_default c =
-    done_as c.args.before (polled (quiet (node_of c.args.parts.now) said.Ticked))
-    (tick_sequencer (node_of c.args.parts.now)) c.finish_polling.result c.finish_polling.new.out (node_of c.finish_polling.new.parts)
-    (ticks.leads_idle (node_of c.args.parts.now) (sym c.is_leaving.ensures ∙ c.if-is_leaving.false) (sym c.in_default.ensures.value))
+    done_as (ticks.leads_idle (node_of c.args.parts.now) (sym c.is_leaving.ensures ∙ c.if-is_leaving.false) (sym c.in_default.ensures.value))
     c.finish_polling.ensures
 
 pub returns-then-not-would_emit : goal.returns-then-not-would_emit
 returns-then-not-would_emit c =
-    done_as c.args.before (polled (quiet (node_of c.args.parts.now) said.Ticked))
-    (tick_sequencer (node_of c.args.parts.now)) c.finish_polling-then-not-would_emit.result c.finish_polling-then-not-would_emit.new.out
-    (node_of c.finish_polling-then-not-would_emit.new.parts)
-    (ticks.leads_numbered (node_of c.args.parts.now) c.in-Some.send.req c.in-Some.send.body (sym c.is_leaving.ensures
-    ∙ c.if-is_leaving.false) (sym c.in-Some.ensures.value) (sym c.would_emit.ensures ∙ c.if-not-would_emit.true))
+    done_as
+    (ticks.leads_numbered (node_of c.args.parts.now) c.in-Some.send.req c.in-Some.send.body (sym c.is_leaving.ensures ∙ c.if-is_leaving.false)
+    (sym c.in-Some.ensures.value) (sym c.would_emit.ensures ∙ c.if-not-would_emit.true))
     c.finish_polling-then-not-would_emit.ensures
 
 pub returns-then-not-has_room : goal.returns-then-not-has_room
 returns-then-not-has_room c =
-    done_as c.args.before (polled (quiet (node_of c.args.parts.now) c.put_off-answer.result))
-    (tick_sequencer (node_of c.args.parts.now)) c.finish_polling-then-not-has_room.result c.finish_polling-then-not-has_room.new.out
-    (node_of c.finish_polling-then-not-has_room.new.parts)
-    (ticks.leads_full (node_of c.args.parts.now) c.in-Some.send.req c.in-Some.send.body c.put_off-answer.result (sym c.is_leaving.ensures
-    ∙ c.if-is_leaving.false) (sym c.in-Some.ensures.value) (sym c.would_emit.ensures
-    ∙ c.if-not-would_emit.false) c.requires.leads (sym c.has_room.ensures.value ∙ c.if-not-has_room.true) c.put_off-answer.ensures)
+    done_as
+    (ticks.leads_full (node_of c.args.parts.now) c.in-Some.send.req c.in-Some.send.body c.put_off-answer.result
+    (sym c.is_leaving.ensures ∙ c.if-is_leaving.false) (sym c.in-Some.ensures.value) (sym c.would_emit.ensures ∙ c.if-not-would_emit.false) c.requires.leads
+    (sym c.has_room.ensures.value ∙ c.if-not-has_room.true) c.put_off-answer.ensures)
     c.finish_polling-then-not-has_room.ensures
 
 pub returns : goal.returns
 returns c =
-    done_as c.args.before (polled (noting true (node_of c.number_send-note.new.parts) said.Ticked c.others-to.result c.number_send-note.result))
-    (tick_sequencer (node_of c.args.parts.now)) c.finish_numbering.result c.finish_numbering.new.out (node_of c.finish_numbering.new.parts)
+    done_as
     (ticks.leads_numbers (node_of c.args.parts.now) (node_of c.number_send-note.new.parts) c.in-Some.send.req c.in-Some.send.body c.others-to.result
-    c.number_send-note.result (sym c.is_leaving.ensures ∙ c.if-is_leaving.false) (sym c.in-Some.ensures.value) (sym c.would_emit.ensures
-    ∙ c.if-not-would_emit.false) c.requires.leads (sym c.has_room.ensures.value
-    ∙ c.if-not-has_room.false) c.others-to.ensures c.number_send-note.ensures.note c.number_send-note.ensures.node) c.finish_numbering.ensures
+    c.number_send-note.result (sym c.is_leaving.ensures ∙ c.if-is_leaving.false) (sym c.in-Some.ensures.value)
+    (sym c.would_emit.ensures ∙ c.if-not-would_emit.false) c.requires.leads (sym c.has_room.ensures.value ∙ c.if-not-has_room.false) c.others-to.ensures
+    c.number_send-note.ensures.note c.number_send-note.ensures.node)
+    c.finish_numbering.ensures

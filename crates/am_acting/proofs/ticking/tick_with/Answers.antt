@@ -1,21 +1,19 @@
 use Rattle.std.proofs.Common.{sym, ap, ◌∙◌}
-use Rattle.am_model.specs.Ticks.{tick_acting, tick_with}
 use Rattle.am_handlers.specs.Parts.{node_of}
-use Rattle.am_acting.specs.Forms.{by_again}
 use Rattle.am_acting.proofs.Plans.{done_as}
 use Rattle.am_acting.proofs.Ticks as ticks
 use Rattle.am_acting.proofs.ticking.tick_with.Goals as goal
 
 pub returns-in_default : goal.returns-in_default
 returns-in_default c =
-    done_as c.args.before (tick_acting (node_of c.args.parts.now))
-    (tick_with (node_of c.args.parts.now) ((node_of c.args.parts.now).ballot)) c.tick_acting.result c.tick_acting.new.out (node_of c.tick_acting.new.parts)
-    (ticks.tick_unfinished (node_of c.args.parts.now) ((node_of c.args.parts.now).ballot)
-    ∙ ap (ticks.acts_or_asks (node_of c.args.parts.now)) (sym c.unfinished.ensures ∙ c.in_default.is)) c.tick_acting.ensures
+    done_as
+    (ticks.tick_unfinished (node_of c.args.parts.now) ((node_of c.args.parts.now).ballot) ∙ ap (ticks.acts_or_asks (node_of c.args.parts.now))
+    (sym c.unfinished.ensures ∙ c.in_default.is))
+    c.tick_acting.ensures
 
 pub returns : goal.returns
 returns c =
-    done_as c.args.before (by_again (node_of c.args.parts.now) c.in-Some.again)
-    (tick_with (node_of c.args.parts.now) ((node_of c.args.parts.now).ballot)) c.ask_again.result c.ask_again.new.out (node_of c.ask_again.new.parts)
-    (ticks.tick_unfinished (node_of c.args.parts.now) ((node_of c.args.parts.now).ballot)
-    ∙ ap (ticks.acts_or_asks (node_of c.args.parts.now)) (sym c.unfinished.ensures ∙ c.in-Some.is)) c.ask_again.ensures
+    done_as
+    (ticks.tick_unfinished (node_of c.args.parts.now) ((node_of c.args.parts.now).ballot) ∙ ap (ticks.acts_or_asks (node_of c.args.parts.now))
+    (sym c.unfinished.ensures ∙ c.in-Some.is))
+    c.ask_again.ensures

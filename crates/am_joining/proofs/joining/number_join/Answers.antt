@@ -1,18 +1,16 @@
-use Rattle.std.proofs.Common.{◌≡◌, ◌+◌, List, ℕ, true, false, refl, sym, ap, ◌∙◌, [], subst}
+use Rattle.std.proofs.Common.{◌≡◌, ◌+◌, List, true, refl, sym, ap, ◌∙◌, subst}
 use Rattle.am_base.specs.declared.image.Image.{Image}
-use Rattle.am_base.specs.declared.entry.Entry.{Entry}
-use Rattle.am_base.specs.declared.entry.Entry.TheVariants.{Join, Leave}
+use Rattle.am_base.specs.declared.entry.Entry.TheVariants.{Join}
 use Rattle.am_base.specs.declared.outcome.Outcome.TheVariants as said
 use Rattle.am_base.specs.Names.{has}
-use Rattle.am_base.specs.Lists.{members_of, after, fits}
+use Rattle.am_base.specs.Lists.{members_of, fits}
 use Rattle.am_core.proofs.Ends.{told-push}
-use Rattle.am_packet.specs.declared.packet.Packet.{Packet}
 use Rattle.am_packet.specs.Boxes.{Letter, with_letter}
 use Rattle.am_model.specs.Node.{Node, top, told, others, pushed}
-use Rattle.am_model.specs.Ends.{IsEndOf, Tells}
+use Rattle.am_model.specs.Ends.{IsEndOf}
 use Rattle.am_handlers.specs.Cores.{CoreTells}
 use Rattle.am_handlers.specs.Keeps.{NodeKeeps}
-use Rattle.am_handlers.specs.Parts.{node_of, with_told}
+use Rattle.am_handlers.specs.Parts.{node_of}
 use Rattle.am_handlers.proofs.Ends.{end_self}
 use Rattle.am_handlers.proofs.Keeping.{keeps_pushed, leading_log}
 use Rattle.am_handlers.proofs.Plans.{done, end_tells, told_numbered}
@@ -40,12 +38,11 @@ returns c =
     let old = node_of c.args.parts.now in
     let mid = node_of c.push.new.self in
     let new = node_of c.end.new.self in
-    let order = c.accepted-before.ensures.order in
-    let before = c.push.ensures.order in
     let node : mid ≡ pushed (admitted old c.args.from) (Join c.args.from) = c.push.ensures.node
     ∙ ap (λ (x : Node). pushed x (Join c.args.from)) c.admit.ensures in
-    let end : IsEndOf (pushed (admitted old c.args.from) (Join c.args.from)) mid = subst (λ (x : Node). IsEndOf x mid) node (end_self mid before.kept) in
-    let to : c.others-others.result ≡ others old = end_tells others old c.others-others.result order.kept c.others-others.ensures in
+    let end : IsEndOf (pushed (admitted old c.args.from) (Join c.args.from)) mid = subst (λ (x : Node). IsEndOf x mid) node
+    (end_self mid c.push.ensures.order.kept) in
+    let to : c.others-others.result ≡ others old = end_tells others old c.others-others.result c.accepted-before.ensures.order.kept c.others-others.ensures in
     let number : c.next_number-number.result ≡ top old + 1 = c.next_number-number.ensures.value in
     let put = c.put.ensures ∙ ap (λ set. with_letter set c.bcast.result c.args.out.now) to ∙ ap (with_letter (others old) c.bcast.result) c.requires.empty in
     let Q : List Letter → Type 0 = λ letters. CoreTells (and_welcome c.next_number-number.result c.args.from letters) new.core c.welcome_accepted.new.out in

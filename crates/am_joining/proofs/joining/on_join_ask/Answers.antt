@@ -1,54 +1,45 @@
-use Rattle.std.proofs.Common.{Some, None, sym, ap, ◌∙◌, subst}
+use Rattle.std.proofs.Common.{Some, None, sym, ◌∙◌, subst}
 use Rattle.am_base.specs.declared.outcome.Outcome.{Outcome}
-use Rattle.am_base.specs.declared.outcome.Outcome.TheVariants as said
-use Rattle.am_model.specs.Node.{top}
-use Rattle.am_model.specs.Emit.{Plan, quiet, polling}
-use Rattle.am_model.specs.Joining.{number_join, join_ask_row}
+use Rattle.am_model.specs.Emit.{polling}
+use Rattle.am_model.specs.Joining.{join_ask_row}
 use Rattle.am_handlers.specs.Parts.{node_of}
 use Rattle.am_handlers.specs.Finishing.{Done}
-use Rattle.am_handlers.proofs.Plans.{does_plan}
-use Rattle.am_joining.specs.Pieces.{welcome_again}
+use Rattle.am_handlers.proofs.Plans.{does_now}
 use Rattle.am_joining.proofs.Joins.{join_by, rest_again, rest_held, rest_number}
 use Rattle.am_joining.proofs.joining.on_join_ask.Goals as goal
 
 pub returns-in-Some : goal.returns-in-Some
 returns-in-Some c =
     let old = node_of c.args.parts.now in
-    let row = c.at_place-row.result in
-    let is = sym c.in-Some.is ∙ c.turned_down-turned.ensures in
-    does_plan (λ m. join_ask_row m c.args.from) (quiet old c.in-Some.answer) c.accepted-before.result old _ _ _ c.accepted-before.ensures.value
-    (join_by old c.args.from c.accepted-before.result row (Some c.in-Some.answer) c.at_place-row.ensures.value c.accepted-before.ensures.value is)
+    does_now (λ m. join_ask_row m c.args.from) old c.accepted-before.ensures.value
+    (join_by old c.args.from _ _ (Some c.in-Some.answer) c.at_place-row.ensures.value c.accepted-before.ensures.value
+    (sym c.in-Some.is ∙ c.turned_down-turned.ensures))
     c.finish_quietly.ensures
 
 pub returns-then-not-may_join : goal.returns-then-not-may_join
 returns-then-not-may_join c =
     let old = node_of c.args.parts.now in
-    let row = c.at_place-row.result in
-    let is = sym c.in_default.is ∙ c.turned_down-turned.ensures in
-    does_plan (λ m. join_ask_row m c.args.from) (welcome_again old c.args.from row.joined) c.accepted-before.result old _ _ _ c.accepted-before.ensures.value
-    (join_by old c.args.from c.accepted-before.result row None c.at_place-row.ensures.value c.accepted-before.ensures.value is
-    ∙ rest_again old c.args.from row (sym c.may_join.ensures ∙ c.if-not-may_join.true))
+    does_now (λ m. join_ask_row m c.args.from) old c.accepted-before.ensures.value
+    (join_by old c.args.from _ _ None c.at_place-row.ensures.value c.accepted-before.ensures.value (sym c.in_default.is ∙ c.turned_down-turned.ensures)
+    ∙ rest_again old c.args.from c.at_place-row.result (sym c.may_join.ensures ∙ c.if-not-may_join.true))
     c.welcome_again.ensures
 
 pub returns-then-not-has_room : goal.returns-then-not-has_room
 returns-then-not-has_room c =
     let old = node_of c.args.parts.now in
-    let row = c.at_place-row.result in
-    let is = sym c.in_default.is ∙ c.turned_down-turned.ensures in
     let P : Outcome → Type 0 = λ o. Done c.accepted-before.result (polling old o) c.finish_polling.result c.finish_polling.new.out
     (node_of c.finish_polling.new.parts) in
-    does_plan (λ m. join_ask_row m c.args.from) (polling old (said.Held old.core.base (top old))) c.accepted-before.result old _ _ _
-    c.accepted-before.ensures.value
-    (join_by old c.args.from c.accepted-before.result row None c.at_place-row.ensures.value c.accepted-before.ensures.value is
-    ∙ rest_held old c.args.from row (sym c.may_join.ensures ∙ c.if-not-may_join.false) (sym c.has_room.ensures.value ∙ c.if-not-has_room.true))
+    does_now (λ m. join_ask_row m c.args.from) old c.accepted-before.ensures.value
+    (join_by old c.args.from _ _ None c.at_place-row.ensures.value c.accepted-before.ensures.value (sym c.in_default.is ∙ c.turned_down-turned.ensures)
+    ∙ rest_held old c.args.from c.at_place-row.result (sym c.may_join.ensures ∙ c.if-not-may_join.false)
+    (sym c.has_room.ensures.value ∙ c.if-not-has_room.true))
     (subst P c.held-answer.ensures c.finish_polling.ensures)
 
 pub returns : goal.returns
 returns c =
     let old = node_of c.args.parts.now in
-    let row = c.at_place-row.result in
-    let is = sym c.in_default.is ∙ c.turned_down-turned.ensures in
-    does_plan (λ m. join_ask_row m c.args.from) (number_join old c.args.from) c.accepted-before.result old _ _ _ c.accepted-before.ensures.value
-    (join_by old c.args.from c.accepted-before.result row None c.at_place-row.ensures.value c.accepted-before.ensures.value is
-    ∙ rest_number old c.args.from row (sym c.may_join.ensures ∙ c.if-not-may_join.false) (sym c.has_room.ensures.value ∙ c.if-not-has_room.false))
+    does_now (λ m. join_ask_row m c.args.from) old c.accepted-before.ensures.value
+    (join_by old c.args.from _ _ None c.at_place-row.ensures.value c.accepted-before.ensures.value (sym c.in_default.is ∙ c.turned_down-turned.ensures)
+    ∙ rest_number old c.args.from c.at_place-row.result (sym c.may_join.ensures ∙ c.if-not-may_join.false)
+    (sym c.has_room.ensures.value ∙ c.if-not-has_room.false))
     c.number_join.ensures

@@ -1,4 +1,4 @@
-use Rattle.std.proofs.Common.{List, ℕ, false, true, sym, ap, ◌∙◌, subst, Bool}
+use Rattle.std.proofs.Common.{List, ℕ, sym, ap, ◌∙◌, subst, Bool}
 use Rattle.am_packet.specs.Boxes.{Letter, with_letter}
 use Rattle.am_model.specs.Joining.{may_go}
 use Rattle.am_model.specs.Ends.{Tells}

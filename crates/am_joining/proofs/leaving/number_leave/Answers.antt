@@ -1,18 +1,14 @@
-use Rattle.std.proofs.Common.{◌≡◌, ◌+◌, List, ℕ, true, false, refl, sym, ap, ◌∙◌, [], subst}
+use Rattle.std.proofs.Common.{◌≡◌, ◌+◌, refl, ap, ◌∙◌, subst}
 use Rattle.am_base.specs.declared.image.Image.{Image}
-use Rattle.am_base.specs.declared.entry.Entry.{Entry}
-use Rattle.am_base.specs.declared.entry.Entry.TheVariants.{Join, Leave}
+use Rattle.am_base.specs.declared.entry.Entry.TheVariants.{Leave}
 use Rattle.am_base.specs.declared.outcome.Outcome.TheVariants as said
 use Rattle.am_base.specs.Names.{has}
-use Rattle.am_base.specs.Lists.{members_of, after}
+use Rattle.am_base.specs.Lists.{members_of}
 use Rattle.am_core.proofs.Ends.{told-push}
-use Rattle.am_packet.specs.declared.packet.Packet.{Packet}
-use Rattle.am_packet.specs.Boxes.{Letter, with_letter}
+use Rattle.am_packet.specs.Boxes.{with_letter}
 use Rattle.am_model.specs.Node.{Node, top, told, others, pushed}
-use Rattle.am_model.specs.Ends.{IsEndOf, Tells}
-use Rattle.am_handlers.specs.Cores.{CoreTells}
-use Rattle.am_handlers.specs.Keeps.{NodeKeeps}
-use Rattle.am_handlers.specs.Parts.{node_of, with_told}
+use Rattle.am_model.specs.Ends.{IsEndOf}
+use Rattle.am_handlers.specs.Parts.{node_of}
 use Rattle.am_handlers.proofs.Ends.{end_self}
 use Rattle.am_handlers.proofs.Keeping.{keeps_pushed, leading_log}
 use Rattle.am_handlers.proofs.Plans.{done, end_tells, told_numbered}
@@ -38,10 +34,8 @@ returns c =
     let old = node_of c.args.parts.now in
     let mid = node_of c.push.new.self in
     let new = node_of c.end.new.self in
-    let order = c.accepted-before.ensures.order in
-    let before = c.push.ensures.order in
-    let end : IsEndOf (pushed old (Leave c.args.from)) mid = subst (λ (x : Node). IsEndOf x mid) c.push.ensures.node (end_self mid before.kept) in
-    let to : c.others-others.result ≡ others old = end_tells others old c.others-others.result order.kept c.others-others.ensures in
+    let end : IsEndOf (pushed old (Leave c.args.from)) mid = subst (λ (x : Node). IsEndOf x mid) c.push.ensures.node (end_self mid c.push.ensures.order.kept) in
+    let to : c.others-others.result ≡ others old = end_tells others old c.others-others.result c.accepted-before.ensures.order.kept c.others-others.ensures in
     let number : c.next_number-number.result ≡ top old + 1 = c.next_number-number.ensures.value in
     let put = c.put.ensures ∙ ap (λ set. with_letter set c.bcast.result c.args.out.now) to ∙ ap (with_letter (others old) c.bcast.result) c.requires.empty in
     done c.args.before (number_leave old c.args.from) mid new _ c.let_go-goes.new.out c.let_go-goes.new.out refl end c.end.ensures

@@ -1,37 +1,33 @@
 use Rattle.std.proofs.Common.{sym, ◌∙◌, subst}
-use Rattle.am_base.specs.declared.outcome.Outcome.TheVariants as said
 use Rattle.am_model.specs.Node.{Node}
-use Rattle.am_model.specs.Emit.{quiet}
-use Rattle.am_model.specs.Joining.{begun, welcomed, welcome_row}
+use Rattle.am_model.specs.Joining.{welcomed, welcome_row}
 use Rattle.am_handlers.specs.Parts.{node_of}
 use Rattle.am_handlers.specs.Finishing.{Done}
-use Rattle.am_handlers.proofs.Plans.{does_plan}
+use Rattle.am_handlers.proofs.Plans.{does_now}
 use Rattle.am_joining.proofs.Begun.{welcome_known, welcome_elsewhere, welcome_unfit, welcome_begins, member_or_asks}
 use Rattle.am_joining.proofs.welcomed.on_welcome.Goals as goal
 
 pub returns-then-is_member : goal.returns-then-is_member
 returns-then-is_member c =
     let old = node_of c.args.parts.now in
-    does_plan (λ m. welcome_row m c.args.from c.args.stamp c.args.base c.args.join c.args.image.now)
-    (quiet old said.Known) c.accepted-before.result old _ _ _ c.accepted-before.ensures.value
+    does_now (λ m. welcome_row m c.args.from c.args.stamp c.args.base c.args.join c.args.image.now) old c.accepted-before.ensures.value
     (welcome_known old c.args.from c.args.stamp c.args.base c.args.join c.args.image.now (sym c.is_member.ensures ∙ c.if-is_member.true))
     c.finish_quietly.ensures
 
 pub returns-then-has_promised_more : goal.returns-then-has_promised_more
 returns-then-has_promised_more c =
     let old = node_of c.args.parts.now in
-    does_plan (λ m. welcome_row m c.args.from c.args.stamp c.args.base c.args.join c.args.image.now)
-    (quiet old said.Elsewhere) c.accepted-before.result old _ _ _ c.accepted-before.ensures.value
-    (welcome_elsewhere old c.args.from c.args.stamp c.args.base c.args.join c.args.image.now (sym c.is_member.ensures
-    ∙ c.if-is_member.false) (sym c.has_promised_more.ensures ∙ c.if-has_promised_more.true)) c.finish_quietly-then-has_promised_more.ensures
+    does_now (λ m. welcome_row m c.args.from c.args.stamp c.args.base c.args.join c.args.image.now) old c.accepted-before.ensures.value
+    (welcome_elsewhere old c.args.from c.args.stamp c.args.base c.args.join c.args.image.now (sym c.is_member.ensures ∙ c.if-is_member.false)
+    (sym c.has_promised_more.ensures ∙ c.if-has_promised_more.true))
+    c.finish_quietly-then-has_promised_more.ensures
 
 pub returns-then-is_unfit : goal.returns-then-is_unfit
 returns-then-is_unfit c =
     let old = node_of c.args.parts.now in
-    does_plan (λ m. welcome_row m c.args.from c.args.stamp c.args.base c.args.join c.args.image.now)
-    (quiet old said.Unfit) c.accepted-before.result old _ _ _ c.accepted-before.ensures.value
-    (welcome_unfit old c.args.from c.args.stamp c.args.base c.args.join c.args.image.now (sym c.is_member.ensures
-    ∙ c.if-is_member.false) (sym c.has_promised_more.ensures ∙ c.if-has_promised_more.false) (sym c.is_unfit.ensures ∙ c.if-is_unfit.true))
+    does_now (λ m. welcome_row m c.args.from c.args.stamp c.args.base c.args.join c.args.image.now) old c.accepted-before.ensures.value
+    (welcome_unfit old c.args.from c.args.stamp c.args.base c.args.join c.args.image.now (sym c.is_member.ensures ∙ c.if-is_member.false)
+    (sym c.has_promised_more.ensures ∙ c.if-has_promised_more.false) (sym c.is_unfit.ensures ∙ c.if-is_unfit.true))
     c.finish_quietly-then-is_unfit.ensures
 
 pub begin-requires-clause-asking : goal.begin-requires-clause-asking
@@ -42,9 +38,7 @@ returns c =
     let old = node_of c.args.parts.now in
     let P : Node → Type 0 = λ x. Done c.accepted-before.result (welcomed x c.args.from c.args.stamp c.args.join) c.ask_on.result c.ask_on.new.out
     (node_of c.ask_on.new.parts) in
-    does_plan (λ m. welcome_row m c.args.from c.args.stamp c.args.base c.args.join c.args.image.now)
-    (welcomed (begun old c.args.stamp c.args.base c.args.join c.args.image.now) c.args.from c.args.stamp c.args.join) c.accepted-before.result old _ _ _
-    c.accepted-before.ensures.value
-    (welcome_begins old c.args.from c.args.stamp c.args.base c.args.join c.args.image.now (sym c.is_member.ensures
-    ∙ c.if-is_member.false) (sym c.has_promised_more.ensures ∙ c.if-has_promised_more.false) (sym c.is_unfit.ensures ∙ c.if-is_unfit.false))
+    does_now (λ m. welcome_row m c.args.from c.args.stamp c.args.base c.args.join c.args.image.now) old c.accepted-before.ensures.value
+    (welcome_begins old c.args.from c.args.stamp c.args.base c.args.join c.args.image.now (sym c.is_member.ensures ∙ c.if-is_member.false)
+    (sym c.has_promised_more.ensures ∙ c.if-has_promised_more.false) (sym c.is_unfit.ensures ∙ c.if-is_unfit.false))
     (subst P c.begin.ensures c.ask_on.ensures)

@@ -36,7 +36,7 @@ pub returns-in-Take : goal.returns-in-Take
 unfolding row
 returns-in-Take c =
     let old = node_of c.args.parts.now in
-    does_as old _ c.args.event.now (Take) (take_row old) _ _ c.in-Take.is (refl) c.on_take.ensures
+    does_as old _ c.args.event.now (Take) (take_row old) _ _ c.in-Take.is (refl) c.takes.ensures
 
 pub returns-in-Join : goal.returns-in-Join
 unfolding row
@@ -85,5 +85,5 @@ pub returns-in-Hear : goal.returns-in-Hear
 unfolding row
 returns-in-Hear c =
     let old = node_of c.args.parts.now in
-    does_as old _ c.args.event.now (Hear c.in-Hear.bytes) (read_row old (reading c.bytes.result.now)) _ _ c.in-Hear.is
-    (ap (λ (bs : List ℕ). read_row old (reading bs)) (sym (c.bytes.ensures.value ∙ c.get-in-Hear.ensures))) c.on_bytes.ensures
+    does_as old _ c.args.event.now (Hear c.in-Hear.bytes) (read_row old (reading c.as_slice.result.now)) _ _ c.in-Hear.is
+    (ap (λ (bs : List ℕ). read_row old (reading bs)) (sym c.as_slice.ensures)) c.on_bytes.ensures

@@ -1,8 +1,7 @@
 use Rattle.std.proofs.Common.{refl}
 use Rattle.am_handlers.specs.Parts.{node_of}
 use Rattle.am_handlers.proofs.Doing.{core_tells}
-use Rattle.am_handlers.proofs.Ends.{end_self}
-use Rattle.am_handlers.proofs.Plans.{done}
+use Rattle.am_handlers.proofs.Plans.{done_here}
 use Rattle.am_receiver.specs.Pieces.{accepting, ack_where}
 use Rattle.am_receiver.proofs.Rows.{accept_risen, accept_same}
 use Rattle.am_receiver.proofs.receiver.accepted_to.Goals as goal
@@ -11,9 +10,7 @@ pub returns-then-before-acc : goal.returns-then-before-acc
 returns-then-before-acc c =
     let old = node_of c.args.parts.now in
     let new = node_of c.end.new.self in
-    let order = c.accepted-before.ensures.order in
-    done c.args.before (accepting c.args.before c.args.poll c.args.from old) old new _ c.send_ack_where.new.out c.tell_accepted.new.out refl
-    (end_self old order.kept) c.end.ensures
+    done_here c.args.before (accepting c.args.before c.args.poll c.args.from old) new refl c.accepted-before.ensures.order.kept c.end.ensures
     (accept_risen c.args.before c.accepted-acc.result c.args.poll c.args.from new old c.accepted-acc.ensures.value c.if-before-acc.true)
     (core_tells (ack_where c.args.poll c.args.from) new c.send_ack_where.new.out c.send_ack_where.ensures.letters) c.tell_accepted.ensures
 
@@ -21,8 +18,6 @@ pub returns : goal.returns
 returns c =
     let old = node_of c.args.parts.now in
     let new = node_of c.end.new.self in
-    let order = c.accepted-before.ensures.order in
-    done c.args.before (accepting c.args.before c.args.poll c.args.from old) old new _ c.send_ack_where.new.out c.tell_accepted.new.out refl
-    (end_self old order.kept) c.end.ensures
+    done_here c.args.before (accepting c.args.before c.args.poll c.args.from old) new refl c.accepted-before.ensures.order.kept c.end.ensures
     (accept_same c.args.before c.accepted-acc.result c.args.poll c.args.from new old c.accepted-acc.ensures.value c.if-before-acc.false)
     (core_tells (ack_where c.args.poll c.args.from) new c.send_ack_where.new.out c.send_ack_where.ensures.letters) c.tell_accepted.ensures

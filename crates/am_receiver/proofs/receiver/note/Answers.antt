@@ -1,4 +1,5 @@
 use Rattle.am_handlers.specs.Parts.{node_of}
+use Rattle.am_handlers.proofs.Keeping.{steady_leads}
 use Rattle.am_receiver.proofs.Notes.{noted_end, end_noted_steady, end_noted_keeps}
 use Rattle.am_receiver.proofs.receiver.note.Goals as goal
 
@@ -17,3 +18,6 @@ returns-clause-end c = let order = c.accepted-before.ensures.order in
 
 pub returns-clause-steady : goal.returns-clause-steady
 returns-clause-steady c = end_noted_steady (node_of c.args.parts.now) _ c.args.base c.args.acc (returns-clause-end c)
+
+pub returns-clause-leads : goal.returns-clause-leads
+returns-clause-leads c = steady_leads (node_of c.args.parts.now) _ (returns-clause-steady c)

@@ -7,7 +7,7 @@ use Rattle.am_model.specs.Emit.{telling, nack_of}
 use Rattle.am_model.specs.Receiving.{noted, accept_row}
 use Rattle.am_handlers.specs.Parts.{node_of}
 use Rattle.am_handlers.specs.Finishing.{Done}
-use Rattle.am_handlers.proofs.Plans.{does_plan, done_whole}
+use Rattle.am_handlers.proofs.Plans.{does_now, done_whole}
 use Rattle.am_receiver.specs.Pieces.{accepting}
 use Rattle.am_receiver.proofs.Rows.{accept_short, accept_all, alike_asking, alike_accepting}
 use Rattle.am_receiver.proofs.receiver.on_accept.Goals as goal
@@ -20,8 +20,7 @@ returns-then-short c =
     let answer = said.Gap _ in
     let rest : Node → _ = λ m. telling m answer (only_name c.args.from) nack_of in
     let top = c.top-stored.ensures.value ∙ ap (λ (p : Parts). top_of p.core.log) c.parts.view_is in
-    does_plan (λ m. accept_row m c.args.from c.args.base c.args.acc c.args.high c.args.poll)
-    (rest (noted old c.args.base c.args.acc)) before old _ _ _ c.accepted-before.ensures.value
+    does_now (λ m. accept_row m c.args.from c.args.base c.args.acc c.args.high c.args.poll) old c.accepted-before.ensures.value
     (accept_short old c.args.from c.args.base c.args.acc c.args.high c.top-stored.result c.args.poll top (sym c.is_short_of-short.ensures ∙ c.if-short.true))
     (done_whole before rest (noted old c.args.base c.args.acc) mid _ _ _ c.note.ensures.end c.note.ensures.order
     (λ all keeps. alike_asking answer c.args.from all mid keeps) c.finish_asking.ensures)
@@ -35,8 +34,7 @@ returns c =
     let rest : Node → _ = λ m. accepting before c.args.poll c.args.from m in
     let P : ℕ → Type 0 = λ b. Done before (accepting b c.args.poll c.args.from whole) c.accepted_to.result c.accepted_to.new.out
     (node_of c.accepted_to.new.parts) in
-    does_plan (λ m. accept_row m c.args.from c.args.base c.args.acc c.args.high c.args.poll)
-    (accepting old.core.acc c.args.poll c.args.from whole) before old _ _ _ c.accepted-before.ensures.value
+    does_now (λ m. accept_row m c.args.from c.args.base c.args.acc c.args.high c.args.poll) old c.accepted-before.ensures.value
     (accept_all old c.args.from c.args.base c.args.acc c.args.high c.args.poll (sym c.is_short_of-short.ensures ∙ c.if-short.false))
     (subst P c.accepted-before.ensures.value (done_whole before rest whole mid _ _ _ c.note.ensures.end c.note.ensures.order
     (λ all keeps. alike_accepting before c.args.poll c.args.from all mid keeps) c.accepted_to.ensures))

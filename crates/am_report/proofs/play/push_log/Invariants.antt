@@ -1,4 +1,4 @@
-use Rattle.std.proofs.Common.{◌≡◌, ◌+◌, ◌<◌, ◌++◌, length, drop, string_bytes, true, false}
+use Rattle.std.proofs.Common.{◌≡◌, ◌<◌, ◌++◌, length, drop, string_bytes, true, false}
 use Rattle.am_group.specs.Deliveries.{deliveries}
 use Rattle.am_report.specs.Logs.{given_lines}
 use Rattle.am_report.proofs.play.push_log.Given as goal

@@ -1,13 +1,13 @@
-use Rattle.std.proofs.Common.{◌≡◌, Option, Some, None, sym, ap, subst, option_map, ◌∙◌}
+use Rattle.std.proofs.Common.{Some, None, sym, subst, ◌∙◌}
 use Rattle.am_base.specs.declared.outcome.Outcome.TheVariants as said
 use Rattle.am_ballots.specs.Kept.{ballot_of}
 use Rattle.am_handlers.specs.Parts.{node_of}
 use Rattle.am_handlers.proofs.Ends.{end_self}
-use Rattle.am_model.specs.Node.{Node, Ballot}
+use Rattle.am_model.specs.Node.{Node}
 use Rattle.am_model.specs.Resets.{piece_row, piece_for, piece_promised}
-use Rattle.am_reset.specs.Catching.{with_ballot}
 use Rattle.am_reset.specs.declared.replies.Telling.TheVariants as tell
 use Rattle.am_reset.specs.Replies.{Replies}
+use Rattle.am_reset.proofs.Promises.{none_taken, one_taken}
 use Rattle.am_reset.proofs.VoteRows.{by_reply}
 use Rattle.am_reset.proofs.Pieces.{piece_apart, piece_by}
 use Rattle.am_reset.proofs.catching.piece.Goals as goal
@@ -26,23 +26,19 @@ returns-in-None-clause-replies c =
     let new = node_of c.piece_promised.new.parts in
     let o = c.piece_promised.result.outcome in
     let t = c.piece_promised.result.telling in
-    let none : old.ballot ≡ None = sym c.take_ballot.ensures.ballot ∙ ap (option_map ballot_of) c.in-None.is in
-    let same : mid ≡ old = c.take_ballot.ensures.rest ∙ ap (λ (x : Option Ballot). record old { ballot = x }) (sym none) in
-    piece_by old new c.args.from c.args.stamp c.args.base c.args.number c.args.entry.now o t None (sym c.is_apart.ensures ∙ c.if-is_apart.false) none
-    (subst (λ (x : Node). Replies (piece_promised x c.args.from c.args.stamp c.args.base c.args.number c.args.entry.now) o t new) same
+    let taken = none_taken old mid c.take_ballot.ensures.ballot c.take_ballot.ensures.rest c.in-None.is in
+    piece_by old new c.args.from c.args.stamp c.args.base c.args.number c.args.entry.now o t None (sym c.is_apart.ensures ∙ c.if-is_apart.false) taken.0
+    (subst (λ (x : Node). Replies (piece_promised x c.args.from c.args.stamp c.args.base c.args.number c.args.entry.now) o t new) taken.1
     c.piece_promised.ensures.replies)
 
 pub returns-in-Some-clause-replies : goal.returns-in-Some-clause-replies
 returns-in-Some-clause-replies c =
     let old = node_of c.args.parts.now in
-    let mid = node_of c.take_ballot.new.parts in
     let new = node_of c.piece_for.new.parts in
     let b = ballot_of c.in-Some.ballot in
     let o = c.piece_for.result.outcome in
     let t = c.piece_for.result.telling in
-    let there : old.ballot ≡ Some b = sym c.take_ballot.ensures.ballot ∙ ap (option_map ballot_of) c.in-Some.is in
-    let same : with_ballot mid (Some b) ≡ old = ap (λ (x : Node). record x { ballot = Some b }) c.take_ballot.ensures.rest
-    ∙ ap (λ (x : Option Ballot). record old { ballot = x }) (sym there) in
-    piece_by old new c.args.from c.args.stamp c.args.base c.args.number c.args.entry.now o t (Some b) (sym c.is_apart.ensures ∙ c.if-is_apart.false) there
-    (subst (λ (x : Node). Replies (piece_for x c.args.from c.args.stamp c.args.base c.args.number c.args.entry.now (Some b)) o t new) same
+    let taken = one_taken old (node_of c.take_ballot.new.parts) c.take_ballot.ensures.ballot c.take_ballot.ensures.rest c.in-Some.is in
+    piece_by old new c.args.from c.args.stamp c.args.base c.args.number c.args.entry.now o t (Some b) (sym c.is_apart.ensures ∙ c.if-is_apart.false) taken.0
+    (subst (λ (x : Node). Replies (piece_for x c.args.from c.args.stamp c.args.base c.args.number c.args.entry.now (Some b)) o t new) taken.1
     c.piece_for.ensures.replies)

@@ -7,7 +7,7 @@ use Rattle.am_model.specs.Resets.{piece_promised, caught_up}
 use Rattle.am_reset.specs.declared.replies.Telling.TheVariants as tell
 use Rattle.am_reset.proofs.VoteRows.{by_reply}
 use Rattle.am_reset.proofs.Pieces.{may_store, other_view, fetched_unless, fetched_then, replies_caught, promised_other, promised_own}
-use Rattle.am_reset.proofs.Verdicts.{not_true, not_false}
+use Rattle.std.proofs.lemmas.Bool.{not-true, not-false}
 use Rattle.am_reset.proofs.catching.piece_promised.Goals as goal
 
 pub returns-then-ne-clause-replies : goal.returns-then-ne-clause-replies
@@ -16,7 +16,7 @@ returns-then-ne-clause-replies c =
     by_reply (piece_promised old c.args.from c.args.stamp c.args.base c.args.number c.args.entry.now) c.quiet.result said.Elsewhere tell.Nothing old
     c.quiet.ensures
     (promised_other old old c.args.from c.args.stamp c.args.base c.args.number c.args.entry.now
-    (not_true (c.args.stamp.by == c.args.from) (sym c.ne.ensures ∙ c.if-ne.true)) (end_self old c.requires.order.kept))
+    (not-true (c.args.stamp.by == c.args.from) (sym c.ne.ensures ∙ c.if-ne.true)) (end_self old c.requires.order.kept))
 
 pub returns-in-Some-clause-replies : goal.returns-in-Some-clause-replies
 returns-in-Some-clause-replies c =
@@ -25,7 +25,7 @@ returns-in-Some-clause-replies c =
     by_reply (piece_promised old c.args.from c.args.stamp c.args.base c.args.number e) c.quiet-in-Some.result c.in-Some.outcome tell.Nothing old
     c.quiet-in-Some.ensures
     (promised_own old old c.args.from c.args.stamp c.args.base c.args.number e c.in-Some.outcome tell.Nothing
-    (not_false (c.args.stamp.by == c.args.from) (sym c.ne.ensures ∙ c.if-ne.false))
+    (not-false (c.args.stamp.by == c.args.from) (sym c.ne.ensures ∙ c.if-ne.false))
     (fetched_unless old old c.args.stamp c.args.base c.args.number e false (caught_up c.args.from c.args.stamp c.args.number) c.refusal.result c.in-Some.outcome
     (c.refusal.ensures.value old.ballot (caught_up c.args.from c.args.stamp c.args.number)) c.in-Some.is (end_self old c.requires.order.kept)))
 
@@ -35,7 +35,7 @@ returns-in-None-clause-replies c =
     let new = node_of c.store.new.parts in
     let e = c.args.entry.now in
     promised_own old new c.args.from c.args.stamp c.args.base c.args.number e (said.Stored c.args.number) (tell.AckIn c.args.stamp c.args.from)
-    (not_false (c.args.stamp.by == c.args.from) (sym c.ne.ensures ∙ c.if-ne.false))
+    (not-false (c.args.stamp.by == c.args.from) (sym c.ne.ensures ∙ c.if-ne.false))
     (fetched_then old new c.args.stamp c.args.base c.args.number e false (caught_up c.args.from c.args.stamp c.args.number) c.refusal.result
     (said.Stored c.args.number) (tell.AckIn c.args.stamp c.args.from)
     (c.refusal.ensures.value old.ballot (caught_up c.args.from c.args.stamp c.args.number)) c.in-None.is

@@ -4,7 +4,7 @@ use Rattle.am_base.specs.Lists.{members_of}
 use Rattle.am_base.specs.Names.{has, is_within}
 use Rattle.am_handlers.specs.Parts.{node_of}
 use Rattle.am_ballots.specs.Kept.{ballot_of}
-use Rattle.am_reset.proofs.Nodes.{own_steady}
+use Rattle.am_handlers.proofs.Keeping.{own_steady}
 use Rattle.am_reset.proofs.Verdicts.{trimmed_comes}
 use Rattle.am_reset.proofs.deciding.trim_and_decide.Goals as goal
 

@@ -8,7 +8,7 @@ use Rattle.am_model.specs.Resets.{voted_for, is_open}
 use Rattle.am_reset.specs.declared.replies.Telling.TheVariants as tell
 use Rattle.am_reset.proofs.VoteRows.{end_as, voted_elsewhere, voted_known, voted_kept, by_reply}
 use Rattle.am_reset.proofs.Views.{and_left}
-use Rattle.am_reset.proofs.Verdicts.{not_true, not_false}
+use Rattle.std.proofs.lemmas.Bool.{not-true, not-false}
 use Rattle.am_reset.proofs.voting.voted_for.Goals as goal
 
 or_right : (a b : Bool) → (a || b) ≡ false → b ≡ false
@@ -45,13 +45,13 @@ returns-clause-replies c =
 pub keep_vote-requires-clause-ballot : goal.keep_vote-requires-clause-ballot
 keep_vote-requires-clause-ballot c =
     let b = ballot_of c.args.ballot in
-    let open_ : is_open c.args.stamp b ≡ true = not_false (is_open c.args.stamp b)
+    let open_ : is_open c.args.stamp b ≡ true = not-false (is_open c.args.stamp b)
     (or_right (stamp_lt c.args.stamp c.args.parts.now.core.promise) (not (is_open c.args.stamp b)) (sym c.is_stale.ensures ∙ c.if-is_stale.false)) in
     record {
       order = c.requires.order;
       out = c.requires.out;
       own = c.requires.own;
       is_open =
-          not_true b.is_over (and_left (not b.is_over) (stamp_eq b.stamp c.args.stamp) open_);
+          not-true b.is_over (and_left (not b.is_over) (stamp_eq b.stamp c.args.stamp) open_);
       number = c.requires.number;
     }

@@ -30,12 +30,10 @@ returns c =
     let old = node_of c.args.parts.now in
     let mid = node_of c.push.new.self in
     let new = node_of c.end.new.self in
-    let order = c.accepted-before.ensures.order in
-    let before = c.push.ensures.order in
     let e : Entry = Data c.args.from c.args.req c.args.body.now in
     let node : mid ≡ pushed old e = c.push.ensures.node ∙ ap (λ (body : List ℕ). pushed old (Data c.args.from c.args.req body)) c.copied.ensures in
-    let end : IsEndOf (pushed old e) mid = subst (λ (x : Node). IsEndOf x mid) node (end_self mid before.kept) in
-    let to : c.others-others.result ≡ others old = end_tells others old c.others-others.result order.kept c.others-others.ensures in
+    let end : IsEndOf (pushed old e) mid = subst (λ (x : Node). IsEndOf x mid) node (end_self mid c.push.ensures.order.kept) in
+    let to : c.others-others.result ≡ others old = end_tells others old c.others-others.result c.accepted-before.ensures.order.kept c.others-others.ensures in
     let number : c.next_number-number.result ≡ top old + 1 = c.next_number-number.ensures.value in
     let sent = c.put.ensures ∙ ap (λ set. with_letter set c.numbered.result c.args.out.now) to
     ∙ ap (with_letter (others old) c.numbered.result) c.requires.empty in

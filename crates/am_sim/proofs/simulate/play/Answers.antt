@@ -17,7 +17,7 @@ returns-clause-part g c = (
 )
 
 pub returns-in-Ok-write_all-clause-within : goal.returns-in-Ok-write_all-clause-within
-returns-in-Ok-write_all-clause-within g c = λ other. gave_whole 16777216 _ _ _ c.in-Ok.ensures.ok c.in-Ok.ensures.within
+returns-in-Ok-write_all-clause-within g c = λ other. gave_whole _ _ _ _ c.in-Ok.ensures.ok c.in-Ok.ensures.within
 
 pub returns-clause-within : goal.returns-clause-within
-returns-clause-within g c = λ other. gave_whole 16777216 _ _ _ c.in-Ok.ensures.ok c.in-Ok.ensures.within
+returns-clause-within g c = λ other. gave_whole _ _ _ _ c.in-Ok.ensures.ok c.in-Ok.ensures.within

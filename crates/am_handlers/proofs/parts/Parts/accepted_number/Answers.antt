@@ -1,6 +1,9 @@
 use Rattle.std.proofs.Common.{sym, ap, ◌∙◌, ◌+◌, arith}
 use Rattle.am_handlers.specs.declared.parts.Parts.{Parts}
-use Rattle.am_handlers.specs.Parts.{node_of}
+use Rattle.am_base.specs.Lists.{entry_at}
+use Rattle.am_core.proofs.Folds.{split}
+use Rattle.am_model.specs.Refresh.{is_data_of}
+use Rattle.am_handlers.specs.Parts.{node_of, passes}
 use Rattle.am_handlers.proofs.Settling.{number_found, number_none}
 use Rattle.am_handlers.proofs.Due.{stands_due}
 use Rattle.am_handlers.proofs.parts.Parts.accepted_number.Goals as goal
@@ -16,6 +19,18 @@ returns-then-stands_at-clause-value c =
     let high = c.loop-before-test.true in
     number_found (node_of c.args.self.now) c.args.req c.loop-before.before order (omega arith) (omega arith) (sym c.stands_at.ensures
     ∙ c.if-stands_at.true) c.loop-before.invariant
+
+-- what the table tells of no send isn't in the list
+pub returns-then-is_past_last-clause-value : goal.returns-then-is_past_last-clause-value
+returns-then-is_past_last-clause-value c =
+    let core = c.args.self.now.core in
+    let order = c.accepted-accepted.ensures.order in
+    let kept = order.kept in
+    let no = c.is_past_last.ensures c.if-is_past_last.true in
+    number_none (node_of c.args.self.now) c.args.req order (λ number low below.
+    split (passes (is_data_of core.who c.args.req) (entry_at core.log (number + 1)))
+    (λ there. absurd (no (stands_due core.log (core.rules.window + 15) core.who c.args.req number c.accepted-accepted.ensures.kept (omega arith) there)))
+    (λ none. none))
 
 -- src/parts.rt:128:5
 pub returns-clause-value : goal.returns-clause-value

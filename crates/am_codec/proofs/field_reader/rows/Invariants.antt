@@ -1,7 +1,7 @@
 use Rattle.std.proofs.Common.{◌≡◌, ◌+◌, ◌-◌, ◌*◌, length, take}
 use Rattle.am_codec.specs.Reading.{rows_at}
 use Rattle.am_codec.proofs.Rows.{with_front}
-use Rattle.am_codec.proofs.reader.rows.Given as goal
+use Rattle.am_codec.proofs.field_reader.rows.Given as goal
 
 abbrev pub invariant-loop-place : goal.invariant-loop-place
 invariant-loop-place l = record {

@@ -2,7 +2,7 @@ use Rattle.std.proofs.Common.{◌∙◌, sym}
 use Rattle.std.proofs.lemmas.List.{length-set}
 use Rattle.std.proofs.lemmas.Result.{err_from_is_err_and}
 use Rattle.am_codec.proofs.Rows.{goes_on, ends, is_done}
-use Rattle.am_codec.proofs.reader.rows.Goals as goal
+use Rattle.am_codec.proofs.field_reader.rows.Goals as goal
 
 pub returns-in_err-rows : goal.returns-in_err-rows
 returns-in_err-rows c =
